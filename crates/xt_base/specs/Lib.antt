@@ -1,0 +1,3 @@
+pub mod MemberList
+pub mod TimeSettings
+pub mod StatusCode

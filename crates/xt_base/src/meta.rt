@@ -1,0 +1,187 @@
+use crate::file::{Capability, Kind};
+use crate::ids::SizeMark;
+use crate::lists::{Copies, Name, OutOfMemory, Seq};
+use crate::reply::Denial;
+use std::alloc::Global;
+
+/// A request to the MRC.
+#[derive(Debug, Drop)]
+pub enum MetaReq {
+    Mkdir {
+        path: Name,
+        mode: u16,
+    },
+    /// A file of `n` replicas, or striped over `n` OSDs.
+    Create {
+        path: Name,
+        mode: u16,
+        kind: Kind,
+        n: u8,
+        stripe: u32,
+    },
+    Rename {
+        from: Name,
+        to: Name,
+    },
+    Unlink {
+        path: Name,
+    },
+    Rmdir {
+        path: Name,
+    },
+    /// The names behind `after`, in order of bytes.
+    List {
+        path: Name,
+        after: Name,
+    },
+    Stat {
+        path: Name,
+    },
+    Chmod {
+        path: Name,
+        mode: u16,
+    },
+    /// A capability; `want` is 1 to read, 2 to write, 3 to truncate.
+    Grant {
+        path: Name,
+        want: u8,
+    },
+    /// A size that a client learnt.
+    Report {
+        capability: Capability,
+        mark: SizeMark,
+    },
+}
+
+impl Copies for MetaReq {
+    fn copy(&self, alloc: Global) -> Result<MetaReq, OutOfMemory> {
+        match self {
+            MetaReq::Mkdir { path, mode } => Ok(MetaReq::Mkdir {
+                path: path.copy(alloc)?,
+                mode: *mode,
+            }),
+            MetaReq::Create {
+                path,
+                mode,
+                kind,
+                n,
+                stripe,
+            } => Ok(MetaReq::Create {
+                path: path.copy(alloc)?,
+                mode: *mode,
+                kind: *kind,
+                n: *n,
+                stripe: *stripe,
+            }),
+            MetaReq::Rename { from, to } => Ok(MetaReq::Rename {
+                from: from.copy(alloc)?,
+                to: to.copy(alloc)?,
+            }),
+            MetaReq::Unlink { path } => Ok(MetaReq::Unlink {
+                path: path.copy(alloc)?,
+            }),
+            MetaReq::Rmdir { path } => Ok(MetaReq::Rmdir {
+                path: path.copy(alloc)?,
+            }),
+            MetaReq::List { path, after } => Ok(MetaReq::List {
+                path: path.copy(alloc)?,
+                after: after.copy(alloc)?,
+            }),
+            MetaReq::Stat { path } => Ok(MetaReq::Stat {
+                path: path.copy(alloc)?,
+            }),
+            MetaReq::Chmod { path, mode } => Ok(MetaReq::Chmod {
+                path: path.copy(alloc)?,
+                mode: *mode,
+            }),
+            MetaReq::Grant { path, want } => Ok(MetaReq::Grant {
+                path: path.copy(alloc)?,
+                want: *want,
+            }),
+            MetaReq::Report { capability, mark } => Ok(MetaReq::Report {
+                capability: *capability,
+                mark: *mark,
+            }),
+        }
+    }
+}
+
+/// Why the MRC refuses a request.
+#[derive(Clone, Copy, Debug, PartialEq, Eq)]
+pub enum MetaRefusal {
+    NotFound,
+    Exists,
+    NotDir,
+    IsDir,
+    NotEmpty,
+    IntoSelf,
+    OtherVolume,
+    /// 1 to search, 2 to write, 3 to read, 4 not the owner.
+    Forbidden { rule: u8 },
+    NameBad,
+    /// So many OSDs are there, fewer than the file wants.
+    TooFew { have: u8 },
+    Denied { rule: Denial },
+}
+
+/// What a row of a volume is.
+#[derive(Clone, Copy, Debug, PartialEq, Eq)]
+pub enum RowKind {
+    Directory,
+    File,
+}
+
+/// Names, rising in order of bytes.
+pub type Names = Seq<Name>;
+
+/// What the MRC answers.
+#[derive(Debug, Drop)]
+pub enum MetaAnswer {
+    Done,
+    Refused {
+        refusal: MetaRefusal,
+    },
+    Names {
+        names: Names,
+    },
+    Row {
+        kind: RowKind,
+        owner: u32,
+        group: u32,
+        mode: u16,
+        mark: SizeMark,
+    },
+    Granted {
+        capability: Capability,
+        mark: SizeMark,
+    },
+}
+
+impl Copies for MetaAnswer {
+    fn copy(&self, alloc: Global) -> Result<MetaAnswer, OutOfMemory> {
+        match self {
+            MetaAnswer::Done => Ok(MetaAnswer::Done),
+            MetaAnswer::Refused { refusal } => Ok(MetaAnswer::Refused { refusal: *refusal }),
+            MetaAnswer::Names { names } => Ok(MetaAnswer::Names {
+                names: names.copy(alloc)?,
+            }),
+            MetaAnswer::Row {
+                kind,
+                owner,
+                group,
+                mode,
+                mark,
+            } => Ok(MetaAnswer::Row {
+                kind: *kind,
+                owner: *owner,
+                group: *group,
+                mode: *mode,
+                mark: *mark,
+            }),
+            MetaAnswer::Granted { capability, mark } => Ok(MetaAnswer::Granted {
+                capability: *capability,
+                mark: *mark,
+            }),
+        }
+    }
+}

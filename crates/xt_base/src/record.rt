@@ -1,0 +1,181 @@
+use crate::file::{FileHead, Location, ObjectVersion, Update};
+use crate::ids::{Boot, Epoch, FileId, NodeId, Stamp};
+use crate::lists::{Copies, Octets, OutOfMemory, Seq};
+use crate::members::Members;
+use crate::meta::MetaReq;
+use crate::registry::RegistryReq;
+use std::alloc::Global;
+
+/// A recorded request of the MRC or the DIR.
+#[derive(Debug, Drop)]
+pub enum Logged {
+    Meta {
+        user: u32,
+        group: u32,
+        request: MetaReq,
+    },
+    Registry {
+        request: RegistryReq,
+    },
+}
+
+impl Copies for Logged {
+    fn copy(&self, alloc: Global) -> Result<Logged, OutOfMemory> {
+        Ok(match self {
+            Logged::Meta {
+                user,
+                group,
+                request,
+            } => Logged::Meta {
+                user: *user,
+                group: *group,
+                request: request.copy(alloc)?,
+            },
+            Logged::Registry { request } => Logged::Registry {
+                request: request.copy(alloc)?,
+            },
+        })
+    }
+}
+
+/// What a node keeps of a step, in the order of the kinds' numbers, from 1.
+#[derive(Debug, Drop)]
+pub enum Record {
+    /// A start.
+    Boot {
+        boot: Boot,
+    },
+    /// A replica's promise.
+    Promise {
+        file: FileId,
+        epoch: Epoch,
+    },
+    /// A write or truncation that a replica took.
+    Update {
+        file: FileId,
+        update: Update,
+    },
+    /// Bytes that a replica holds.
+    Stage {
+        file: FileId,
+        object: u64,
+        version: Stamp,
+        bytes: Octets,
+    },
+    /// A head that a replica took in place of its own.
+    Head {
+        file: FileId,
+        head: FileHead,
+    },
+    /// Where a file's content is kept.
+    View {
+        file: FileId,
+        location: Location,
+    },
+    /// A request that the MRC or the DIR recorded, when, and the OSDs that it picked from.
+    Meta {
+        from: NodeId,
+        number: u64,
+        now: u64,
+        nodes: Option<Members>,
+        request: Logged,
+    },
+}
+
+impl Copies for Record {
+    fn copy(&self, alloc: Global) -> Result<Record, OutOfMemory> {
+        Ok(match self {
+            Record::Boot { boot } => Record::Boot { boot: *boot },
+            Record::Promise { file, epoch } => Record::Promise {
+                file: *file,
+                epoch: *epoch,
+            },
+            Record::Update { file, update } => Record::Update {
+                file: *file,
+                update: update.copy(alloc)?,
+            },
+            Record::Stage {
+                file,
+                object,
+                version,
+                bytes,
+            } => Record::Stage {
+                file: *file,
+                object: *object,
+                version: *version,
+                bytes: bytes.copy(alloc)?,
+            },
+            Record::Head { file, head } => Record::Head {
+                file: *file,
+                head: head.copy(alloc)?,
+            },
+            Record::View { file, location } => Record::View {
+                file: *file,
+                location: *location,
+            },
+            Record::Meta {
+                from,
+                number,
+                now,
+                nodes,
+                request,
+            } => Record::Meta {
+                from: *from,
+                number: *number,
+                now: *now,
+                nodes: *nodes,
+                request: request.copy(alloc)?,
+            },
+        })
+    }
+}
+
+/// The bodies that a replica holds, by object and version.
+pub type HeldPairs = Seq<ObjectVersion>;
+
+/// What a node's records say of one file.
+#[derive(Debug, Drop)]
+pub struct FileRow {
+    pub file: FileId,
+    pub head: FileHead,
+    pub held: HeldPairs,
+    pub location: Option<Location>,
+}
+
+impl Copies for FileRow {
+    fn copy(&self, alloc: Global) -> Result<FileRow, OutOfMemory> {
+        Ok(FileRow {
+            file: self.file,
+            head: self.head.copy(alloc)?,
+            held: self.held.copy(alloc)?,
+            location: self.location,
+        })
+    }
+}
+
+/// What a node's records say of its files, rising by file.
+pub type FileTable = Seq<FileRow>;
+
+/// What a node's records say: its last start, 0 before the first, and its files.
+#[derive(Debug, Drop)]
+pub struct Folded {
+    pub boot: Boot,
+    pub files: FileTable,
+}
+
+/// A body that is to be kept.
+#[derive(Clone, Copy, Debug, PartialEq, Eq)]
+pub struct KeepBody {
+    pub file: FileId,
+    pub object: u64,
+    pub version: Stamp,
+}
+
+impl Copies for KeepBody {
+    fn copy(&self, _alloc: Global) -> Result<KeepBody, OutOfMemory> {
+        Ok(*self)
+    }
+}
+
+/// The bodies that are to be kept.
+pub type Keep = Seq<KeepBody>;
