@@ -1,3 +1,4 @@
 pub mod MemberList
 pub mod TimeSettings
 pub mod StatusCode
+pub mod Overlay

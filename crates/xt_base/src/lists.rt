@@ -13,10 +13,10 @@ pub trait Copies: Drop {
         ensures { IfOk result (λ made. made ≡ self.now) };
 }
 
-/// A list, which contracts see as one.
+/// A list, which contracts see as one. Code may change its items in place.
 #[derive(Debug, Drop)]
 pub struct Seq<T> {
-    items: Vec<T>,
+    pub items: Vec<T>,
 }
 
 impl<T> Model for Seq<T> {

@@ -1,0 +1,135 @@
+use std::alloc::Global;
+use xt_base::{Boot, Call, Copies, Location, NodeId, Octets, OpId, OutOfMemory, Outcome};
+
+/// A line of a trace.
+#[derive(Debug, Drop)]
+pub enum Entry {
+    /// The lease length and the drift, in milliseconds.
+    Times {
+        lease: u64,
+        drift: u64,
+    },
+    /// A file is there.
+    File {
+        number: u64,
+        location: Location,
+    },
+    /// Every running clock advanced.
+    Tick {
+        count: u64,
+    },
+    /// A node started.
+    Up {
+        node: NodeId,
+        boot: Boot,
+        clock: u64,
+    },
+    /// A client's call began.
+    Begin {
+        client: NodeId,
+        number: u64,
+        call: Call,
+    },
+    /// A primary sent an update to its replicas; `count` is how many writes the file has with it.
+    Issue {
+        node: NodeId,
+        file: u64,
+        count: u64,
+        id: OpId,
+    },
+    /// A majority has the update.
+    Commit {
+        node: NodeId,
+        file: u64,
+        count: u64,
+        id: OpId,
+    },
+    /// An OSD answered `Ok` on a replicated file.
+    Answer {
+        node: NodeId,
+        file: u64,
+        id: OpId,
+        count: u64,
+        bytes: Octets,
+    },
+    /// A client's call ended.
+    Done {
+        client: NodeId,
+        number: u64,
+        outcome: Outcome,
+    },
+}
+
+impl Copies for Entry {
+    fn copy(&self, alloc: Global) -> Result<Entry, OutOfMemory> {
+        Ok(match self {
+            Entry::Times { lease, drift } => Entry::Times {
+                lease: *lease,
+                drift: *drift,
+            },
+            Entry::File { number, location } => Entry::File {
+                number: *number,
+                location: *location,
+            },
+            Entry::Tick { count } => Entry::Tick { count: *count },
+            Entry::Up { node, boot, clock } => Entry::Up {
+                node: *node,
+                boot: *boot,
+                clock: *clock,
+            },
+            Entry::Begin {
+                client,
+                number,
+                call,
+            } => Entry::Begin {
+                client: *client,
+                number: *number,
+                call: call.copy(alloc)?,
+            },
+            Entry::Issue {
+                node,
+                file,
+                count,
+                id,
+            } => Entry::Issue {
+                node: *node,
+                file: *file,
+                count: *count,
+                id: *id,
+            },
+            Entry::Commit {
+                node,
+                file,
+                count,
+                id,
+            } => Entry::Commit {
+                node: *node,
+                file: *file,
+                count: *count,
+                id: *id,
+            },
+            Entry::Answer {
+                node,
+                file,
+                id,
+                count,
+                bytes,
+            } => Entry::Answer {
+                node: *node,
+                file: *file,
+                id: *id,
+                count: *count,
+                bytes: bytes.copy(alloc)?,
+            },
+            Entry::Done {
+                client,
+                number,
+                outcome,
+            } => Entry::Done {
+                client: *client,
+                number: *number,
+                outcome: outcome.copy(alloc)?,
+            },
+        })
+    }
+}

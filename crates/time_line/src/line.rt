@@ -1,0 +1,59 @@
+use std::alloc::Global;
+use xt_base::{Call, Copies, Location, NodeId, OutOfMemory};
+
+/// A line of a schedule.
+#[derive(Debug, Drop)]
+pub enum Line {
+    /// The lease length and the drift, in milliseconds. It is the first line, if any.
+    Times { lease: u64, drift: u64 },
+    /// Declares an OSD.
+    Osd { node: NodeId },
+    /// Declares a client, and starts it for good.
+    Client { node: NodeId, clock: u64 },
+    /// Declares a file.
+    File { number: u64, location: Location },
+    /// Starts a node.
+    Start { node: NodeId, clock: u64 },
+    /// Advances every running clock at once, in milliseconds.
+    Tick { count: u64 },
+    /// A client's call.
+    Call { client: NodeId, call: Call },
+    /// Delivers a message that was ever sent, again too. The first has number 1.
+    Deliver { number: u128 },
+    /// A pending message is no longer so.
+    Drop { number: u128 },
+    /// As many times, the pending message of least number is delivered.
+    Settle { count: u128 },
+}
+
+impl Copies for Line {
+    fn copy(&self, alloc: Global) -> Result<Line, OutOfMemory> {
+        Ok(match self {
+            Line::Times { lease, drift } => Line::Times {
+                lease: *lease,
+                drift: *drift,
+            },
+            Line::Osd { node } => Line::Osd { node: *node },
+            Line::Client { node, clock } => Line::Client {
+                node: *node,
+                clock: *clock,
+            },
+            Line::File { number, location } => Line::File {
+                number: *number,
+                location: *location,
+            },
+            Line::Start { node, clock } => Line::Start {
+                node: *node,
+                clock: *clock,
+            },
+            Line::Tick { count } => Line::Tick { count: *count },
+            Line::Call { client, call } => Line::Call {
+                client: *client,
+                call: call.copy(alloc)?,
+            },
+            Line::Deliver { number } => Line::Deliver { number: *number },
+            Line::Drop { number } => Line::Drop { number: *number },
+            Line::Settle { count } => Line::Settle { count: *count },
+        })
+    }
+}

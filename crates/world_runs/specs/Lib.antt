@@ -1,0 +1,5 @@
+pub mod World
+pub mod Records
+pub mod Rules
+pub mod Lines
+pub mod Runs

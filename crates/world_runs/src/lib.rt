@@ -1,0 +1,61 @@
+//! What a run of a world of nodes is: how each line of a schedule changes it, which line breaks a rule, and what
+//! comes of a list of lines.
+//!
+//! The types here are the parts of a world; the definitions stand in `specs/`. A message, once sent, is there for
+//! good, and may be delivered at any time, in any order and again: so a run is any interleaving of the nodes' steps.
+#![tactic(auto)]
+
+use xt_base::{Boot, Location, Msg, NodeId, Record};
+use xt_protocol::{ClientState, OsdState};
+
+/// How many nodes a schedule may declare.
+pub const NODES: u64 = 64;
+
+/// How many messages may be numbered.
+pub const MESSAGES: u64 = 1_048_576;
+
+/// How many bytes the frames of the numbered messages may have in all.
+pub const MESSAGE_BYTES: u64 = 1_073_741_824;
+
+/// A running node's start, and what its clock reads, in milliseconds.
+#[derive(Clone, Copy, Debug, PartialEq, Eq)]
+pub struct Running {
+    pub boot: Boot,
+    pub clock: u64,
+}
+
+/// What a node is, with its state.
+#[derive(Debug, Drop)]
+pub enum Role {
+    Osd(OsdState),
+    Client(ClientState),
+}
+
+/// A declared node; it runs where `up` is there.
+#[derive(Debug, Drop)]
+pub struct Node {
+    pub id: NodeId,
+    pub up: Option<Running>,
+    pub role: Role,
+}
+
+/// A declared file.
+#[derive(Clone, Copy, Debug, PartialEq, Eq)]
+pub struct DeclaredFile {
+    pub number: u64,
+    pub location: Location,
+}
+
+/// A message that was sent; it is pending until it is delivered or dropped.
+#[derive(Debug, Drop)]
+pub struct Sent {
+    pub message: Msg,
+    pub pending: bool,
+}
+
+/// A record that a node keeps.
+#[derive(Debug, Drop)]
+pub struct NodeRecord {
+    pub node: NodeId,
+    pub rec: Record,
+}

@@ -1,0 +1,4 @@
+pub mod Heads
+pub mod OsdRows
+pub mod ClientRows
+pub mod FrameLength
