@@ -19,18 +19,22 @@ body_put file object version (kept.Stage f o v bytes) =
     if (f.number == file) && (o == object) && is_stamp v version then Some bytes else None
 body_put file object version _ = None
 
--- the body after a record: the one that it puts, else the one before
-abbrev pub body_or : List ℕ → Option (List ℕ) → List ℕ
-body_or before None = before
-body_or before (Some bytes) = bytes
+-- what is kept after a record: the body that it puts, else the one before
+abbrev pub newer : Option (List ℕ) → Option (List ℕ) → Option (List ℕ)
+newer before None = before
+newer before (Some bytes) = Some bytes
 
-abbrev pub body_after : ℕ → ℕ → ℕ → Stamp → List ℕ → NodeRecord → List ℕ
+abbrev pub body_after : ℕ → ℕ → ℕ → Stamp → Option (List ℕ) → NodeRecord → Option (List ℕ)
 body_after node file object version before r =
-    if r.node.0 == node then body_or before (body_put file object version r.rec) else before
+    if r.node.0 == node then newer before (body_put file object version r.rec) else before
 
--- What a node keeps as this version of this object of the file: what the last record put, and nothing where none did.
-unfoldable pub body_in : List NodeRecord → ℕ → ℕ → ℕ → Stamp → List ℕ
-body_in records node file object version = fold (body_after node file object version) [] records
+-- What a node keeps as this version of this object of the file: what the last record put, none where none did.
+unfoldable pub body_kept : List NodeRecord → ℕ → ℕ → ℕ → Stamp → Option (List ℕ)
+body_kept records node file object version = fold (body_after node file object version) None records
+
+-- the body as a step sees it: empty where none is kept
+abbrev pub body_in : List NodeRecord → ℕ → ℕ → ℕ → Stamp → List ℕ
+body_in records node file object version = unwrap_or (body_kept records node file object version) []
 
 -- the boot after a record
 abbrev pub boot_after : ℕ → ℕ → NodeRecord → ℕ
