@@ -1,5 +1,5 @@
 -- what the records that the nodes keep say
-use Rattle.std.specs.Prelude.{ℕ, Bool, ◌==◌, ◌&&◌, if◌then◌else◌, Option, Some, None, List, []}
+use Rattle.std.specs.Prelude.{ℕ, Bool, ◌==◌, ◌&&◌, if◌then◌else◌, unwrap_or, Option, Some, None, List, []}
 use Rattle.std.specs.List.{fold}
 use Rattle.xt_base.specs.declared.ids.Stamp.{Stamp}
 use Rattle.xt_base.specs.declared.record.Record.{Record}
