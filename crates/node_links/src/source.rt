@@ -1,0 +1,116 @@
+ghost use Rattle.std.specs.Prelude.{◌≡◌, ◌≤◌, ◌⊎◌, ℕ, List, Option, Some, None, length, take, drop, IfOk, OnOk, OnErr};
+ghost use Rattle.node_links.specs.Streams.{Takes, IsAtEnd, Rose};
+
+use std::io::Read;
+use xt_base::{CallList, Failed, Octets};
+
+/// A source of bytes.
+pub trait Source {
+    /// The bytes that are left, where they are told.
+    ghost left: { Self → Option (List ℕ) };
+
+    /// How often the source has failed.
+    ghost fault_count: { Self → ℕ };
+
+    /// How often the source has failed.
+    fn faults(&self) -> u64
+        ensures { result ≡ fault_count self.now };
+
+    /// Takes the next bytes, as many as it likes, into the front of the buffer, and says how many. 0 is the end, for
+    /// a buffer that isn't empty. After an `Err` the same bytes are left.
+    fn take(&mut self, buf: &mut [u8]) -> Result<usize, Failed>
+        ensures count { IfOk result (λ n. n ≤ length buf.old) }
+        ensures taken { IfOk result (λ n. Takes (left self.old) (left self.new) (take n buf.new)) }
+        ensures end { IfOk result (λ n. n ≡ 0 → (length buf.old ≡ 0) ⊎ IsAtEnd (left self.old)) }
+        ensures sound { OnOk result (fault_count self.new ≡ fault_count self.old) }
+        ensures failed { OnErr result (Rose (fault_count self.old) (fault_count self.new)) }
+        ensures kept { OnErr result (left self.new ≡ left self.old) };
+}
+
+/// Bytes in memory. The calls that are named, counted from 1, fail.
+#[derive(Debug, Drop)]
+pub struct MemorySource {
+    bytes: Octets,
+    place: usize,
+    failing: CallList,
+    calls: u64,
+    faults: u64,
+    ghost inside: { place ≤ length bytes },
+}
+
+impl MemorySource {
+    ghost use Rattle.std.specs.Prelude.{◌≡◌};
+
+    /// A source of these bytes.
+    pub fn new(bytes: Octets, failing: CallList) -> MemorySource
+        ensures bytes { (result.bytes ≡ bytes) × (result.place ≡ 0) }
+        ensures sound { result.faults ≡ 0 }
+    {
+        MemorySource {
+            bytes,
+            place: 0,
+            failing,
+            calls: 0,
+            faults: 0,
+        }
+    }
+}
+
+impl Source for MemorySource {
+    ghost left = { λ s. Some (drop s.place s.bytes) };
+
+    ghost fault_count = { λ s. s.faults };
+
+    fn faults(&self) -> u64 {
+        self.faults
+    }
+
+    fn take(&mut self, buf: &mut [u8]) -> Result<usize, Failed> {
+        self.calls = self.calls.saturating_add(1);
+        if self.failing.as_slice().contains(&self.calls) {
+            self.faults = self.faults.saturating_add(1);
+            return Err(Failed);
+        }
+        let rest = &self.bytes.as_slice()[self.place..];
+        let count = rest.len().min(buf.len());
+        buf[..count].copy_from_slice(&rest[..count]);
+        self.place += count;
+        Ok(count)
+    }
+}
+
+/// The standard input, or another real reader. What it gives isn't told.
+#[derive(Drop)]
+pub struct StdinSource<R: Read + Drop> {
+    reader: R,
+    faults: u64,
+}
+
+impl<R: Read + Drop> StdinSource<R> {
+    /// A source of what the reader gives. The reader had better be buffered.
+    pub fn new(reader: R) -> StdinSource<R>
+        ensures { result.faults ≡ 0 }
+    {
+        StdinSource { reader, faults: 0 }
+    }
+}
+
+impl<R: Read + Drop> Source for StdinSource<R> {
+    ghost left = { λ _. None };
+
+    ghost fault_count = { λ s. s.faults };
+
+    fn faults(&self) -> u64 {
+        self.faults
+    }
+
+    fn take(&mut self, buf: &mut [u8]) -> Result<usize, Failed> {
+        match self.reader.read(buf) {
+            Ok(count) => Ok(count),
+            Err(_) => {
+                self.faults = self.faults.saturating_add(1);
+                Err(Failed)
+            }
+        }
+    }
+}
