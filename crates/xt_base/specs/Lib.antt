@@ -2,3 +2,4 @@ pub mod MemberList
 pub mod TimeSettings
 pub mod StatusCode
 pub mod Overlay
+pub mod Limits

@@ -1,0 +1,5 @@
+//! A replay.
+#![tactic(auto)]
+
+mod reading;
+mod writing;
