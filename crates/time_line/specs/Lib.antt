@@ -1,3 +1,4 @@
 pub mod Content
 pub mod TimeLine
 pub mod Fresh
+pub mod Bounds

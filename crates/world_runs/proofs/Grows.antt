@@ -1,5 +1,5 @@
 -- A line adds entries behind those that are there, and what the lines so far are doesn't change before it is done.
-use Rattle.std.proofs.Common.{◌≡◌, ◌∙◌, ℕ, zero, suc, Bool, true, false, is_some, if◌then◌else◌, ◌-◌, nat_lt, length, slice_get, Option, Some, None, Result, Ok, Err, List, [], ◌∷◌, ◌++◌, refl, sym, ap, subst, append_assoc, append-nil, inl, inr}
+use Rattle.std.proofs.Common.{◌≡◌, ◌∙◌, ℕ, zero, suc, Bool, true, false, is_some, if◌then◌else◌, ◌-◌, nat_lt, length, slice_get, Option, Some, None, Result, Ok, Err, List, [], ◌∷◌, ◌++◌, refl, sym, ap, append_assoc, append-nil}
 use Rattle.xt_base.specs.declared.event.Call.{Call}
 use Rattle.xt_base.specs.declared.file.Op.{Op}
 use Rattle.xt_base.specs.declared.file.Location.{Location}
@@ -22,7 +22,7 @@ use Rattle.world_runs.specs.World.{World, node_in, file_in}
 use Rattle.xt_base.specs.declared.status.Limited.TheVariants as limited
 use Rattle.time_line.specs.TimeLine.{operation_on}
 use Rattle.world_runs.specs.Rules.{called_file}
-use Rattle.world_runs.specs.Lines.{Applied, Whole, Stopped, least_pending, no_longer_pending, frame_bytes, within_limits, role_handles, osd_handles, client_handles, comes_to, delivered, settled, declared, started, client_calls, call_made, line_applied, one_step}
+use Rattle.world_runs.specs.Lines.{Applied, Whole, Stopped, least_pending, no_longer_pending, frame_bytes, within_limits, role_handles, osd_handles, client_handles, comes_to, delivered, settled, started, client_calls, call_made, line_applied, one_step}
 use Rattle.world_runs.specs.Runs.{left_by}
 
 -- the later world has the lines of the earlier one, and its entries with more behind them

@@ -1,0 +1,11 @@
+#!/usr/bin/env bash
+# The built program over the vectors, whose traces come of a model that was written apart from it, and over the
+# examples, whose traces were worked out by hand.
+set -u
+here=$(cd "$(dirname "$0")" && pwd)
+program=$(bash "$here/build.sh") || exit 1
+failed=0
+for folder in "$here/vectors" "$here/../examples"; do
+    bash "$here/vectors.sh" "$folder" "$program" || failed=1
+done
+exit $failed
