@@ -1,0 +1,17 @@
+pub mod Lists
+pub mod Entries
+pub mod Bytes
+pub mod Flat
+pub mod Tables
+pub mod Bodies
+pub mod Sound
+pub mod Growth
+pub mod Writes
+pub mod Commits
+pub mod Turns
+pub mod Asks
+pub mod Clients
+pub mod Lines
+pub mod Files
+pub mod Ends
+pub mod Runs

@@ -1,0 +1,38 @@
+-- a schedule that writes into a file and reads it
+use Rattle.std.specs.Prelude.{List, [], ◌∷◌}
+use Rattle.xt_base.specs.declared.ids.NodeId.{NodeId}
+use Rattle.xt_base.specs.declared.file.Kind.TheVariants as kind
+use Rattle.xt_base.specs.declared.file.Location.{Location}
+use Rattle.xt_base.specs.declared.event.Call.TheVariants as call
+use Rattle.xt_base.specs.declared.event.Outcome.TheVariants as outcome
+use Rattle.time_line.specs.declared.line.Line.{Line}
+use Rattle.time_line.specs.declared.line.Line.TheVariants as line
+use Rattle.time_line.specs.declared.entry.Entry.{Entry}
+use Rattle.time_line.specs.declared.entry.Entry.TheVariants as entry
+
+abbrev pub the_osd : NodeId
+the_osd = record { 0 = 1 }
+
+abbrev pub the_client : NodeId
+the_client = record { 0 = 2 }
+
+-- objects of four bytes on the one OSD
+abbrev pub the_location : Location
+the_location = record { version = 1; kind = kind.Replicated; stripe = 4; members = the_osd ∷ [] }
+
+-- two bytes are written behind the first place of the file's first object, and then the whole object is read
+abbrev pub write_then_read : List Line
+write_then_read =
+    line.Osd the_osd
+    ∷ line.Client the_client 0
+    ∷ line.File 7 the_location
+    ∷ line.Start the_osd 0
+    ∷ line.Call the_client (call.Write 7 0 1 (5 ∷ 6 ∷ []))
+    ∷ line.Settle 2
+    ∷ line.Call the_client (call.Read 7 0 0 4)
+    ∷ line.Settle 2
+    ∷ []
+
+-- the end of that read: after one write, a zero and the two bytes
+abbrev pub read_end : Entry
+read_end = entry.Done the_client 2 (outcome.Ok 1 (0 ∷ 5 ∷ 6 ∷ []))
