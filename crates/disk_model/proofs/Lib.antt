@@ -1,0 +1,5 @@
+pub mod Filled
+pub mod Images
+pub mod Moments
+pub mod Planned
+pub mod Record

@@ -1,0 +1,6 @@
+pub mod Changes
+pub mod Disk
+pub mod Laws
+pub mod Memory
+pub mod Notes
+pub mod Plan

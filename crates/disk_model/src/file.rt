@@ -1,0 +1,152 @@
+ghost use Rattle.std.specs.Prelude.{◌≡◌, is_err, ℕ};
+ghost use Rattle.disk_model.specs.Disk.{fault_count_after};
+
+use crate::Disk;
+use std::fs::{OpenFile, OpenOptions};
+use std::io::{self, Read, Seek, SeekFrom, Write};
+use std::path::Path;
+use std::rt::Files;
+use xt_base::{Failed, OutOfMemory};
+
+/// A real file. Nothing is claimed of its contents, nor of when a call fails: that it keeps what it was given through
+/// a crash, as a `Disk` does, is trusted. Before an `attach` each device call fails.
+#[derive(Debug, Drop)]
+pub struct FileDisk<R: Files> {
+    rt: R,
+    file: Option<R::File>,
+    faults: u64,
+    reserved: u64,
+    room: u128,
+}
+
+impl<R: Files> FileDisk<R> {
+    /// A disk with no file yet.
+    pub fn new(rt: R) -> FileDisk<R> {
+        FileDisk {
+            rt,
+            file: None,
+            faults: 0,
+            reserved: 0,
+            room: 0,
+        }
+    }
+}
+
+/// Counts a failure.
+fn counted<T>(faults: &mut u64, outcome: io::Result<T>) -> Result<T, Failed>
+    ensures { faults.new ≡ fault_count_after (is_err result) faults.old }
+{
+    match outcome {
+        Ok(value) => Ok(value),
+        Err(_) => {
+            *faults = faults.saturating_add(1);
+            Err(Failed)
+        }
+    }
+}
+
+/// Opens a file to read and write, and makes it with its place in its folder where there is none.
+fn open<R: Files>(rt: &R, name: &str) -> io::Result<R::File> {
+    let file = OpenOptions::new()
+        .read(true)
+        .write(true)
+        .create(true)
+        .open(rt, name)?;
+    let folder = match Path::new(name).parent() {
+        Some(folder) => folder.as_str(),
+        None => "/",
+    };
+    OpenOptions::new()
+        .read(true)
+        .open(rt, if folder.is_empty() { "." } else { folder })?
+        .sync_all()?;
+    Ok(file)
+}
+
+fn attached<F>(file: &mut Option<F>) -> io::Result<&mut F> {
+    match file {
+        Some(file) => Ok(file),
+        None => Err(io::ErrorKind::NotFound.into()),
+    }
+}
+
+fn length_of<F: OpenFile>(file: &mut Option<F>) -> io::Result<u64> {
+    Ok(attached(file)?.metadata()?.len())
+}
+
+fn read_at<F: Read + Seek>(file: &mut Option<F>, at: u64, buf: &mut [u8]) -> io::Result<()> {
+    let file = attached(file)?;
+    file.seek(SeekFrom::Start(at))?;
+    file.read_exact(buf)
+}
+
+fn write_at<F: Write + Seek>(file: &mut Option<F>, at: u64, piece: &[u8]) -> io::Result<()> {
+    let file = attached(file)?;
+    file.seek(SeekFrom::Start(at))?;
+    file.write_all(piece)
+}
+
+fn sync_data<F: OpenFile>(file: &mut Option<F>) -> io::Result<()> {
+    attached(file)?.sync_data()
+}
+
+impl<R: Files + Drop> Disk for FileDisk<R> {
+    ghost use Rattle.std.specs.Prelude.{false, []};
+    ghost use Rattle.std.proofs.lemmas.Bool.{false≢true};
+
+    ghost is_told = { false };
+
+    ghost kept = { λ d. record { read = []; synced = []; written = [] } };
+
+    ghost moment = { λ d. 0 };
+
+    ghost left_since = { λ d t image. Unit {0} };
+
+    ghost fault_count = { λ d. d.faults };
+
+    ghost fails = { λ d looks changes. false };
+
+    ghost reserved = { λ d. d.reserved };
+
+    ghost room = { λ d. d.room };
+
+    ghost counts_now = { λ d t image told le now. tt };
+
+    ghost only_now = { λ d image told left. absurd (false≢true told) };
+
+    ghost read_is_image = { λ d told. absurd (false≢true told) };
+
+    fn faults(&self) -> u64 {
+        self.faults
+    }
+
+    fn attach(&mut self, name: &str) -> Result<(), Failed> {
+        self.reserved = 0;
+        self.room = 0;
+        self.file = None;
+        self.file = Some(counted(&mut self.faults, open(&self.rt, name))?);
+        Ok(())
+    }
+
+    fn length(&mut self) -> Result<u64, Failed> {
+        counted(&mut self.faults, length_of(&mut self.file))
+    }
+
+    fn read(&mut self, at: u64, buf: &mut [u8]) -> Result<(), Failed> {
+        counted(&mut self.faults, read_at(&mut self.file, at, buf))
+    }
+
+    fn write(&mut self, at: u64, piece: &[u8]) -> Result<(), Failed> {
+        counted(&mut self.faults, write_at(&mut self.file, at, piece))
+    }
+
+    fn sync(&mut self) -> Result<(), Failed> {
+        counted(&mut self.faults, sync_data(&mut self.file))
+    }
+
+    fn reserve(&mut self, end: u64) -> Result<(), OutOfMemory> {
+        self.reserved = self.reserved.max(end);
+        self.room = self.room.max(2 * u128::from(end) + 4096);
+        Ok(())
+    }
+}

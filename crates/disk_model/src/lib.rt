@@ -1,0 +1,21 @@
+//! A disk as the layers above see it: what a read gives, what a crash at any moment may leave, and how often it
+//! has failed.
+//!
+//! `MemoryDisk` is a disk in memory whose contents contracts know, with chosen calls that fail and a chosen call
+//! in which it stops. `FileDisk` is a real file, of whose contents nothing is claimed.
+#![tactic(auto)]
+
+mod disk;
+mod file;
+mod filling;
+mod memory;
+mod note;
+mod plan;
+
+pub use disk::Disk;
+pub use file::FileDisk;
+pub use memory::MemoryDisk;
+pub use plan::Stop;
+
+#[cfg(test)]
+mod tests;

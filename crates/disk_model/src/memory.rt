@@ -1,0 +1,246 @@
+ghost use Rattle.std.specs.Prelude.{◌≡◌, ◌≤◌, ◌<◌, ◌+◌, ◌-◌, ◌*◌, ◌++◌, ◌∷◌, [], min, IfOk, OnOk, OnErr, is_err, true, IsTrue, length, take, drop, replicate, Option, None, ℕ};
+ghost use Rattle.std.specs.Vec.{vec_capacity, vec_len};
+ghost use Rattle.disk_model.specs.Disk.{overwritten};
+
+use crate::Disk;
+use crate::filling::fill_unsynced;
+use crate::note::Note;
+use crate::plan::{Plan, Stop};
+use std::alloc::{AllocError, Global};
+use std::marker::Model;
+use xt_base::{CallList, Failed, Octets, OutOfMemory};
+
+/// A disk in memory. Its calls fail as planned, and inside the reserved end and room not otherwise.
+///
+/// It takes memory in `reserve` and `image` alone. A write that fails has put its piece, too.
+#[derive(Debug, Drop)]
+pub struct MemoryDisk {
+    alloc: Global,
+    first: Octets,
+    /// What a read gives, once the first bytes were copied here.
+    content: Vec<u8>,
+    is_copied: bool,
+    notes: Vec<Note>,
+    pieces: Vec<u8>,
+    /// How many notes there were at the last sync that succeeded, and how many bytes.
+    synced_notes: usize,
+    synced_length: usize,
+    reserved: u64,
+    room: u64,
+    plan: Plan,
+}
+
+impl Model for MemoryDisk {
+    ghost use Rattle.disk_model.specs.Changes.{Memory};
+
+    ghost Value = { Memory };
+
+    ghost use Rattle.disk_model.specs.Memory.{seen, IsConsistent};
+
+    ghost view = { seen };
+
+    ghost invariant = { IsConsistent };
+}
+
+impl MemoryDisk {
+    ghost use Rattle.disk_model.specs.Changes.{Memory, memory_kept, IsLeft};
+    ghost use Rattle.disk_model.specs.Disk.{IsImage, IsFilled};
+
+    /// A disk with these bytes, all of them synced. `failing` has the numbers of the device calls that are to fail,
+    /// counted from 1.
+    pub fn new(alloc: Global, bytes: Octets, failing: CallList, stop: Option<Stop>) -> MemoryDisk
+        ensures { result ≡ record {
+          first = bytes;
+          changes = [];
+          reserved = 0;
+          room = 0;
+          plan = record { failing = failing; stop = stop; calls = 0; changes = 0; faults = 0 };
+        } }
+    {
+        let synced_length = bytes.as_slice().len();
+        MemoryDisk {
+            alloc,
+            first: bytes,
+            content: Vec::new(alloc),
+            is_copied: false,
+            notes: Vec::new(alloc),
+            pieces: Vec::new(alloc),
+            synced_notes: 0,
+            synced_length,
+            reserved: 0,
+            room: 0,
+            plan: Plan {
+                failing,
+                stop,
+                calls: 0,
+                changes: 0,
+                faults: 0,
+            },
+        }
+    }
+
+    /// The bytes after a crash now. Where the disk is to stop, each place that isn't synced holds the stop's byte;
+    /// else it holds what a read gives.
+    pub fn image(&self) -> Result<Octets, OutOfMemory>
+        ensures left { IfOk result (λ image. IsLeft self.now image) }
+        ensures image { IfOk result (λ image. IsImage (memory_kept self.now) image) }
+    {
+        match self.plan.stop {
+            Some(stop) => self.filled(stop.fill),
+            None => Octets::of(self.alloc, self.bytes()),
+        }
+    }
+
+    /// What a read gives, with this byte at each place that isn't synced.
+    fn filled(&self, fill: u8) -> Result<Octets, OutOfMemory>
+        ensures filled { IfOk result (λ image. IsFilled fill (memory_kept self.now) image) }
+    {
+        let mut bytes = Vec::from_slice(self.alloc, self.bytes())?;
+        let (_, notes) = self.notes.as_slice().split_at(self.synced_notes);
+        fill_unsynced(bytes.as_mut_slice(), self.synced_length, notes, fill);
+        Ok(Octets::from(bytes))
+    }
+
+    /// The bytes that a read gives.
+    fn bytes(&self) -> &[u8]
+        ensures { result.now ≡ (memory_kept self.now).read }
+    {
+        if self.is_copied {
+            self.content.as_slice()
+        } else {
+            self.first.as_slice()
+        }
+    }
+}
+
+impl Disk for MemoryDisk {
+    ghost use Rattle.std.specs.Prelude.{true, length};
+    ghost use Rattle.disk_model.specs.Changes.{memory_kept, MightHaveLeft};
+    ghost use Rattle.disk_model.specs.Plan.{planned};
+    ghost use Rattle.disk_model.specs.Laws.{memory_counts_now, memory_only_now, memory_read_is_image};
+
+    ghost is_told = { true };
+
+    ghost kept = { memory_kept };
+
+    ghost moment = { λ d. length d.changes };
+
+    ghost left_since = { λ d t image. MightHaveLeft d.first d.changes t image };
+
+    ghost fault_count = { λ d. d.plan.faults };
+
+    ghost fails = { λ d looks changes. planned d.plan looks changes };
+
+    ghost reserved = { λ d. d.reserved };
+
+    ghost room = { λ d. d.room };
+
+    ghost counts_now = { λ d t image told le now. memory_counts_now d t image le now };
+
+    ghost only_now = { λ d image told left. memory_only_now d image left };
+
+    ghost read_is_image = { λ d told. memory_read_is_image d };
+
+    fn faults(&self) -> u64 {
+        self.plan.faults
+    }
+
+    /// Takes every name, and keeps its bytes.
+    fn attach(&mut self, _name: &str) -> Result<(), Failed> {
+        self.reserved = 0;
+        self.room = 0;
+        self.plan.look()
+    }
+
+    fn length(&mut self) -> Result<u64, Failed> {
+        self.plan.look()?;
+        Ok(self.bytes().len() as u64)
+    }
+
+    fn read(&mut self, at: u64, buf: &mut [u8]) -> Result<(), Failed> {
+        self.plan.look()?;
+        let start = at as usize;
+        buf.copy_from_slice(&self.bytes()[start..start + buf.len()]);
+        Ok(())
+    }
+
+    fn write(&mut self, at: u64, piece: &[u8]) -> Result<(), Failed> {
+        let place = at as usize;
+        overwrite(&mut self.content, place, piece);
+        let note = Note::Wrote {
+            at: place,
+            len: piece.len(),
+        };
+        let _ = self.notes.push(note);
+        let _ = self.pieces.extend_from_slice(piece);
+        self.room -= piece.len() as u64 + 64;
+        self.plan.change()
+    }
+
+    fn sync(&mut self) -> Result<(), Failed> {
+        self.plan.change()?;
+        let _ = self.notes.push(Note::Synced);
+        self.synced_notes = self.notes.len();
+        self.synced_length = self.content.len();
+        self.room -= 64;
+        Ok(())
+    }
+
+    fn reserve(&mut self, end: u64) -> Result<(), OutOfMemory> {
+        let room = room_for(end)?;
+        if !self.is_copied {
+            copy_first(&mut self.content, self.first.as_slice(), end as usize)?;
+            self.is_copied = true;
+        }
+        ensure_capacity(&mut self.content, end as usize)?;
+        self.notes.reserve((room / 64) as usize + 1)?;
+        self.pieces.reserve(room as usize)?;
+        self.reserved = self.reserved.max(end);
+        self.room = self.room.max(room);
+        Ok(())
+    }
+}
+
+/// Puts a piece over the bytes from a place on, inside their capacity.
+fn overwrite(content: &mut Vec<u8>, at: usize, piece: &[u8])
+    requires { at + length piece.now ≤ vec_capacity content.old }
+    ensures bytes { content.new.items ≡ overwritten at piece.now content.old.items }
+    ensures capacity { vec_capacity content.old ≤ vec_capacity content.new }
+{
+    if content.len() < at {
+        let _ = content.resize(at, 0);
+    }
+    let over = piece.len().min(content.len() - at);
+    let (inside, past) = piece.split_at(over);
+    content.as_mut_slice()[at..at + over].copy_from_slice(inside);
+    let _ = content.extend_from_slice(past);
+}
+
+/// The room that reserving up to this end makes. Past the greatest 64-bit number there is no memory for it.
+fn room_for(end: u64) -> Result<u64, OutOfMemory>
+    ensures { IfOk result (λ room. room ≡ 2 * end + 4096) }
+{
+    match end.checked_mul(2) {
+        Some(twice) => twice.checked_add(4096).ok_or(AllocError),
+        None => Err(AllocError),
+    }
+}
+
+/// Makes a capacity of at least `capacity` bytes.
+fn ensure_capacity(content: &mut Vec<u8>, capacity: usize) -> Result<(), OutOfMemory>
+    ensures bytes { content.new.items ≡ content.old.items }
+    ensures capacity { OnOk result (capacity ≤ vec_capacity content.new) }
+    ensures grows { vec_capacity content.old ≤ vec_capacity content.new }
+{
+    content.reserve(capacity.saturating_sub(content.len()))
+}
+
+/// Copies bytes into an empty vector, with a capacity of at least `capacity` bytes.
+fn copy_first(content: &mut Vec<u8>, first: &[u8], capacity: usize) -> Result<(), OutOfMemory>
+    ensures copied { OnOk result (content.new.items ≡ first.now) }
+    ensures grows { vec_capacity content.old ≤ vec_capacity content.new }
+{
+    content.clear();
+    content.reserve(capacity.max(first.len()))?;
+    content.extend_from_slice(first)
+}

@@ -1,0 +1,6 @@
+/// A line of the record of calls. The pieces themselves lie behind one another.
+#[derive(Clone, Copy, Debug)]
+pub enum Note {
+    Wrote { at: usize, len: usize },
+    Synced,
+}

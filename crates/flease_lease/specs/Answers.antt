@@ -1,0 +1,23 @@
+-- the answers of the definitions as the calls give them
+use Rattle.xt_protocol.specs.LeaseRows as protocol
+use Rattle.flease_lease.specs.declared.asking.Asked.{Asked}
+use Rattle.flease_lease.specs.declared.asking.Asked.TheVariants as asked
+use Rattle.flease_lease.specs.declared.writing.Written.{Written}
+use Rattle.flease_lease.specs.declared.writing.Written.TheVariants as written
+use Rattle.flease_lease.specs.declared.held.Renewal.{Renewal}
+use Rattle.flease_lease.specs.declared.held.Renewal.TheVariants as renewal
+
+abbrev pub shown_asked : protocol.Asked → Asked
+shown_asked (protocol.asked_still round) = asked.Still round
+shown_asked (protocol.asked_write round targets) = asked.Write round targets
+shown_asked (protocol.asked_found proposer lease) = asked.Found proposer lease
+
+abbrev pub shown_written : protocol.Written → Written
+shown_written (protocol.written_still round) = written.Still round
+shown_written (protocol.written_won held) = written.Won held
+shown_written (protocol.written_late proposer) = written.Late proposer
+
+abbrev pub shown_renewal : protocol.Renewal → Renewal
+shown_renewal protocol.no_news = renewal.Nothing
+shown_renewal (protocol.renewal_write targets) = renewal.WriteTo targets
+shown_renewal (protocol.renewed end) = renewal.Renewed end

@@ -1,0 +1,4 @@
+pub mod Answers
+pub mod Pairs
+pub mod Rounds
+pub mod SeatList

@@ -1,5 +1,0 @@
-//! A replay.
-#![tactic(auto)]
-
-mod reading;
-mod writing;

@@ -1,0 +1,6 @@
+pub mod Digits
+pub mod Hex
+pub mod LineAgain
+pub mod Many
+pub mod Trace
+pub mod WordsAgain

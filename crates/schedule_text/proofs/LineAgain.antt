@@ -1,0 +1,149 @@
+-- A line that was written is read.
+use Rattle.std.proofs.Common.{◌≡◌, ℕ, ◌^◌, ◌<◌, ◌≤◌, Bool, List, [], ◌∷◌, Some, refl, sym, ap, subst, ◌∙◌, arith}
+use Rattle.std.specs.Prelude.{codes}
+use Rattle.std.specs.Fmt.{decimal}
+use Rattle.xt_base.specs.declared.file.Kind.{Kind}
+use Rattle.xt_base.specs.declared.file.Kind.TheVariants.{Replicated}
+use Rattle.xt_base.specs.declared.file.Location.{Location}
+use Rattle.xt_base.specs.declared.event.Call.{Call}
+use Rattle.xt_base.specs.declared.event.Call.TheVariants as call
+use Rattle.time_line.specs.declared.line.Line.{Line}
+use Rattle.time_line.specs.declared.line.Line.TheVariants as line
+use Rattle.xt_base.specs.declared.ids.NodeId.{NodeId}
+use Rattle.schedule_text.specs.Words.{spaced, hex_of}
+use Rattle.schedule_text.specs.LineText.{line_text, IsLine, IsPlace, IsOneOsd, IsCall, AreBytes}
+use Rattle.schedule_text.specs.CallText.{call_words, file_words}
+use Rattle.schedule_text.specs.Reading.{first_word, other_words}
+use Rattle.schedule_text.specs.LineReading.{times_at, osd_at, client_at, file_at, start_at, tick_at, read_at, write_place, write_at, deliver_at, drop_at, settle_at, named_line, line_at}
+use Rattle.schedule_text.proofs.WordsAgain.{number_at_again, first_again, others_again, hex-IsWord, hex_again}
+
+abbrev IsRead : Line → Type 0
+IsRead line = line_at (line_text line) ≡ Some line
+
+times_again : (lease drift : ℕ) → lease < 2 ^ 64 → drift < 2 ^ 64 → IsRead (line.Times lease drift)
+unfolding line_at named_line times_at first_word other_words
+times_again lease drift p q =
+    rw (number_at_again 64 lease (decimal drift ∷ []) p (omega arith), number_at_again 64 drift [] q (omega arith)) refl
+
+osd_again : (node : NodeId) → node.0 < 2 ^ 32 → IsRead (line.Osd node)
+unfolding line_at named_line osd_at first_word other_words
+osd_again node p = rw (number_at_again 32 node.0 [] p (omega arith)) refl
+
+client_again : (node : NodeId) (clock : ℕ) → node.0 < 2 ^ 32 → clock < 2 ^ 64 → IsRead (line.Client node clock)
+unfolding line_at named_line client_at first_word other_words
+client_again node clock p q =
+    rw (number_at_again 32 node.0 (decimal clock ∷ []) p (omega arith), number_at_again 64 clock [] q (omega arith)) refl
+
+start_again : (node : NodeId) (clock : ℕ) → node.0 < 2 ^ 32 → clock < 2 ^ 64 → IsRead (line.Start node clock)
+unfolding line_at named_line start_at first_word other_words
+start_again node clock p q =
+    rw (number_at_again 32 node.0 (decimal clock ∷ []) p (omega arith), number_at_again 64 clock [] q (omega arith)) refl
+
+tick_again : (count : ℕ) → count < 2 ^ 64 → IsRead (line.Tick count)
+unfolding line_at named_line tick_at first_word other_words
+tick_again count p = rw (number_at_again 64 count [] p (omega arith)) refl
+
+deliver_again : (number : ℕ) → number < 2 ^ 128 → IsRead (line.Deliver number)
+unfolding line_at named_line deliver_at first_word other_words
+deliver_again number p = rw (number_at_again 128 number [] p p) refl
+
+drop_again : (number : ℕ) → number < 2 ^ 128 → IsRead (line.Drop number)
+unfolding line_at named_line drop_at first_word other_words
+drop_again number p = rw (number_at_again 128 number [] p p) refl
+
+settle_again : (count : ℕ) → count < 2 ^ 128 → IsRead (line.Settle count)
+unfolding line_at named_line settle_at first_word other_words
+settle_again count p = rw (number_at_again 128 count [] p p) refl
+
+-- where a replicated file lies that has one OSD
+abbrev on_one : ℕ → NodeId → Location
+on_one stripe node = record { version = 1; kind = Replicated; stripe = stripe; members = node ∷ [] }
+
+-- other_words stays as it is here, so the name is passed by lemma
+file_again : (number stripe : ℕ) (node : NodeId) → number < 2 ^ 64 → stripe < 2 ^ 32 → node.0 < 2 ^ 32 → file_at (spaced (file_words number (on_one stripe node))) ≡ Some (line.File number (on_one stripe node))
+unfolding file_at
+file_again number stripe node p q r =
+    rw (
+      number_at_again 64 number (codes "rep" ∷ decimal stripe ∷ decimal node.0 ∷ []) p (omega arith),
+      others_again (codes "rep") (decimal stripe ∷ decimal node.0 ∷ []) (omega arith, (omega arith, (omega arith, tt))),
+      number_at_again 32 stripe (decimal node.0 ∷ []) q (omega arith),
+      number_at_again 32 node.0 [] r (omega arith),
+    ) refl
+
+file_line_again : (number stripe : ℕ) (node : NodeId) → number < 2 ^ 64 → stripe < 2 ^ 32 → node.0 < 2 ^ 32 → IsRead (line.File number (on_one stripe node))
+unfolding line_at named_line first_word other_words
+file_line_again number stripe node p q r = file_again number stripe node p q r
+
+read_again : (client : NodeId) (file object at len : ℕ) → client.0 < 2 ^ 32 → file < 2 ^ 64 → object < 2 ^ 64 → at < 2 ^ 32 → len < 2 ^ 32 → IsRead (line.Call client (call.Read file object at len))
+unfolding line_at named_line read_at first_word other_words
+read_again client file object at len p q r s t =
+    rw (
+      number_at_again 32 client.0 (decimal file ∷ decimal object ∷ decimal at ∷ decimal len ∷ []) p (omega arith),
+      number_at_again 64 file (decimal object ∷ decimal at ∷ decimal len ∷ []) q (omega arith),
+      number_at_again 64 object (decimal at ∷ decimal len ∷ []) r (omega arith),
+      number_at_again 32 at (decimal len ∷ []) s (omega arith),
+      number_at_again 32 len [] t (omega arith),
+    ) refl
+
+write_words_again : (client : NodeId) (file object at : ℕ) (bytes : List ℕ) → client.0 < 2 ^ 32 → file < 2 ^ 64 → object < 2 ^ 64 → at < 2 ^ 32 → AreBytes bytes → write_at (spaced (decimal client.0 ∷ call_words (call.Write file object at bytes))) ≡ Some (line.Call client (call.Write file object at bytes))
+unfolding write_at write_place
+write_words_again client file object at bytes p q r s fits =
+    rw (
+      number_at_again 32 client.0 (decimal file ∷ decimal object ∷ decimal at ∷ hex_of bytes ∷ []) p (omega arith),
+      number_at_again 64 file (decimal object ∷ decimal at ∷ hex_of bytes ∷ []) q (omega arith),
+      number_at_again 64 object (decimal at ∷ hex_of bytes ∷ []) r (omega arith),
+      number_at_again 32 at (hex_of bytes ∷ []) s (omega arith),
+      first_again (hex_of bytes) [] (hex-IsWord bytes fits),
+      hex_again bytes fits,
+    ) refl
+
+write_again : (client : NodeId) (file object at : ℕ) (bytes : List ℕ) → client.0 < 2 ^ 32 → file < 2 ^ 64 → object < 2 ^ 64 → at < 2 ^ 32 → AreBytes bytes → IsRead (line.Call client (call.Write file object at bytes))
+unfolding line_at first_word other_words
+write_again client file object at bytes p q r s fits = write_words_again client file object at bytes p q r s fits
+
+one_of : (nodes : List NodeId) → IsOneOsd nodes → (node : NodeId) × (nodes ≡ node ∷ []) × (node.0 < 2 ^ 32)
+one_of [] one = absurd one
+one_of (node ∷ []) one = (node, refl, one)
+one_of (node ∷ next ∷ nodes) one = absurd one
+
+place_of : (version : ℕ) (kind : Kind) (stripe : ℕ) (members : List NodeId) (node : NodeId) → version ≡ 1 → kind ≡ Replicated → members ≡ node ∷ []
+    → (let location : Location = record { version = version; kind = kind; stripe = stripe; members = members } in location) ≡ on_one stripe node
+place_of version kind stripe members node p q r = rw (p, q, r) refl
+
+place_again : (number : ℕ) (location : Location) → number < 1000000 → IsPlace location → IsRead (line.File number location)
+place_again number location p place =
+    let one = one_of location.members place.one in
+    let e : location ≡ on_one location.stripe one.0 = place_of location.version location.kind location.stripe location.members one.0 place.version place.kind one.1 in
+    let most : location.stripe ≤ 131072 = place.stripe.most in
+    subst (λ (l : Location). IsRead (line.File number l)) (sym e) (file_line_again number location.stripe one.0 (omega arith) (omega arith) one.2)
+
+-- a call that was written is read
+call_again : (client : NodeId) (made : Call) → client.0 < 2 ^ 32 → IsCall made → IsRead (line.Call client made)
+call_again client (call.Read file object at len) p range =
+    read_again client file object at len p range.file_fits (omega arith) range.at_fits (omega arith)
+call_again client (call.Write file object at bytes) p written =
+    write_again client file object at bytes p written.0.file_fits (omega arith) written.0.at_fits written.1
+call_again client (call.Truncate file size epoch) p never = absurd never
+call_again client (call.Meta user group wanted) p never = absurd never
+call_again client (call.Report user group file) p never = absurd never
+call_again client (call.Registry wanted) p never = absurd never
+
+-- a line that was written is read
+pub line_again : (first : Bool) (l : Line) → IsLine first l → IsRead l
+line_again first (line.Times lease drift) h = times_again lease drift (omega arith) (omega arith)
+line_again first (line.Osd node) h = osd_again node h
+line_again first (line.Client node clock) h = client_again node clock h.0 (omega arith)
+line_again first (line.File number location) h = place_again number location h.0 h.1
+line_again first (line.Start node clock) h = start_again node clock h.0 (omega arith)
+line_again first (line.Tick count) h = tick_again count (omega arith)
+line_again first (line.Call client made) h = call_again client made h.0 h.1
+line_again first (line.Deliver number) h = deliver_again number h
+line_again first (line.Drop number) h = drop_again number h
+line_again first (line.Settle count) h = settle_again count h
+
+-- no two lines are spelled alike
+pub one_line : (first second : Bool) (a b : Line) → IsLine first a → IsLine second b → line_text a ≡ line_text b → a ≡ b
+one_line first second a b p q e = some_is (sym (line_again first a p) ∙ ap line_at e ∙ line_again second b q)
+  where
+    some_is : {x y : Line} → Some x ≡ Some y → x ≡ y
+    some_is e = cc

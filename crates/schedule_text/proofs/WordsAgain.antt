@@ -1,0 +1,85 @@
+-- What is spelled as a word is read as one.
+use Rattle.std.proofs.Common.{◌≡◌, ℕ, suc, ◌+◌, ◌/◌, ◌%◌, ◌^◌, ◌<◌, not, List, [], ◌∷◌, ◌++◌, length, Some, refl, ap, eq-eqb, arith}
+use Rattle.std.specs.Prelude.{◌==◌}
+use Rattle.std.specs.List.{position_or_len, fold}
+use Rattle.std.specs.Fmt.{decimal}
+use Rattle.std.specs.Str.Parse.{AllDigits}
+use Rattle.std.proofs.lemmas.Bool.{lt-ltb, ne_eqb}
+use Rattle.std.proofs.lemmas.List.{take_at, append-nil}
+use Rattle.std.proofs.Math.Seq.{drop-append-add, take-length}
+use Rattle.std.proofs.Math.ListN.{drop_of_length-le}
+use Rattle.std.proofs.lemmas.List.Folds.{prefix_len-append}
+use Rattle.std.proofs.lemmas.List.Sums.{fold-append}
+use Rattle.std.proofs.lemmas.Fmt.{decimal_is_IsNumeral_wide, decimal_by_steps_wide}
+use Rattle.std.proofs.lemmas.Str.Parse.{digit_from_value}
+use Rattle.std.proofs.lemmas.Bool.Decides.{nat_tests}
+use Rattle.schedule_text.specs.LineText.{AreBytes}
+use Rattle.schedule_text.specs.Words.{spaced, hex_of, hex_digit}
+use Rattle.schedule_text.specs.Reading.{first_word, other_words, with_digit, number_of, number_at, digit_of, bytes_of}
+
+-- no space stands in it
+abbrev pub IsWord : List ℕ → Type 0
+IsWord [] = Unit {0}
+IsWord (byte ∷ word) = (32 < byte) × IsWord word
+
+-- the bytes of a word that are passed over
+word_len : (word : List ℕ) → IsWord word → position_or_len (λ byte. byte == 32) word ≡ length word
+word_len [] w = refl
+word_len (byte ∷ word) w =
+    rw (ne_eqb byte 32 (omega arith), word_len word w.1) (omega arith)
+
+take_word : (word rest : List ℕ) → IsWord word → position_or_len (λ byte. byte == 32) (word ++ 32 ∷ rest) ≡ length word
+take_word word rest w =
+    let e = word_len word w in
+    rw (prefix_len-append (λ byte. not (byte == 32)) word (32 ∷ rest), e) (let t = eq-eqb (length word) (length word) refl in rw t (omega arith))
+
+pub decimal-IsWord : (n : ℕ) → n < 10 ^ 64 → IsWord (decimal n)
+decimal-IsWord n wide = words (decimal n) (decimal_is_IsNumeral_wide n wide).0.1
+  where
+    words : (digits : List ℕ) → AllDigits 10 digits → IsWord digits
+    words [] d = tt
+    words (c ∷ cs) d = (omega (arith, digit_from_value c d.0), words cs d.1)
+
+pub number_again : (n : ℕ) → n < 2 ^ 128 → number_of (decimal n) ≡ n
+unfolding number_of
+number_again n small = decimal_by_steps_wide (λ m digits. m < 2 ^ 128 → fold with_digit 0 digits ≡ m) (λ m one below. omega arith) (λ m digits large before below. let e = before (omega arith) in rw (fold-append with_digit 0 digits ((48 + m % 10) ∷ []), e) (omega arith)) n (omega arith) small
+
+-- the first of these words, and the others
+pub first_again : (word : List ℕ) (words : List (List ℕ)) → IsWord word → first_word (spaced (word ∷ words)) ≡ word
+unfolding first_word
+first_again word [] w = rw (append-nil word, word_len word w) (take-length word)
+first_again word (next ∷ words) w =
+    rw (take_word word (spaced (next ∷ words)) w) (take_at word (32 ∷ spaced (next ∷ words)) (length word) refl)
+
+pub others_again : (word : List ℕ) (words : List (List ℕ)) → IsWord word → other_words (spaced (word ∷ words)) ≡ spaced words
+unfolding other_words
+others_again word [] w = rw (append-nil word, word_len word w) (drop_of_length-le word (omega arith))
+others_again word (next ∷ words) w =
+    rw (take_word word (spaced (next ∷ words)) w) (drop-append-add word (32 ∷ spaced (next ∷ words)) 1)
+
+-- a number that was written is read
+pub number_at_again : (bits n : ℕ) (words : List (List ℕ)) → n < 2 ^ bits → n < 2 ^ 128 → number_at bits (spaced (decimal n ∷ words)) ≡ Some (n, spaced words)
+unfolding number_at
+number_at_again bits n words small read =
+    let w = decimal-IsWord n (omega arith) in
+    let t = lt-ltb n (2 ^ bits) small in
+    rw (first_again (decimal n) words w, others_again (decimal n) words w, number_again n read, t) refl
+
+-- a hex digit is no space, and stands for its number
+digit_above : (n : ℕ) → n < 16 → 32 < hex_digit n
+digit_above n small = grind (arith, nat_tests)
+
+digit_again : (n : ℕ) → n < 16 → digit_of (hex_digit n) ≡ n
+digit_again n small = grind (arith, nat_tests)
+
+pub hex-IsWord : (bytes : List ℕ) → AreBytes bytes → IsWord (hex_of bytes)
+hex-IsWord [] fits = tt
+hex-IsWord (byte ∷ bytes) fits =
+    let here : byte < 256 = fits 0 in
+    (digit_above (byte / 16) (omega arith), (digit_above (byte % 16) (omega arith), hex-IsWord bytes (λ i. fits (suc i))))
+
+pub hex_again : (bytes : List ℕ) → AreBytes bytes → bytes_of (hex_of bytes) ≡ bytes
+hex_again [] fits = refl
+hex_again (byte ∷ bytes) fits =
+    let here : byte < 256 = fits 0 in
+    rw (digit_again (byte / 16) (omega arith), digit_again (byte % 16) (omega arith), hex_again bytes (λ i. fits (suc i))) (ap (λ (n : ℕ). n ∷ bytes) (omega arith))

@@ -1,0 +1,39 @@
+-- the lines of a trace: how each is spelled
+use Rattle.std.specs.Prelude.{ℕ, List, [], ◌∷◌, ◌++◌, codes}
+use Rattle.std.specs.List.{flat_map}
+use Rattle.std.specs.Fmt.{decimal}
+use Rattle.xt_base.specs.declared.ids.NodeId.{NodeId}
+use Rattle.xt_base.specs.declared.ids.OpId.{OpId}
+use Rattle.time_line.specs.declared.entry.Entry.{Entry}
+use Rattle.time_line.specs.declared.entry.Entry.TheVariants as entry
+use Rattle.schedule_text.specs.Words.{spaced, hex_or_dash}
+use Rattle.schedule_text.specs.CallText.{file_words, call_name, call_words}
+use Rattle.schedule_text.specs.OutcomeText.{outcome_words}
+
+-- N F COUNT CLIENT NUMBER
+abbrev pub update_words : NodeId → ℕ → ℕ → OpId → List (List ℕ)
+update_words node file count id =
+    decimal node.0 ∷ decimal file ∷ decimal count ∷ decimal id.client.0 ∷ decimal id.number ∷ []
+
+-- the words of a trace's line
+abbrev pub entry_words : Entry → List (List ℕ)
+entry_words (entry.Times lease drift) = codes "times" ∷ decimal lease ∷ decimal drift ∷ []
+entry_words (entry.File number location) = codes "file" ∷ file_words number location
+entry_words (entry.Tick count) = codes "tick" ∷ decimal count ∷ []
+entry_words (entry.Up node boot clock) = codes "up" ∷ decimal node.0 ∷ decimal boot.0 ∷ decimal clock ∷ []
+entry_words (entry.Begin client number call) =
+    codes "begin" ∷ decimal client.0 ∷ decimal number ∷ call_name call ∷ call_words call
+entry_words (entry.Issue node file count id) = codes "issue" ∷ update_words node file count id
+entry_words (entry.Commit node file count id) = codes "commit" ∷ update_words node file count id
+entry_words (entry.Answer node file id count bytes) =
+    codes "answer" ∷ decimal node.0 ∷ decimal file ∷ decimal id.client.0 ∷ decimal id.number ∷ decimal count ∷ hex_or_dash bytes ∷ []
+entry_words (entry.Done client number outcome) =
+    codes "done" ∷ decimal client.0 ∷ decimal number ∷ outcome_words outcome
+
+-- the one spelling of an entry, without the line feed that ends it
+abbrev pub entry_text : Entry → List ℕ
+entry_text e = spaced (entry_words e)
+
+-- a trace: its entries, a line feed behind each
+abbrev pub trace_text : List Entry → List ℕ
+trace_text entries = flat_map (λ e. entry_text e ++ 10 ∷ []) entries

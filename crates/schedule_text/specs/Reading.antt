@@ -1,0 +1,37 @@
+-- how a line is read: loosely, since its spelling is compared with it afterwards
+use Rattle.std.specs.Prelude.{ℕ, List, [], ◌∷◌, ◌+◌, ◌-◌, ◌*◌, ◌%◌, ◌^◌, ◌==◌, min, nat_lt, if◌then◌else◌, Option, Some, None, option_and_then}
+use Rattle.std.specs.List.{fold, before_first, after_first}
+
+infixl 10 ◌>>=◌
+abbrev pub ◌>>=◌ : {A B : Type 0} → Option A → (A → Option B) → Option B
+o >>= f = option_and_then f o
+
+-- the bytes before the first space
+unfoldable pub first_word : List ℕ → List ℕ
+first_word bytes = before_first (λ byte. byte == 32) bytes
+
+-- the bytes behind the first space
+unfoldable pub other_words : List ℕ → List ℕ
+other_words bytes = after_first (λ byte. byte == 32) bytes
+
+-- a number with a digit behind it, or the greatest number that is read
+abbrev pub with_digit : ℕ → ℕ → ℕ
+with_digit number byte = min (min (number * 10) (2 ^ 128 - 1) + (byte - 48)) (2 ^ 128 - 1)
+
+-- the number that digits spell
+unfoldable pub number_of : List ℕ → ℕ
+number_of word = fold with_digit 0 word
+
+-- a number below 2 to the power of `bits`, and the words behind it
+unfoldable pub number_at : ℕ → List ℕ → Option (ℕ × List ℕ)
+number_at bits words = if nat_lt (number_of (first_word words)) (2 ^ bits) then Some (number_of (first_word words), other_words words) else None
+
+-- what a hex digit stands for
+abbrev pub digit_of : ℕ → ℕ
+digit_of byte = if nat_lt byte 58 then byte % 16 else (byte + 9) % 16
+
+-- the bytes that hex digits spell
+abbrev pub bytes_of : List ℕ → List ℕ
+bytes_of [] = []
+bytes_of (high ∷ []) = []
+bytes_of (high ∷ low ∷ digits) = (digit_of high * 16 + digit_of low) ∷ bytes_of digits

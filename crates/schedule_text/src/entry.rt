@@ -1,0 +1,163 @@
+ghost use Rattle.std.specs.Prelude.{◌≡◌, ◌++◌, ◌∷◌, [], OnOk, IfOk, codes};
+ghost use Rattle.std.specs.Fmt.{decimal};
+ghost use Rattle.schedule_text.specs.Words.{behind, spaced, hex_or_dash};
+ghost use Rattle.schedule_text.specs.CallText.{call_name, call_words};
+ghost use Rattle.schedule_text.specs.OutcomeText.{outcome_words};
+ghost use Rattle.schedule_text.specs.EntryText.{entry_text, trace_text, update_words};
+
+use crate::call::{call_name, push_call};
+use crate::outcome::push_outcome;
+use crate::spelling::{
+    push_bytes_or_dash, push_clock, push_file_line, push_named, push_named_node, push_node,
+    push_number, push_times, push_word,
+};
+use std::alloc::Global;
+use time_line::Entry;
+use xt_base::{Boot, Call, NodeId, Octets, OpId, OutOfMemory, Outcome};
+
+/// Appends ` CLIENT NUMBER`.
+fn push_id(out: &mut Vec<u8>, id: OpId) -> Result<(), OutOfMemory>
+    ensures { OnOk result (out.new.items ≡ out.old.items ++ behind (decimal id.client.0 ∷ decimal id.number ∷ [])) }
+{
+    push_node(out, id.client)?;
+    push_number(out, id.number)
+}
+
+/// Appends `up N BOOT CLOCK`.
+fn push_up(out: &mut Vec<u8>, node: NodeId, boot: Boot, clock: u64) -> Result<(), OutOfMemory>
+    ensures { OnOk result (out.new.items ≡ out.old.items ++ spaced (codes "up" ∷ decimal node.0 ∷ decimal boot.0 ∷ decimal clock ∷ [])) }
+{
+    push_clock(out, b"up", node, boot.0)?;
+    push_number(out, clock)
+}
+
+/// Appends `begin C NUMBER` and the call.
+fn push_begin(
+    out: &mut Vec<u8>,
+    client: NodeId,
+    number: u64,
+    call: &Call,
+) -> Result<(), OutOfMemory>
+    ensures { OnOk result (out.new.items ≡ out.old.items ++ spaced (codes "begin" ∷ decimal client.0 ∷ decimal number ∷ call_name call.now ∷ call_words call.now)) }
+{
+    push_clock(out, b"begin", client, number)?;
+    push_word(out, call_name(call))?;
+    push_call(out, call)
+}
+
+/// Appends a name and `N F COUNT CLIENT NUMBER`.
+fn push_update(
+    out: &mut Vec<u8>,
+    name: &[u8],
+    node: NodeId,
+    file: u64,
+    count: u64,
+    id: OpId,
+) -> Result<(), OutOfMemory>
+    ensures { OnOk result (out.new.items ≡ out.old.items ++ spaced (name.now ∷ update_words node file count id)) }
+{
+    push_clock(out, name, node, file)?;
+    push_number(out, count)?;
+    push_id(out, id)
+}
+
+/// Appends `answer N F CLIENT NUMBER COUNT HEX`.
+fn push_answer(
+    out: &mut Vec<u8>,
+    node: NodeId,
+    file: u64,
+    id: OpId,
+    count: u64,
+    bytes: &Octets,
+) -> Result<(), OutOfMemory>
+    ensures { OnOk result (out.new.items ≡ out.old.items ++ spaced (codes "answer" ∷ decimal node.0 ∷ decimal file ∷ decimal id.client.0 ∷ decimal id.number ∷ decimal count ∷ hex_or_dash bytes.now ∷ [])) }
+{
+    push_clock(out, b"answer", node, file)?;
+    push_id(out, id)?;
+    push_number(out, count)?;
+    push_bytes_or_dash(out, bytes.as_slice())
+}
+
+/// Appends `done C NUMBER` and how the call ended.
+fn push_done(
+    out: &mut Vec<u8>,
+    client: NodeId,
+    number: u64,
+    outcome: &Outcome,
+) -> Result<(), OutOfMemory>
+    ensures { OnOk result (out.new.items ≡ out.old.items ++ spaced (codes "done" ∷ decimal client.0 ∷ decimal number ∷ outcome_words outcome.now)) }
+{
+    push_clock(out, b"done", client, number)?;
+    push_outcome(out, outcome)
+}
+
+/// Appends an entry, without a line feed.
+fn push_entry(out: &mut Vec<u8>, entry: &Entry) -> Result<(), OutOfMemory>
+    ensures { OnOk result (out.new.items ≡ out.old.items ++ entry_text entry.now) }
+{
+    match entry {
+        Entry::Times { lease, drift } => push_times(out, *lease, *drift),
+        Entry::File { number, location } => push_file_line(out, *number, location),
+        Entry::Tick { count } => push_named(out, b"tick", u128::from(*count)),
+        Entry::Up { node, boot, clock } => push_up(out, *node, *boot, *clock),
+        Entry::Begin {
+            client,
+            number,
+            call,
+        } => push_begin(out, *client, *number, call),
+        Entry::Issue {
+            node,
+            file,
+            count,
+            id,
+        } => push_update(out, b"issue", *node, *file, *count, *id),
+        Entry::Commit {
+            node,
+            file,
+            count,
+            id,
+        } => push_update(out, b"commit", *node, *file, *count, *id),
+        Entry::Answer {
+            node,
+            file,
+            id,
+            count,
+            bytes,
+        } => push_answer(out, *node, *file, *id, *count, bytes),
+        Entry::Done {
+            client,
+            number,
+            outcome,
+        } => push_done(out, *client, *number, outcome),
+    }
+}
+
+/// The one spelling of an entry, without a line feed.
+pub fn print_entry(alloc: Global, entry: &Entry) -> Result<Octets, OutOfMemory>
+    ensures { IfOk result (λ text. text ≡ entry_text entry.now) }
+{
+    let mut out = Vec::new(alloc);
+    push_entry(&mut out, entry)?;
+    Ok(Octets::from(out))
+}
+
+/// Appends an entry and a line feed.
+fn push_entry_line(out: &mut Vec<u8>, entry: &Entry) -> Result<(), OutOfMemory>
+    ensures { OnOk result (out.new.items ≡ out.old.items ++ (entry_text entry.now ++ 10 ∷ [])) }
+{
+    push_entry(out, entry)?;
+    out.push(b'\n')?;
+    Ok(())
+}
+
+/// The entries, a line feed behind each.
+#[tactic(auto, using(crate::proofs::Trace::entry_step))]
+pub fn print_entries(alloc: Global, entries: &[Entry]) -> Result<Octets, OutOfMemory>
+    ensures { IfOk result (λ text. text ≡ trace_text entries.now) }
+{
+    let mut out = Vec::new(alloc);
+    for entry in entries {
+        push_entry_line(&mut out, entry)?;
+    }
+    Ok(Octets::from(out))
+}

@@ -1,0 +1,195 @@
+ghost use Rattle.std.specs.Prelude.{◌≡◌, IfOk, MatchOption, Some, None};
+ghost use Rattle.schedule_text.specs.LineReading.{times_at, osd_at, client_at, file_at, start_at, tick_at, read_at, write_place, write_at, deliver_at, drop_at, settle_at, named_line, line_at};
+
+use crate::words::{bytes_of, cut, u32_at, u64_at, u128_at};
+use std::alloc::Global;
+use time_line::Line;
+use xt_base::{Call, Kind, Location, Members, NodeId, OutOfMemory};
+
+/// `times L E`
+#[tactic(auto, unfolding(crate::specs::LineReading::times_at))]
+pub(crate) fn times(words: &[u8]) -> Option<Line>
+    ensures { result ≡ times_at words.now }
+{
+    let (lease, words) = u64_at(words)?;
+    let (drift, _) = u64_at(words)?;
+    Some(Line::Times { lease, drift })
+}
+
+/// `osd N`
+#[tactic(auto, unfolding(crate::specs::LineReading::osd_at))]
+pub(crate) fn osd(words: &[u8]) -> Option<Line>
+    ensures { result ≡ osd_at words.now }
+{
+    let (node, _) = u32_at(words)?;
+    Some(Line::Osd { node: NodeId(node) })
+}
+
+/// `client N CLOCK`
+#[tactic(auto, unfolding(crate::specs::LineReading::client_at))]
+pub(crate) fn client(words: &[u8]) -> Option<Line>
+    ensures { result ≡ client_at words.now }
+{
+    let (node, words) = u32_at(words)?;
+    let (clock, _) = u64_at(words)?;
+    let node = NodeId(node);
+    Some(Line::Client { node, clock })
+}
+
+/// `file F rep STRIPE N`
+#[tactic(auto, unfolding(crate::specs::LineReading::file_at))]
+pub(crate) fn file(words: &[u8]) -> Option<Line>
+    ensures { result ≡ file_at words.now }
+{
+    let (number, words) = u64_at(words)?;
+    let (_, words) = cut(words);
+    let (stripe, words) = u32_at(words)?;
+    let (node, _) = u32_at(words)?;
+    let location = Location {
+        version: 1,
+        kind: Kind::Replicated,
+        stripe,
+        members: Members::new(&[NodeId(node)]).ok()?,
+    };
+    Some(Line::File { number, location })
+}
+
+/// `start N CLOCK`
+#[tactic(auto, unfolding(crate::specs::LineReading::start_at))]
+pub(crate) fn start(words: &[u8]) -> Option<Line>
+    ensures { result ≡ start_at words.now }
+{
+    let (node, words) = u32_at(words)?;
+    let (clock, _) = u64_at(words)?;
+    let node = NodeId(node);
+    Some(Line::Start { node, clock })
+}
+
+/// `tick COUNT`
+#[tactic(auto, unfolding(crate::specs::LineReading::tick_at))]
+pub(crate) fn tick(words: &[u8]) -> Option<Line>
+    ensures { result ≡ tick_at words.now }
+{
+    let (count, _) = u64_at(words)?;
+    Some(Line::Tick { count })
+}
+
+/// `read C F OBJ AT LEN`
+#[tactic(auto, unfolding(crate::specs::LineReading::read_at))]
+pub(crate) fn read(words: &[u8]) -> Option<Line>
+    ensures { result ≡ read_at words.now }
+{
+    let (client, words) = u32_at(words)?;
+    let (file, words) = u64_at(words)?;
+    let (object, words) = u64_at(words)?;
+    let (at, words) = u32_at(words)?;
+    let (len, _) = u32_at(words)?;
+    let call = Call::Read {
+        file,
+        object,
+        at,
+        len,
+    };
+    let client = NodeId(client);
+    Some(Line::Call { client, call })
+}
+
+/// `deliver M`
+#[tactic(auto, unfolding(crate::specs::LineReading::deliver_at))]
+pub(crate) fn deliver(words: &[u8]) -> Option<Line>
+    ensures { result ≡ deliver_at words.now }
+{
+    let (number, _) = u128_at(words)?;
+    Some(Line::Deliver { number })
+}
+
+/// `drop M`
+#[tactic(auto, unfolding(crate::specs::LineReading::drop_at))]
+pub(crate) fn drop_line(words: &[u8]) -> Option<Line>
+    ensures { result ≡ drop_at words.now }
+{
+    let (number, _) = u128_at(words)?;
+    Some(Line::Drop { number })
+}
+
+/// `settle COUNT`
+#[tactic(auto, unfolding(crate::specs::LineReading::settle_at))]
+pub(crate) fn settle(words: &[u8]) -> Option<Line>
+    ensures { result ≡ settle_at words.now }
+{
+    let (count, _) = u128_at(words)?;
+    Some(Line::Settle { count })
+}
+
+/// A line of this name, of any but a write.
+#[tactic(auto, unfolding(crate::specs::LineReading::named_line))]
+pub(crate) fn named_line(name: &[u8], words: &[u8]) -> Option<Line>
+    ensures { result ≡ named_line name.now words.now }
+{
+    if name == b"times".as_slice() {
+        times(words)
+    } else if name == b"osd".as_slice() {
+        osd(words)
+    } else if name == b"client".as_slice() {
+        client(words)
+    } else if name == b"file".as_slice() {
+        file(words)
+    } else if name == b"start".as_slice() {
+        start(words)
+    } else if name == b"tick".as_slice() {
+        tick(words)
+    } else if name == b"read".as_slice() {
+        read(words)
+    } else if name == b"deliver".as_slice() {
+        deliver(words)
+    } else if name == b"drop".as_slice() {
+        drop_line(words)
+    } else if name == b"settle".as_slice() {
+        settle(words)
+    } else {
+        None
+    }
+}
+
+/// The client, the file, the object and the place of a write, and the words behind them.
+#[tactic(auto, unfolding(crate::specs::LineReading::write_place))]
+pub(crate) fn write_place(words: &[u8]) -> Option<(NodeId, u64, u64, u32, &[u8])>
+    ensures { MatchOption result (write_place words.now ≡ None) (λ x. write_place words.now ≡ Some (x.0, x.1, x.2, x.3, x.4.now)) }
+{
+    let (client, words) = u32_at(words)?;
+    let (file, words) = u64_at(words)?;
+    let (object, words) = u64_at(words)?;
+    let (at, words) = u32_at(words)?;
+    Some((NodeId(client), file, object, at, words))
+}
+
+/// `write C F OBJ AT HEX`
+#[tactic(auto, unfolding(crate::specs::LineReading::write_at))]
+pub(crate) fn write(alloc: Global, words: &[u8]) -> Result<Option<Line>, OutOfMemory>
+    ensures { IfOk result (λ found. found ≡ write_at words.now) }
+{
+    let Some((client, file, object, at, words)) = write_place(words) else {
+        return Ok(None);
+    };
+    let (digits, _) = cut(words);
+    let call = Call::Write {
+        file,
+        object,
+        at,
+        bytes: bytes_of(alloc, digits)?,
+    };
+    Ok(Some(Line::Call { client, call }))
+}
+
+/// The line that the bytes spell, if they spell one. Others may give a line too.
+#[tactic(auto, unfolding(crate::specs::LineReading::line_at))]
+pub(crate) fn loose_line(alloc: Global, bytes: &[u8]) -> Result<Option<Line>, OutOfMemory>
+    ensures { IfOk result (λ found. found ≡ line_at bytes.now) }
+{
+    let (name, words) = cut(bytes);
+    if name == b"write".as_slice() {
+        write(alloc, words)
+    } else {
+        Ok(named_line(name, words))
+    }
+}

@@ -1,0 +1,23 @@
+//! The languages of schedules and traces: reading a schedule's line, and printing a line, the entries of a trace and
+//! the last line of a job.
+//!
+//! Each line has one spelling: words with one space between, numbers in decimal digits without leading zeros, bytes
+//! in lower-case hex. A line is read exactly where its bytes are that spelling of a line of the language; what is
+//! printed is the spelling. A line stands without its line feed.
+#![tactic(auto)]
+
+mod bounds;
+mod call;
+mod entry;
+mod forms;
+mod line;
+mod outcome;
+mod spelling;
+mod status;
+#[cfg(test)]
+mod tests;
+mod words;
+
+pub use entry::{print_entries, print_entry};
+pub use line::{LineErr, one_line_a_spelling, print_line, read_line};
+pub use status::print_status;

@@ -1,0 +1,106 @@
+ghost use Rattle.std.specs.Prelude.{◌≡◌, ◌++◌, ◌∷◌, Bool, IsTrue, ◌↔◌, OnOk, IfOk, MatchResult};
+ghost use Rattle.std.specs.Fmt.{decimal};
+ghost use Rattle.time_line.specs.declared.line.Line.{Line};
+ghost use Rattle.schedule_text.specs.Words.{spaced};
+ghost use Rattle.schedule_text.specs.CallText.{call_name, call_words};
+ghost use Rattle.schedule_text.specs.LineText.{line_text, IsLine};
+
+use crate::bounds::is_line;
+use crate::call::{call_name, push_call};
+use crate::forms::loose_line;
+use crate::spelling::{
+    push_clock, push_file_line, push_named, push_named_node, push_node, push_times,
+};
+use std::alloc::Global;
+use time_line::Line;
+use xt_base::{Call, NodeId, Octets, OutOfMemory};
+
+/// Why a line isn't read.
+#[derive(Clone, Copy, Debug, PartialEq, Eq)]
+pub enum LineErr {
+    /// No line is spelled so.
+    Malformed,
+    OutOfMemory,
+}
+
+impl From<OutOfMemory> for LineErr {
+    ghost use Rattle.schedule_text.specs.declared.line.LineErr.TheVariants.{OutOfMemory};
+
+    ghost from_gives = { λ _ e. e ≡ OutOfMemory };
+
+    fn from(_: OutOfMemory) -> LineErr {
+        LineErr::OutOfMemory
+    }
+}
+
+/// Appends a client's call.
+fn push_call_line(out: &mut Vec<u8>, client: NodeId, call: &Call) -> Result<(), OutOfMemory>
+    ensures { OnOk result (out.new.items ≡ out.old.items ++ spaced (call_name call.now ∷ decimal client.0 ∷ call_words call.now)) }
+{
+    out.extend_from_slice(call_name(call))?;
+    push_node(out, client)?;
+    push_call(out, call)
+}
+
+/// Appends a line, without a line feed.
+fn push_line(out: &mut Vec<u8>, line: &Line) -> Result<(), OutOfMemory>
+    ensures { OnOk result (out.new.items ≡ out.old.items ++ line_text line.now) }
+{
+    match line {
+        Line::Times { lease, drift } => push_times(out, *lease, *drift),
+        Line::Osd { node } => push_named_node(out, b"osd", *node),
+        Line::Client { node, clock } => push_clock(out, b"client", *node, *clock),
+        Line::File { number, location } => push_file_line(out, *number, location),
+        Line::Start { node, clock } => push_clock(out, b"start", *node, *clock),
+        Line::Tick { count } => push_named(out, b"tick", u128::from(*count)),
+        Line::Call { client, call } => push_call_line(out, *client, call),
+        Line::Deliver { number } => push_named(out, b"deliver", *number),
+        Line::Drop { number } => push_named(out, b"drop", *number),
+        Line::Settle { count } => push_named(out, b"settle", *count),
+    }
+}
+
+/// The one spelling of a line, without a line feed.
+pub fn print_line(alloc: Global, line: &Line) -> Result<Octets, OutOfMemory>
+    ensures { IfOk result (λ text. text ≡ line_text line.now) }
+{
+    let mut out = Vec::new(alloc);
+    push_line(&mut out, line)?;
+    Ok(Octets::from(out))
+}
+
+/// Whether the line is in the language and these bytes spell it.
+fn is_spelled(alloc: Global, line: &Line, bytes: &[u8], first: bool) -> Result<bool, OutOfMemory>
+    ensures { IfOk result (λ yes. IsTrue yes ↔ (IsLine first line.now × (bytes.now ≡ line_text line.now))) }
+{
+    if !is_line(first, line) {
+        return Ok(false);
+    }
+    let text = print_line(alloc, line)?;
+    Ok(text.as_slice() == bytes)
+}
+
+/// The line that these bytes, without a line feed, spell; `first` says whether they are a schedule's first line.
+/// `Malformed` exactly where no line of the language is spelled so.
+#[tactic(auto, using(crate::proofs::LineAgain::line_again))]
+pub fn read_line(alloc: Global, bytes: &[u8], first: bool) -> Result<Line, LineErr>
+    // What is read is in the language, and is spelled so.
+    ensures found { IfOk result (λ line. IsLine first line × (bytes.now ≡ line_text line)) }
+
+    // What is spelled so is read, unless memory runs out.
+    ensures only { (line : Line) → IsLine first line → bytes.now ≡ line_text line → MatchResult result (λ read. read ≡ line) (λ e. e ≡ LineErr.OutOfMemory) }
+{
+    let Some(line) = loose_line(alloc, bytes)? else {
+        return Err(LineErr::Malformed);
+    };
+    if is_spelled(alloc, &line, bytes, first)? {
+        Ok(line)
+    } else {
+        Err(LineErr::Malformed)
+    }
+}
+
+/// Two lines of the language that are spelled alike are one line.
+pub fn one_line_a_spelling()
+    ensures { (first second : Bool) (a b : Line) → IsLine first a → IsLine second b → line_text a ≡ line_text b → a ≡ b }
+{}

@@ -1,0 +1,90 @@
+ghost use Rattle.std.specs.Prelude.{◌≡◌, ◌==◌, IfOk, MatchOption, Some, None};
+ghost use Rattle.std.specs.List.{position};
+ghost use Rattle.schedule_text.specs.Reading.{first_word, other_words, number_of, number_at, digit_of, bytes_of};
+
+use std::alloc::Global;
+use xt_base::{Octets, OutOfMemory};
+
+/// Where the first space is.
+pub(crate) fn first_space(words: &[u8]) -> Option<usize>
+    ensures { result ≡ position (λ byte. byte == 32) words.now }
+{
+    words.iter().position(|byte| *byte == b' ')
+}
+
+/// The bytes before the first space, and those behind it.
+#[tactic(auto, unfolding(crate::specs::Reading::first_word, crate::specs::Reading::other_words))]
+pub(crate) fn cut(words: &[u8]) -> (&[u8], &[u8])
+    ensures word { result.0.now ≡ first_word words.now }
+    ensures rest { result.1.now ≡ other_words words.now }
+{
+    match first_space(words) {
+        Some(place) => (&words[..place], &words[place + 1..]),
+        None => (words, &[]),
+    }
+}
+
+/// The number that digits spell. Another word gives some number.
+#[tactic(auto, unfolding(crate::specs::Reading::number_of))]
+pub(crate) fn number_of(word: &[u8]) -> u128
+    ensures { result ≡ number_of word.now }
+{
+    word.iter().fold(0, |number: u128, byte| {
+        number
+            .saturating_mul(10)
+            .saturating_add(u128::from(byte.saturating_sub(b'0')))
+    })
+}
+
+/// The first word's number, where it is below 2^128, and the other words.
+#[tactic(auto, unfolding(crate::specs::Reading::number_at))]
+pub(crate) fn u128_at(words: &[u8]) -> Option<(u128, &[u8])>
+    ensures { MatchOption result (number_at 128 words.now ≡ None) (λ x. number_at 128 words.now ≡ Some (x.0, x.1.now)) }
+{
+    let (word, rest) = cut(words);
+    Some((number_of(word), rest))
+}
+
+/// The first word's number, where it is below 2^64, and the other words.
+#[tactic(auto, unfolding(crate::specs::Reading::number_at))]
+pub(crate) fn u64_at(words: &[u8]) -> Option<(u64, &[u8])>
+    ensures { MatchOption result (number_at 64 words.now ≡ None) (λ x. number_at 64 words.now ≡ Some (x.0, x.1.now)) }
+{
+    let (word, rest) = cut(words);
+    let number = u64::try_from(number_of(word)).ok()?;
+    Some((number, rest))
+}
+
+/// The first word's number, where it is below 2^32, and the other words.
+#[tactic(auto, unfolding(crate::specs::Reading::number_at))]
+pub(crate) fn u32_at(words: &[u8]) -> Option<(u32, &[u8])>
+    ensures { MatchOption result (number_at 32 words.now ≡ None) (λ x. number_at 32 words.now ≡ Some (x.0, x.1.now)) }
+{
+    let (word, rest) = cut(words);
+    let number = u32::try_from(number_of(word)).ok()?;
+    Some((number, rest))
+}
+
+/// What a hex digit stands for. Another byte stands for some number.
+pub(crate) fn digit_of(byte: u8) -> u8
+    ensures { result ≡ digit_of byte }
+{
+    if byte < b':' {
+        byte % 16
+    } else {
+        byte.wrapping_add(9) % 16
+    }
+}
+
+/// The bytes that hex digits spell.
+pub(crate) fn bytes_of(alloc: Global, digits: &[u8]) -> Result<Octets, OutOfMemory>
+    ensures { IfOk result (λ bytes. bytes ≡ bytes_of digits.now) }
+{
+    let mut bytes = Vec::with_capacity(alloc, digits.len() / 2)?;
+    let mut rest = digits;
+    while let [high, low, behind @ ..] = rest {
+        bytes.push(digit_of(*high) * 16 + digit_of(*low))?;
+        rest = behind;
+    }
+    Ok(Octets::from(bytes))
+}

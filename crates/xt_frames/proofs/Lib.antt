@@ -1,0 +1,3 @@
+pub mod PayloadLaws
+pub mod LengthLaws
+pub mod DecodingLaws

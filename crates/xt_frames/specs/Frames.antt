@@ -1,0 +1,74 @@
+-- the one frame of each message
+use Rattle.std.specs.Prelude.{ℕ, ◌+◌, List, [], ◌++◌, length}
+use Rattle.xt_base.specs.declared.message.Payload.{Payload}
+use Rattle.xt_base.specs.declared.message.Payload.TheVariants as payload
+use Rattle.xt_base.specs.declared.message.Msg.{Msg}
+use Rattle.xt_wire.specs.BasicFields.{byte_bytes, word_bytes, long_bytes, octets_bytes}
+use Rattle.xt_wire.specs.IdFields.{node_bytes, boot_bytes, file_bytes, ballot_bytes, epoch_bytes, stamp_bytes, lease_bytes, report_bytes}
+use Rattle.xt_wire.specs.FileFields.{capability_bytes, op_bytes, update_bytes, head_bytes}
+use Rattle.xt_wire.specs.ReplyFields.{reply_bytes}
+use Rattle.xt_wire.specs.MetaFields.{meta_req_bytes, meta_answer_bytes}
+use Rattle.xt_wire.specs.RegistryFields.{registry_req_bytes, registry_answer_bytes}
+
+-- the number of each kind
+abbrev pub kind_of : Payload → ℕ
+kind_of (payload.Read file ballot) = 1
+kind_of (payload.Promise file ballot boot report) = 2
+kind_of (payload.Write file ballot boot lease) = 3
+kind_of (payload.Accepted file ballot boot) = 4
+kind_of (payload.Outrun file ballot seen) = 5
+kind_of (payload.Gather file epoch) = 6
+kind_of (payload.Status file epoch head) = 7
+kind_of (payload.Fetch file epoch object version) = 8
+kind_of (payload.Object file epoch object version bytes) = 9
+kind_of (payload.Stage file epoch object version bytes) = 10
+kind_of (payload.Staged file epoch object version) = 11
+kind_of (payload.Head file epoch head) = 12
+kind_of (payload.Update file update) = 13
+kind_of (payload.Ack file stamp) = 14
+kind_of (payload.Refused file epoch promised) = 15
+kind_of (payload.Behind file epoch stamp) = 16
+kind_of (payload.Missing file epoch object version) = 17
+kind_of (payload.Ask number capability op) = 18
+kind_of (payload.Reply number file reply) = 19
+kind_of (payload.Meta number user group request) = 20
+kind_of (payload.MetaReply number answer) = 21
+kind_of (payload.Registry number request) = 22
+kind_of (payload.RegistryReply number answer) = 23
+kind_of (payload.Stop tag) = 24
+
+-- the fields of each kind
+abbrev pub payload_bytes : Payload → List ℕ
+payload_bytes (payload.Read file ballot) = file_bytes file ++ ballot_bytes ballot
+payload_bytes (payload.Promise file ballot boot report) = file_bytes file ++ ballot_bytes ballot ++ boot_bytes boot ++ report_bytes report
+payload_bytes (payload.Write file ballot boot lease) = file_bytes file ++ ballot_bytes ballot ++ boot_bytes boot ++ lease_bytes lease
+payload_bytes (payload.Accepted file ballot boot) = file_bytes file ++ ballot_bytes ballot ++ boot_bytes boot
+payload_bytes (payload.Outrun file ballot seen) = file_bytes file ++ ballot_bytes ballot ++ ballot_bytes seen
+payload_bytes (payload.Gather file epoch) = file_bytes file ++ epoch_bytes epoch
+payload_bytes (payload.Status file epoch head) = file_bytes file ++ epoch_bytes epoch ++ head_bytes head
+payload_bytes (payload.Fetch file epoch object version) = file_bytes file ++ epoch_bytes epoch ++ word_bytes object ++ stamp_bytes version
+payload_bytes (payload.Object file epoch object version bytes) = file_bytes file ++ epoch_bytes epoch ++ word_bytes object ++ stamp_bytes version ++ octets_bytes bytes
+payload_bytes (payload.Stage file epoch object version bytes) = file_bytes file ++ epoch_bytes epoch ++ word_bytes object ++ stamp_bytes version ++ octets_bytes bytes
+payload_bytes (payload.Staged file epoch object version) = file_bytes file ++ epoch_bytes epoch ++ word_bytes object ++ stamp_bytes version
+payload_bytes (payload.Head file epoch head) = file_bytes file ++ epoch_bytes epoch ++ head_bytes head
+payload_bytes (payload.Update file update) = file_bytes file ++ update_bytes update
+payload_bytes (payload.Ack file stamp) = file_bytes file ++ stamp_bytes stamp
+payload_bytes (payload.Refused file epoch promised) = file_bytes file ++ epoch_bytes epoch ++ epoch_bytes promised
+payload_bytes (payload.Behind file epoch stamp) = file_bytes file ++ epoch_bytes epoch ++ stamp_bytes stamp
+payload_bytes (payload.Missing file epoch object version) = file_bytes file ++ epoch_bytes epoch ++ word_bytes object ++ stamp_bytes version
+payload_bytes (payload.Ask number capability op) = long_bytes number ++ capability_bytes capability ++ op_bytes op
+payload_bytes (payload.Reply number file reply) = long_bytes number ++ file_bytes file ++ reply_bytes reply
+payload_bytes (payload.Meta number user group request) = long_bytes number ++ word_bytes user ++ word_bytes group ++ meta_req_bytes request
+payload_bytes (payload.MetaReply number answer) = long_bytes number ++ meta_answer_bytes answer
+payload_bytes (payload.Registry number request) = long_bytes number ++ registry_req_bytes request
+payload_bytes (payload.RegistryReply number answer) = long_bytes number ++ registry_answer_bytes answer
+payload_bytes (payload.Stop tag) = tag
+
+-- the version, the kind, the sender, the receiver and the fields
+abbrev pub content_of : Msg → List ℕ
+content_of msg =
+    byte_bytes 1 ++ byte_bytes (kind_of msg.payload) ++ (node_bytes msg.from ++ node_bytes msg.to ++ payload_bytes msg.payload)
+
+-- the length of all, and the content
+abbrev pub frame_of : Msg → List ℕ
+frame_of msg = word_bytes (4 + length (content_of msg)) ++ content_of msg

@@ -1,0 +1,132 @@
+-- the fields of each kind, read from the front of bytes
+use Rattle.std.specs.Prelude.{ℕ, Err, nat_lt, ◌==◌, if◌then◌else◌}
+use Rattle.xt_base.specs.declared.message.Payload.{Payload}
+use Rattle.xt_base.specs.declared.message.Payload.TheVariants as payload
+use Rattle.xt_base.specs.declared.message.Msg.{Msg}
+use Rattle.xt_wire.specs.declared.fault.FieldErr.TheVariants as fault
+use Rattle.xt_wire.specs.Reading.{Field, ◌&◌, made}
+use Rattle.xt_wire.specs.BasicFields.{byte_at, word_at, count_at, raw_at, octets_at}
+use Rattle.xt_wire.specs.IdFields.{node_at, boot_at, file_at, ballot_at, epoch_at, stamp_at, lease_at, report_at}
+use Rattle.xt_wire.specs.FileFields.{capability_at, op_at, update_at, head_at}
+use Rattle.xt_wire.specs.ReplyFields.{reply_at}
+use Rattle.xt_wire.specs.MetaFields.{meta_req_at, meta_answer_at}
+use Rattle.xt_wire.specs.RegistryFields.{registry_req_at, registry_answer_at}
+
+unfoldable pub read_fields : Field Payload
+read_fields = made (λ f. payload.Read f.0 f.1) (file_at & ballot_at)
+
+unfoldable pub promise_fields : Field Payload
+promise_fields = made (λ f. payload.Promise f.0.0.0 f.0.0.1 f.0.1 f.1) (file_at & ballot_at & boot_at & report_at)
+
+unfoldable pub write_fields : Field Payload
+write_fields = made (λ f. payload.Write f.0.0.0 f.0.0.1 f.0.1 f.1) (file_at & ballot_at & boot_at & lease_at)
+
+unfoldable pub accepted_fields : Field Payload
+accepted_fields = made (λ f. payload.Accepted f.0.0 f.0.1 f.1) (file_at & ballot_at & boot_at)
+
+unfoldable pub outrun_fields : Field Payload
+outrun_fields = made (λ f. payload.Outrun f.0.0 f.0.1 f.1) (file_at & ballot_at & ballot_at)
+
+unfoldable pub gather_fields : Field Payload
+gather_fields = made (λ f. payload.Gather f.0 f.1) (file_at & epoch_at)
+
+unfoldable pub status_fields : Field Payload
+status_fields = made (λ f. payload.Status f.0.0 f.0.1 f.1) (file_at & epoch_at & head_at)
+
+unfoldable pub fetch_fields : Field Payload
+fetch_fields = made (λ f. payload.Fetch f.0.0.0 f.0.0.1 f.0.1 f.1) (file_at & epoch_at & word_at & stamp_at)
+
+unfoldable pub object_fields : Field Payload
+object_fields = made (λ f. payload.Object f.0.0.0.0 f.0.0.0.1 f.0.0.1 f.0.1 f.1) (file_at & epoch_at & word_at & stamp_at & octets_at 131072)
+
+unfoldable pub stage_fields : Field Payload
+stage_fields = made (λ f. payload.Stage f.0.0.0.0 f.0.0.0.1 f.0.0.1 f.0.1 f.1) (file_at & epoch_at & word_at & stamp_at & octets_at 131072)
+
+unfoldable pub staged_fields : Field Payload
+staged_fields = made (λ f. payload.Staged f.0.0.0 f.0.0.1 f.0.1 f.1) (file_at & epoch_at & word_at & stamp_at)
+
+unfoldable pub head_fields : Field Payload
+head_fields = made (λ f. payload.Head f.0.0 f.0.1 f.1) (file_at & epoch_at & head_at)
+
+unfoldable pub update_fields : Field Payload
+update_fields = made (λ f. payload.Update f.0 f.1) (file_at & update_at)
+
+unfoldable pub ack_fields : Field Payload
+ack_fields = made (λ f. payload.Ack f.0 f.1) (file_at & stamp_at)
+
+unfoldable pub refused_fields : Field Payload
+refused_fields = made (λ f. payload.Refused f.0.0 f.0.1 f.1) (file_at & epoch_at & epoch_at)
+
+unfoldable pub behind_fields : Field Payload
+behind_fields = made (λ f. payload.Behind f.0.0 f.0.1 f.1) (file_at & epoch_at & stamp_at)
+
+unfoldable pub missing_fields : Field Payload
+missing_fields = made (λ f. payload.Missing f.0.0.0 f.0.0.1 f.0.1 f.1) (file_at & epoch_at & word_at & stamp_at)
+
+unfoldable pub ask_fields : Field Payload
+ask_fields = made (λ f. payload.Ask f.0.0 f.0.1 f.1) (count_at & capability_at & op_at)
+
+unfoldable pub reply_fields : Field Payload
+reply_fields = made (λ f. payload.Reply f.0.0 f.0.1 f.1) (count_at & file_at & reply_at)
+
+unfoldable pub meta_fields : Field Payload
+meta_fields = made (λ f. payload.Meta f.0.0.0 f.0.0.1 f.0.1 f.1) (count_at & word_at & word_at & meta_req_at)
+
+unfoldable pub meta_reply_fields : Field Payload
+meta_reply_fields = made (λ f. payload.MetaReply f.0 f.1) (count_at & meta_answer_at)
+
+unfoldable pub registry_fields : Field Payload
+registry_fields = made (λ f. payload.Registry f.0 f.1) (count_at & registry_req_at)
+
+unfoldable pub registry_reply_fields : Field Payload
+registry_reply_fields = made (λ f. payload.RegistryReply f.0 f.1) (count_at & registry_answer_at)
+
+unfoldable pub stop_fields : Field Payload
+stop_fields = made payload.Stop (raw_at 32)
+
+unfoldable pub lease_arms : ℕ → Field Payload
+lease_arms kind bytes =
+    if kind == 1 then read_fields bytes
+    else if kind == 2 then promise_fields bytes
+    else if kind == 3 then write_fields bytes
+    else if kind == 4 then accepted_fields bytes
+    else if kind == 5 then outrun_fields bytes
+    else Err fault.Unfit
+
+unfoldable pub replica_arms : ℕ → Field Payload
+replica_arms kind bytes =
+    if kind == 6 then gather_fields bytes
+    else if kind == 7 then status_fields bytes
+    else if kind == 8 then fetch_fields bytes
+    else if kind == 9 then object_fields bytes
+    else if kind == 10 then stage_fields bytes
+    else if kind == 11 then staged_fields bytes
+    else if kind == 12 then head_fields bytes
+    else if kind == 13 then update_fields bytes
+    else if kind == 14 then ack_fields bytes
+    else if kind == 15 then refused_fields bytes
+    else if kind == 16 then behind_fields bytes
+    else if kind == 17 then missing_fields bytes
+    else Err fault.Unfit
+
+unfoldable pub service_arms : ℕ → Field Payload
+service_arms kind bytes =
+    if kind == 18 then ask_fields bytes
+    else if kind == 19 then reply_fields bytes
+    else if kind == 20 then meta_fields bytes
+    else if kind == 21 then meta_reply_fields bytes
+    else if kind == 22 then registry_fields bytes
+    else if kind == 23 then registry_reply_fields bytes
+    else if kind == 24 then stop_fields bytes
+    else Err fault.Unfit
+
+-- the fields of the kind of this number
+unfoldable pub payload_arms : ℕ → Field Payload
+payload_arms kind bytes =
+    if nat_lt kind 6 then lease_arms kind bytes
+    else if nat_lt kind 18 then replica_arms kind bytes
+    else service_arms kind bytes
+
+-- the sender, the receiver and the fields
+unfoldable pub message_at : ℕ → Field Msg
+message_at kind = made (λ m. record { from = m.0.0; to = m.0.1; list = 1; payload = m.1 }) (node_at & node_at & payload_arms kind)

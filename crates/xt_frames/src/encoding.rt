@@ -1,0 +1,40 @@
+ghost use Rattle.std.specs.Prelude.{◌≡◌, ◌≤◌, ◌++◌, length, OnOk, IfOk};
+ghost use Rattle.xt_base.specs.Limits.{FitsMessage};
+ghost use Rattle.xt_protocol.specs.FrameLength.{frame_length};
+ghost use Rattle.xt_wire.specs.BasicFields.{word_bytes};
+ghost use Rattle.xt_frames.specs.Frames.{content_of, frame_of};
+
+use crate::writing::{kind, put_payload};
+use std::alloc::Global;
+use xt_base::{Msg, Octets, OutOfMemory};
+use xt_wire::FieldWriter;
+
+/// The version of frames.
+const VERSION: u8 = 1;
+
+/// What is behind the length.
+fn put_content(writer: &mut FieldWriter, msg: &Msg) -> Result<(), OutOfMemory>
+    requires { FitsMessage msg.now }
+    ensures { OnOk result (writer.new ≡ writer.old ++ content_of msg.now) }
+{
+    writer.byte(VERSION)?;
+    writer.byte(kind(&msg.payload))?;
+    writer.node(msg.from)?;
+    writer.node(msg.to)?;
+    put_payload(writer, &msg.payload)
+}
+
+/// The one frame of a message within its limits.
+pub fn encode(alloc: Global, msg: &Msg) -> Result<Octets, OutOfMemory>
+    requires { FitsMessage msg.now }
+    ensures frame { IfOk result (λ frame. frame ≡ frame_of msg.now) }
+    ensures len { IfOk result (λ frame. length frame ≡ frame_length msg.now) }
+    ensures short { IfOk result (λ frame. length frame ≤ 262144) }
+{
+    let mut writer = FieldWriter::new(alloc);
+    // the length is known once the rest is written
+    writer.word(0)?;
+    put_content(&mut writer, msg)?;
+    writer.set_length();
+    Ok(writer.finish())
+}

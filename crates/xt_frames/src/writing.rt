@@ -1,0 +1,469 @@
+ghost use Rattle.std.specs.Prelude.{◌≡◌, ◌<◌, ◌^◌, ◌++◌, length, OnOk};
+ghost use Rattle.xt_base.specs.Limits.{IsObject, FitsHead, FitsUpdate, FitsOp, FitsReply, FitsMetaReq, FitsMetaAnswer, FitsRegistryReq, FitsRegistryAnswer, FitsPayload};
+ghost use Rattle.xt_wire.specs.BasicFields.{byte_bytes, word_bytes, long_bytes, octets_bytes};
+ghost use Rattle.xt_wire.specs.IdFields.{node_bytes, boot_bytes, file_bytes, ballot_bytes, epoch_bytes, stamp_bytes, lease_bytes, report_bytes};
+ghost use Rattle.xt_wire.specs.FileFields.{capability_bytes, op_bytes, update_bytes, head_bytes};
+ghost use Rattle.xt_wire.specs.ReplyFields.{reply_bytes};
+ghost use Rattle.xt_wire.specs.MetaFields.{meta_req_bytes, meta_answer_bytes};
+ghost use Rattle.xt_wire.specs.RegistryFields.{registry_req_bytes, registry_answer_bytes};
+ghost use Rattle.xt_frames.specs.Frames.{kind_of, payload_bytes};
+
+use xt_base::{
+    Ballot, Boot, Capability, Epoch, FileHead, FileId, Lease, MetaAnswer, MetaReq, Op, OutOfMemory,
+    Payload, RegistryAnswer, RegistryReq, Reply, Stamp, Update,
+};
+use xt_wire::FieldWriter;
+
+/// The number of a payload's kind.
+pub(crate) fn kind(payload: &Payload) -> u8
+    ensures { result ≡ kind_of payload.now }
+{
+    match payload {
+        Payload::Read { .. } => 1,
+        Payload::Promise { .. } => 2,
+        Payload::Write { .. } => 3,
+        Payload::Accepted { .. } => 4,
+        Payload::Outrun { .. } => 5,
+        Payload::Gather { .. } => 6,
+        Payload::Status { .. } => 7,
+        Payload::Fetch { .. } => 8,
+        Payload::Object { .. } => 9,
+        Payload::Stage { .. } => 10,
+        Payload::Staged { .. } => 11,
+        Payload::Head { .. } => 12,
+        Payload::Update { .. } => 13,
+        Payload::Ack { .. } => 14,
+        Payload::Refused { .. } => 15,
+        Payload::Behind { .. } => 16,
+        Payload::Missing { .. } => 17,
+        Payload::Ask { .. } => 18,
+        Payload::Reply { .. } => 19,
+        Payload::Meta { .. } => 20,
+        Payload::MetaReply { .. } => 21,
+        Payload::Registry { .. } => 22,
+        Payload::RegistryReply { .. } => 23,
+        Payload::Stop { .. } => 24,
+    }
+}
+
+/// The fields of a payload.
+pub(crate) fn put_payload(writer: &mut FieldWriter, payload: &Payload) -> Result<(), OutOfMemory>
+    requires { FitsPayload payload.now }
+    ensures { OnOk result (writer.new ≡ writer.old ++ payload_bytes payload.now) }
+{
+    match payload {
+        Payload::Read { file, ballot } => put_read(writer, *file, *ballot),
+        Payload::Promise {
+            file,
+            ballot,
+            boot,
+            report,
+        } => put_promise(writer, *file, *ballot, *boot, *report),
+        Payload::Write {
+            file,
+            ballot,
+            boot,
+            lease,
+        } => put_write(writer, *file, *ballot, *boot, *lease),
+        Payload::Accepted { file, ballot, boot } => put_accepted(writer, *file, *ballot, *boot),
+        Payload::Outrun { file, ballot, seen } => put_outrun(writer, *file, *ballot, *seen),
+        Payload::Gather { file, epoch } => put_gather(writer, *file, *epoch),
+        Payload::Status { file, epoch, head } => put_status(writer, *file, *epoch, head),
+        Payload::Fetch {
+            file,
+            epoch,
+            object,
+            version,
+        } => put_fetch(writer, *file, *epoch, *object, *version),
+        Payload::Object {
+            file,
+            epoch,
+            object,
+            version,
+            bytes,
+        } => put_object(writer, *file, *epoch, *object, *version, bytes.as_slice()),
+        Payload::Stage {
+            file,
+            epoch,
+            object,
+            version,
+            bytes,
+        } => put_stage(writer, *file, *epoch, *object, *version, bytes.as_slice()),
+        Payload::Staged {
+            file,
+            epoch,
+            object,
+            version,
+        } => put_staged(writer, *file, *epoch, *object, *version),
+        Payload::Head { file, epoch, head } => put_head(writer, *file, *epoch, head),
+        Payload::Update { file, update } => put_update(writer, *file, update),
+        Payload::Ack { file, stamp } => put_ack(writer, *file, *stamp),
+        Payload::Refused {
+            file,
+            epoch,
+            promised,
+        } => put_refused(writer, *file, *epoch, *promised),
+        Payload::Behind { file, epoch, stamp } => put_behind(writer, *file, *epoch, *stamp),
+        Payload::Missing {
+            file,
+            epoch,
+            object,
+            version,
+        } => put_missing(writer, *file, *epoch, *object, *version),
+        Payload::Ask {
+            number,
+            capability,
+            op,
+        } => put_ask(writer, *number, capability, op),
+        Payload::Reply {
+            number,
+            file,
+            reply,
+        } => put_reply(writer, *number, *file, reply),
+        Payload::Meta {
+            number,
+            user,
+            group,
+            request,
+        } => put_meta(writer, *number, *user, *group, request),
+        Payload::MetaReply { number, answer } => put_meta_reply(writer, *number, answer),
+        Payload::Registry { number, request } => put_registry(writer, *number, request),
+        Payload::RegistryReply { number, answer } => put_registry_reply(writer, *number, answer),
+        Payload::Stop { tag } => put_stop(writer, *tag),
+    }
+}
+
+/// A ballot that is to be promised.
+fn put_read(writer: &mut FieldWriter, file: FileId, ballot: Ballot) -> Result<(), OutOfMemory>
+    ensures { OnOk result (writer.new ≡ writer.old ++ (file_bytes file ++ ballot_bytes ballot)) }
+{
+    writer.file(file)?;
+    writer.ballot(ballot)
+}
+
+/// A promise.
+fn put_promise(
+    writer: &mut FieldWriter,
+    file: FileId,
+    ballot: Ballot,
+    boot: Boot,
+    report: Option<Lease>,
+) -> Result<(), OutOfMemory>
+    ensures { OnOk result (writer.new ≡ writer.old ++ (file_bytes file ++ ballot_bytes ballot ++ boot_bytes boot ++ report_bytes report)) }
+{
+    writer.file(file)?;
+    writer.ballot(ballot)?;
+    writer.boot(boot)?;
+    writer.report(report)
+}
+
+/// A lease that is to be accepted.
+fn put_write(
+    writer: &mut FieldWriter,
+    file: FileId,
+    ballot: Ballot,
+    boot: Boot,
+    lease: Lease,
+) -> Result<(), OutOfMemory>
+    ensures { OnOk result (writer.new ≡ writer.old ++ (file_bytes file ++ ballot_bytes ballot ++ boot_bytes boot ++ lease_bytes lease)) }
+{
+    writer.file(file)?;
+    writer.ballot(ballot)?;
+    writer.boot(boot)?;
+    writer.lease(lease)
+}
+
+/// That a lease is accepted.
+fn put_accepted(
+    writer: &mut FieldWriter,
+    file: FileId,
+    ballot: Ballot,
+    boot: Boot,
+) -> Result<(), OutOfMemory>
+    ensures { OnOk result (writer.new ≡ writer.old ++ (file_bytes file ++ ballot_bytes ballot ++ boot_bytes boot)) }
+{
+    writer.file(file)?;
+    writer.ballot(ballot)?;
+    writer.boot(boot)
+}
+
+/// That a round at least as high was promised.
+fn put_outrun(
+    writer: &mut FieldWriter,
+    file: FileId,
+    ballot: Ballot,
+    seen: Ballot,
+) -> Result<(), OutOfMemory>
+    ensures { OnOk result (writer.new ≡ writer.old ++ (file_bytes file ++ ballot_bytes ballot ++ ballot_bytes seen)) }
+{
+    writer.file(file)?;
+    writer.ballot(ballot)?;
+    writer.ballot(seen)
+}
+
+/// A new primary's question.
+fn put_gather(writer: &mut FieldWriter, file: FileId, epoch: Epoch) -> Result<(), OutOfMemory>
+    ensures { OnOk result (writer.new ≡ writer.old ++ (file_bytes file ++ epoch_bytes epoch)) }
+{
+    writer.file(file)?;
+    writer.epoch(epoch)
+}
+
+/// A replica's head.
+fn put_status(
+    writer: &mut FieldWriter,
+    file: FileId,
+    epoch: Epoch,
+    head: &FileHead,
+) -> Result<(), OutOfMemory>
+    requires { FitsHead head.now }
+    ensures { OnOk result (writer.new ≡ writer.old ++ (file_bytes file ++ epoch_bytes epoch ++ head_bytes head.now)) }
+{
+    writer.file(file)?;
+    writer.epoch(epoch)?;
+    writer.head(head)
+}
+
+/// An object that is to be sent.
+fn put_fetch(
+    writer: &mut FieldWriter,
+    file: FileId,
+    epoch: Epoch,
+    object: u64,
+    version: Stamp,
+) -> Result<(), OutOfMemory>
+    requires { IsObject object }
+    ensures { OnOk result (writer.new ≡ writer.old ++ (file_bytes file ++ epoch_bytes epoch ++ word_bytes object ++ stamp_bytes version)) }
+{
+    writer.file(file)?;
+    writer.epoch(epoch)?;
+    writer.object(object)?;
+    writer.stamp(version)
+}
+
+/// An object that is sent.
+fn put_object(
+    writer: &mut FieldWriter,
+    file: FileId,
+    epoch: Epoch,
+    object: u64,
+    version: Stamp,
+    bytes: &[u8],
+) -> Result<(), OutOfMemory>
+    requires object_fits { IsObject object }
+    requires bytes_fits { length bytes.now < 2 ^ 32 }
+    ensures { OnOk result (writer.new ≡ writer.old ++ (file_bytes file ++ epoch_bytes epoch ++ word_bytes object ++ stamp_bytes version ++ octets_bytes bytes.now)) }
+{
+    writer.file(file)?;
+    writer.epoch(epoch)?;
+    writer.object(object)?;
+    writer.stamp(version)?;
+    writer.octets(bytes)
+}
+
+/// Bytes that are to be held.
+fn put_stage(
+    writer: &mut FieldWriter,
+    file: FileId,
+    epoch: Epoch,
+    object: u64,
+    version: Stamp,
+    bytes: &[u8],
+) -> Result<(), OutOfMemory>
+    requires object_fits { IsObject object }
+    requires bytes_fits { length bytes.now < 2 ^ 32 }
+    ensures { OnOk result (writer.new ≡ writer.old ++ (file_bytes file ++ epoch_bytes epoch ++ word_bytes object ++ stamp_bytes version ++ octets_bytes bytes.now)) }
+{
+    writer.file(file)?;
+    writer.epoch(epoch)?;
+    writer.object(object)?;
+    writer.stamp(version)?;
+    writer.octets(bytes)
+}
+
+/// That bytes are held.
+fn put_staged(
+    writer: &mut FieldWriter,
+    file: FileId,
+    epoch: Epoch,
+    object: u64,
+    version: Stamp,
+) -> Result<(), OutOfMemory>
+    requires { IsObject object }
+    ensures { OnOk result (writer.new ≡ writer.old ++ (file_bytes file ++ epoch_bytes epoch ++ word_bytes object ++ stamp_bytes version)) }
+{
+    writer.file(file)?;
+    writer.epoch(epoch)?;
+    writer.object(object)?;
+    writer.stamp(version)
+}
+
+/// A head that is to be taken.
+fn put_head(
+    writer: &mut FieldWriter,
+    file: FileId,
+    epoch: Epoch,
+    head: &FileHead,
+) -> Result<(), OutOfMemory>
+    requires { FitsHead head.now }
+    ensures { OnOk result (writer.new ≡ writer.old ++ (file_bytes file ++ epoch_bytes epoch ++ head_bytes head.now)) }
+{
+    writer.file(file)?;
+    writer.epoch(epoch)?;
+    writer.head(head)
+}
+
+/// An update that is to be taken.
+fn put_update(writer: &mut FieldWriter, file: FileId, update: &Update) -> Result<(), OutOfMemory>
+    requires { FitsUpdate update.now }
+    ensures { OnOk result (writer.new ≡ writer.old ++ (file_bytes file ++ update_bytes update.now)) }
+{
+    writer.file(file)?;
+    writer.update(update)
+}
+
+/// That a head or an update is taken.
+fn put_ack(writer: &mut FieldWriter, file: FileId, stamp: Stamp) -> Result<(), OutOfMemory>
+    ensures { OnOk result (writer.new ≡ writer.old ++ (file_bytes file ++ stamp_bytes stamp)) }
+{
+    writer.file(file)?;
+    writer.stamp(stamp)
+}
+
+/// That a higher epoch was promised.
+fn put_refused(
+    writer: &mut FieldWriter,
+    file: FileId,
+    epoch: Epoch,
+    promised: Epoch,
+) -> Result<(), OutOfMemory>
+    ensures { OnOk result (writer.new ≡ writer.old ++ (file_bytes file ++ epoch_bytes epoch ++ epoch_bytes promised)) }
+{
+    writer.file(file)?;
+    writer.epoch(epoch)?;
+    writer.epoch(promised)
+}
+
+/// That the replica lacks what comes before.
+fn put_behind(
+    writer: &mut FieldWriter,
+    file: FileId,
+    epoch: Epoch,
+    stamp: Stamp,
+) -> Result<(), OutOfMemory>
+    ensures { OnOk result (writer.new ≡ writer.old ++ (file_bytes file ++ epoch_bytes epoch ++ stamp_bytes stamp)) }
+{
+    writer.file(file)?;
+    writer.epoch(epoch)?;
+    writer.stamp(stamp)
+}
+
+/// That an object isn't held.
+fn put_missing(
+    writer: &mut FieldWriter,
+    file: FileId,
+    epoch: Epoch,
+    object: u64,
+    version: Stamp,
+) -> Result<(), OutOfMemory>
+    requires { IsObject object }
+    ensures { OnOk result (writer.new ≡ writer.old ++ (file_bytes file ++ epoch_bytes epoch ++ word_bytes object ++ stamp_bytes version)) }
+{
+    writer.file(file)?;
+    writer.epoch(epoch)?;
+    writer.object(object)?;
+    writer.stamp(version)
+}
+
+/// A client's operation.
+fn put_ask(
+    writer: &mut FieldWriter,
+    number: u64,
+    capability: &Capability,
+    op: &Op,
+) -> Result<(), OutOfMemory>
+    requires { FitsOp op.now }
+    ensures { OnOk result (writer.new ≡ writer.old ++ (long_bytes number ++ capability_bytes capability.now ++ op_bytes op.now)) }
+{
+    writer.long(number)?;
+    writer.capability(capability)?;
+    writer.op(op)
+}
+
+/// What became of an operation.
+fn put_reply(
+    writer: &mut FieldWriter,
+    number: u64,
+    file: FileId,
+    reply: &Reply,
+) -> Result<(), OutOfMemory>
+    requires { FitsReply reply.now }
+    ensures { OnOk result (writer.new ≡ writer.old ++ (long_bytes number ++ file_bytes file ++ reply_bytes reply.now)) }
+{
+    writer.long(number)?;
+    writer.file(file)?;
+    writer.reply(reply)
+}
+
+/// A request to the metadata server.
+fn put_meta(
+    writer: &mut FieldWriter,
+    number: u64,
+    user: u32,
+    group: u32,
+    request: &MetaReq,
+) -> Result<(), OutOfMemory>
+    requires { FitsMetaReq request.now }
+    ensures { OnOk result (writer.new ≡ writer.old ++ (long_bytes number ++ word_bytes user ++ word_bytes group ++ meta_req_bytes request.now)) }
+{
+    writer.long(number)?;
+    writer.word(user)?;
+    writer.word(group)?;
+    writer.meta_req(request)
+}
+
+/// An answer of the metadata server.
+fn put_meta_reply(
+    writer: &mut FieldWriter,
+    number: u64,
+    answer: &MetaAnswer,
+) -> Result<(), OutOfMemory>
+    requires { FitsMetaAnswer answer.now }
+    ensures { OnOk result (writer.new ≡ writer.old ++ (long_bytes number ++ meta_answer_bytes answer.now)) }
+{
+    writer.long(number)?;
+    writer.meta_answer(answer)
+}
+
+/// A request to the directory service.
+fn put_registry(
+    writer: &mut FieldWriter,
+    number: u64,
+    request: &RegistryReq,
+) -> Result<(), OutOfMemory>
+    requires { FitsRegistryReq request.now }
+    ensures { OnOk result (writer.new ≡ writer.old ++ (long_bytes number ++ registry_req_bytes request.now)) }
+{
+    writer.long(number)?;
+    writer.registry_req(request)
+}
+
+/// An answer of the directory service.
+fn put_registry_reply(
+    writer: &mut FieldWriter,
+    number: u64,
+    answer: &RegistryAnswer,
+) -> Result<(), OutOfMemory>
+    requires { FitsRegistryAnswer answer.now }
+    ensures { OnOk result (writer.new ≡ writer.old ++ (long_bytes number ++ registry_answer_bytes answer.now)) }
+{
+    writer.long(number)?;
+    writer.registry_answer(answer)
+}
+
+/// The end of a node.
+fn put_stop(writer: &mut FieldWriter, tag: [u8; 32]) -> Result<(), OutOfMemory>
+    ensures { OnOk result (writer.new ≡ writer.old ++ tag) }
+{
+    writer.tag(tag)
+}

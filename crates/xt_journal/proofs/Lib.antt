@@ -1,0 +1,5 @@
+pub mod Outcomes
+pub mod Push
+pub mod Records
+pub mod Unique
+pub mod Steps

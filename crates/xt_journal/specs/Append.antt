@@ -1,0 +1,29 @@
+-- What appending does to a disk.
+use Rattle.std.specs.Prelude.{ℕ, ◌+◌, ◌<◌, ◌≤◌, ◌≡◌, ◌⊎◌, Bool, ◌&&◌, ◌==◌, nat_le, if◌then◌else◌, List, [], ◌∷◌, ◌++◌, length}
+use Rattle.disk_model.specs.Disk.{Kept, IsImage, IsFilled}
+use Rattle.xt_journal.specs.Calls.{IsFirstFailure}
+use Rattle.xt_journal.specs.Format.{open_gate, record_of, end_of, IsPayload, StandsFor, KeepsJournal}
+
+-- the journal of these payloads, with this one more or without it
+abbrev pub IsWithOrWithout : List (List ℕ) → List ℕ → List ℕ → Type 0
+IsWithOrWithout payloads payload image = StandsFor image payloads ⊎ StandsFor image (payloads ++ payload ∷ [])
+
+-- An append that is stopped in this one of its four calls has the record exactly where the gate was being written or
+-- synced, and its byte is the open gate's.
+abbrev pub payloads_after_stop : ℕ → ℕ → List (List ℕ) → List ℕ → List (List ℕ)
+payloads_after_stop call fill payloads payload = if nat_le 3 call && (fill == open_gate) then payloads ++ payload ∷ [] else payloads
+
+-- one of the four calls failed, the first that was to fail, and what a crash leaves stands for what that call tells
+pub record IsStopped (fails : ℕ → ℕ → Bool) (kept : Kept) (payloads : List (List ℕ)) (payload : List ℕ) : Type 0 where
+  pub call : ℕ
+  pub some : 1 ≤ call
+  pub four : call ≤ 4
+  pub first : IsFirstFailure fails call
+  pub image : (fill : ℕ) (bytes : List ℕ) → IsFilled fill kept bytes → StandsFor bytes (payloads_after_stop call fill payloads payload)
+
+-- the disk has a journal of these payloads, and a piece is the payload's record with the next gate, closed
+pub record IsTurn (kept : Kept) (end : ℕ) (piece : List ℕ) (payloads : List (List ℕ)) (payload : List ℕ) : Type 0 where
+  pub keeps : KeepsJournal kept payloads
+  pub place : end ≡ end_of payloads
+  pub is_payload : IsPayload payload
+  pub is_piece : piece ≡ record_of payload ++ 0 ∷ []

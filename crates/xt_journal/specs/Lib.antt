@@ -1,0 +1,9 @@
+pub mod Access
+pub mod Answers
+pub mod Append
+pub mod Calls
+pub mod Format
+pub mod Reading
+pub mod Parsed
+pub mod Loaded
+pub mod Refused

@@ -1,0 +1,87 @@
+-- What a parser answers of bytes.
+use Rattle.std.specs.Prelude.{ℕ, ◌+◌, ◌≤◌, ◌≡◌, ◌≢◌, Bool, true, false, List, ◌∷◌, ◌++◌, length, Vec, Option, None, Some, Result, Ok, Err}
+use Rattle.std.specs.List.{All}
+use Rattle.std.specs.declared.alloc.Global.{Global}
+use Rattle.xt_journal.specs.declared.placed.Placed.{Placed}
+use Rattle.xt_journal.specs.declared.format.Trouble.{Trouble}
+use Rattle.xt_journal.specs.declared.format.Trouble.TheVariants as trouble
+use Rattle.xt_journal.specs.declared.format.Next.{Next}
+use Rattle.xt_journal.specs.declared.format.Next.TheVariants as next
+use Rattle.xt_journal.specs.Format.{open_gate, record_of, records, end_of, IsPayload}
+use Rattle.xt_journal.specs.Reading.{Reading, ReadsAs, Stands, Foreign, Unknown, Damaged, IsCutOff, payloads_of, placed_from}
+
+-- the reading is the one of these bytes
+abbrev pub Gives : List ℕ → Result (ℕ × Vec Placed Global) Trouble → Type 0
+Gives bytes (Ok found) = ReadsAs bytes (Stands found.1.items)
+Gives bytes (Err (trouble.NotOurs first)) = ReadsAs bytes (Foreign first)
+Gives bytes (Err (trouble.Layout version)) = ReadsAs bytes (Unknown version)
+Gives bytes (Err (trouble.Damaged place)) = ReadsAs bytes (Damaged place)
+Gives bytes (Err trouble.DiskFault) = Unit {0}
+Gives bytes (Err trouble.OutOfMemory) = Unit {0}
+
+-- behind the header: records up to a gate that isn't open
+pub record AreRecords (bytes : List ℕ) (end : ℕ) (placed : List Placed) : Type 0 where
+  pub fit : All IsPayload (payloads_of placed)
+  pub gate : ℕ
+  pub rest : List ℕ
+  pub shut : gate ≢ open_gate
+  pub are : bytes ≡ records (payloads_of placed) ++ gate ∷ rest
+  pub places : placed ≡ placed_from 12 (payloads_of placed)
+  pub is_end : end ≡ end_of (payloads_of placed)
+
+-- behind the header: records up to an open gate that isn't followed by one
+pub record AreDamaged (bytes : List ℕ) (place : ℕ) : Type 0 where
+  pub payloads : List (List ℕ)
+  pub fit : All IsPayload payloads
+  pub rest : List ℕ
+  pub are : bytes ≡ records payloads ++ open_gate ∷ rest
+  pub cut_off : IsCutOff rest
+  pub is_place : place ≡ end_of payloads
+
+abbrev pub GivesRecords : List ℕ → Result (ℕ × Vec Placed Global) Trouble → Type 0
+GivesRecords bytes (Ok found) = AreRecords bytes found.0 found.1.items
+GivesRecords bytes (Err (trouble.NotOurs first)) = ⊥
+GivesRecords bytes (Err (trouble.Layout version)) = ⊥
+GivesRecords bytes (Err (trouble.Damaged place)) = AreDamaged bytes place
+GivesRecords bytes (Err trouble.DiskFault) = ⊥
+GivesRecords bytes (Err trouble.OutOfMemory) = Unit {0}
+
+pub record IsRecord (bytes payload rest : List ℕ) : Type 0 where
+  pub are : bytes ≡ open_gate ∷ (record_of payload ++ rest)
+  pub is_payload : IsPayload payload
+  pub some : 1 ≤ length rest
+
+pub record IsClosed (bytes : List ℕ) : Type 0 where
+  pub gate : ℕ
+  pub rest : List ℕ
+  pub shut : gate ≢ open_gate
+  pub are : bytes ≡ gate ∷ rest
+
+pub record IsCut (bytes : List ℕ) : Type 0 where
+  pub rest : List ℕ
+  pub are : bytes ≡ open_gate ∷ rest
+  pub cut_off : IsCutOff rest
+
+-- what stands where a record may
+abbrev pub IsNext : List ℕ → Next → Type 0
+IsNext bytes next.Closed = IsClosed bytes
+IsNext bytes next.CutOff = IsCut bytes
+IsNext bytes (next.Record payload rest) = IsRecord bytes payload.now rest.now
+
+-- the disk has failed
+abbrev pub is_fault : {T : Type 0} → Result T Trouble → Bool
+is_fault (Err trouble.DiskFault) = true
+is_fault (Err (trouble.NotOurs first)) = false
+is_fault (Err (trouble.Layout version)) = false
+is_fault (Err (trouble.Damaged place)) = false
+is_fault (Err trouble.OutOfMemory) = false
+is_fault (Ok value) = false
+
+-- what the bytes were read as, unless the disk failed or memory ran out
+abbrev pub reading_found : Result (ℕ × Vec Placed Global) Trouble → Option Reading
+reading_found (Ok found) = Some (Stands found.1.items)
+reading_found (Err (trouble.NotOurs first)) = Some (Foreign first)
+reading_found (Err (trouble.Layout version)) = Some (Unknown version)
+reading_found (Err (trouble.Damaged place)) = Some (Damaged place)
+reading_found (Err trouble.DiskFault) = None
+reading_found (Err trouble.OutOfMemory) = None

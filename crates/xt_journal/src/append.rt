@@ -1,0 +1,111 @@
+ghost use Rattle.std.specs.Prelude.{◌≡◌, ◌≤◌, ◌<◌, ◌+◌, ◌-◌, ◌^◌, ◌++◌, ◌∷◌, [], ℕ, List, IsTrue, IfOk, OnOk, OnErr, IsErrOf, MatchResult, is_err, length};
+ghost use Rattle.disk_model.specs.Disk.{IsImage, LeavesOnly, counted, fault_count_after};
+ghost use Rattle.xt_journal.specs.Append.{IsTurn, IsWithOrWithout, IsStopped};
+ghost use Rattle.xt_journal.specs.Calls.{GoesOn, AllSucceed};
+ghost use Rattle.xt_journal.specs.Format.{record_of, EndsAt, KeepsJournal};
+ghost use Rattle.xt_journal.specs.Refused.{is_broken};
+
+use crate::calls::write_synced;
+use crate::format::OPEN_GATE;
+use byteorder::{BigEndian, ByteOrder};
+use disk_model::Disk;
+use std::alloc::Global;
+use xt_base::{Failed, OutOfMemory};
+
+/// How many bytes a journal needs that ends at this place, with a record more; `Err` where they pass the limit, and then
+/// at most `u64::MAX`.
+pub fn need_of(end: u64, len: usize, limit: u64) -> Result<u64, u64>
+    requires { len < 2 ^ 32 }
+    ensures { MatchResult result
+        (λ need. (need ≡ end + (6 + len)) × (need ≤ limit))
+        (λ need. (need ≡ counted (end + (6 + len))) × (limit < end + (6 + len))) }
+{
+    match end.checked_add(6 + len as u64) {
+        Some(need) if need <= limit => Ok(need),
+        Some(need) => Err(need),
+        None => Err(u64::MAX),
+    }
+}
+
+/// A payload behind its length, and the next gate, closed.
+pub fn piece_of(alloc: Global, payload: &[u8]) -> Result<Vec<u8>, OutOfMemory>
+    requires { length payload.now < 2 ^ 32 }
+    ensures { IfOk result (λ piece. piece.items ≡ record_of payload.now ++ 0 ∷ []) }
+{
+    let mut piece = Vec::with_capacity(alloc, payload.len() + 5)?;
+    let mut len = [0; 4];
+    BigEndian::write_u32(&mut len, payload.len() as u32);
+    piece.extend_from_slice(&len)?;
+    piece.extend_from_slice(payload)?;
+    piece.extend_from_slice(&[0])?;
+    Ok(piece)
+}
+
+/// Why a record isn't appended.
+#[derive(Clone, Copy, Debug, PartialEq, Eq)]
+pub enum Refusal {
+    Broken,
+    OutOfMemory,
+}
+
+/// Appends a payload to the journal that ends at this place, which then needs `need` bytes.
+pub fn append_to<D: Disk>(
+    alloc: Global,
+    disk: &mut D,
+    end: u64,
+    need: u64,
+    payload: &[u8],
+) -> Result<(), Refusal>
+    requires ends { IsTrue D.is_told → ∥ EndsAt (D.kept disk.old) end ∥₁ }
+    requires needed { need ≡ end + (6 + length payload.now) }
+    requires some { 1 ≤ length payload.now }
+    requires fits { length payload.now < 2 ^ 32 }
+    ensures ends { IsTrue D.is_told → OnOk result (∥ EndsAt (D.kept disk.new) (need - 1) ∥₁) }
+    ensures done { IsTrue D.is_told → (payloads : List (List ℕ)) → KeepsJournal (D.kept disk.old) payloads →
+        OnOk result (KeepsJournal (D.kept disk.new) (payloads ++ payload.now ∷ [])) }
+    ensures any_moment { IsTrue D.is_told → (payloads : List (List ℕ)) → KeepsJournal (D.kept disk.old) payloads →
+        LeavesOnly D.moment D.left_since disk.old disk.new (IsWithOrWithout payloads payload.now) }
+    ensures now { IsTrue D.is_told → (payloads : List (List ℕ)) → KeepsJournal (D.kept disk.old) payloads →
+        (image : List ℕ) → IsImage (D.kept disk.new) image → IsWithOrWithout payloads payload.now image }
+    ensures stopped { IsTrue D.is_told → (payloads : List (List ℕ)) → KeepsJournal (D.kept disk.old) payloads →
+        IsErrOf result Refusal.Broken → IsStopped (D.fails disk.old) (D.kept disk.new) payloads payload.now }
+    ensures succeeded { IsTrue D.is_told → OnOk result (AllSucceed (D.fails disk.old) 4) }
+    ensures plan { IsTrue D.is_told → OnOk result (GoesOn 0 4 (D.fails disk.old) (D.fails disk.new)) }
+    ensures count { D.fault_count disk.new ≡ fault_count_after (is_broken result) (D.fault_count disk.old) }
+    ensures same { IsErrOf result Refusal.OutOfMemory → D.kept disk.new ≡ D.kept disk.old }
+    ensures no_call { IsTrue D.is_told → IsErrOf result Refusal.OutOfMemory →
+        GoesOn 0 0 (D.fails disk.old) (D.fails disk.new) }
+{
+    if disk.reserve(need).is_err() {
+        return Err(Refusal::OutOfMemory);
+    }
+    let Ok(piece) = piece_of(alloc, payload) else {
+        return Err(Refusal::OutOfMemory);
+    };
+    match write_record(disk, end, piece.as_slice()) {
+        Ok(()) => Ok(()),
+        Err(Failed) => Err(Refusal::Broken),
+    }
+}
+
+/// Appends a record in four device calls. The gate stays closed until the record is synced.
+pub fn write_record<D: Disk>(disk: &mut D, end: u64, piece: &[u8]) -> Result<(), Failed>
+    requires place { end + (1 + length piece.now) ≤ D.reserved disk.old }
+    requires small { end + 1 < 2 ^ 64 }
+    requires noted { length piece.now + 300 ≤ D.room disk.old }
+    ensures done { IsTrue D.is_told → (payloads : List (List ℕ)) (payload : List ℕ) →
+        IsTurn (D.kept disk.old) end piece.now payloads payload →
+        OnOk result (KeepsJournal (D.kept disk.new) (payloads ++ payload ∷ [])) }
+    ensures any_moment { IsTrue D.is_told → (payloads : List (List ℕ)) (payload : List ℕ) →
+        IsTurn (D.kept disk.old) end piece.now payloads payload →
+        LeavesOnly D.moment D.left_since disk.old disk.new (IsWithOrWithout payloads payload) }
+    ensures stopped { IsTrue D.is_told → (payloads : List (List ℕ)) (payload : List ℕ) →
+        IsTurn (D.kept disk.old) end piece.now payloads payload →
+        OnErr result (IsStopped (D.fails disk.old) (D.kept disk.new) payloads payload) }
+    ensures succeeded { IsTrue D.is_told → OnOk result (AllSucceed (D.fails disk.old) 4) }
+    ensures plan { IsTrue D.is_told → OnOk result (GoesOn 0 4 (D.fails disk.old) (D.fails disk.new)) }
+    ensures count { D.fault_count disk.new ≡ fault_count_after (is_err result) (D.fault_count disk.old) }
+{
+    write_synced(disk, end + 1, piece)?;
+    write_synced(disk, end, &[OPEN_GATE])
+}

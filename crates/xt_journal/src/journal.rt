@@ -1,0 +1,163 @@
+ghost use Rattle.std.specs.Prelude.{IsTrue};
+ghost use Rattle.xt_journal.specs.Format.{EndsAt};
+
+use crate::append::{Refusal, append_to, need_of};
+use crate::errors::{AppendErr, LoadErr};
+use crate::format::Trouble;
+use crate::load::load_from;
+use crate::placed::Placed;
+use disk_model::Disk;
+use std::alloc::Global;
+
+/// A journal on a disk. Each crash leaves the payloads that were appended, in order.
+#[derive(Debug, Drop)]
+pub struct Journal<D: Disk> {
+    pub(crate) disk: D,
+    pub(crate) end: u64,
+    pub(crate) limit: u64,
+    pub ghost ends: { IsTrue D.is_told → ∥ EndsAt (D.kept disk) end ∥₁ },
+}
+
+impl<D: Disk> Journal<D> {
+    ghost use Rattle.std.specs.Prelude.{◌≡◌, ◌≤◌, ◌<◌, ◌+◌, ◌^◌, ◌++◌, ◌∷◌, [], ℕ, List, IfOk, IfSome, OnOk, IsSome, is_some, length};
+    ghost use Rattle.disk_model.specs.Disk.{IsImage, LeavesOnly, at_rest, fault_count_after};
+    ghost use Rattle.xt_journal.specs.Access.{disk_of, place_of, limit_of};
+    ghost use Rattle.xt_journal.specs.Answers.{IsFullExactly, append_fault, disk_after_append, disk_after_load, load_fault, reading_of, without_memory};
+    ghost use Rattle.xt_journal.specs.Append.{IsStopped, IsWithOrWithout};
+    ghost use Rattle.xt_journal.specs.Calls.{AllSucceed, GoesOn};
+    ghost use Rattle.xt_journal.specs.Format.{KeepsJournal, end_of, journal_of};
+    ghost use Rattle.xt_journal.specs.Loaded.{LeavesAsBefore, IsReady, FailedCall, MadeCalls};
+    ghost use Rattle.xt_journal.specs.Reading.{IsTheReading, payloads_of};
+
+    /// Loads what stands on a disk: the payloads whose gates are open, from the first up to the first that isn't.
+    ///
+    /// A disk of at most 13 bytes that isn't a journal is made one with no record. Nothing else is written. The
+    /// journal doesn't grow past `limit` bytes.
+    pub fn load(
+        alloc: Global,
+        disk: D,
+        limit: u64,
+    ) -> Result<(Journal<D>, Vec<Placed>), LoadErr<D>>
+        ensures reads { IsTrue D.is_told → IfSome (reading_of result) (IsTheReading (D.kept disk).read) }
+        ensures keeps { IsTrue D.is_told → IfOk result (λ loaded.
+            KeepsJournal (D.kept (disk_of loaded.0)) (payloads_of loaded.1.items)) }
+        ensures place { IsTrue D.is_told → IfOk result (λ loaded. place_of loaded.0 ≡ end_of (payloads_of loaded.1.items)) }
+        ensures limit { IfOk result (λ loaded. limit_of loaded.0 ≡ limit) }
+        ensures fresh { IsTrue D.is_told → length (D.kept disk).read ≤ 13 →
+            IfOk result (λ loaded. D.kept (disk_of loaded.0) ≡ at_rest (journal_of [])) }
+        ensures same { IsTrue D.is_told → 13 < length (D.kept disk).read →
+            (D.kept (disk_after_load result)).read ≡ (D.kept disk).read }
+
+        // A crash at any moment leaves what it might have left before, or too few bytes for a record.
+        ensures any_moment { IsTrue D.is_told →
+            LeavesOnly D.moment D.left_since disk (disk_after_load result) (LeavesAsBefore (D.kept disk)) }
+
+        // It doesn't give up by itself.
+        ensures count { D.fault_count (disk_after_load result) ≡ fault_count_after (is_some (load_fault result)) (D.fault_count disk) }
+        ensures fault { IfSome (load_fault result) (λ count. count ≡ D.fault_count (disk_after_load result)) }
+        ensures failed { IsTrue D.is_told → IsSome (load_fault result) → FailedCall (D.fails disk) (D.kept disk).read }
+        ensures plan { IsTrue D.is_told → OnOk result
+            (MadeCalls (D.fails disk) (D.fails (disk_after_load result)) (D.kept disk).read) }
+    {
+        let mut disk = disk;
+        match load_from(alloc, &mut disk) {
+            Ok((end, placed)) => Ok((Journal { disk, end, limit }, placed)),
+            Err(Trouble::DiskFault) => Err(LoadErr::DiskFault {
+                count: disk.faults(),
+                disk,
+            }),
+            Err(Trouble::NotOurs { first }) => Err(LoadErr::NotOurs { first, disk }),
+            Err(Trouble::Layout { version }) => Err(LoadErr::Layout { version, disk }),
+            Err(Trouble::Damaged { place }) => Err(LoadErr::Damaged { place, disk }),
+            Err(Trouble::OutOfMemory) => Err(LoadErr::OutOfMemory { disk }),
+        }
+    }
+
+    /// Appends a payload in four device calls. At `Ok` its record is synced: from then on each crash leaves it.
+    ///
+    /// Want of memory comes before the first device call. A journal whose disk has failed is gone, and must be loaded
+    /// again.
+    pub fn append(
+        self,
+        alloc: Global,
+        payload: &[u8],
+    ) -> Result<Journal<D>, AppendErr<D>>
+        requires some { 1 ≤ length payload.now }
+        requires fits { length payload.now < 2 ^ 32 }
+        ensures done { IsTrue D.is_told → (payloads : List (List ℕ)) → KeepsJournal (D.kept (disk_of self)) payloads →
+            IfOk result (λ journal. KeepsJournal (D.kept (disk_of journal)) (payloads ++ payload.now ∷ [])) }
+        ensures place { IfOk result (λ journal. place_of journal ≡ place_of self + (5 + length payload.now)) }
+        ensures limit { IfOk result (λ journal. limit_of journal ≡ limit_of self) }
+
+        // A crash at any moment leaves the payloads from before the call, with the new one or without.
+        ensures any_moment { IsTrue D.is_told → (payloads : List (List ℕ)) → KeepsJournal (D.kept (disk_of self)) payloads →
+            LeavesOnly D.moment D.left_since (disk_of self) (disk_after_append result) (IsWithOrWithout payloads payload.now) }
+        ensures broken { IsTrue D.is_told → (payloads : List (List ℕ)) → KeepsJournal (D.kept (disk_of self)) payloads →
+            IsSome (append_fault result) →
+            (image : List ℕ) → IsImage (D.kept (disk_after_append result)) image → IsWithOrWithout payloads payload.now image }
+
+        // It fails exactly where one of its calls does, and which one tells what a crash leaves.
+        ensures stopped { IsTrue D.is_told → (payloads : List (List ℕ)) → KeepsJournal (D.kept (disk_of self)) payloads →
+            IsSome (append_fault result) →
+            IsStopped (D.fails (disk_of self)) (D.kept (disk_after_append result)) payloads payload.now }
+        ensures succeeded { IsTrue D.is_told → OnOk result (AllSucceed (D.fails (disk_of self)) 4) }
+        ensures plan { IsTrue D.is_told → OnOk result (GoesOn 0 4 (D.fails (disk_of self)) (D.fails (disk_after_append result))) }
+        ensures count { D.fault_count (disk_after_append result) ≡ fault_count_after (is_some (append_fault result)) (D.fault_count (disk_of self)) }
+        ensures fault { IfSome (append_fault result) (λ count. count ≡ D.fault_count (disk_after_append result)) }
+
+        ensures full { IsFullExactly self (place_of self + (6 + length payload.now)) result }
+        ensures memory { IfSome (without_memory result) (λ journal. (D.kept (disk_of journal) ≡ D.kept (disk_of self))
+            × (place_of journal ≡ place_of self) × (limit_of journal ≡ limit_of self)) }
+        ensures no_call { IsTrue D.is_told → IfSome (without_memory result) (λ journal.
+            GoesOn 0 0 (D.fails (disk_of self)) (D.fails (disk_of journal))) }
+    {
+        let need = match need_of(self.end, payload.len(), self.limit) {
+            Ok(need) => need,
+            Err(need) => {
+                return Err(AppendErr::Full {
+                    need,
+                    limit: self.limit,
+                    journal: self,
+                });
+            }
+        };
+        let Journal {
+            mut disk,
+            end,
+            limit,
+        } = self;
+        match append_to(alloc, &mut disk, end, need, payload) {
+            Ok(()) => Ok(Journal {
+                disk,
+                end: need - 1,
+                limit,
+            }),
+            Err(Refusal::Broken) => Err(AppendErr::Broken {
+                count: disk.faults(),
+                disk,
+            }),
+            Err(Refusal::OutOfMemory) => Err(AppendErr::OutOfMemory {
+                journal: Journal { disk, end, limit },
+            }),
+        }
+    }
+
+    /// The place of the closed gate where the next record goes.
+    pub fn end(&self) -> u64
+        ensures { result ≡ place_of self.now }
+    {
+        self.end
+    }
+
+    /// Hands the disk back.
+    pub fn close(self) -> D
+        ensures { result ≡ disk_of self }
+    {
+        let Journal {
+            disk,
+            end: _,
+            limit: _,
+        } = self;
+        disk
+    }
+}

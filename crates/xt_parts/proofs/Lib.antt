@@ -1,0 +1,10 @@
+pub mod Payloads
+pub mod Places
+pub mod Reading
+pub mod Taking
+pub mod Running
+pub mod Ordered
+pub mod Mixing
+pub mod SameId
+pub mod Forgetting
+pub mod Spelling

@@ -1,0 +1,5 @@
+pub mod Part
+pub mod Joining
+pub mod Places
+pub mod Runs
+pub mod Laws

@@ -1,0 +1,10 @@
+pub mod Laws
+pub mod BasicLaws
+pub mod IdLaws
+pub mod FileLaws
+pub mod ReplyLaws
+pub mod MetaLaws
+pub mod RegistryLaws
+pub mod Loops
+pub mod Texts
+pub mod Lengths

@@ -1,0 +1,34 @@
+ghost use Rattle.std.specs.Prelude.{◌≡◌};
+ghost use Rattle.xt_wire.specs.declared.fault.FieldErr.TheVariants.{OutOfMemory};
+
+use std::alloc::{AllocError, AllocFailed};
+
+/// Why a field wasn't read.
+#[derive(Clone, Copy, Debug, PartialEq, Eq)]
+pub enum FieldErr {
+    OutOfMemory,
+    /// Too few bytes are left.
+    Short,
+    /// The written length passes the limit.
+    Over,
+    /// The bytes of a text aren't UTF-8.
+    NotText,
+    /// The value is outside the limits of its field.
+    Unfit,
+}
+
+impl From<AllocError> for FieldErr {
+    ghost from_gives = { λ _ e. e ≡ OutOfMemory };
+
+    fn from(_e: AllocError) -> FieldErr {
+        FieldErr::OutOfMemory
+    }
+}
+
+impl<T: Drop> From<AllocFailed<T>> for FieldErr {
+    ghost from_gives = { λ _ e. e ≡ OutOfMemory };
+
+    fn from(_e: AllocFailed<T>) -> FieldErr {
+        FieldErr::OutOfMemory
+    }
+}
