@@ -43,9 +43,9 @@ module _ (bytes : List ℕ) (at : ℕ) (piece image : List ℕ) (is : IsImage (a
       let one : length (take n image) ≡ n = length-take-le n image (omega (arith, long, is.no_shorter)) in
       let two : length (take n bytes) ≡ n = length-take-le n bytes long in
       same_number_lists (take n image) (take n bytes) (one ∙ sym two)
-        (λ k inside.
-          let less : k < n = omega (arith, inside, one) in
-          get_or-take n image k 0 less ∙ here k (omega (arith, less, long)) (below k at (at + length piece) (omega (arith, less, before))) ∙ sym (get_or-take n bytes k 0 less))
+      (λ k inside.
+      let less : k < n = omega (arith, inside, one) in
+      get_or-take n image k 0 less ∙ here k (omega (arith, less, long)) (below k at (at + length piece) (omega (arith, less, before))) ∙ sym (get_or-take n bytes k 0 less))
 
   pub size_stays : at + length piece ≤ length bytes → length image ≡ length bytes
   size_stays inside = omega (arith, is.no_shorter, is.no_longer, inside)
@@ -56,7 +56,7 @@ module _ (bytes : List ℕ) (at : ℕ) (piece image : List ℕ) (is : IsImage (a
       let n = at + length piece in
       let size = size_stays inside in
       same_number_lists (drop n image) (drop n bytes) (omega (arith, size, length-drop n image, length-drop n bytes))
-        (λ k less.
-          get_or-drop n image k 0
-          ∙ here (n + k) (omega (arith, less, size, length-drop n image)) (above (n + k) at (at + length piece) (omega arith))
-          ∙ sym (get_or-drop n bytes k 0))
+      (λ k less.
+      get_or-drop n image k 0
+      ∙ here (n + k) (omega (arith, less, size, length-drop n image)) (above (n + k) at (at + length piece) (omega arith))
+      ∙ sym (get_or-drop n bytes k 0))

@@ -23,7 +23,7 @@ module _ {D : Type 0} (moment : D → ℕ) (left_since : D → ℕ → List ℕ 
     later = omega (arith, first.later, second.later);
     each = λ image left. ⊎_elim (λ was. p image (first.each image was)) (q image) (second.before (moment old) image first.later left);
     before = λ t image le left.
-      ⊎_elim (λ was. ⊎_elim (λ earlier. inl earlier) (λ is. inr (p image is)) (first.before t image le was))
+        ⊎_elim (λ was. ⊎_elim (λ earlier. inl earlier) (λ is. inr (p image is)) (first.before t image le was))
         (λ is. inr (q image is))
         (second.before t image (omega (arith, le, first.later)) left);
   }

@@ -44,8 +44,10 @@ pub trait Disk: Drop {
     fn attach(&mut self, name: &str) -> Result<(), Failed>
         ensures reserved { reserved self.new ≡ 0 }
         ensures room { room self.new ≡ 0 }
-        ensures plan { IsTrue is_told → GoesByPlan 1 0 (fails self.old) (fails self.new) (is_err result) }
-        ensures count { fault_count self.new ≡ fault_count_after (is_err result) (fault_count self.old) };
+        ensures plan { IsTrue is_told →
+            GoesByPlan 1 0 (fails self.old) (fails self.new) (is_err result) }
+        ensures count { fault_count self.new ≡
+            fault_count_after (is_err result) (fault_count self.old) };
 
     /// The length in bytes.
     fn length(&mut self) -> Result<u64, Failed>
@@ -53,32 +55,46 @@ pub trait Disk: Drop {
         ensures same { kept self.new ≡ kept self.old }
         ensures reserved { reserved self.new ≡ reserved self.old }
         ensures room { room self.new ≡ room self.old }
-        ensures time { IsTrue is_told → Elapses (moment self.old) (moment self.new) (left_since self.old) (left_since self.new) (kept self.new) }
-        ensures plan { IsTrue is_told → GoesByPlan 1 0 (fails self.old) (fails self.new) (is_err result) }
-        ensures count { fault_count self.new ≡ fault_count_after (is_err result) (fault_count self.old) };
+        ensures time { IsTrue is_told →
+            Elapses (moment self.old) (moment self.new) (left_since self.old) (left_since self.new)
+            (kept self.new) }
+        ensures plan { IsTrue is_told →
+            GoesByPlan 1 0 (fails self.old) (fails self.new) (is_err result) }
+        ensures count { fault_count self.new ≡
+            fault_count_after (is_err result) (fault_count self.old) };
 
     /// The bytes from a place on, as many as the buffer takes.
     fn read(&mut self, at: u64, buf: &mut [u8]) -> Result<(), Failed>
         requires { IsTrue is_told → at + length buf.old ≤ length (kept self.old).read }
-        ensures value { IsTrue is_told → OnOk result (buf.new ≡ take (length buf.old) (drop at (kept self.old).read)) }
+        ensures value { IsTrue is_told →
+            OnOk result (buf.new ≡ take (length buf.old) (drop at (kept self.old).read)) }
         ensures same { kept self.new ≡ kept self.old }
         ensures reserved { reserved self.new ≡ reserved self.old }
         ensures room { room self.new ≡ room self.old }
-        ensures time { IsTrue is_told → Elapses (moment self.old) (moment self.new) (left_since self.old) (left_since self.new) (kept self.new) }
-        ensures plan { IsTrue is_told → GoesByPlan 1 0 (fails self.old) (fails self.new) (is_err result) }
-        ensures count { fault_count self.new ≡ fault_count_after (is_err result) (fault_count self.old) };
+        ensures time { IsTrue is_told →
+            Elapses (moment self.old) (moment self.new) (left_since self.old) (left_since self.new)
+            (kept self.new) }
+        ensures plan { IsTrue is_told →
+            GoesByPlan 1 0 (fails self.old) (fails self.new) (is_err result) }
+        ensures count { fault_count self.new ≡
+            fault_count_after (is_err result) (fault_count self.old) };
 
     /// Writes a piece from a place on, over what is there and past the end. Until a sync, a crash may leave any
     /// bytes in its range, also where the write fails. It takes no memory.
     fn write(&mut self, at: u64, piece: &[u8]) -> Result<(), Failed>
         requires inside { at + length piece.now ≤ reserved self.old }
         requires noted { length piece.now + 64 ≤ room self.old }
-        ensures writes { IsTrue is_told → Writes at piece.now (kept self.old) (kept self.new) (is_err result) }
+        ensures writes { IsTrue is_told →
+            Writes at piece.now (kept self.old) (kept self.new) (is_err result) }
         ensures reserved { reserved self.new ≡ reserved self.old }
         ensures room { room self.old ≤ room self.new + (length piece.now + 64) }
-        ensures time { IsTrue is_told → Elapses (moment self.old) (moment self.new) (left_since self.old) (left_since self.new) (kept self.new) }
-        ensures plan { IsTrue is_told → GoesByPlan 0 1 (fails self.old) (fails self.new) (is_err result) }
-        ensures count { fault_count self.new ≡ fault_count_after (is_err result) (fault_count self.old) };
+        ensures time { IsTrue is_told →
+            Elapses (moment self.old) (moment self.new) (left_since self.old) (left_since self.new)
+            (kept self.new) }
+        ensures plan { IsTrue is_told →
+            GoesByPlan 0 1 (fails self.old) (fails self.new) (is_err result) }
+        ensures count { fault_count self.new ≡
+            fault_count_after (is_err result) (fault_count self.old) };
 
     /// Makes what a read gives last through a crash. It takes no memory.
     fn sync(&mut self) -> Result<(), Failed>
@@ -86,9 +102,13 @@ pub trait Disk: Drop {
         ensures syncs { IsTrue is_told → Syncs (kept self.old) (kept self.new) (is_err result) }
         ensures reserved { reserved self.new ≡ reserved self.old }
         ensures room { room self.old ≤ room self.new + 64 }
-        ensures time { IsTrue is_told → Elapses (moment self.old) (moment self.new) (left_since self.old) (left_since self.new) (kept self.new) }
-        ensures plan { IsTrue is_told → GoesByPlan 0 1 (fails self.old) (fails self.new) (is_err result) }
-        ensures count { fault_count self.new ≡ fault_count_after (is_err result) (fault_count self.old) };
+        ensures time { IsTrue is_told →
+            Elapses (moment self.old) (moment self.new) (left_since self.old) (left_since self.new)
+            (kept self.new) }
+        ensures plan { IsTrue is_told →
+            GoesByPlan 0 1 (fails self.old) (fails self.new) (is_err result) }
+        ensures count { fault_count self.new ≡
+            fault_count_after (is_err result) (fault_count self.old) };
 
     /// Lets writes end at `end`, and makes room for the record of calls. It is no device call and changes no byte.
     fn reserve(&mut self, end: u64) -> Result<(), OutOfMemory>
@@ -97,15 +117,20 @@ pub trait Disk: Drop {
         ensures reserved { reserved self.old ≤ reserved self.new }
         ensures room { room self.old ≤ room self.new }
         ensures same { kept self.new ≡ kept self.old }
-        ensures time { IsTrue is_told → Elapses (moment self.old) (moment self.new) (left_since self.old) (left_since self.new) (kept self.new) }
-        ensures plan { IsTrue is_told → (looks changes : ℕ) → fails self.new looks changes ≡ fails self.old looks changes }
+        ensures time { IsTrue is_told →
+            Elapses (moment self.old) (moment self.new) (left_since self.old) (left_since self.new)
+            (kept self.new) }
+        ensures plan { IsTrue is_told →
+            (looks changes : ℕ) → fails self.new looks changes ≡ fails self.old looks changes }
         ensures count { fault_count self.new ≡ fault_count self.old };
 
     /// What a crash may leave now is among what it might have left since an earlier moment.
-    ghost counts_now: { (disk : Self) (t : ℕ) (image : List ℕ) → IsTrue is_told → t ≤ moment disk → IsImage (kept disk) image → left_since disk t image };
+    ghost counts_now: { (disk : Self) (t : ℕ) (image : List ℕ) → IsTrue is_told → t ≤ moment disk →
+        IsImage (kept disk) image → left_since disk t image };
 
     /// Since this moment there is no other.
-    ghost only_now: { (disk : Self) (image : List ℕ) → IsTrue is_told → left_since disk (moment disk) image → IsImage (kept disk) image };
+    ghost only_now: { (disk : Self) (image : List ℕ) → IsTrue is_told →
+        left_since disk (moment disk) image → IsImage (kept disk) image };
 
     /// A disk as it reads is one of its images.
     ghost read_is_image: { (disk : Self) → IsTrue is_told → IsImage (kept disk) (kept disk).read };

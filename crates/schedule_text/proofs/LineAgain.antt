@@ -11,8 +11,8 @@ use Rattle.time_line.specs.declared.line.Line.{Line}
 use Rattle.time_line.specs.declared.line.Line.TheVariants as line
 use Rattle.xt_base.specs.declared.ids.NodeId.{NodeId}
 use Rattle.schedule_text.specs.Words.{spaced, hex_of}
-use Rattle.schedule_text.specs.LineText.{line_text, IsLine, IsPlace, IsOneOsd, IsCall, AreBytes}
-use Rattle.schedule_text.specs.CallText.{call_words, file_words}
+use Rattle.schedule_text.specs.LineText.{line_text, line_words, IsLine, IsPlace, IsOneOsd, IsCall, AreBytes}
+use Rattle.schedule_text.specs.CallText.{call_name, call_words, file_words}
 use Rattle.schedule_text.specs.Reading.{first_word, other_words}
 use Rattle.schedule_text.specs.LineReading.{times_at, osd_at, client_at, file_at, start_at, tick_at, read_at, write_place, write_at, deliver_at, drop_at, settle_at, named_line, line_at}
 use Rattle.schedule_text.proofs.WordsAgain.{number_at_again, first_again, others_again, hex-IsWord, hex_again}
@@ -21,38 +21,38 @@ abbrev IsRead : Line → Type 0
 IsRead line = line_at (line_text line) ≡ Some line
 
 times_again : (lease drift : ℕ) → lease < 2 ^ 64 → drift < 2 ^ 64 → IsRead (line.Times lease drift)
-unfolding line_at named_line times_at first_word other_words
+unfolding line_text line_words line_at named_line times_at first_word other_words
 times_again lease drift p q =
     rw (number_at_again 64 lease (decimal drift ∷ []) p (omega arith), number_at_again 64 drift [] q (omega arith)) refl
 
 osd_again : (node : NodeId) → node.0 < 2 ^ 32 → IsRead (line.Osd node)
-unfolding line_at named_line osd_at first_word other_words
+unfolding line_text line_words line_at named_line osd_at first_word other_words
 osd_again node p = rw (number_at_again 32 node.0 [] p (omega arith)) refl
 
 client_again : (node : NodeId) (clock : ℕ) → node.0 < 2 ^ 32 → clock < 2 ^ 64 → IsRead (line.Client node clock)
-unfolding line_at named_line client_at first_word other_words
+unfolding line_text line_words line_at named_line client_at first_word other_words
 client_again node clock p q =
     rw (number_at_again 32 node.0 (decimal clock ∷ []) p (omega arith), number_at_again 64 clock [] q (omega arith)) refl
 
 start_again : (node : NodeId) (clock : ℕ) → node.0 < 2 ^ 32 → clock < 2 ^ 64 → IsRead (line.Start node clock)
-unfolding line_at named_line start_at first_word other_words
+unfolding line_text line_words line_at named_line start_at first_word other_words
 start_again node clock p q =
     rw (number_at_again 32 node.0 (decimal clock ∷ []) p (omega arith), number_at_again 64 clock [] q (omega arith)) refl
 
 tick_again : (count : ℕ) → count < 2 ^ 64 → IsRead (line.Tick count)
-unfolding line_at named_line tick_at first_word other_words
+unfolding line_text line_words line_at named_line tick_at first_word other_words
 tick_again count p = rw (number_at_again 64 count [] p (omega arith)) refl
 
 deliver_again : (number : ℕ) → number < 2 ^ 128 → IsRead (line.Deliver number)
-unfolding line_at named_line deliver_at first_word other_words
+unfolding line_text line_words line_at named_line deliver_at first_word other_words
 deliver_again number p = rw (number_at_again 128 number [] p p) refl
 
 drop_again : (number : ℕ) → number < 2 ^ 128 → IsRead (line.Drop number)
-unfolding line_at named_line drop_at first_word other_words
+unfolding line_text line_words line_at named_line drop_at first_word other_words
 drop_again number p = rw (number_at_again 128 number [] p p) refl
 
 settle_again : (count : ℕ) → count < 2 ^ 128 → IsRead (line.Settle count)
-unfolding line_at named_line settle_at first_word other_words
+unfolding line_text line_words line_at named_line settle_at first_word other_words
 settle_again count p = rw (number_at_again 128 count [] p p) refl
 
 -- where a replicated file lies that has one OSD
@@ -71,11 +71,11 @@ file_again number stripe node p q r =
     ) refl
 
 file_line_again : (number stripe : ℕ) (node : NodeId) → number < 2 ^ 64 → stripe < 2 ^ 32 → node.0 < 2 ^ 32 → IsRead (line.File number (on_one stripe node))
-unfolding line_at named_line first_word other_words
+unfolding line_text line_words line_at named_line first_word other_words
 file_line_again number stripe node p q r = file_again number stripe node p q r
 
 read_again : (client : NodeId) (file object at len : ℕ) → client.0 < 2 ^ 32 → file < 2 ^ 64 → object < 2 ^ 64 → at < 2 ^ 32 → len < 2 ^ 32 → IsRead (line.Call client (call.Read file object at len))
-unfolding line_at named_line read_at first_word other_words
+unfolding line_text line_words call_name call_words line_at named_line read_at first_word other_words
 read_again client file object at len p q r s t =
     rw (
       number_at_again 32 client.0 (decimal file ∷ decimal object ∷ decimal at ∷ decimal len ∷ []) p (omega arith),
@@ -86,7 +86,7 @@ read_again client file object at len p q r s t =
     ) refl
 
 write_words_again : (client : NodeId) (file object at : ℕ) (bytes : List ℕ) → client.0 < 2 ^ 32 → file < 2 ^ 64 → object < 2 ^ 64 → at < 2 ^ 32 → AreBytes bytes → write_at (spaced (decimal client.0 ∷ call_words (call.Write file object at bytes))) ≡ Some (line.Call client (call.Write file object at bytes))
-unfolding write_at write_place
+unfolding write_at write_place call_words
 write_words_again client file object at bytes p q r s fits =
     rw (
       number_at_again 32 client.0 (decimal file ∷ decimal object ∷ decimal at ∷ hex_of bytes ∷ []) p (omega arith),
@@ -98,7 +98,7 @@ write_words_again client file object at bytes p q r s fits =
     ) refl
 
 write_again : (client : NodeId) (file object at : ℕ) (bytes : List ℕ) → client.0 < 2 ^ 32 → file < 2 ^ 64 → object < 2 ^ 64 → at < 2 ^ 32 → AreBytes bytes → IsRead (line.Call client (call.Write file object at bytes))
-unfolding line_at first_word other_words
+unfolding line_text line_words call_name line_at first_word other_words
 write_again client file object at bytes p q r s fits = write_words_again client file object at bytes p q r s fits
 
 one_of : (nodes : List NodeId) → IsOneOsd nodes → (node : NodeId) × (nodes ≡ node ∷ []) × (node.0 < 2 ^ 32)

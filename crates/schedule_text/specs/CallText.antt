@@ -45,7 +45,7 @@ want_word want =
     else decimal want
 
 -- VERB ARGS of a request to the MRC
-abbrev pub meta_words : MetaReq → List (List ℕ)
+unfoldable pub meta_words : MetaReq → List (List ℕ)
 meta_words (request.Mkdir path mode) = codes "mkdir" ∷ path ∷ mode_word mode ∷ []
 meta_words (request.Create path mode kind n stripe) =
     codes "create" ∷ path ∷ mode_word mode ∷ kind_word kind ∷ decimal n ∷ decimal stripe ∷ []
@@ -59,7 +59,7 @@ meta_words (request.Grant path want) = codes "grant" ∷ path ∷ want_word want
 meta_words (request.Report capability mark) = codes "report" ∷ decimal capability.file.number ∷ []
 
 -- VERB ARGS of a request to the DIR
-abbrev pub registry_words : RegistryReq → List (List ℕ)
+unfoldable pub registry_words : RegistryReq → List (List ℕ)
 registry_words (row.Set node kind address expected) =
     codes "set" ∷ decimal node.0 ∷ decimal kind ∷ address ∷ decimal expected ∷ []
 registry_words (row.Get node) = codes "get" ∷ decimal node.0 ∷ []
@@ -67,7 +67,7 @@ registry_words (row.List kind after) = codes "list" ∷ decimal kind ∷ decimal
 registry_words (row.Remove node expected) = codes "remove" ∷ decimal node.0 ∷ decimal expected ∷ []
 
 -- the first word of a call
-abbrev pub call_name : Call → List ℕ
+unfoldable pub call_name : Call → List ℕ
 call_name (call.Read file object at len) = codes "read"
 call_name (call.Write file object at bytes) = codes "write"
 call_name (call.Truncate file size epoch) = codes "truncate"
@@ -76,7 +76,7 @@ call_name (call.Report user group file) = codes "meta"
 call_name (call.Registry wanted) = codes "registry"
 
 -- the other words of a call: F OBJ AT LEN, F OBJ AT HEX, F SIZE EPOCH, USER GROUP VERB ARGS, VERB ARGS
-abbrev pub call_words : Call → List (List ℕ)
+unfoldable pub call_words : Call → List (List ℕ)
 call_words (call.Read file object at len) = decimal file ∷ decimal object ∷ decimal at ∷ decimal len ∷ []
 call_words (call.Write file object at bytes) = decimal file ∷ decimal object ∷ decimal at ∷ hex_of bytes ∷ []
 call_words (call.Truncate file size epoch) = decimal file ∷ decimal size ∷ decimal epoch ∷ []

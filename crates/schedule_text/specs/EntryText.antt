@@ -16,7 +16,7 @@ update_words node file count id =
     decimal node.0 ∷ decimal file ∷ decimal count ∷ decimal id.client.0 ∷ decimal id.number ∷ []
 
 -- the words of a trace's line
-abbrev pub entry_words : Entry → List (List ℕ)
+unfoldable pub entry_words : Entry → List (List ℕ)
 entry_words (entry.Times lease drift) = codes "times" ∷ decimal lease ∷ decimal drift ∷ []
 entry_words (entry.File number location) = codes "file" ∷ file_words number location
 entry_words (entry.Tick count) = codes "tick" ∷ decimal count ∷ []
@@ -31,9 +31,9 @@ entry_words (entry.Done client number outcome) =
     codes "done" ∷ decimal client.0 ∷ decimal number ∷ outcome_words outcome
 
 -- the one spelling of an entry, without the line feed that ends it
-abbrev pub entry_text : Entry → List ℕ
+unfoldable pub entry_text : Entry → List ℕ
 entry_text e = spaced (entry_words e)
 
 -- a trace: its entries, a line feed behind each
-abbrev pub trace_text : List Entry → List ℕ
+unfoldable pub trace_text : List Entry → List ℕ
 trace_text entries = flat_map (λ e. entry_text e ++ 10 ∷ []) entries

@@ -14,7 +14,7 @@ use Rattle.schedule_text.specs.Words.{spaced}
 use Rattle.schedule_text.specs.CallText.{file_words, call_name, call_words}
 
 -- the words of a schedule's line
-abbrev pub line_words : Line → List (List ℕ)
+unfoldable pub line_words : Line → List (List ℕ)
 line_words (line.Times lease drift) = codes "times" ∷ decimal lease ∷ decimal drift ∷ []
 line_words (line.Osd node) = codes "osd" ∷ decimal node.0 ∷ []
 line_words (line.Client node clock) = codes "client" ∷ decimal node.0 ∷ decimal clock ∷ []
@@ -27,7 +27,7 @@ line_words (line.Drop number) = codes "drop" ∷ decimal number ∷ []
 line_words (line.Settle count) = codes "settle" ∷ decimal count ∷ []
 
 -- the one spelling of a line, without the line feed that ends it
-abbrev pub line_text : Line → List ℕ
+unfoldable pub line_text : Line → List ℕ
 line_text line = spaced (line_words line)
 
 -- 1,024 to 131,072 bytes, in steps of 1,024
@@ -81,5 +81,5 @@ IsLine first (line.Drop number) = number < 2 ^ 128
 IsLine first (line.Settle count) = count < 2 ^ 128
 
 -- a schedule: its lines, a line feed behind each
-abbrev pub schedule_text : List Line → List ℕ
+unfoldable pub schedule_text : List Line → List ℕ
 schedule_text lines = flat_map (λ l. line_text l ++ 10 ∷ []) lines

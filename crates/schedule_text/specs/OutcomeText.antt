@@ -31,7 +31,7 @@ denial_number denial.List = 5
 denial_number denial.Range = 6
 
 -- denied R, oldlist V, oldepoch E, toofar O, clientsfull
-abbrev pub ask_refusal_words : AskRefusal → List (List ℕ)
+unfoldable pub ask_refusal_words : AskRefusal → List (List ℕ)
 ask_refusal_words (ask.Denied rule) = codes "denied" ∷ decimal (denial_number rule) ∷ []
 ask_refusal_words (ask.OldList version) = codes "oldlist" ∷ decimal version ∷ []
 ask_refusal_words (ask.OldEpoch epoch) = codes "oldepoch" ∷ decimal epoch ∷ []
@@ -39,7 +39,7 @@ ask_refusal_words (ask.TooFar object) = codes "toofar" ∷ decimal object ∷ []
 ask_refusal_words ask.ClientsFull = codes "clientsfull" ∷ []
 
 -- the MRC's refusal in lower case, with its number
-abbrev pub meta_refusal_words : MetaRefusal → List (List ℕ)
+unfoldable pub meta_refusal_words : MetaRefusal → List (List ℕ)
 meta_refusal_words refusal.NotFound = codes "notfound" ∷ []
 meta_refusal_words refusal.Exists = codes "exists" ∷ []
 meta_refusal_words refusal.NotDir = codes "notdir" ∷ []
@@ -53,7 +53,7 @@ meta_refusal_words (refusal.TooFew have) = codes "toofew" ∷ decimal have ∷ [
 meta_refusal_words (refusal.Denied rule) = codes "denied" ∷ decimal (denial_number rule) ∷ []
 
 -- what one member gave, behind its number
-abbrev pub retry_text : Retry → List ℕ
+unfoldable pub retry_text : Retry → List ℕ
 retry_text (retry.NoLease end) = codes "=nolease:" ++ decimal end
 retry_text (retry.NoMajority have need) = codes "=nomajority:" ++ decimal have ++ 47 ∷ decimal need
 retry_text (retry.Elsewhere node end) = codes "=elsewhere:" ++ decimal node.0 ++ 58 ∷ decimal end
@@ -73,7 +73,7 @@ row_word Directory = codes "dir"
 row_word File = codes "file"
 
 -- ok, a refusal, names and the names, row dir|file OWNER GROUP MODE EPOCH SIZE, granted F EPOCH SIZE
-abbrev pub meta_outcome_words : MetaOutcome → List (List ℕ)
+unfoldable pub meta_outcome_words : MetaOutcome → List (List ℕ)
 meta_outcome_words meta.Done = codes "ok" ∷ []
 meta_outcome_words (meta.Refused why) = meta_refusal_words why
 meta_outcome_words (meta.Names names) = codes "names" ∷ names
@@ -82,7 +82,7 @@ meta_outcome_words (meta.Row kind owner group mode mark) =
 meta_outcome_words (meta.Granted file mark) = codes "granted" ∷ decimal file ∷ decimal mark.epoch ∷ decimal mark.size ∷ []
 
 -- ok V, changed V, absent, row NODE KIND ADDR V, rows and the nodes
-abbrev pub registry_outcome_words : RegistryOutcome → List (List ℕ)
+unfoldable pub registry_outcome_words : RegistryOutcome → List (List ℕ)
 registry_outcome_words (registry.Done version) = codes "ok" ∷ decimal version ∷ []
 registry_outcome_words (registry.Changed version) = codes "changed" ∷ decimal version ∷ []
 registry_outcome_words registry.Absent = codes "absent" ∷ []
@@ -91,7 +91,7 @@ registry_outcome_words (registry.Row row) =
 registry_outcome_words (registry.Rows nodes) = codes "rows" ∷ node_words nodes
 
 -- ok COUNT HEX, retry ANSWERS, a refusal, meta ANSWER, registry ANSWER
-abbrev pub outcome_words : Outcome → List (List ℕ)
+unfoldable pub outcome_words : Outcome → List (List ℕ)
 outcome_words (outcome.Ok count bytes) = codes "ok" ∷ decimal count ∷ hex_or_dash bytes ∷ []
 outcome_words (outcome.Retry answers) = codes "retry" ∷ answer_words answers
 outcome_words (outcome.Refused why) = ask_refusal_words why

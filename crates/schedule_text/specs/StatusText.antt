@@ -13,7 +13,7 @@ use Rattle.schedule_text.specs.Words.{spaced, hex_of}
 use Rattle.schedule_text.specs.OutcomeText.{answer_words, ask_refusal_words, meta_refusal_words}
 
 -- a rule's name in lower case and its values
-abbrev pub rule_words : Rule → List (List ℕ)
+unfoldable pub rule_words : Rule → List (List ℕ)
 rule_words (rule.Drift a b) = codes "drift" ∷ decimal a ∷ decimal b ∷ []
 rule_words (rule.NoSuchMessage number) = codes "nosuchmessage" ∷ decimal number ∷ []
 rule_words (rule.NotRunning node) = codes "notrunning" ∷ decimal node.0 ∷ []
@@ -37,14 +37,14 @@ limited_word limited.Boots = codes "boots"
 limited_word limited.Numbers = codes "numbers"
 
 -- the words of a refusal
-abbrev pub refusal_words : Refusal → List (List ℕ)
+unfoldable pub refusal_words : Refusal → List (List ℕ)
 refusal_words (refusal.Ask why) = ask_refusal_words why
 refusal_words (refusal.Meta why) = meta_refusal_words why
 refusal_words (refusal.Changed version) = codes "changed" ∷ decimal version ∷ []
 refusal_words refusal.Absent = codes "absent" ∷ []
 
 -- the words of a status behind the exclamation mark; none for a job that is complete
-abbrev pub status_words : Status → List (List ℕ)
+unfoldable pub status_words : Status → List (List ℕ)
 status_words status.Done = []
 status_words status.Usage = codes "usage" ∷ []
 status_words (status.Malformed line) = codes "malformed" ∷ decimal line ∷ []
@@ -71,6 +71,6 @@ abbrev pub status_text : Status → List ℕ
 status_text ended = spaced (codes "!" ∷ status_words ended)
 
 -- what a job writes last: nothing where it is complete, else its last line and a line feed
-abbrev pub last_line : Status → List ℕ
+unfoldable pub last_line : Status → List ℕ
 last_line status.Done = []
 last_line ended = status_text ended ++ 10 ∷ []

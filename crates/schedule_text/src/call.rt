@@ -165,6 +165,7 @@ fn push_grant(out: &mut Vec<u8>, path: &Name, want: u8) -> Result<(), OutOfMemor
 }
 
 /// Appends a request to the MRC, as ` VERB ARGS`.
+#[tactic(auto, unfolding(crate::specs::CallText::meta_words))]
 fn push_meta(out: &mut Vec<u8>, request: &MetaReq) -> Result<(), OutOfMemory>
     ensures { OnOk result (out.new.items ≡ out.old.items ++ behind (meta_words request.now)) }
 {
@@ -232,6 +233,7 @@ fn push_remove(out: &mut Vec<u8>, node: NodeId, expected: u64) -> Result<(), Out
 }
 
 /// Appends a request to the DIR, as ` VERB ARGS`.
+#[tactic(auto, unfolding(crate::specs::CallText::registry_words))]
 fn push_registry(out: &mut Vec<u8>, request: &RegistryReq) -> Result<(), OutOfMemory>
     ensures { OnOk result (out.new.items ≡ out.old.items ++ behind (registry_words request.now)) }
 {
@@ -249,6 +251,7 @@ fn push_registry(out: &mut Vec<u8>, request: &RegistryReq) -> Result<(), OutOfMe
 }
 
 /// The first word of a call.
+#[tactic(auto, unfolding(crate::specs::CallText::call_name))]
 pub(crate) fn call_name(call: &Call) -> &'static [u8]
     ensures { result.now ≡ call_name call.now }
 {
@@ -262,6 +265,7 @@ pub(crate) fn call_name(call: &Call) -> &'static [u8]
 }
 
 /// Appends the other words of a call.
+#[tactic(auto, unfolding(crate::specs::CallText::call_words))]
 pub(crate) fn push_call(out: &mut Vec<u8>, call: &Call) -> Result<(), OutOfMemory>
     ensures { OnOk result (out.new.items ≡ out.old.items ++ behind (call_words call.now)) }
 {

@@ -92,6 +92,7 @@ fn push_done(
 }
 
 /// Appends an entry, without a line feed.
+#[tactic(auto, unfolding(crate::specs::EntryText::entry_text, crate::specs::EntryText::entry_words))]
 fn push_entry(out: &mut Vec<u8>, entry: &Entry) -> Result<(), OutOfMemory>
     ensures { OnOk result (out.new.items ≡ out.old.items ++ entry_text entry.now) }
 {
@@ -151,7 +152,7 @@ fn push_entry_line(out: &mut Vec<u8>, entry: &Entry) -> Result<(), OutOfMemory>
 }
 
 /// The entries, a line feed behind each.
-#[tactic(auto, using(crate::proofs::Trace::entry_step))]
+#[tactic(auto, using(crate::proofs::Trace::entry_step, crate::proofs::Trace::no_entries))]
 pub fn print_entries(alloc: Global, entries: &[Entry]) -> Result<Octets, OutOfMemory>
     ensures { IfOk result (λ text. text ≡ trace_text entries.now) }
 {

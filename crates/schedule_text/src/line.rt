@@ -43,6 +43,7 @@ fn push_call_line(out: &mut Vec<u8>, client: NodeId, call: &Call) -> Result<(), 
 }
 
 /// Appends a line, without a line feed.
+#[tactic(auto, unfolding(crate::specs::LineText::line_text, crate::specs::LineText::line_words))]
 fn push_line(out: &mut Vec<u8>, line: &Line) -> Result<(), OutOfMemory>
     ensures { OnOk result (out.new.items ≡ out.old.items ++ line_text line.now) }
 {

@@ -47,6 +47,7 @@ pub(crate) fn push_lone_word(out: &mut Vec<u8>, word: &[u8]) -> Result<(), OutOf
 }
 
 /// Appends an OSD's refusal.
+#[tactic(auto, unfolding(crate::specs::OutcomeText::ask_refusal_words))]
 pub(crate) fn push_ask_refusal(out: &mut Vec<u8>, refusal: &AskRefusal) -> Result<(), OutOfMemory>
     ensures { OnOk result (out.new.items ≡ out.old.items ++ behind (ask_refusal_words refusal.now)) }
 {
@@ -62,6 +63,7 @@ pub(crate) fn push_ask_refusal(out: &mut Vec<u8>, refusal: &AskRefusal) -> Resul
 }
 
 /// Appends the MRC's refusal.
+#[tactic(auto, unfolding(crate::specs::OutcomeText::meta_refusal_words))]
 pub(crate) fn push_meta_refusal(out: &mut Vec<u8>, refusal: &MetaRefusal) -> Result<(), OutOfMemory>
     ensures { OnOk result (out.new.items ≡ out.old.items ++ behind (meta_refusal_words refusal.now)) }
 {
@@ -115,6 +117,7 @@ fn push_elsewhere(out: &mut Vec<u8>, node: NodeId, end: u64) -> Result<(), OutOf
 }
 
 /// Appends what a member gave.
+#[tactic(auto, unfolding(crate::specs::OutcomeText::retry_text))]
 fn push_retry(out: &mut Vec<u8>, retry: &Retry) -> Result<(), OutOfMemory>
     ensures { OnOk result (out.new.items ≡ out.old.items ++ retry_text retry.now) }
 {
@@ -213,6 +216,7 @@ fn push_named_names(out: &mut Vec<u8>, names: &[Name]) -> Result<(), OutOfMemory
 }
 
 /// Appends the MRC's answer.
+#[tactic(auto, unfolding(crate::specs::OutcomeText::meta_outcome_words))]
 fn push_meta_outcome(out: &mut Vec<u8>, answer: &MetaOutcome) -> Result<(), OutOfMemory>
     ensures { OnOk result (out.new.items ≡ out.old.items ++ behind (meta_outcome_words answer.now)) }
 {
@@ -251,6 +255,7 @@ fn push_rows(out: &mut Vec<u8>, nodes: &[NodeId]) -> Result<(), OutOfMemory>
 }
 
 /// Appends the DIR's answer.
+#[tactic(auto, unfolding(crate::specs::OutcomeText::registry_outcome_words))]
 fn push_registry_outcome(out: &mut Vec<u8>, answer: &RegistryOutcome) -> Result<(), OutOfMemory>
     ensures { OnOk result (out.new.items ≡ out.old.items ++ behind (registry_outcome_words answer.now)) }
 {
@@ -296,6 +301,7 @@ fn push_registry(out: &mut Vec<u8>, answer: &RegistryOutcome) -> Result<(), OutO
 }
 
 /// Appends how a call ended.
+#[tactic(auto, unfolding(crate::specs::OutcomeText::outcome_words))]
 pub(crate) fn push_outcome(out: &mut Vec<u8>, outcome: &Outcome) -> Result<(), OutOfMemory>
     ensures { OnOk result (out.new.items ≡ out.old.items ++ behind (outcome_words outcome.now)) }
 {

@@ -1,7 +1,7 @@
 ghost use Rattle.std.specs.Prelude.{◌≡◌, ◌++◌, ◌∷◌, [], OnOk, IfOk, codes};
 ghost use Rattle.std.specs.Fmt.{decimal};
 ghost use Rattle.schedule_text.specs.Words.{behind, hex_of};
-ghost use Rattle.schedule_text.specs.StatusText.{last_line, limited_word, refusal_words, rule_words, status_words};
+ghost use Rattle.schedule_text.specs.StatusText.{last_line, status_text, limited_word, refusal_words, rule_words, status_words};
 
 use crate::outcome::{
     push_ask_refusal, push_lone_word, push_meta_refusal, push_retries, push_word_and_number,
@@ -34,6 +34,7 @@ fn push_at_node(out: &mut Vec<u8>, name: &[u8], node: NodeId) -> Result<(), OutO
 }
 
 /// Appends a rule's name and its values.
+#[tactic(auto, unfolding(crate::specs::StatusText::rule_words))]
 fn push_rule(out: &mut Vec<u8>, rule: &Rule) -> Result<(), OutOfMemory>
     ensures { OnOk result (out.new.items ≡ out.old.items ++ behind (rule_words rule.now)) }
 {
@@ -68,6 +69,7 @@ fn limited_word(what: Limited) -> &'static [u8]
 }
 
 /// Appends a refusal.
+#[tactic(auto, unfolding(crate::specs::StatusText::refusal_words))]
 fn push_refusal(out: &mut Vec<u8>, refusal: &Refusal) -> Result<(), OutOfMemory>
     ensures { OnOk result (out.new.items ≡ out.old.items ++ behind (refusal_words refusal.now)) }
 {
@@ -120,6 +122,7 @@ fn push_refused(out: &mut Vec<u8>, refusal: &Refusal) -> Result<(), OutOfMemory>
 }
 
 /// Appends the words of a status, a space before each.
+#[tactic(auto, unfolding(crate::specs::StatusText::status_words))]
 fn push_status(out: &mut Vec<u8>, status: &Status) -> Result<(), OutOfMemory>
     ensures { OnOk result (out.new.items ≡ out.old.items ++ behind (status_words status.now)) }
 {
@@ -147,15 +150,32 @@ fn push_status(out: &mut Vec<u8>, status: &Status) -> Result<(), OutOfMemory>
     }
 }
 
+/// Appends `!`, the words of a status and a line feed.
+fn push_status_line(out: &mut Vec<u8>, status: &Status) -> Result<(), OutOfMemory>
+    ensures { OnOk result (out.new.items ≡ out.old.items ++ (status_text status.now ++ 10 ∷ [])) }
+{
+    out.push(b'!')?;
+    push_status(out, status)?;
+    out.push(b'\n')?;
+    Ok(())
+}
+
+/// Appends what a job that ended so writes last.
+#[tactic(auto, unfolding(crate::specs::StatusText::last_line))]
+fn push_last_line(out: &mut Vec<u8>, status: &Status) -> Result<(), OutOfMemory>
+    ensures { OnOk result (out.new.items ≡ out.old.items ++ last_line status.now) }
+{
+    match status {
+        Status::Done => Ok(()),
+        _ => push_status_line(out, status),
+    }
+}
+
 /// What a job that ended so writes last: nothing where it is complete, else its last line and a line feed.
 pub fn print_status(alloc: Global, status: &Status) -> Result<Octets, OutOfMemory>
     ensures { IfOk result (λ text. text ≡ last_line status.now) }
 {
     let mut out = Vec::new(alloc);
-    if !matches!(status, Status::Done) {
-        out.push(b'!')?;
-        push_status(&mut out, status)?;
-        out.push(b'\n')?;
-    }
+    push_last_line(&mut out, status)?;
     Ok(Octets::from(out))
 }

@@ -1,26 +1,20 @@
 -- A frame that is read stands at the front, and a frame at the front is read, whatever follows it.
-use Rattle.std.proofs.Common.{◌≡◌, ℕ, suc, ◌+◌, ◌-◌, ◌^◌, ◌<◌, ◌≤◌, Bool, true, false, cond, eqb, ltb, leb, ◌&&◌, List, [], ◌∷◌, ◌++◌, length, take, drop, Result, Ok, Err, refl, sym, ap, subst, ◌∙◌, append_assoc, arith}
+use Rattle.std.proofs.Common.{◌≡◌, ℕ, suc, ◌+◌, ◌-◌, ◌≤◌, Bool, true, false, cond, eqb, ltb, leb, ◌&&◌, List, [], ◌∷◌, ◌++◌, length, take, drop, Result, Ok, Err, refl, sym, ap, subst, ◌∙◌, append_assoc, arith}
 use Rattle.std.specs.Prelude.{IfOk}
 use Rattle.std.proofs.lemmas.Bool.{ltb-false, le-ltb, eqb-true}
 use Rattle.std.proofs.lemmas.List.{append-nil, nil_from_length, take_at, drop_at, take-append-drop, length-append, length-take}
-use Rattle.xt_base.specs.Limits.{AreBytes, FitsNode, FitsPayload, FitsMessage}
-use Rattle.xt_base.specs.declared.message.Payload.{Payload}
-use Rattle.xt_base.specs.declared.message.Payload.TheVariants as payload
+use Rattle.xt_base.specs.Limits.{AreBytes, FitsMessage}
 use Rattle.xt_base.specs.declared.message.Msg.{Msg}
 use Rattle.xt_wire.specs.declared.fault.FieldErr.{FieldErr}
-use Rattle.xt_wire.specs.BasicFields.{byte_bytes, word_bytes, byte_at, word_at}
-use Rattle.xt_wire.specs.IdFields.{node_bytes, node_at}
-use Rattle.xt_wire.specs.OneSpelling.{Taken}
-use Rattle.xt_wire.specs.Reading.{Field, ◌&◌}
-use Rattle.xt_wire.proofs.BasicLaws.{byte_field, word_field, word-length, bytes-take}
-use Rattle.xt_wire.proofs.IdLaws.{node_field}
+use Rattle.xt_wire.specs.BasicFields.{word_bytes, byte_at, word_at}
+use Rattle.xt_wire.proofs.BasicLaws.{word_field, word-length, bytes-take}
 use Rattle.xt_frames.specs.declared.fault.FrameErr.{FrameErr}
 use Rattle.xt_frames.specs.declared.fault.FrameErr.TheVariants as fault
-use Rattle.xt_frames.specs.Frames.{kind_of, payload_bytes, content_of, frame_of}
-use Rattle.xt_frames.specs.PayloadFields.{payload_arms, message_at}
+use Rattle.xt_frames.specs.Frames.{kind_of, content_of, frame_of}
+use Rattle.xt_frames.specs.PayloadFields.{message_at}
 use Rattle.xt_frames.specs.Decoding.{◌>>=◌, as_frame, first_word, cut_of, part_of, kind_at, head_at, whole, message_of, decoded, Gives}
 use Rattle.xt_frames.proofs.PayloadLaws.{addressed, message_takes, message_again, kind_fits}
-use Rattle.xt_frames.proofs.LengthLaws.{content_len, frame_len, frame_bound}
+use Rattle.xt_frames.proofs.LengthLaws.{content_len, frame_bound}
 
 -- ---- steps that did not fail
 

@@ -1,6 +1,6 @@
 -- frames are as long as the rule says, and no longer than the limit
-use Rattle.std.proofs.Common.{◌≡◌, ℕ, ◌+◌, ◌*◌, ◌^◌, ◌<◌, ◌≤◌, List, [], ◌∷◌, ◌++◌, length, Option, Some, None, refl, ap, ◌∙◌, arith}
-use Rattle.std.specs.Prelude.{sum_by, IfSome}
+use Rattle.std.proofs.Common.{◌≡◌, ℕ, ◌+◌, ◌*◌, ◌≤◌, List, [], ◌∷◌, ◌++◌, length, Option, Some, None, refl, ap, ◌∙◌, arith}
+use Rattle.std.specs.Prelude.{sum_by}
 use Rattle.std.specs.List.{flat_map, AllByRecursion}
 use Rattle.std.proofs.lemmas.List.{length-append}
 use Rattle.std.proofs.lemmas.List.Concat.{flat_map-cons}
@@ -43,7 +43,7 @@ use Rattle.xt_base.specs.declared.meta.RowKind.TheVariants as row_kind
 use Rattle.xt_base.specs.declared.meta.MetaAnswer.TheVariants as answer
 use Rattle.xt_base.specs.declared.registry.RegistryReq.TheVariants as wish
 use Rattle.xt_base.specs.declared.registry.RegistryAnswer.TheVariants as told
-use Rattle.xt_base.specs.Limits.{FitsFile, FitsCapability, FitsTag, FitsName, FitsRow, FitsOp, FitsReply, FitsMetaReq, FitsMetaAnswer, FitsRegistryReq, FitsRegistryAnswer, FitsPayload, FitsMessage}
+use Rattle.xt_base.specs.Limits.{FitsFile, FitsCapability, FitsName, FitsRow, FitsOp, FitsReply, FitsMetaReq, FitsMetaAnswer, FitsRegistryReq, FitsRegistryAnswer, FitsPayload, FitsMessage}
 use Rattle.xt_protocol.specs.FrameLength.{text_length, report_length, location_length, capability_length, head_length, update_length, op_length, reply_length, meta_req_length, meta_refusal_length, meta_answer_length, registry_req_length, row_length, registry_answer_length, payload_length, frame_length}
 use Rattle.xt_wire.specs.BasicFields.{byte_bytes, half_bytes, word_bytes, long_bytes, octets_bytes, text_bytes}
 use Rattle.xt_wire.specs.IdFields.{node_bytes, boot_bytes, file_bytes, ballot_bytes, epoch_bytes, stamp_bytes, lease_bytes, report_bytes, op_id_bytes, mark_bytes}
@@ -53,7 +53,7 @@ use Rattle.xt_wire.specs.MetaFields.{meta_req_bytes, refusal_bytes, names_bytes,
 use Rattle.xt_wire.specs.RegistryFields.{registry_req_bytes, row_bytes, rows_bytes, registry_answer_bytes}
 use Rattle.xt_wire.proofs.FileLaws.{members_few}
 use Rattle.xt_wire.proofs.BasicLaws.{half-length, word-length, long-length}
-use Rattle.xt_frames.specs.Frames.{kind_of, payload_bytes, content_of, frame_of}
+use Rattle.xt_frames.specs.Frames.{payload_bytes, content_of, frame_of}
 
 file_len : (x : FileId) → FitsFile x → length (file_bytes x) ≡ 24
 file_len x h = omega (arith, length-append x.volume (long_bytes x.number), long-length x.number, h.whole)

@@ -1,5 +1,5 @@
 -- how a frame is read from the front of bytes, or the first fault in the order in which it is tested
-use Rattle.std.specs.Prelude.{◌≡◌, ℕ, ◌+◌, ◌-◌, List, length, take, drop, Bool, not, nat_lt, nat_le, ◌==◌, ◌&&◌, Result, Ok, Err, if◌then◌else◌}
+use Rattle.std.specs.Prelude.{◌≡◌, ℕ, ◌+◌, ◌-◌, List, length, take, drop, nat_lt, nat_le, ◌==◌, ◌&&◌, Result, Ok, Err, if◌then◌else◌}
 use Rattle.xt_base.specs.declared.message.Msg.{Msg}
 use Rattle.xt_wire.specs.declared.fault.FieldErr.{FieldErr}
 use Rattle.xt_wire.specs.declared.fault.FieldErr.TheVariants as field

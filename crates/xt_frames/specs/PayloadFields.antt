@@ -5,7 +5,7 @@ use Rattle.xt_base.specs.declared.message.Payload.TheVariants as payload
 use Rattle.xt_base.specs.declared.message.Msg.{Msg}
 use Rattle.xt_wire.specs.declared.fault.FieldErr.TheVariants as fault
 use Rattle.xt_wire.specs.Reading.{Field, ◌&◌, made}
-use Rattle.xt_wire.specs.BasicFields.{byte_at, word_at, count_at, raw_at, octets_at}
+use Rattle.xt_wire.specs.BasicFields.{word_at, count_at, raw_at, octets_at}
 use Rattle.xt_wire.specs.IdFields.{node_at, boot_at, file_at, ballot_at, epoch_at, stamp_at, lease_at, report_at}
 use Rattle.xt_wire.specs.FileFields.{capability_at, op_at, update_at, head_at}
 use Rattle.xt_wire.specs.ReplyFields.{reply_at}

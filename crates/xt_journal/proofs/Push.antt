@@ -9,9 +9,9 @@ pub records-push : (payloads : List (List ℕ)) (payload rest : List ℕ) → re
 records-push [] payload rest = ap (λ (l : List ℕ). open_gate ∷ l) (append_assoc (record_of payload) [] rest)
 records-push (p ∷ payloads) payload rest =
     ap (λ (l : List ℕ). open_gate ∷ l)
-      (append_assoc (record_of p) (records (payloads ++ payload ∷ [])) rest
-        ∙ ap (λ (l : List ℕ). record_of p ++ l) (records-push payloads payload rest)
-        ∙ sym (append_assoc (record_of p) (records payloads) (open_gate ∷ (record_of payload ++ rest))))
+    (append_assoc (record_of p) (records (payloads ++ payload ∷ [])) rest
+    ∙ ap (λ (l : List ℕ). record_of p ++ l) (records-push payloads payload rest)
+    ∙ sym (append_assoc (record_of p) (records payloads) (open_gate ∷ (record_of payload ++ rest))))
 
 pub end_of-push : (payloads : List (List ℕ)) (payload : List ℕ) → end_of (payloads ++ payload ∷ []) ≡ end_of payloads + (5 + length payload)
 end_of-push [] payload = omega (arith, length-append (record_of payload) [], length-record payload)
@@ -24,7 +24,7 @@ placed_from-push gate [] payload = let here : gate ≡ gate + 0 = omega arith in
 placed_from-push gate (p ∷ payloads) payload =
     let there : (gate + (5 + length p)) + length (records payloads) ≡ gate + length (records (p ∷ payloads)) = omega (arith, length-append (record_of p) (records payloads), length-record p) in
     ap (λ (l : List Placed). record { gate = gate; bytes = p } ∷ l)
-      (placed_from-push (gate + (5 + length p)) payloads payload ∙ ap (λ (g : ℕ). placed_from (gate + (5 + length p)) payloads ++ record { gate = g; bytes = payload } ∷ []) there)
+    (placed_from-push (gate + (5 + length p)) payloads payload ∙ ap (λ (g : ℕ). placed_from (gate + (5 + length p)) payloads ++ record { gate = g; bytes = payload } ∷ []) there)
 
 pub payloads_of-push : (placed : List Placed) (last : Placed) → payloads_of (placed ++ last ∷ []) ≡ payloads_of placed ++ last.bytes ∷ []
 payloads_of-push [] last = refl

@@ -50,9 +50,10 @@ heads p q x y is_p is_q same =
     let split : (p ++ x) ≡ (q ++ y) =
     sym (drop_at (big_bytes 4 (length p)) (p ++ x) 4 (length-bytes_high_first 4 (length p)))
     ∙ ap (drop 4) (sym (append_assoc (big_bytes 4 (length p)) p x) ∙ same ∙ append_assoc (big_bytes 4 (length q)) q y)
-    ∙ drop_at (big_bytes 4 (length q)) (q ++ y) 4 (length-bytes_high_first 4 (length q)) in
-    (sym (take_at p x (length p) refl) ∙ ap (take (length p)) split ∙ take_at q y (length p) (sym size),
-     sym (drop_at p x (length p) refl) ∙ ap (drop (length p)) split ∙ drop_at q y (length p) (sym size))
+    ∙ drop_at (big_bytes 4 (length q)) (q ++ y) 4 (length-bytes_high_first 4 (length q)) in (
+      sym (take_at p x (length p) refl) ∙ ap (take (length p)) split ∙ take_at q y (length p) (sym size),
+      sym (drop_at p x (length p) refl) ∙ ap (drop (length p)) split ∙ drop_at q y (length p) (sym size),
+    )
 
 pub behind : (payload : List ℕ) (payloads : List (List ℕ)) (gate : ℕ) (rest : List ℕ)
     → records (payload ∷ payloads) ++ gate ∷ rest ≡ open_gate ∷ (record_of payload ++ (records payloads ++ gate ∷ rest))

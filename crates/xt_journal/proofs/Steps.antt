@@ -49,8 +49,8 @@ module _ (payloads : List (List ℕ)) (payload : List ℕ) (fit : All IsPayload 
     rest = more;
     shut = omega arith;
     are =
-      are ∙ sym (regroup (open_gate ∷ (record_of payload ++ 0 ∷ more)))
-      ∙ ap (λ (l : List ℕ). header ++ l) (sym (records-push payloads payload (0 ∷ more)));
+        are ∙ sym (regroup (open_gate ∷ (record_of payload ++ 0 ∷ more)))
+        ∙ ap (λ (l : List ℕ). header ++ l) (sym (records-push payloads payload (0 ∷ more)));
   }
 
   -- with any byte as its gate
@@ -76,7 +76,7 @@ module _ (payloads : List (List ℕ)) (payload : List ℕ) (fit : All IsPayload 
         let start : take (end + 1) image ≡ front ++ gate ∷ [] =
         front_stays bytes (end + 1) piece image torn (end + 1) (omega arith) long ∙ ap (λ (l : List ℕ). take (end + 1) l) split ∙ take_at (front ++ gate ∷ []) rest (end + 1) one_more in
         closed gate (drop (end + 1) image) image shut
-          (sym (take-append-drop (end + 1) image) ∙ ap (λ (l : List ℕ). l ++ drop (end + 1) image) start ∙ append_assoc front (gate ∷ []) (drop (end + 1) image))
+        (sym (take-append-drop (end + 1) image) ∙ ap (λ (l : List ℕ). l ++ drop (end + 1) image) start ∙ append_assoc front (gate ∷ []) (drop (end + 1) image))
 
     staged : (piece : List ℕ) → piece ≡ record_of payload ++ 0 ∷ [] → overwritten (end + 1) piece bytes ≡ front ++ gate ∷ (record_of payload ++ 0 ∷ drop (length piece) rest)
     staged piece is =
@@ -152,13 +152,13 @@ module _ (kept : Kept) (end : ℕ) (piece : List ℕ) (payloads : List (List ℕ
   unfolding tail
   finished =
       opened payloads payload was.fit turn.is_payload end turn.place more _
-        (gate_written payloads payload was.fit turn.is_payload end turn.place was.gate tail (overwritten (end + 1) piece kept.read) behind)
+      (gate_written payloads payload was.fit turn.is_payload end turn.place was.gate tail (overwritten (end + 1) piece kept.read) behind)
 
   pub first_stop : (left : Kept) (call fill : ℕ) (bytes : List ℕ) → call ≤ 2 → IsTornAt (end + 1) piece kept.read left → IsFilled fill left bytes
       → StandsFor bytes (payloads_after_stop call fill payloads payload)
   first_stop left call fill bytes early torn filled =
       subst (StandsFor bytes) (sym (stop_early call fill payloads payload early))
-        (first_half bytes (torn_image (end + 1) piece kept.read left bytes torn (filled_is_image fill left bytes filled)))
+      (first_half bytes (torn_image (end + 1) piece kept.read left bytes torn (filled_is_image fill left bytes filled)))
 
   module _ (left : Kept) (fill : ℕ) (bytes : List ℕ) (torn : IsTornAt end (open_gate ∷ []) (overwritten (end + 1) piece kept.read) left) (filled : IsFilled fill left bytes) where
     image : bytes ≡ front payloads payload was.fit turn.is_payload end turn.place ++ get_or bytes end 0 ∷ tail
@@ -181,10 +181,10 @@ module _ (kept : Kept) (end : ℕ) (piece : List ℕ) (payloads : List (List ℕ
         let is = image ∙ ap (λ (g : ℕ). front payloads payload was.fit turn.is_payload end turn.place ++ g ∷ (record_of payload ++ 0 ∷ more)) gate_is in
         elim (cases_eq fill open_gate) [
           | inl open_fill ↦ subst (StandsFor bytes) (sym (stop_open call fill payloads payload late open_fill))
-            (inr (opened payloads payload was.fit turn.is_payload end turn.place more bytes
+              (inr (opened payloads payload was.fit turn.is_payload end turn.place more bytes
               (is ∙ ap (λ (g : ℕ). front payloads payload was.fit turn.is_payload end turn.place ++ g ∷ (record_of payload ++ 0 ∷ more)) open_fill)))
           | inr shut ↦ subst (StandsFor bytes) (sym (stop_shut call fill payloads payload shut))
-            (inr (closed payloads payload was.fit turn.is_payload end turn.place fill (record_of payload ++ 0 ∷ more) bytes shut is))
+              (inr (closed payloads payload was.fit turn.is_payload end turn.place fill (record_of payload ++ 0 ∷ more) bytes shut is))
         ]
 
 -- a disk has one journal, and so one place where it ends
@@ -213,10 +213,13 @@ ends_later kept new end later payload is ends done =
     })
 
 -- a disk at rest with a journal
-pub rests_with : (kept : Kept) (payloads : List (List ℕ)) (payload image : List ℕ) → KeepsJournal kept payloads → IsImage kept image → IsWithOrWithout payloads payload image
-rests_with kept payloads payload image keeps is =
+pub each_stands : (kept : Kept) (payloads : List (List ℕ)) (image : List ℕ) → KeepsJournal kept payloads → IsImage kept image → StandsFor image payloads
+each_stands kept payloads image keeps is =
     let stays = rest_stays kept.read image (subst (λ (k : Kept). IsImage k image) keeps.rests is) in
-    inl (subst (λ (bytes : List ℕ). StandsFor bytes payloads) (sym stays) (inr keeps.journal))
+    subst (λ (bytes : List ℕ). StandsFor bytes payloads) (sym stays) (inr keeps.journal)
+
+pub rests_with : (kept : Kept) (payloads : List (List ℕ)) (payload image : List ℕ) → KeepsJournal kept payloads → IsImage kept image → IsWithOrWithout payloads payload image
+rests_with kept payloads payload image keeps is = inl (each_stands kept payloads image keeps is)
 
 -- the same calls are to fail
 pub same_plan : (fails same : ℕ → ℕ → Bool) (left : Kept) (payloads : List (List ℕ)) (payload : List ℕ) → ((l c : ℕ) → same l c ≡ fails l c)

@@ -2,7 +2,7 @@ ghost use Rattle.std.specs.Prelude.{◌≡◌, ◌≤◌, ◌<◌, ◌+◌, ◌-
 ghost use Rattle.disk_model.specs.Disk.{IsImage, LeavesOnly, counted, fault_count_after};
 ghost use Rattle.xt_journal.specs.Append.{IsTurn, IsWithOrWithout, IsStopped};
 ghost use Rattle.xt_journal.specs.Calls.{GoesOn, AllSucceed};
-ghost use Rattle.xt_journal.specs.Format.{record_of, EndsAt, KeepsJournal};
+ghost use Rattle.xt_journal.specs.Format.{record_of, EndsAt, KeepsJournal, StandsFor};
 ghost use Rattle.xt_journal.specs.Refused.{is_broken};
 
 use crate::calls::write_synced;
@@ -61,17 +61,27 @@ pub fn append_to<D: Disk>(
     requires some { 1 ≤ length payload.now }
     requires fits { length payload.now < 2 ^ 32 }
     ensures ends { IsTrue D.is_told → OnOk result (∥ EndsAt (D.kept disk.new) (need - 1) ∥₁) }
-    ensures done { IsTrue D.is_told → (payloads : List (List ℕ)) → KeepsJournal (D.kept disk.old) payloads →
+    ensures done { IsTrue D.is_told → (payloads : List (List ℕ)) →
+        KeepsJournal (D.kept disk.old) payloads →
         OnOk result (KeepsJournal (D.kept disk.new) (payloads ++ payload.now ∷ [])) }
-    ensures any_moment { IsTrue D.is_told → (payloads : List (List ℕ)) → KeepsJournal (D.kept disk.old) payloads →
+    ensures acknowledged { IsTrue D.is_told → (payloads : List (List ℕ)) →
+        KeepsJournal (D.kept disk.old) payloads →
+        OnOk result ((image : List ℕ) → IsImage (D.kept disk.new) image →
+        StandsFor image (payloads ++ payload.now ∷ [])) }
+    ensures any_moment { IsTrue D.is_told → (payloads : List (List ℕ)) →
+        KeepsJournal (D.kept disk.old) payloads →
         LeavesOnly D.moment D.left_since disk.old disk.new (IsWithOrWithout payloads payload.now) }
-    ensures now { IsTrue D.is_told → (payloads : List (List ℕ)) → KeepsJournal (D.kept disk.old) payloads →
+    ensures now { IsTrue D.is_told → (payloads : List (List ℕ)) →
+        KeepsJournal (D.kept disk.old) payloads →
         (image : List ℕ) → IsImage (D.kept disk.new) image → IsWithOrWithout payloads payload.now image }
-    ensures stopped { IsTrue D.is_told → (payloads : List (List ℕ)) → KeepsJournal (D.kept disk.old) payloads →
+    ensures stopped { IsTrue D.is_told → (payloads : List (List ℕ)) →
+        KeepsJournal (D.kept disk.old) payloads →
         IsErrOf result Refusal.Broken → IsStopped (D.fails disk.old) (D.kept disk.new) payloads payload.now }
     ensures succeeded { IsTrue D.is_told → OnOk result (AllSucceed (D.fails disk.old) 4) }
-    ensures plan { IsTrue D.is_told → OnOk result (GoesOn 0 4 (D.fails disk.old) (D.fails disk.new)) }
-    ensures count { D.fault_count disk.new ≡ fault_count_after (is_broken result) (D.fault_count disk.old) }
+    ensures plan { IsTrue D.is_told →
+        OnOk result (GoesOn 0 4 (D.fails disk.old) (D.fails disk.new)) }
+    ensures count { D.fault_count disk.new ≡
+        fault_count_after (is_broken result) (D.fault_count disk.old) }
     ensures same { IsErrOf result Refusal.OutOfMemory → D.kept disk.new ≡ D.kept disk.old }
     ensures no_call { IsTrue D.is_told → IsErrOf result Refusal.OutOfMemory →
         GoesOn 0 0 (D.fails disk.old) (D.fails disk.new) }
@@ -103,8 +113,10 @@ pub fn write_record<D: Disk>(disk: &mut D, end: u64, piece: &[u8]) -> Result<(),
         IsTurn (D.kept disk.old) end piece.now payloads payload →
         OnErr result (IsStopped (D.fails disk.old) (D.kept disk.new) payloads payload) }
     ensures succeeded { IsTrue D.is_told → OnOk result (AllSucceed (D.fails disk.old) 4) }
-    ensures plan { IsTrue D.is_told → OnOk result (GoesOn 0 4 (D.fails disk.old) (D.fails disk.new)) }
-    ensures count { D.fault_count disk.new ≡ fault_count_after (is_err result) (D.fault_count disk.old) }
+    ensures plan { IsTrue D.is_told →
+        OnOk result (GoesOn 0 4 (D.fails disk.old) (D.fails disk.new)) }
+    ensures count { D.fault_count disk.new ≡
+        fault_count_after (is_err result) (D.fault_count disk.old) }
 {
     write_synced(disk, end + 1, piece)?;
     write_synced(disk, end, &[OPEN_GATE])

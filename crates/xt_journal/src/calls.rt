@@ -17,8 +17,10 @@ pub fn write_synced<D: Disk>(disk: &mut D, at: u64, piece: &[u8]) -> Result<(), 
         LeavesOnly D.moment D.left_since disk.old disk.new (MayBeTorn at piece.now (D.kept disk.old).read) }
     ensures reserved { D.reserved disk.new ≡ D.reserved disk.old }
     ensures room { D.room disk.old ≤ D.room disk.new + (length piece.now + 128) }
-    ensures count { D.fault_count disk.new ≡ fault_count_after (is_err result) (D.fault_count disk.old) }
-    ensures plan { IsTrue D.is_told → OnOk result (GoesOn 0 2 (D.fails disk.old) (D.fails disk.new)) }
+    ensures count { D.fault_count disk.new ≡
+        fault_count_after (is_err result) (D.fault_count disk.old) }
+    ensures plan { IsTrue D.is_told →
+        OnOk result (GoesOn 0 2 (D.fails disk.old) (D.fails disk.new)) }
     ensures succeeded { IsTrue D.is_told → OnOk result (AllSucceed (D.fails disk.old) 2) }
     ensures failed { IsTrue D.is_told → OnErr result
         ((call : ℕ) × (1 ≤ call) × (call ≤ 2) × IsFirstFailure (D.fails disk.old) call) }

@@ -19,9 +19,18 @@ pub enum LoadErr<D> {
 #[derive(Debug, Drop)]
 pub enum AppendErr<D: Disk> {
     /// The disk has failed; this is its count of faults. The journal is gone, and must be loaded again.
-    Broken { count: u64, disk: D },
+    Broken {
+        count: u64,
+        disk: D,
+    },
     /// The journal would need this many bytes, at most `u64::MAX`, which passes the limit. It is as it was.
-    Full { journal: Journal<D>, need: u64, limit: u64 },
+    Full {
+        journal: Journal<D>,
+        need: u64,
+        limit: u64,
+    },
     /// The journal comes back. No device call was made.
-    OutOfMemory { journal: Journal<D> },
+    OutOfMemory {
+        journal: Journal<D>,
+    },
 }

@@ -19,7 +19,9 @@ pub const LAYOUT: u32 = 1;
 pub const OPEN_GATE: u8 = 0xa5;
 
 /// The header, and a closed gate.
-pub const FRESH: [u8; 13] = [0x58, 0x54, 0x46, 0x53, 0x4a, 0x52, 0x4e, 0x4c, 0, 0, 0, 1, 0];
+pub const FRESH: [u8; 13] = [
+    0x58, 0x54, 0x46, 0x53, 0x4a, 0x52, 0x4e, 0x4c, 0, 0, 0, 1, 0,
+];
 
 /// Why bytes aren't read as a journal.
 #[derive(Debug, Drop)]
@@ -86,7 +88,10 @@ fn parse_records(alloc: Global, records: &[u8]) -> Result<(u64, Vec<Placed>), Tr
         match next_record(rest) {
             Next::Closed => return Ok((gate, placed)),
             Next::CutOff => return Err(Trouble::Damaged { place: gate }),
-            Next::Record { payload, rest: behind } => {
+            Next::Record {
+                payload,
+                rest: behind,
+            } => {
                 let bytes = Octets::of(alloc, payload)?;
                 placed.push(Placed { gate, bytes })?;
                 gate += 5 + payload.len() as u64;

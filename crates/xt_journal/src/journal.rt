@@ -25,7 +25,7 @@ impl<D: Disk> Journal<D> {
     ghost use Rattle.xt_journal.specs.Answers.{IsFullExactly, append_fault, disk_after_append, disk_after_load, load_fault, reading_of, without_memory};
     ghost use Rattle.xt_journal.specs.Append.{IsStopped, IsWithOrWithout};
     ghost use Rattle.xt_journal.specs.Calls.{AllSucceed, GoesOn};
-    ghost use Rattle.xt_journal.specs.Format.{KeepsJournal, end_of, journal_of};
+    ghost use Rattle.xt_journal.specs.Format.{KeepsJournal, StandsFor, end_of, journal_of};
     ghost use Rattle.xt_journal.specs.Loaded.{LeavesAsBefore, IsReady, FailedCall, MadeCalls};
     ghost use Rattle.xt_journal.specs.Reading.{IsTheReading, payloads_of};
 
@@ -33,15 +33,13 @@ impl<D: Disk> Journal<D> {
     ///
     /// A disk of at most 13 bytes that isn't a journal is made one with no record. Nothing else is written. The
     /// journal doesn't grow past `limit` bytes.
-    pub fn load(
-        alloc: Global,
-        disk: D,
-        limit: u64,
-    ) -> Result<(Journal<D>, Vec<Placed>), LoadErr<D>>
-        ensures reads { IsTrue D.is_told → IfSome (reading_of result) (IsTheReading (D.kept disk).read) }
+    pub fn load(alloc: Global, disk: D, limit: u64) -> Result<(Journal<D>, Vec<Placed>), LoadErr<D>>
+        ensures reads { IsTrue D.is_told →
+            IfSome (reading_of result) (IsTheReading (D.kept disk).read) }
         ensures keeps { IsTrue D.is_told → IfOk result (λ loaded.
             KeepsJournal (D.kept (disk_of loaded.0)) (payloads_of loaded.1.items)) }
-        ensures place { IsTrue D.is_told → IfOk result (λ loaded. place_of loaded.0 ≡ end_of (payloads_of loaded.1.items)) }
+        ensures place { IsTrue D.is_told →
+            IfOk result (λ loaded. place_of loaded.0 ≡ end_of (payloads_of loaded.1.items)) }
         ensures limit { IfOk result (λ loaded. limit_of loaded.0 ≡ limit) }
         ensures fresh { IsTrue D.is_told → length (D.kept disk).read ≤ 13 →
             IfOk result (λ loaded. D.kept (disk_of loaded.0) ≡ at_rest (journal_of [])) }
@@ -53,9 +51,11 @@ impl<D: Disk> Journal<D> {
             LeavesOnly D.moment D.left_since disk (disk_after_load result) (LeavesAsBefore (D.kept disk)) }
 
         // It doesn't give up by itself.
-        ensures count { D.fault_count (disk_after_load result) ≡ fault_count_after (is_some (load_fault result)) (D.fault_count disk) }
+        ensures count { D.fault_count (disk_after_load result) ≡
+            fault_count_after (is_some (load_fault result)) (D.fault_count disk) }
         ensures fault { IfSome (load_fault result) (λ count. count ≡ D.fault_count (disk_after_load result)) }
-        ensures failed { IsTrue D.is_told → IsSome (load_fault result) → FailedCall (D.fails disk) (D.kept disk).read }
+        ensures failed { IsTrue D.is_told →
+            IsSome (load_fault result) → FailedCall (D.fails disk) (D.kept disk).read }
         ensures plan { IsTrue D.is_told → OnOk result
             (MadeCalls (D.fails disk) (D.fails (disk_after_load result)) (D.kept disk).read) }
     {
@@ -77,36 +77,45 @@ impl<D: Disk> Journal<D> {
     ///
     /// Want of memory comes before the first device call. A journal whose disk has failed is gone, and must be loaded
     /// again.
-    pub fn append(
-        self,
-        alloc: Global,
-        payload: &[u8],
-    ) -> Result<Journal<D>, AppendErr<D>>
+    pub fn append(self, alloc: Global, payload: &[u8]) -> Result<Journal<D>, AppendErr<D>>
         requires some { 1 ≤ length payload.now }
         requires fits { length payload.now < 2 ^ 32 }
-        ensures done { IsTrue D.is_told → (payloads : List (List ℕ)) → KeepsJournal (D.kept (disk_of self)) payloads →
+        ensures done { IsTrue D.is_told → (payloads : List (List ℕ)) →
+            KeepsJournal (D.kept (disk_of self)) payloads →
             IfOk result (λ journal. KeepsJournal (D.kept (disk_of journal)) (payloads ++ payload.now ∷ [])) }
+        ensures acknowledged { IsTrue D.is_told → (payloads : List (List ℕ)) →
+            KeepsJournal (D.kept (disk_of self)) payloads →
+            IfOk result (λ journal. (image : List ℕ) → IsImage (D.kept (disk_of journal)) image →
+            StandsFor image (payloads ++ payload.now ∷ [])) }
         ensures place { IfOk result (λ journal. place_of journal ≡ place_of self + (5 + length payload.now)) }
         ensures limit { IfOk result (λ journal. limit_of journal ≡ limit_of self) }
 
         // A crash at any moment leaves the payloads from before the call, with the new one or without.
-        ensures any_moment { IsTrue D.is_told → (payloads : List (List ℕ)) → KeepsJournal (D.kept (disk_of self)) payloads →
-            LeavesOnly D.moment D.left_since (disk_of self) (disk_after_append result) (IsWithOrWithout payloads payload.now) }
-        ensures broken { IsTrue D.is_told → (payloads : List (List ℕ)) → KeepsJournal (D.kept (disk_of self)) payloads →
+        ensures any_moment { IsTrue D.is_told → (payloads : List (List ℕ)) →
+            KeepsJournal (D.kept (disk_of self)) payloads →
+            LeavesOnly D.moment D.left_since (disk_of self) (disk_after_append result)
+            (IsWithOrWithout payloads payload.now) }
+        ensures broken { IsTrue D.is_told → (payloads : List (List ℕ)) →
+            KeepsJournal (D.kept (disk_of self)) payloads →
             IsSome (append_fault result) →
-            (image : List ℕ) → IsImage (D.kept (disk_after_append result)) image → IsWithOrWithout payloads payload.now image }
+            (image : List ℕ) → IsImage (D.kept (disk_after_append result)) image →
+            IsWithOrWithout payloads payload.now image }
 
         // It fails exactly where one of its calls does, and which one tells what a crash leaves.
-        ensures stopped { IsTrue D.is_told → (payloads : List (List ℕ)) → KeepsJournal (D.kept (disk_of self)) payloads →
+        ensures stopped { IsTrue D.is_told → (payloads : List (List ℕ)) →
+            KeepsJournal (D.kept (disk_of self)) payloads →
             IsSome (append_fault result) →
             IsStopped (D.fails (disk_of self)) (D.kept (disk_after_append result)) payloads payload.now }
         ensures succeeded { IsTrue D.is_told → OnOk result (AllSucceed (D.fails (disk_of self)) 4) }
-        ensures plan { IsTrue D.is_told → OnOk result (GoesOn 0 4 (D.fails (disk_of self)) (D.fails (disk_after_append result))) }
-        ensures count { D.fault_count (disk_after_append result) ≡ fault_count_after (is_some (append_fault result)) (D.fault_count (disk_of self)) }
+        ensures plan { IsTrue D.is_told →
+            OnOk result (GoesOn 0 4 (D.fails (disk_of self)) (D.fails (disk_after_append result))) }
+        ensures count { D.fault_count (disk_after_append result) ≡
+            fault_count_after (is_some (append_fault result)) (D.fault_count (disk_of self)) }
         ensures fault { IfSome (append_fault result) (λ count. count ≡ D.fault_count (disk_after_append result)) }
 
         ensures full { IsFullExactly self (place_of self + (6 + length payload.now)) result }
-        ensures memory { IfSome (without_memory result) (λ journal. (D.kept (disk_of journal) ≡ D.kept (disk_of self))
+        ensures memory { IfSome (without_memory result) (λ journal.
+            (D.kept (disk_of journal) ≡ D.kept (disk_of self))
             × (place_of journal ≡ place_of self) × (limit_of journal ≡ limit_of self)) }
         ensures no_call { IsTrue D.is_told → IfSome (without_memory result) (λ journal.
             GoesOn 0 0 (D.fails (disk_of self)) (D.fails (disk_of journal))) }

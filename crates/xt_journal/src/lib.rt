@@ -1,4 +1,9 @@
-//! A journal on a disk: payloads that are appended one by one, each of them kept through a crash from then on.
+//! A journal on a disk: payloads that are appended one by one, and each of them kept through a crash from then on.
+//!
+//! A record counts by its gate alone. The gate stands closed on the disk while the record is written behind it, and is
+//! opened by a write of its own once the record is synced. So a crash at any moment leaves the payloads from before an
+//! append, with the new one or without it; after `Ok` it leaves the new one. Loading gives exactly what stands, or
+//! refuses the bytes by name, and then writes nothing.
 #![tactic(auto)]
 
 mod append;
@@ -12,3 +17,6 @@ mod placed;
 pub use errors::{AppendErr, LoadErr};
 pub use journal::Journal;
 pub use placed::Placed;
+
+#[cfg(test)]
+mod tests;

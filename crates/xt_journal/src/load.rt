@@ -17,15 +17,19 @@ use xt_base::{Failed, OutOfMemory};
 fn settle<D: Disk>(disk: &mut D) -> Result<u64, Failed>
     requires { 64 ≤ D.room disk.old }
     ensures value { IsTrue D.is_told → IfOk result (λ len. len ≡ length (D.kept disk.old).read) }
-    ensures rests { IsTrue D.is_told → OnOk result (D.kept disk.new ≡ at_rest (D.kept disk.old).read) }
+    ensures rests { IsTrue D.is_told →
+        OnOk result (D.kept disk.new ≡ at_rest (D.kept disk.old).read) }
     ensures same { IsTrue D.is_told → (D.kept disk.new).read ≡ (D.kept disk.old).read }
     ensures any_moment { IsTrue D.is_told →
         LeavesOnly D.moment D.left_since disk.old disk.new (IsImage (D.kept disk.old)) }
     ensures reserved { D.reserved disk.new ≡ D.reserved disk.old }
     ensures room { D.room disk.old ≤ D.room disk.new + 64 }
-    ensures plan { IsTrue D.is_told → OnOk result (GoesOn 1 1 (D.fails disk.old) (D.fails disk.new)) }
-    ensures failed { IsTrue D.is_told → OnErr result ((l : ℕ) × (l ≤ 1) × (D.fails disk.old l 1 ≡ true)) }
-    ensures count { D.fault_count disk.new ≡ fault_count_after (is_err result) (D.fault_count disk.old) }
+    ensures plan { IsTrue D.is_told →
+        OnOk result (GoesOn 1 1 (D.fails disk.old) (D.fails disk.new)) }
+    ensures failed { IsTrue D.is_told →
+        OnErr result ((l : ℕ) × (l ≤ 1) × (D.fails disk.old l 1 ≡ true)) }
+    ensures count { D.fault_count disk.new ≡
+        fault_count_after (is_err result) (D.fault_count disk.old) }
 {
     disk.sync()?;
     disk.length()
@@ -42,10 +46,12 @@ fn make_ready<D: Disk>(disk: &mut D, len: u64) -> Result<(), Failed>
     ensures any_moment { IsTrue D.is_told → LeavesOnly D.moment D.left_since disk.old disk.new
         (λ image. length image ≤ 13) }
     ensures plan { IsTrue D.is_told → OnOk result ((changes : ℕ) × (changes ≤ 2)
-        × ((D.kept disk.old).read ≡ journal_of [] → changes ≡ 0) × GoesOn 1 changes (D.fails disk.old) (D.fails disk.new)) }
+        × ((D.kept disk.old).read ≡ journal_of [] → changes ≡ 0)
+        × GoesOn 1 changes (D.fails disk.old) (D.fails disk.new)) }
     ensures failed { IsTrue D.is_told → OnErr result ((c : ℕ) × (c ≤ 2)
         × ((D.kept disk.old).read ≡ journal_of [] → c ≡ 0) × (D.fails disk.old 1 c ≡ true)) }
-    ensures count { D.fault_count disk.new ≡ fault_count_after (is_err result) (D.fault_count disk.old) }
+    ensures count { D.fault_count disk.new ≡
+        fault_count_after (is_err result) (D.fault_count disk.old) }
 {
     let mut bytes = [0; FRESH.len()];
     let held = &mut bytes[..len as usize];
@@ -66,9 +72,12 @@ fn buffer(alloc: Global, len: u64) -> Result<Vec<u8>, OutOfMemory>
 /// Reserves what loading writes, and then reads the whole of a disk, and makes it a journal where it has at most 13
 /// bytes and isn't one.
 pub fn load_from<D: Disk>(alloc: Global, disk: &mut D) -> Result<(u64, Vec<Placed>), Trouble>
-    ensures reads { IsTrue D.is_told → IfSome (reading_found result) (IsTheReading (D.kept disk.old).read) }
-    ensures keeps { IsTrue D.is_told → IfOk result (λ found. KeepsJournal (D.kept disk.new) (payloads_of found.1.items)) }
-    ensures place { IsTrue D.is_told → IfOk result (λ found. found.0 ≡ end_of (payloads_of found.1.items)) }
+    ensures reads { IsTrue D.is_told →
+        IfSome (reading_found result) (IsTheReading (D.kept disk.old).read) }
+    ensures keeps { IsTrue D.is_told →
+        IfOk result (λ found. KeepsJournal (D.kept disk.new) (payloads_of found.1.items)) }
+    ensures place { IsTrue D.is_told →
+        IfOk result (λ found. found.0 ≡ end_of (payloads_of found.1.items)) }
     ensures fresh { IsTrue D.is_told → length (D.kept disk.old).read ≤ 13 →
         IfOk result (λ found. D.kept disk.new ≡ at_rest (journal_of [])) }
     ensures same { IsTrue D.is_told → 13 < length (D.kept disk.old).read →
@@ -79,7 +88,8 @@ pub fn load_from<D: Disk>(alloc: Global, disk: &mut D) -> Result<(u64, Vec<Place
         OnOk result (MadeCalls (D.fails disk.old) (D.fails disk.new) (D.kept disk.old).read) }
     ensures failed { IsTrue D.is_told → IsErrOf result Trouble.DiskFault →
         FailedCall (D.fails disk.old) (D.kept disk.old).read }
-    ensures count { D.fault_count disk.new ≡ fault_count_after (is_fault result) (D.fault_count disk.old) }
+    ensures count { D.fault_count disk.new ≡
+        fault_count_after (is_fault result) (D.fault_count disk.old) }
 {
     if disk.reserve(FRESH.len() as u64).is_err() {
         return Err(Trouble::OutOfMemory);
@@ -93,7 +103,8 @@ fn read_journal<D: Disk>(alloc: Global, disk: &mut D) -> Result<(u64, Vec<Placed
     requires noted { 1000 ≤ D.room disk.old }
     ensures gives { IsTrue D.is_told → Gives (D.kept disk.old).read result }
     ensures keeps { IsTrue D.is_told → IfOk result (λ found.
-        KeepsJournal (D.kept disk.new) (payloads_of found.1.items) × (found.0 ≡ end_of (payloads_of found.1.items))) }
+        KeepsJournal (D.kept disk.new) (payloads_of found.1.items)
+        × (found.0 ≡ end_of (payloads_of found.1.items))) }
     ensures fresh { IsTrue D.is_told → length (D.kept disk.old).read ≤ 13 →
         OnOk result (D.kept disk.new ≡ at_rest (journal_of [])) }
     ensures same { IsTrue D.is_told → 13 < length (D.kept disk.old).read →
@@ -104,7 +115,8 @@ fn read_journal<D: Disk>(alloc: Global, disk: &mut D) -> Result<(u64, Vec<Placed
         OnOk result (MadeCalls (D.fails disk.old) (D.fails disk.new) (D.kept disk.old).read) }
     ensures failed { IsTrue D.is_told → IsErrOf result Trouble.DiskFault →
         FailedCall (D.fails disk.old) (D.kept disk.old).read }
-    ensures count { D.fault_count disk.new ≡ fault_count_after (is_fault result) (D.fault_count disk.old) }
+    ensures count { D.fault_count disk.new ≡
+        fault_count_after (is_fault result) (D.fault_count disk.old) }
 {
     let len = match settle(disk) {
         Ok(len) => len,
@@ -127,13 +139,17 @@ fn read_long<D: Disk>(alloc: Global, disk: &mut D, len: u64) -> Result<(u64, Vec
     requires whole { IsTrue D.is_told → len ≡ length (D.kept disk.old).read }
     ensures gives { IsTrue D.is_told → Gives (D.kept disk.old).read result }
     ensures keeps { IsTrue D.is_told → IfOk result (λ found.
-        KeepsJournal (D.kept disk.new) (payloads_of found.1.items) × (found.0 ≡ end_of (payloads_of found.1.items))) }
+        KeepsJournal (D.kept disk.new) (payloads_of found.1.items)
+        × (found.0 ≡ end_of (payloads_of found.1.items))) }
     ensures same { D.kept disk.new ≡ D.kept disk.old }
     ensures any_moment { IsTrue D.is_told →
         LeavesOnly D.moment D.left_since disk.old disk.new (IsImage (D.kept disk.old)) }
-    ensures plan { IsTrue D.is_told → OnOk result (GoesOn 1 0 (D.fails disk.old) (D.fails disk.new)) }
-    ensures failed { IsTrue D.is_told → IsErrOf result Trouble.DiskFault → D.fails disk.old 1 0 ≡ true }
-    ensures count { D.fault_count disk.new ≡ fault_count_after (is_fault result) (D.fault_count disk.old) }
+    ensures plan { IsTrue D.is_told →
+        OnOk result (GoesOn 1 0 (D.fails disk.old) (D.fails disk.new)) }
+    ensures failed { IsTrue D.is_told →
+        IsErrOf result Trouble.DiskFault → D.fails disk.old 1 0 ≡ true }
+    ensures count { D.fault_count disk.new ≡
+        fault_count_after (is_fault result) (D.fault_count disk.old) }
 {
     let Ok(mut bytes) = buffer(alloc, len) else {
         return Err(Trouble::OutOfMemory);

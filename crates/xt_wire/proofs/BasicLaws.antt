@@ -1,8 +1,8 @@
 -- numbers, bytes and texts
-use Rattle.std.proofs.Common.{◌≡◌, ◌≢◌, ℕ, zero, suc, eq-eqb, ◌+◌, ◌^◌, ◌<◌, ◌≤◌, Bool, true, false, cond, ltb, leb, ◌&&◌, List, [], ◌∷◌, ◌++◌, length, get_or, take, drop, Result, Ok, Err, refl, sym, ap, subst, ◌∙◌, append_assoc, arith, inl, inr, lit<}
+use Rattle.std.proofs.Common.{◌≡◌, ℕ, zero, suc, ◌+◌, ◌^◌, ◌<◌, ◌≤◌, false, cond, ltb, leb, ◌&&◌, List, [], ◌∷◌, ◌++◌, length, take, drop, Ok, Err, refl, sym, ap, subst, ◌∙◌, append_assoc, arith, inl, inr, lit<}
 use Rattle.std.specs.List.{flat_map, AllByRecursion}
 use Rattle.std.proofs.lemmas.List.Concat.{flat_map-cons}
-use Rattle.std.specs.Prelude.{IsTrue, IsUtf8}
+use Rattle.std.specs.Prelude.{IsUtf8}
 use Rattle.std.specs.Str.{is_utf8}
 use Rattle.std.specs.Int.{Width, w16, w32, w64, byte_len, from_be_bytes, to_be_bytes}
 use Rattle.std.proofs.lemmas.Bool.{cases_lt, ltb-false, le-ltb, ltb-true, lt-ltb, leb-true, le-leb}
@@ -10,9 +10,8 @@ use Rattle.std.proofs.lemmas.List.{take_at, drop_at, take-append-drop, length-ap
 use Rattle.std.proofs.lemmas.Nat.{be_bytes_2, be_bytes_4, be_bytes_8, from_be_bytes-to_be_bytes_2, from_be_bytes-to_be_bytes_4, from_be_bytes-to_be_bytes_8}
 use Rattle.std.proofs.lemmas.Str.{IsUtf8-from_is_utf8, is_utf8-from_IsUtf8}
 use Rattle.xt_base.specs.Limits.{AreBytes, IsCount, FitsBytes, FitsText, FitsPath, FitsName, FitsTag}
-use Rattle.xt_wire.specs.declared.fault.FieldErr.{FieldErr}
 use Rattle.xt_wire.specs.declared.fault.FieldErr.TheVariants as fault
-use Rattle.xt_wire.specs.Reading.{Field, ◌>>=◌, fit}
+use Rattle.xt_wire.specs.Reading.{Field, ◌>>=◌}
 use Rattle.xt_wire.specs.BasicFields.{byte_bytes, half_bytes, word_bytes, long_bytes, byte_at, number_at, half_at, word_at, long_at, count_at, raw_at, octets_bytes, octets_at, text_bytes, text_at, utf8_at, within, list_at, counted, tagged}
 use Rattle.xt_wire.specs.OneSpelling.{Taken, IsField}
 use Rattle.xt_wire.proofs.Laws.{AreArms, bind_ok, ok_is, went_on, passed, fit_field, as_field, and_is, is_and}

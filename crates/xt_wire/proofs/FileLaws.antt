@@ -1,7 +1,5 @@
 -- locations, capabilities, operations, updates and heads
-use Rattle.std.proofs.Common.{◌≡◌, ◌≢◌, ℕ, zero, suc, eq-eqb, ◌+◌, ◌^◌, ◌<◌, ◌≤◌, ◌%◌, ◌&&◌, Bool, true, false, cond, not, eqb, ltb, leb, List, [], ◌∷◌, ◌++◌, length, map, Option, Some, None, Result, Ok, Err, refl, sym, ap, subst, ◌∙◌, arith, inl, inr, lit<}
-use Rattle.std.specs.Prelude.{IsTrue, IfSome}
-use Rattle.std.specs.List.{flat_map, AllByRecursion}
+use Rattle.std.proofs.Common.{◌≡◌, ◌≢◌, ℕ, zero, suc, eq-eqb, ◌^◌, ◌<◌, ◌≤◌, ◌%◌, ◌&&◌, Bool, true, false, cond, not, eqb, ltb, leb, List, ◌++◌, length, map, Ok, refl, sym, ap, subst, ◌∙◌, arith, inl, inr, lit<}
 use Rattle.xt_base.specs.declared.ids.NodeId.{NodeId}
 use Rattle.xt_base.specs.declared.file.Kind.{Kind}
 use Rattle.xt_base.specs.declared.file.Location.{Location}
@@ -16,15 +14,13 @@ use Rattle.xt_base.specs.declared.file.Op.TheVariants as op
 use Rattle.std.proofs.lemmas.Bool.{eqb-true, ne_eqb, eqb-false, leb-true, lt-ltb, ltb-true}
 use Rattle.std.proofs.Math.Dec.{eqb-suc-zero}
 use Rattle.xt_base.specs.MemberList.{are_members, are_distinct}
-use Rattle.xt_base.specs.Limits.{AreBytes, IsCount, no_object, rise, is_at_most, IsObject, IsObjectOrNone, FitsNode, FitsMembers, FitsStripe, FitsLocation, FitsCapability, FitsOp, FitsUpdate, FitsVersion, FitsSession, FitsVersions, FitsSessions, FitsHead, FitsBytes}
-use Rattle.xt_wire.specs.Reading.{Field, ◌>>=◌, ◌&◌, made, fit}
-use Rattle.xt_wire.specs.BasicFields.{byte_bytes, word_bytes, long_bytes, octets_bytes, byte_at, word_at, octets_at, within, tagged}
-use Rattle.xt_wire.specs.IdFields.{node_bytes}
+use Rattle.xt_base.specs.Limits.{no_object, rise, is_at_most, IsObjectOrNone, FitsMembers, FitsStripe, FitsLocation, FitsCapability, FitsOp, FitsUpdate, FitsVersion, FitsSession, FitsVersions, FitsSessions, FitsHead, FitsBytes}
+use Rattle.xt_wire.specs.BasicFields.{word_bytes, octets_bytes, byte_at, word_at, tagged}
 use Rattle.xt_wire.specs.FileFields.{kind_bytes, kind_arms, kind_at, version_at, stripe_at, members_bytes, members_at, location_bytes, location_at, capability_bytes, capability_at, op_bytes, read_op_at, some_octets_at, write_op_at, truncate_op_at, op_arms, op_at, slot_bytes, slot_at, update_bytes, has_its_body, update_at, object_version_bytes, object_version_at, session_bytes, session_at, versions_bytes, versions_at, sessions_bytes, sessions_at, head_bytes, head_at}
 use Rattle.xt_wire.specs.OneSpelling.{IsField, Taken}
-use Rattle.xt_wire.proofs.Laws.{IsArm, AreArms, both, made_field, fit_field, as_field, arm, lone_arm, arm_again, no_more, or_arm, bind_ok, ok_is, and_is, is_and}
-use Rattle.xt_wire.proofs.BasicLaws.{IsRaw, FitsOctets, byte_field, half_field, word_field, long_field, count_field, raw_field, octets_field, text_field, body_field, path_field, name_field, tag_field, within_byte, within_word, counted_field, AreFew, tagged_field}
-use Rattle.xt_wire.proofs.IdLaws.{node_field, boot_field, file_field, ballot_field, epoch_field, stamp_field, lease_field, report_field, op_id_field, mark_field}
+use Rattle.xt_wire.proofs.Laws.{IsArm, AreArms, both, made_field, fit_field, as_field, arm, lone_arm, arm_again, no_more, or_arm, bind_ok, ok_is, and_is}
+use Rattle.xt_wire.proofs.BasicLaws.{byte_field, word_field, long_field, count_field, body_field, tag_field, within_byte, within_word, counted_field, tagged_field}
+use Rattle.xt_wire.proofs.IdLaws.{node_field, file_field, epoch_field, stamp_field, op_id_field, mark_field}
 
 abbrev Fits_any : Kind → Type 0
 Fits_any kind = Unit {0}

@@ -1,7 +1,7 @@
 -- nodes, files, leases and epochs
-use Rattle.std.proofs.Common.{◌≡◌, ℕ, ◌^◌, ◌<◌, List, [], ◌∷◌, ◌++◌, eqb, cond, Option, Some, None, Result, Ok, Err, refl, sym, ap, subst, arith}
+use Rattle.std.proofs.Common.{◌≡◌, ℕ, List, ◌++◌, Option, Some, None, Ok, refl}
 use Rattle.std.specs.Prelude.{IfSome}
-use Rattle.xt_base.specs.Limits.{IsCount, FitsNode, FitsBoot, FitsFile, FitsBallot, FitsEpoch, FitsStamp, FitsLease, FitsOpId, FitsMark}
+use Rattle.xt_base.specs.Limits.{FitsNode, FitsBoot, FitsFile, FitsBallot, FitsEpoch, FitsStamp, FitsLease, FitsOpId, FitsMark}
 use Rattle.xt_base.specs.declared.ids.NodeId.{NodeId}
 use Rattle.xt_base.specs.declared.ids.Boot.{Boot}
 use Rattle.xt_base.specs.declared.ids.FileId.{FileId}
@@ -13,9 +13,9 @@ use Rattle.xt_base.specs.declared.ids.OpId.{OpId}
 use Rattle.xt_base.specs.declared.ids.SizeMark.{SizeMark}
 use Rattle.xt_wire.specs.BasicFields.{byte_at, tagged}
 use Rattle.xt_wire.specs.IdFields.{node_bytes, node_at, boot_bytes, boot_at, file_bytes, file_at, ballot_bytes, ballot_at, epoch_bytes, epoch_at, stamp_bytes, stamp_at, lease_bytes, lease_at, report_bytes, report_at, report_arms, some_report_at, report_arms, some_report_at, report_arms, some_report_at, report_arms, some_report_at, report_arms, some_report_at, report_arms, some_report_at, op_id_bytes, op_id_at, mark_bytes, mark_at}
-use Rattle.xt_wire.specs.OneSpelling.{IsField, Taken}
-use Rattle.xt_wire.proofs.Laws.{IsArm, AreArms, both, made_field, fit_field, as_field, arm, lone_arm, arm_again, no_more, or_arm, and_is, is_and}
-use Rattle.xt_wire.proofs.BasicLaws.{byte_field, word_field, long_field, count_field, raw_field, tagged_field}
+use Rattle.xt_wire.specs.OneSpelling.{IsField}
+use Rattle.xt_wire.proofs.Laws.{IsArm, AreArms, both, made_field, as_field, arm, lone_arm, arm_again, no_more, or_arm}
+use Rattle.xt_wire.proofs.BasicLaws.{word_field, long_field, count_field, raw_field, tagged_field}
 
 pub node_field : IsField node_bytes FitsNode node_at
 unfolding node_at

@@ -1,5 +1,5 @@
 -- four bytes that are written over the front
-use Rattle.std.proofs.Common.{◌≡◌, ℕ, ◌≤◌, List, [], ◌∷◌, ◌++◌, length, drop, set, refl, arith}
+use Rattle.std.proofs.Common.{◌≡◌, ℕ, ◌≤◌, List, [], ◌∷◌, length, drop, set, refl, arith}
 
 pub written_over : (bytes : List ℕ) (a b c d : ℕ) → 4 ≤ length bytes → set (set (set (set bytes 0 a) 1 b) 2 c) 3 d ≡ a ∷ b ∷ c ∷ d ∷ drop 4 bytes
 written_over [] a b c d long = absurd (omega arith)

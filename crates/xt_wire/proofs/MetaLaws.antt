@@ -1,7 +1,5 @@
 -- requests to the metadata server and its answers
-use Rattle.std.proofs.Common.{◌≡◌, ◌≢◌, ℕ, zero, suc, eq-eqb, ◌+◌, ◌^◌, ◌<◌, ◌≤◌, ◌%◌, ◌&&◌, Bool, true, false, cond, not, eqb, ltb, leb, List, [], ◌∷◌, ◌++◌, length, map, Option, Some, None, Result, Ok, Err, refl, sym, ap, subst, ◌∙◌, arith, inl, inr, lit<}
-use Rattle.std.specs.Prelude.{IsTrue, IfSome}
-use Rattle.std.specs.List.{flat_map, AllByRecursion}
+use Rattle.std.proofs.Common.{◌≡◌, ℕ, ◌^◌, List, ◌++◌, Ok, refl, lit<}
 use Rattle.xt_base.specs.declared.meta.MetaReq.{MetaReq}
 use Rattle.xt_base.specs.declared.meta.MetaRefusal.{MetaRefusal}
 use Rattle.xt_base.specs.declared.meta.RowKind.{RowKind}
@@ -10,17 +8,16 @@ use Rattle.xt_base.specs.declared.meta.MetaReq.TheVariants as ask
 use Rattle.xt_base.specs.declared.meta.MetaRefusal.TheVariants as refusal
 use Rattle.xt_base.specs.declared.meta.RowKind.TheVariants as row_kind
 use Rattle.xt_base.specs.declared.meta.MetaAnswer.TheVariants as answer
-use Rattle.xt_wire.specs.declared.fault.FieldErr.{FieldErr}
 use Rattle.xt_wire.specs.Reading.{Field, made}
 use Rattle.xt_base.specs.Limits.{FitsMetaReq, FitsMetaRefusal, FitsMetaAnswer, FitsNames}
 use Rattle.xt_wire.specs.BasicFields.{byte_bytes, byte_at, tagged}
 use Rattle.xt_wire.specs.ReplyFields.{denial_bytes}
 use Rattle.xt_wire.specs.MetaFields.{meta_req_bytes, meta_req_arms, meta_req_at, mkdir_at, create_at, rename_at, unlink_at, rmdir_at, list_names_at, stat_at, chmod_at, grant_at, size_report_at, refusal_bytes, refusal_arms, forbidden_at, too_few_at, report_denied_at, names_bytes, names_at, row_kind_bytes, row_kind_arms, row_kind_at, meta_answer_bytes, meta_answer_arms, meta_answer_at, names_answer_at, row_answer_at, granted_at}
-use Rattle.xt_wire.specs.OneSpelling.{IsField, Taken}
-use Rattle.xt_wire.proofs.Laws.{IsArm, AreArms, both, made_field, fit_field, as_field, arm, lone_arm, arm_again, no_more, or_arm, more_arms, and_is, is_and}
-use Rattle.xt_wire.proofs.BasicLaws.{IsRaw, FitsOctets, byte_field, half_field, word_field, long_field, count_field, raw_field, octets_field, text_field, body_field, path_field, name_field, tag_field, within_byte, within_word, counted_field, AreFew, tagged_field}
-use Rattle.xt_wire.proofs.IdLaws.{node_field, boot_field, file_field, ballot_field, epoch_field, stamp_field, lease_field, report_field, op_id_field, mark_field}
-use Rattle.xt_wire.proofs.FileLaws.{kind_field, version_field, stripe_field, location_field, capability_field}
+use Rattle.xt_wire.specs.OneSpelling.{IsField}
+use Rattle.xt_wire.proofs.Laws.{IsArm, AreArms, both, as_field, arm, lone_arm, arm_again, no_more, or_arm, more_arms}
+use Rattle.xt_wire.proofs.BasicLaws.{byte_field, half_field, word_field, path_field, name_field, within_byte, counted_field, tagged_field}
+use Rattle.xt_wire.proofs.IdLaws.{mark_field}
+use Rattle.xt_wire.proofs.FileLaws.{kind_field, stripe_field, capability_field}
 use Rattle.xt_wire.proofs.ReplyLaws.{denial_field}
 
 mkdir_arm : IsArm meta_req_bytes FitsMetaReq 1 mkdir_at

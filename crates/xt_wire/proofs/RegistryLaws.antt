@@ -1,19 +1,17 @@
 -- requests to the directory service and its answers
-use Rattle.std.proofs.Common.{◌≡◌, ◌≢◌, ℕ, zero, suc, eq-eqb, ◌+◌, ◌^◌, ◌<◌, ◌≤◌, ◌%◌, ◌&&◌, Bool, true, false, cond, not, eqb, ltb, leb, List, [], ◌∷◌, ◌++◌, length, map, Option, Some, None, Result, Ok, Err, refl, sym, ap, subst, ◌∙◌, arith, inl, inr, lit<}
-use Rattle.std.specs.Prelude.{IsTrue, IfSome}
-use Rattle.std.specs.List.{flat_map, AllByRecursion}
+use Rattle.std.proofs.Common.{◌≡◌, ℕ, ◌^◌, List, ◌++◌, Ok, refl, lit<}
 use Rattle.xt_base.specs.declared.registry.RegistryReq.{RegistryReq}
 use Rattle.xt_base.specs.declared.registry.RegistryRow.{RegistryRow}
 use Rattle.xt_base.specs.declared.registry.RegistryAnswer.{RegistryAnswer}
 use Rattle.xt_base.specs.declared.registry.RegistryReq.TheVariants as wish
 use Rattle.xt_base.specs.declared.registry.RegistryAnswer.TheVariants as told
 use Rattle.xt_base.specs.Limits.{FitsRegistryReq, FitsRegistryAnswer, FitsRow, FitsRows}
-use Rattle.xt_wire.specs.BasicFields.{byte_bytes, byte_at, tagged}
+use Rattle.xt_wire.specs.BasicFields.{byte_at, tagged}
 use Rattle.xt_wire.specs.RegistryFields.{registry_req_bytes, registry_req_arms, registry_req_at, set_row_at, get_row_at, list_rows_at, remove_row_at, row_bytes, row_at, rows_bytes, rows_at, registry_answer_bytes, registry_answer_arms, registry_answer_at, done_at, changed_at, row_told_at, rows_told_at}
-use Rattle.xt_wire.specs.OneSpelling.{IsField, Taken}
-use Rattle.xt_wire.proofs.Laws.{IsArm, AreArms, both, made_field, fit_field, as_field, arm, lone_arm, arm_again, no_more, or_arm, and_is, is_and}
-use Rattle.xt_wire.proofs.BasicLaws.{IsRaw, FitsOctets, byte_field, half_field, word_field, long_field, count_field, raw_field, octets_field, text_field, body_field, path_field, name_field, tag_field, within_byte, within_word, counted_field, AreFew, tagged_field}
-use Rattle.xt_wire.proofs.IdLaws.{node_field, boot_field, file_field, ballot_field, epoch_field, stamp_field, lease_field, report_field, op_id_field, mark_field}
+use Rattle.xt_wire.specs.OneSpelling.{IsField}
+use Rattle.xt_wire.proofs.Laws.{IsArm, AreArms, both, made_field, as_field, arm, lone_arm, arm_again, no_more, or_arm}
+use Rattle.xt_wire.proofs.BasicLaws.{byte_field, word_field, count_field, name_field, counted_field, tagged_field}
+use Rattle.xt_wire.proofs.IdLaws.{node_field}
 
 set_row_arm : IsArm registry_req_bytes FitsRegistryReq 1 set_row_at
 unfolding set_row_at

@@ -1,19 +1,17 @@
 -- replies of an OSD
-use Rattle.std.proofs.Common.{◌≡◌, ◌≢◌, ℕ, zero, suc, eq-eqb, ◌+◌, ◌^◌, ◌<◌, ◌≤◌, ◌%◌, ◌&&◌, Bool, true, false, cond, not, eqb, ltb, leb, List, [], ◌∷◌, ◌++◌, length, map, Option, Some, None, Result, Ok, Err, refl, sym, ap, subst, ◌∙◌, arith, inl, inr, lit<}
-use Rattle.std.specs.Prelude.{IsTrue, IfSome}
-use Rattle.std.specs.List.{flat_map, AllByRecursion}
+use Rattle.std.proofs.Common.{◌≡◌, ℕ, List, ◌++◌, Ok, refl}
 use Rattle.xt_base.specs.declared.reply.Denial.{Denial}
 use Rattle.xt_base.specs.declared.reply.Reply.{Reply}
 use Rattle.xt_base.specs.declared.reply.Denial.TheVariants as denial
 use Rattle.xt_base.specs.declared.reply.Reply.TheVariants as reply
 use Rattle.xt_base.specs.Limits.{FitsReply}
-use Rattle.xt_wire.specs.BasicFields.{byte_bytes, byte_at, tagged}
+use Rattle.xt_wire.specs.BasicFields.{byte_at, tagged}
 use Rattle.xt_wire.specs.ReplyFields.{denial_bytes, denial_arms, denial_at, reply_bytes, reply_arms, reply_at, ok_reply_at, no_lease_at, no_majority_at, elsewhere_at, denied_at, old_list_at, old_epoch_at, too_far_at}
-use Rattle.xt_wire.specs.OneSpelling.{IsField, Taken}
-use Rattle.xt_wire.proofs.Laws.{IsArm, AreArms, both, made_field, fit_field, as_field, arm, lone_arm, arm_again, no_more, or_arm, and_is, is_and}
-use Rattle.xt_wire.proofs.BasicLaws.{IsRaw, FitsOctets, byte_field, half_field, word_field, long_field, count_field, raw_field, octets_field, text_field, body_field, path_field, name_field, tag_field, within_byte, within_word, counted_field, AreFew, tagged_field}
-use Rattle.xt_wire.proofs.IdLaws.{node_field, boot_field, file_field, ballot_field, epoch_field, stamp_field, lease_field, report_field, op_id_field, mark_field}
-use Rattle.xt_wire.proofs.FileLaws.{kind_field, version_field, stripe_field, location_field, capability_field}
+use Rattle.xt_wire.specs.OneSpelling.{IsField}
+use Rattle.xt_wire.proofs.Laws.{IsArm, AreArms, both, arm, lone_arm, arm_again, no_more, or_arm}
+use Rattle.xt_wire.proofs.BasicLaws.{byte_field, long_field, count_field, body_field, tagged_field}
+use Rattle.xt_wire.proofs.IdLaws.{node_field, mark_field}
+use Rattle.xt_wire.proofs.FileLaws.{version_field}
 
 abbrev FitsDenial : Denial → Type 0
 FitsDenial rule = Unit {0}

@@ -2,7 +2,6 @@
 use Rattle.std.specs.Prelude.{ℕ, zero, suc, ◌^◌, List, [], ◌∷◌, ◌++◌, length, take, drop, Ok, Err, nat_lt, nat_le, ◌&&◌, if◌then◌else◌}
 use Rattle.std.specs.Str.{is_utf8}
 use Rattle.std.specs.Int.{Width, w16, w32, w64, byte_len, from_be_bytes, to_be_bytes}
-use Rattle.xt_wire.specs.declared.fault.FieldErr.{FieldErr}
 use Rattle.xt_wire.specs.declared.fault.FieldErr.TheVariants as fault
 use Rattle.xt_wire.specs.Reading.{Field, ◌>>=◌, fit}
 

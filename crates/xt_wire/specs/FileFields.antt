@@ -1,5 +1,5 @@
 -- locations, capabilities, operations, updates and heads as fields
-use Rattle.std.specs.Prelude.{ℕ, ◌^◌, ◌%◌, List, ◌++◌, length, map, Ok, Err, Bool, not, nat_lt, nat_le, ◌&&◌, ◌==◌, if◌then◌else◌}
+use Rattle.std.specs.Prelude.{ℕ, ◌^◌, ◌%◌, List, ◌++◌, length, map, Ok, Err, Bool, not, nat_lt, ◌==◌, if◌then◌else◌}
 use Rattle.std.specs.List.{flat_map}
 use Rattle.xt_base.specs.MemberList.{are_members}
 use Rattle.xt_base.specs.Limits.{no_object, rise, is_at_most}

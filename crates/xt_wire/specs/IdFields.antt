@@ -1,5 +1,5 @@
 -- nodes, files, leases and epochs as fields
-use Rattle.std.specs.Prelude.{ℕ, List, [], ◌∷◌, ◌++◌, Option, Some, None, Ok, Err, ◌==◌, if◌then◌else◌}
+use Rattle.std.specs.Prelude.{ℕ, List, ◌++◌, Option, Some, None, Ok, Err, ◌==◌, if◌then◌else◌}
 use Rattle.xt_base.specs.declared.ids.NodeId.{NodeId}
 use Rattle.xt_base.specs.declared.ids.Boot.{Boot}
 use Rattle.xt_base.specs.declared.ids.FileId.{FileId}
@@ -11,7 +11,7 @@ use Rattle.xt_base.specs.declared.ids.OpId.{OpId}
 use Rattle.xt_base.specs.declared.ids.SizeMark.{SizeMark}
 use Rattle.xt_wire.specs.declared.fault.FieldErr.TheVariants as fault
 use Rattle.xt_wire.specs.Reading.{Field, ◌&◌, made}
-use Rattle.xt_wire.specs.BasicFields.{byte_bytes, word_bytes, long_bytes, byte_at, word_at, long_at, count_at, raw_at, tagged}
+use Rattle.xt_wire.specs.BasicFields.{byte_bytes, word_bytes, long_bytes, word_at, long_at, count_at, raw_at, tagged}
 
 abbrev pub node_bytes : NodeId → List ℕ
 node_bytes node = word_bytes node.0

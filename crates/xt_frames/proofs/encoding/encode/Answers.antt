@@ -1,6 +1,4 @@
-use Rattle.std.proofs.Common.{◌≡◌, ◌++◌, ◌∙◌, length, ap, arith}
-use Rattle.xt_wire.specs.BasicFields.{word_bytes}
-use Rattle.xt_frames.specs.Frames.{content_of}
+use Rattle.std.proofs.Common.{◌∙◌, length, ap, arith}
 use Rattle.xt_frames.proofs.LengthLaws.{frame_len, frame_bound}
 use Rattle.xt_frames.proofs.DecodingLaws.{begun, room, is_frame}
 use Rattle.xt_frames.proofs.encoding.encode.Goals as goal

@@ -12,8 +12,8 @@ pub returns-in_err-write_synced-clause-any_moment : goal.returns-in_err-write_sy
 returns-in_err-write_synced-clause-any_moment g c told payloads payload turn =
     let D = g.D.Disk in
     weaker D.moment D.left_since c.args.disk.now c.write_synced.new.disk (MayBeTorn (c.args.end + 1) c.args.piece.now (D.kept c.args.disk.now).read) (IsWithOrWithout payloads payload)
-      (c.write_synced.ensures.any_moment told turn.keeps.rests)
-      (λ image torn. inl (first_half (D.kept c.args.disk.now) c.args.end c.args.piece.now payloads payload turn image torn))
+    (c.write_synced.ensures.any_moment told turn.keeps.rests)
+    (λ image torn. inl (first_half (D.kept c.args.disk.now) c.args.end c.args.piece.now payloads payload turn image torn))
 
 pub returns-in_err-write_synced-clause-stopped : goal.returns-in_err-write_synced-clause-stopped
 returns-in_err-write_synced-clause-stopped g c told payloads payload turn =
@@ -25,7 +25,7 @@ returns-in_err-write_synced-clause-stopped g c told payloads payload turn =
       four = omega (arith, failed.2);
       first = failed.3;
       image = λ fill bytes filled. first_stop (g.D.Disk.kept c.args.disk.now) c.args.end c.args.piece.now payloads payload turn
-        (g.D.Disk.kept c.write_synced.new.disk) failed.0 fill bytes failed.2 torn filled;
+          (g.D.Disk.kept c.write_synced.new.disk) failed.0 fill bytes failed.2 torn filled;
     })
 
 pub returns-clause-done : goal.returns-clause-done
@@ -35,11 +35,11 @@ returns-clause-done g c told payloads payload turn =
     let mid = c.in_ok-write_synced.ensures.done told turn.keeps.rests in
     let staged = overwritten (c.args.end + 1) c.args.piece.now kept.read in
     on_ok c.write_synced-2.result (c.write_synced-2.ensures.done told (mid ∙ ap at_rest (ap (λ (k : Kept). k.read) (sym mid))))
-      (λ done.
-        let is : D.kept c.write_synced-2.new.disk ≡ at_rest (overwritten c.args.end (open_gate ∷ []) staged) =
-        done ∙ ap (λ (k : Kept). at_rest (overwritten c.args.end (open_gate ∷ []) k.read)) mid in
-        subst (λ (k : Kept). KeepsJournal k (payloads ++ payload ∷ [])) (sym is)
-          (record { rests = refl; journal = finished kept c.args.end c.args.piece.now payloads payload turn }))
+    (λ done.
+    let is : D.kept c.write_synced-2.new.disk ≡ at_rest (overwritten c.args.end (open_gate ∷ []) staged) =
+    done ∙ ap (λ (k : Kept). at_rest (overwritten c.args.end (open_gate ∷ []) k.read)) mid in
+    subst (λ (k : Kept). KeepsJournal k (payloads ++ payload ∷ [])) (sym is)
+    (record { rests = refl; journal = finished kept c.args.end c.args.piece.now payloads payload turn }))
 
 pub returns-clause-any_moment : goal.returns-clause-any_moment
 returns-clause-any_moment g c told payloads payload turn =
@@ -49,13 +49,13 @@ returns-clause-any_moment g c told payloads payload turn =
     let staged = overwritten (c.args.end + 1) c.args.piece.now kept.read in
     let second = c.write_synced-2.ensures.any_moment told (mid ∙ ap at_rest (ap (λ (k : Kept). k.read) (sym mid))) in
     joined D.moment D.left_since c.args.disk.now c.write_synced.new.disk c.write_synced-2.new.disk
-      (MayBeTorn (c.args.end + 1) c.args.piece.now kept.read)
-      (MayBeTorn c.args.end (open_gate ∷ []) (D.kept c.write_synced.new.disk).read)
-      (IsWithOrWithout payloads payload)
-      (c.write_synced.ensures.any_moment told turn.keeps.rests) second
-      (λ image torn. inl (first_half kept c.args.end c.args.piece.now payloads payload turn image torn))
-      (λ image torn. second_half kept c.args.end c.args.piece.now payloads payload turn image
-        (subst (λ (k : Kept). MayBeTorn c.args.end (open_gate ∷ []) k.read image) mid torn))
+    (MayBeTorn (c.args.end + 1) c.args.piece.now kept.read)
+    (MayBeTorn c.args.end (open_gate ∷ []) (D.kept c.write_synced.new.disk).read)
+    (IsWithOrWithout payloads payload)
+    (c.write_synced.ensures.any_moment told turn.keeps.rests) second
+    (λ image torn. inl (first_half kept c.args.end c.args.piece.now payloads payload turn image torn))
+    (λ image torn. second_half kept c.args.end c.args.piece.now payloads payload turn image
+    (subst (λ (k : Kept). MayBeTorn c.args.end (open_gate ∷ []) k.read image) mid torn))
 
 pub returns-clause-stopped : goal.returns-clause-stopped
 returns-clause-stopped g c told payloads payload turn =
@@ -66,13 +66,13 @@ returns-clause-stopped g c told payloads payload turn =
     let mid = first.done told turn.keeps.rests in
     let torn = c.write_synced-2.ensures.torn told (mid ∙ ap at_rest (ap (λ (k : Kept). k.read) (sym mid))) in
     both_err c.write_synced-2.result torn (c.write_synced-2.ensures.failed told)
-      (λ torn failed.
-        let here : IsTornAt c.args.end (open_gate ∷ []) (overwritten (c.args.end + 1) c.args.piece.now kept.read) left =
-        subst (λ (k : Kept). IsTornAt c.args.end (open_gate ∷ []) k.read left) mid torn in
-        record {
-          call = 2 + failed.0;
-          some = omega arith;
-          four = omega (arith, failed.2);
-          first = later_failure (D.fails c.args.disk.now) (D.fails c.write_synced.new.disk) (first.plan told) (first.succeeded told) failed.0 failed.3;
-          image = λ fill bytes filled. second_stop kept c.args.end c.args.piece.now payloads payload turn left fill bytes here filled (2 + failed.0) (omega (arith, failed.1));
-        })
+    (λ torn failed.
+    let here : IsTornAt c.args.end (open_gate ∷ []) (overwritten (c.args.end + 1) c.args.piece.now kept.read) left =
+    subst (λ (k : Kept). IsTornAt c.args.end (open_gate ∷ []) k.read left) mid torn in
+    record {
+      call = 2 + failed.0;
+      some = omega arith;
+      four = omega (arith, failed.2);
+      first = later_failure (D.fails c.args.disk.now) (D.fails c.write_synced.new.disk) (first.plan told) (first.succeeded told) failed.0 failed.3;
+      image = λ fill bytes filled. second_stop kept c.args.end c.args.piece.now payloads payload turn left fill bytes here filled (2 + failed.0) (omega (arith, failed.1));
+    })

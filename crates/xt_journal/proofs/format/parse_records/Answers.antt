@@ -19,13 +19,13 @@ loop-placed-preserved c =
     let payloads : payloads_of c.push.new.self.items ≡ payloads_of before ++ payload ∷ [] = ap payloads_of pushed ∙ payloads_of-push before last in
     record {
       are =
-        old.are ∙ ap (λ (l : List ℕ). records (payloads_of before) ++ l) is.are ∙ sym (records-push (payloads_of before) payload c.in-Record.behind.now)
-        ∙ ap (λ (ps : List (List ℕ)). records ps ++ c.in-Record.behind.now) (sym payloads);
+          old.are ∙ ap (λ (l : List ℕ). records (payloads_of before) ++ l) is.are ∙ sym (records-push (payloads_of before) payload c.in-Record.behind.now)
+          ∙ ap (λ (ps : List (List ℕ)). records ps ++ c.in-Record.behind.now) (sym payloads);
       fit = subst (λ (ps : List (List ℕ)). All IsPayload ps) (sym payloads) (All-push IsPayload (payloads_of before) payload old.fit is.is_payload);
       places =
-        pushed ∙ ap (λ (l : List Placed). l ++ last ∷ []) old.places
-        ∙ ap (λ (g : ℕ). placed_from 12 (payloads_of before) ++ record { gate = g; bytes = payload } ∷ []) old.end
-        ∙ sym (placed_from-push 12 (payloads_of before) payload) ∙ ap (placed_from 12) (sym payloads);
+          pushed ∙ ap (λ (l : List Placed). l ++ last ∷ []) old.places
+          ∙ ap (λ (g : ℕ). placed_from 12 (payloads_of before) ++ record { gate = g; bytes = payload } ∷ []) old.end
+          ∙ sym (placed_from-push 12 (payloads_of before) payload) ∙ ap (placed_from 12) (sym payloads);
       end = omega (arith, old.end, end_of-push (payloads_of before) payload, ap end_of payloads);
       some = is.some;
     }

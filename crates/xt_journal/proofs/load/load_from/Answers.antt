@@ -7,4 +7,4 @@ pub returns-clause-reads : goal.returns-clause-reads
 returns-clause-reads g c told =
     let kept = g.D.Disk.kept in
     the_reading (kept c.args.disk.now).read (kept c.reserve.new.self).read c.read_journal.result
-      (ap (λ (k : Kept). k.read) c.reserve.ensures.same) (c.read_journal.ensures.gives told)
+    (ap (λ (k : Kept). k.read) c.reserve.ensures.same) (c.read_journal.ensures.gives told)

@@ -30,9 +30,9 @@ returns-clause-plan g c told =
     let read = (g.D.Disk.kept c.args.disk.now).read in
     let all : c.read.new.buf ≡ read = all_read c.args.len read c.read.new.buf c.requires.short (c.requires.whole told) (c.in_ok-read.ensures.value told) in
     on_ok c.write_synced.result (c.write_synced.ensures.plan told)
-      (λ goes. (
-        2,
-        omega arith,
-        λ fresh. absurd (both_ways _ (sym c.if-eq.ensures) ((bytes_eq-Decides c.read.new.buf c.as_slice.result.now).1 (all ∙ fresh ∙ sym c.as_slice.ensures))),
-        follows (g.D.Disk.fails c.args.disk.now) (g.D.Disk.fails c.read.new.self) (g.D.Disk.fails c.write_synced.new.disk) 1 0 0 2 (c.in_ok-read.ensures.plan told).rest goes,
-      ))
+    (λ goes. (
+      2,
+      omega arith,
+      λ fresh. absurd (both_ways _ (sym c.if-eq.ensures) ((bytes_eq-Decides c.read.new.buf c.as_slice.result.now).1 (all ∙ fresh ∙ sym c.as_slice.ensures))),
+      follows (g.D.Disk.fails c.args.disk.now) (g.D.Disk.fails c.read.new.self) (g.D.Disk.fails c.write_synced.new.disk) 1 0 0 2 (c.in_ok-read.ensures.plan told).rest goes,
+    ))

@@ -9,12 +9,12 @@ pub returns-then-len-clause-plan : goal.returns-then-len-clause-plan
 returns-then-len-clause-plan g c told =
     let fails = g.D.Disk.fails in
     on_ok c.read_long.result (c.read_long.ensures.plan told)
-      (λ goes. record {
-        changes = 1;
-        three = omega arith;
-        one = λ ready. omega arith;
-        goes_on = follows (fails c.args.disk.now) (fails c.settle.new.disk) (fails c.read_long.new.disk) 1 1 1 0 (c.in-Ok.ensures.plan told) goes;
-      })
+    (λ goes. record {
+      changes = 1;
+      three = omega arith;
+      one = λ ready. omega arith;
+      goes_on = follows (fails c.args.disk.now) (fails c.settle.new.disk) (fails c.read_long.new.disk) 1 1 1 0 (c.in-Ok.ensures.plan told) goes;
+    })
 
 pub returns-in-Ok-make_ready-clause-plan : goal.returns-in-Ok-make_ready-clause-plan
 returns-in-Ok-make_ready-clause-plan g c told =

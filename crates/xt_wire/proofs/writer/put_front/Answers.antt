@@ -1,4 +1,3 @@
-use Rattle.std.proofs.Common.{rules}
 use Rattle.xt_wire.specs.BasicFields.{word_bytes}
 use Rattle.xt_wire.proofs.Lengths.{written_over}
 use Rattle.xt_wire.proofs.writer.put_front.Goals as goal
