@@ -91,8 +91,8 @@ impl MemoryDisk {
         }
     }
 
-    /// What a read gives, with this byte at each place that isn't synced.
-    fn filled(&self, fill: u8) -> Result<Octets, OutOfMemory>
+    /// The bytes after a crash now that leaves this byte at each place that isn't synced.
+    pub fn filled(&self, fill: u8) -> Result<Octets, OutOfMemory>
         ensures filled { IfOk result (λ image. IsFilled fill (memory_kept self.now) image) }
     {
         let mut bytes = Vec::from_slice(self.alloc, self.bytes())?;

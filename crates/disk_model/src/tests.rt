@@ -69,8 +69,7 @@ fn a_file_keeps_what_it_was_given(rt: HostRuntime) -> Result<(), Fail> {
     fs::create_dir(&rt, folder.as_path())?;
     let path = folder.join(alloc, "store")?;
     let mut disk = FileDisk::new(&rt);
-    disk.reserve(0)?;
-    assert!(rt; disk.sync().is_err());
+    assert!(rt; disk.length().is_err());
     disk.attach(path.as_str())?;
     disk.reserve(7)?;
     disk.write(4, b"abc")?;
