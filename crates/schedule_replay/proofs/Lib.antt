@@ -1,0 +1,4 @@
+pub mod Streamed
+pub mod Endings
+pub mod Whole
+pub mod LineEnds

@@ -1,0 +1,34 @@
+use Rattle.std.proofs.Common.{◌≡◌, ◌∙◌, ℕ, false, List, ◌∷◌, [], ◌++◌, length, length-append, ap, sym, subst, refl, arith}
+use Rattle.time_line.specs.declared.line.Line.{Line}
+use Rattle.world_runs.specs.World.{World}
+use Rattle.schedule_replay.proofs.Whole.{begun, goes_on, ends_so, lines_after, still_going}
+use Rattle.schedule_replay.proofs.replaying.replay_over.Goals as goal
+
+pub loop-line-init : goal.loop-line-init
+loop-line-init g c =
+    record {
+      so_far = begun _ _ c.args.world.world c.requires.start;
+      count = subst (λ (w : World). length w.lines ≡ 0) (sym c.requires.start) refl;
+      going = c.requires.going;
+      source = refl;
+      sink = refl;
+    }
+
+pub returns-in-Some-clause-replay : goal.returns-in-Some-clause-replay
+returns-in-Some-clause-replay g c = ends_so _ _ _ _ _ _ c.loop-line.world c.in-Some.status c.loop-line.invariant.so_far c.in-Some.ensures.step
+
+pub loop-line-preserved : goal.loop-line-preserved
+loop-line-preserved g c =
+    let next = c.in-None.ensures.step in
+    record {
+      so_far = goes_on _ _ _ _ _ _ c.loop-line.world c.replay_line.new.world c.loop-line.invariant.so_far next;
+      count = ap length (lines_after c.loop-line.world c.replay_line.new.world next.line next.done) ∙ omega (arith, length-append c.loop-line.world.world.lines (next.line ∷ []), c.loop-line.invariant.count);
+      going = still_going c.loop-line.world c.replay_line.new.world next.line next.done ∙ c.loop-line.invariant.going;
+      source = c.in-None.ensures.cause.0 ∙ c.loop-line.invariant.source;
+      sink = c.in-None.ensures.cause.1 ∙ c.loop-line.invariant.sink;
+    }
+
+pub returns-clause-replay : goal.returns-clause-replay
+returns-clause-replay g c =
+    let full : length c.loop-line.world.world.lines ≡ 65536 = omega (arith, c.loop-line.invariant.count) in
+    ends_so _ _ _ _ _ _ c.loop-line.world c.past_last.result c.loop-line.invariant.so_far (c.past_last.ensures.end c.loop-line.world full)

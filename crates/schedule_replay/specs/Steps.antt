@@ -1,0 +1,85 @@
+-- one line of a replay, and what is put of it
+use Rattle.std.specs.Prelude.{ℕ, ◌==◌, ◌≡◌, ◌⊎◌, ◌+◌, Option, Some, None, List, [], ◌∷◌, ◌++◌, length}
+use Rattle.xt_base.specs.declared.status.Status.{Status}
+use Rattle.xt_base.specs.declared.status.Status.TheVariants as status
+use Rattle.node_links.specs.Streams.{Takes, Puts, Rose}
+use Rattle.time_line.specs.declared.line.Line.{Line}
+use Rattle.time_line.specs.declared.entry.Entry.{Entry}
+use Rattle.schedule_text.specs.LineText.{line_text, IsLine}
+use Rattle.schedule_text.specs.EntryText.{trace_text}
+use Rattle.schedule_text.specs.StatusText.{last_line}
+use Rattle.world_core.specs.declared.errors.WorldErr.{WorldErr}
+use Rattle.world_core.specs.declared.errors.WorldErr.TheVariants as error
+use Rattle.world_core.specs.Standing.{Standing, IsDone}
+use Rattle.schedule_replay.specs.Fronts.{PutsFront}
+use Rattle.schedule_replay.specs.NextLine.{ended}
+use Rattle.schedule_replay.specs.Replay.{EndsAt, HasCause}
+
+-- the text was put, or the sink failed behind a front of it
+abbrev pub IsPut : Option (List ℕ) → Option (List ℕ) → List ℕ → Option Status → Type 0
+IsPut old new text None = Puts old new text
+IsPut old new text (Some (status.SinkFault count)) = PutsFront old new text
+IsPut old new text (Some status.OutOfMemory) = Puts old new []
+IsPut old new text (Some _) = ⊥
+
+-- the last line of the status was put, or the sink failed behind a front of it, or there was no memory for its text
+abbrev pub IsFinished : Option (List ℕ) → Option (List ℕ) → Status → Status → Type 0
+IsFinished old new s given =
+    ((given ≡ s) × Puts old new (last_line s))
+    ⊎ ((count : ℕ) × (given ≡ status.SinkFault count) × PutsFront old new (last_line s))
+    ⊎ ((given ≡ status.OutOfMemory) × Puts old new [])
+
+-- The line is done: it was taken and applied, and what it adds to the trace was put.
+pub record IsNext (source_before source_after sink_before sink_after : Option (List ℕ)) (old new : Standing) : Type 0 where
+  pub line : Line
+  pub formed : IsLine (length old.world.lines == 0) line
+  pub done : IsDone old line new
+  pub source : Takes source_before source_after (ended (line_text line))
+  pub more : List Entry
+  pub added : new.world.entries ≡ old.world.entries ++ more
+  pub sink : Puts sink_before sink_after (trace_text more)
+
+-- The replay ends here.
+pub record IsEnd (source_before source_after sink_before sink_after : Option (List ℕ)) (old : Standing) (s : Status) : Type 0 where
+  pub taken : List ℕ
+  pub put : List ℕ
+  pub source : Takes source_before source_after taken
+  pub sink : Puts sink_before sink_after put
+  pub ending : EndsAt old.world taken source_after put s
+
+-- one line of a replay: it goes on, or it ends with a status
+abbrev pub IsStep : Option (List ℕ) → Option (List ℕ) → Option (List ℕ) → Option (List ℕ) → Standing → Standing → Option Status → Type 0
+IsStep source_before source_after sink_before sink_after old new None = IsNext source_before source_after sink_before sink_after old new
+IsStep source_before source_after sink_before sink_after old new (Some s) = IsEnd source_before source_after sink_before sink_after old s
+
+-- the sink's count of faults rose exactly where it is told to have failed, with that count
+abbrev pub CausesPut : ℕ → ℕ → Option Status → Type 0
+CausesPut before later None = later ≡ before
+CausesPut before later (Some (status.SinkFault count)) = Rose before later × (count ≡ later)
+CausesPut before later (Some _) = later ≡ before
+
+-- a failure of the sink is told only where its count of faults rose, with that count
+abbrev pub CausesEnd : ℕ → ℕ → Status → Type 0
+CausesEnd before later (status.SinkFault count) = Rose before later × (count ≡ later)
+CausesEnd before later _ = Unit {0}
+
+-- the status doesn't tell of the sink
+abbrev pub IsNoSinkFault : Status → Type 0
+IsNoSinkFault (status.SinkFault count) = ⊥
+IsNoSinkFault _ = Unit {0}
+
+-- a failure of the source or the sink is told only where its count of faults rose, with that count
+abbrev pub CausesStep : ℕ → ℕ → ℕ → ℕ → Option Status → Type 0
+CausesStep source_before source_later sink_before sink_later None = (source_later ≡ source_before) × (sink_later ≡ sink_before)
+CausesStep source_before source_later sink_before sink_later (Some s) = HasCause source_before source_later sink_before sink_later s
+
+-- more entries stand behind the old ones
+abbrev pub Grown : List Entry → List Entry → Type 0
+Grown old new = (more : List Entry) × (new ≡ old ++ more)
+
+-- the status that an error of a line ends a replay with
+abbrev pub status_for : ℕ → WorldErr → Status
+status_for number (error.Illegal rule) = status.Illegal number rule
+status_for number (error.Limit what limit) = status.Limit what limit
+status_for number (error.Full need limit) = status.JournalFull need limit
+status_for number error.OutOfMemory = status.OutOfMemory

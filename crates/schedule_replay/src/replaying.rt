@@ -1,0 +1,74 @@
+ghost use Rattle.std.specs.Prelude.{◌≡◌, false, length};
+ghost use Rattle.world_runs.specs.World.{start_world};
+ghost use Rattle.world_core.specs.Standing.{Standing};
+ghost use Rattle.schedule_replay.specs.Replay.{IsReplay, HasCause};
+ghost use Rattle.schedule_replay.specs.Steps.{IsEnd};
+
+use crate::ending::finish;
+use crate::reading::take_byte;
+use crate::step::replay_line;
+use node_links::{Sink, Source};
+use std::alloc::Global;
+use world_core::{Hull, ListHull, World};
+use xt_base::{Failed, Limited, Status};
+
+/// How many lines a schedule may have.
+pub const LINES: u64 = 65_536;
+
+/// Ends a replay behind as many lines as a schedule may have.
+fn past_last<S: Source, K: Sink>(alloc: Global, src: &mut S, out: &mut K) -> Status
+    ensures end { (w : Standing) → length w.world.lines ≡ 65536 → IsEnd (S.left src.old) (S.left src.new) (K.held out.old) (K.held out.new) w result }
+    ensures cause { HasCause (S.fault_count src.old) (S.fault_count src.new) (K.fault_count out.old) (K.fault_count out.new) result }
+{
+    match take_byte(src) {
+        Ok(None) => Status::Done,
+        Ok(Some(_)) => finish(
+            alloc,
+            out,
+            Status::Limit {
+                what: Limited::Lines,
+                limit: LINES,
+            },
+        ),
+        Err(Failed) => finish(
+            alloc,
+            out,
+            Status::SourceFault {
+                count: src.faults(),
+            },
+        ),
+    }
+}
+
+/// Replays the schedule that the source gives, over a world that begins, and puts its trace.
+fn replay_over<H: Hull, S: Source, K: Sink>(
+    alloc: Global,
+    world: World<H>,
+    src: &mut S,
+    out: &mut K,
+) -> Status
+    requires start { world.world ≡ start_world }
+    requires going { world.ended ≡ false }
+    ensures replay { IsReplay (S.left src.old) (S.left src.new) (K.held out.old) (K.held out.new) result }
+    ensures cause { HasCause (S.fault_count src.old) (S.fault_count src.new) (K.fault_count out.old) (K.fault_count out.new) result }
+{
+    let mut world = world;
+    let mut raw = Vec::new(alloc);
+    for _line in 0..LINES {
+        match replay_line(alloc, &mut world, src, out, &mut raw) {
+            None => {}
+            Some(status) => return status,
+        }
+    }
+    past_last(alloc, src, out)
+}
+
+/// Replays the schedule that the source gives, and puts its trace.
+pub fn replay<S: Source, K: Sink>(alloc: Global, src: &mut S, out: &mut K) -> Status
+    // The trace is that of a run of the lines that were taken.
+    ensures replay { IsReplay (S.left src.old) (S.left src.new) (K.held out.old) (K.held out.new) result }
+    // A fault is told only where its object's count rose.
+    ensures cause { HasCause (S.fault_count src.old) (S.fault_count src.new) (K.fault_count out.old) (K.fault_count out.new) result }
+{
+    replay_over(alloc, World::new(alloc, ListHull::new(alloc)), src, out)
+}

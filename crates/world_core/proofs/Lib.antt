@@ -1,0 +1,11 @@
+pub mod Rows
+pub mod Places
+pub mod MessageCounts
+pub mod NodeSearch
+pub mod HostPlaces
+pub mod Delivery
+pub mod Settling
+pub mod Handing
+pub mod BodyIndex
+pub mod Ending
+pub mod Legal
