@@ -7,7 +7,7 @@ use xt_base::{CallList, Octets, Words};
 
 /// What a run over memory comes to.
 #[derive(Debug, Drop)]
-struct Outcome {
+struct Ended {
     code: u8,
     output: Vec<u8>,
 }
@@ -19,7 +19,7 @@ fn outcome(
     input: &[u8],
     source_fails: u64,
     sink_fails: u64,
-) -> Result<Outcome, Fail> {
+) -> Result<Ended, Fail> {
     let mut all = Words::new(alloc);
     for word in words {
         all.push(alloc, word)?;
@@ -35,7 +35,7 @@ fn outcome(
     let mut source = MemorySource::new(Octets::of(alloc, input)?, source_failing);
     let mut sink = MemorySink::new(alloc, 65_536, sink_failing)?;
     let status = run(alloc, &all, &mut source, &mut sink);
-    Ok(Outcome {
+    Ok(Ended {
         code: status.code(),
         output: Vec::from_slice(alloc, sink.as_slice())?,
     })
@@ -155,17 +155,18 @@ fn faults_are_told_with_their_count(rt: HostRuntime) -> Result<(), Fail> {
     Ok(())
 }
 
+/// These words are refused.
+fn are_refused(rt: &impl Abort, alloc: Global, words: &[&str]) -> Result<(), Fail> {
+    let ended = outcome(alloc, words, ONE_REPLICA, 0, 0)?;
+    assert_eq!(rt; ended.code, 2);
+    assert_eq!(rt; ended.output.as_slice(), b"! usage\n".as_slice());
+    Ok(())
+}
+
 #[test]
 fn other_words_are_refused(rt: HostRuntime) -> Result<(), Fail> {
     let alloc = rt.alloc();
-    for words in [
-        ["replays"].as_slice(),
-        [].as_slice(),
-        ["replay", "replay"].as_slice(),
-    ] {
-        let ended = outcome(alloc, words, ONE_REPLICA, 0, 0)?;
-        assert_eq!(rt; ended.code, 2);
-        assert_eq!(rt; ended.output.as_slice(), b"! usage\n".as_slice());
-    }
-    Ok(())
+    are_refused(&rt, alloc, &["replays"])?;
+    are_refused(&rt, alloc, &[])?;
+    are_refused(&rt, alloc, &["replay", "replay"])
 }
