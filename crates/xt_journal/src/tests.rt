@@ -1,4 +1,4 @@
-use crate::{AppendErr, Journal, LoadErr, Placed};
+use crate::{AppendErr, Journal, LoadErr};
 use disk_model::{MemoryDisk, Stop};
 use std::alloc::Global;
 use std::test::Fail;
@@ -10,40 +10,57 @@ const ONE: [u8; 27] = [
     0, 0, 1, 0,
 ];
 
-const FIRST: [u8; 9] = [1, 0, 0, 0, 0, 0, 0, 0, 1];
+const NONE: [u8; 13] = [
+    0x58, 0x54, 0x46, 0x53, 0x4a, 0x52, 0x4e, 0x4c, 0, 0, 0, 1, 0,
+];
 
-const SECOND: [u8; 9] = [1, 0, 0, 0, 0, 0, 0, 0, 2];
+const FIRST: [u8; 9] = [1, 0, 0, 0, 0, 0, 0, 0, 1];
 
 const LIMIT: u64 = 1 << 30;
 
-fn disk(
-    alloc: Global,
-    bytes: &[u8],
-    failing: Option<u64>,
-    stop: Option<Stop>,
-) -> Result<MemoryDisk, Fail> {
-    let mut calls = CallList::new(alloc);
-    if let Some(call) = failing {
-        calls.push(call)?;
-    }
+/// What a call answered that was to answer otherwise.
+#[derive(Debug, Drop)]
+struct Otherwise;
+
+fn disk(alloc: Global, bytes: &[u8], stop: Option<Stop>) -> Result<MemoryDisk, Fail> {
+    let calls = CallList::new(alloc);
     Ok(MemoryDisk::new(alloc, Octets::of(alloc, bytes)?, calls, stop))
 }
 
-type Loaded = Result<(Journal<MemoryDisk>, Vec<Placed>), LoadErr<MemoryDisk>>;
+fn load(alloc: Global, disk: MemoryDisk, limit: u64) -> Result<Journal<MemoryDisk>, Otherwise> {
+    match Journal::load(alloc, disk, limit) {
+        Ok((journal, _)) => Ok(journal),
+        Err(_) => Err(Otherwise),
+    }
+}
 
-fn load(alloc: Global, bytes: &[u8]) -> Result<Loaded, Fail> {
-    Ok(Journal::load(alloc, disk(alloc, bytes, None, None)?, LIMIT))
+/// How many payloads these bytes stand for.
+fn payloads(alloc: Global, bytes: &[u8]) -> Result<usize, Fail> {
+    match Journal::load(alloc, disk(alloc, bytes, None)?, LIMIT) {
+        Ok((_, placed)) => Ok(placed.len()),
+        Err(_) => Err(Otherwise)?,
+    }
+}
+
+/// What a crash leaves of a journal of one record whose next append is stopped.
+fn stopped(alloc: Global, stop: Stop) -> Result<Octets, Fail> {
+    let journal = load(alloc, disk(alloc, &ONE, Some(stop))?, LIMIT)?;
+    match journal.append(alloc, &FIRST) {
+        Err(AppendErr::Broken { count: 1, disk }) => Ok(disk.image()?),
+        _ => Err(Otherwise)?,
+    }
 }
 
 #[test]
 fn a_fresh_journal_gets_a_record(rt: HostRuntime) -> Result<(), Fail> {
     let alloc = rt.alloc();
-    let (journal, placed) = load(alloc, &[])??;
-    assert!(rt; placed.is_empty());
+    let journal = load(alloc, disk(alloc, &[], None)?, LIMIT)?;
     assert_eq!(rt; journal.end(), 12);
-    let journal = journal.append(alloc, &FIRST)?;
-    assert_eq!(rt; journal.end(), 26);
-    assert_eq!(rt; journal.close().image()?.as_slice(), ONE.as_slice());
+    let left = match journal.append(alloc, &FIRST) {
+        Ok(journal) => journal.close().image()?,
+        Err(_) => Err(Otherwise)?,
+    };
+    assert_eq!(rt; left.as_slice(), ONE.as_slice());
     Ok(())
 }
 
@@ -53,148 +70,119 @@ fn a_stopped_append_is_kept_by_its_gate(rt: HostRuntime) -> Result<(), Fail> {
     for call in 1..=4u64 {
         for fill in [0, 0x37, 0xa5] {
             // loading makes one sync
-            let stop = Stop {
-                call: 1 + call,
-                fill,
-            };
-            let loaded = Journal::load(alloc, disk(alloc, &ONE, None, Some(stop))?, LIMIT);
-            let (journal, _) = loaded?;
-            let Err(AppendErr::Broken { count, disk }) = journal.append(alloc, &SECOND) else {
-                panic!(rt; "not broken");
-            };
-            assert_eq!(rt; count, 1);
-            let (journal, placed) = load(alloc, disk.image()?.as_slice())??;
-            let is_kept = call >= 3 && fill == 0xa5;
-            assert_eq!(rt; placed.len(), if is_kept { 2 } else { 1 });
-            assert_eq!(rt; journal.end(), if is_kept { 40 } else { 26 });
-            let (_, placed) = {
-                let journal = journal.append(alloc, &SECOND)?;
-                load(alloc, journal.close().image()?.as_slice())??
-            };
-            assert_eq!(rt; placed.len(), if is_kept { 3 } else { 2 });
+            let call = call + 1;
+            let left = stopped(alloc, Stop { call, fill })?;
+            let count = if call > 3 && fill == 0xa5 { 2 } else { 1 };
+            assert_eq!(rt; payloads(alloc, left.as_slice())?, count);
         }
     }
     Ok(())
+}
+
+/// A disk with a journal of one record whose call of this number fails.
+fn failing(alloc: Global, call: u64) -> Result<MemoryDisk, Fail> {
+    let mut calls = CallList::new(alloc);
+    calls.push(call)?;
+    Ok(MemoryDisk::new(alloc, Octets::of(alloc, &ONE)?, calls, None))
 }
 
 #[test]
 fn a_failed_sync_breaks_the_journal(rt: HostRuntime) -> Result<(), Fail> {
     let alloc = rt.alloc();
-    // loading syncs, asks the length and reads, and the append's second call is its first sync
-    let (journal, _) = Journal::load(alloc, disk(alloc, &ONE, Some(5), None)?, LIMIT)?;
-    let Err(AppendErr::Broken { count, disk: _ }) = journal.append(alloc, &SECOND) else {
-        panic!(rt; "not broken");
-    };
-    assert_eq!(rt; count, 1);
-    let Err(LoadErr::DiskFault { count, disk: _ }) = Journal::load(
-        alloc,
-        disk(alloc, &ONE, Some(3), None)?,
-        LIMIT,
-    ) else {
-        panic!(rt; "no fault");
+    // loading makes three calls, and the second of an append is its first sync
+    let journal = load(alloc, failing(alloc, 5)?, LIMIT)?;
+    let count = match journal.append(alloc, &FIRST) {
+        Err(AppendErr::Broken { count, disk: _ }) => count,
+        _ => 0,
     };
     assert_eq!(rt; count, 1);
     Ok(())
+}
+
+/// Where a journal of one record ends after an append under this limit, and what `Full` tells.
+fn appended(alloc: Global, limit: u64) -> Result<(u64, u64, u64), Fail> {
+    let journal = load(alloc, disk(alloc, &ONE, None)?, limit)?;
+    match journal.append(alloc, &FIRST) {
+        Ok(journal) => Ok((journal.end(), 0, 0)),
+        Err(
+            AppendErr::Full {
+                journal,
+                need,
+                limit,
+            },
+        ) => Ok((journal.end(), need, limit)),
+        Err(AppendErr::Broken { count: _, disk: _ }) => Err(Otherwise)?,
+        Err(AppendErr::OutOfMemory { journal: _ }) => Err(Otherwise)?,
+    }
 }
 
 #[test]
 fn a_journal_is_full_past_its_limit(rt: HostRuntime) -> Result<(), Fail> {
     let alloc = rt.alloc();
-    let (journal, _) = Journal::load(alloc, disk(alloc, &ONE, None, None)?, 41)?;
-    let journal = journal.append(alloc, &SECOND)?;
-    assert_eq!(rt; journal.end(), 40);
-    let Err(
-        AppendErr::Full {
-            journal,
-            need,
-            limit,
-        },
-    ) = journal.append(alloc, &[7])
-    else {
-        panic!(rt; "not full");
-    };
-    assert_eq!(rt; (journal.end(), need, limit), (40, 47, 41));
+    // 26, where the journal ends, and 6 and 9 bytes
+    assert_eq!(rt; appended(alloc, 41)?, (40, 0, 0));
+    assert_eq!(rt; appended(alloc, 40)?, (26, 41, 40));
     Ok(())
 }
 
-/// What loading gives of bytes: the number of payloads, or the number of the refusal and what it tells.
-fn outcome(alloc: Global, bytes: &[u8]) -> Result<((u64, u64), Octets), Fail> {
-    Ok(match load(alloc, bytes)? {
-        Ok((journal, placed)) => ((0, placed.len() as u64), journal.close().image()?),
-        Err(LoadErr::DiskFault { count, disk }) => ((1, count), disk.image()?),
-        Err(LoadErr::NotOurs { first, disk }) => ((2, u64::from(first[0])), disk.image()?),
-        Err(LoadErr::Layout { version, disk }) => ((3, u64::from(version)), disk.image()?),
-        Err(LoadErr::Damaged { place, disk }) => ((4, place), disk.image()?),
-        Err(LoadErr::OutOfMemory { disk }) => ((5, 0), disk.image()?),
-    })
+/// The number of what loading answers, what it tells, and the disk that it leaves.
+fn outcome(alloc: Global, bytes: &[u8]) -> Result<(u8, u64, MemoryDisk), Fail> {
+    Ok(
+        match Journal::load(alloc, disk(alloc, bytes, None)?, LIMIT) {
+            Ok((journal, placed)) => (0, placed.len() as u64, journal.close()),
+            Err(LoadErr::DiskFault { count, disk }) => (1, count, disk),
+            Err(LoadErr::NotOurs { first, disk }) => (2, u64::from(first[0]), disk),
+            Err(LoadErr::Layout { version, disk }) => (3, u64::from(version), disk),
+            Err(LoadErr::Damaged { place, disk }) => (4, place, disk),
+            Err(LoadErr::OutOfMemory { disk }) => (5, 0, disk),
+        },
+    )
 }
 
 #[test]
-fn shorter_and_changed_bytes_are_loaded_or_refused(rt: HostRuntime) -> Result<(), Fail> {
+fn a_front_is_written_anew_or_damaged(rt: HostRuntime) -> Result<(), Fail> {
     let alloc = rt.alloc();
-    let fresh = &[&ONE[..12], &[0]].concat(alloc)?;
     for len in 0..=ONE.len() {
-        let (told, left) = outcome(alloc, &ONE[..len])?;
-        if len <= 13 {
-            assert_eq!(rt; told, (0, 0), "at length {len}");
-            assert_eq!(rt; left.as_slice(), fresh.as_slice());
-        } else {
-            assert_eq!(rt;
-                told,
-                if len < 27 { (4, 12) } else { (0, 1) },
-                "at length {len}"
-            );
-            assert_eq!(rt; left.as_slice(), &ONE[..len]);
-        }
+        let front = &ONE[..len];
+        let (number, told, disk) = outcome(alloc, front)?;
+        let tells = match len {
+            0..=13 => (0, 0),
+            14..=26 => (4, 12),
+            _ => (0, 1),
+        };
+        assert_eq!(rt; (number, told), tells);
+        let left = if len <= 13 { NONE.as_slice() } else { front };
+        assert_eq!(rt; disk.image()?.as_slice(), left);
     }
-    // a place, the byte that stands there instead, and what loading tells
-    let changes: [(usize, u8, (u64, u64)); 18] = [
-        (0, 0x59, (2, 0x59)),
-        (1, 0, (2, 0x58)),
-        (2, 0, (2, 0x58)),
-        (3, 0, (2, 0x58)),
-        (4, 0, (2, 0x58)),
-        (5, 0, (2, 0x58)),
-        (6, 0, (2, 0x58)),
-        (7, 0, (2, 0x58)),
-        (8, 1, (3, 0x0100_0001)),
-        (9, 1, (3, 0x0001_0001)),
-        (10, 1, (3, 0x0101)),
-        (11, 7, (3, 7)),
-        (12, 0x37, (0, 0)),
-        (13, 1, (4, 12)),
-        (16, 0, (4, 12)),
-        (16, 10, (4, 12)),
-        (26, 0x37, (0, 1)),
-        (26, 0xa5, (4, 26)),
+    Ok(())
+}
+
+#[test]
+fn a_changed_byte_is_refused_by_name(rt: HostRuntime) -> Result<(), Fail> {
+    let alloc = rt.alloc();
+    // a place, the byte that stands there instead, and what loading answers and tells
+    let changes: [(usize, u8, u8, u64); 12] = [
+        (0, 0x59, 2, 0x59),
+        (1, 0, 2, 0x58),
+        (7, 0, 2, 0x58),
+        (8, 1, 3, 0x0100_0001),
+        (11, 7, 3, 7),
+        (12, 0x37, 0, 0),
+        (13, 1, 4, 12),
+        (16, 0, 4, 12),
+        (16, 10, 4, 12),
+        (16, 8, 0, 1),
+        (26, 0x37, 0, 1),
+        (26, 0xa5, 4, 26),
     ];
-    for (place, byte, tells) in changes {
+    for (place, byte, number, tells) in changes {
         let mut bytes = ONE;
         if let Some(here) = bytes.get_mut(place) {
             *here = byte;
         }
-        let (told, left) = outcome(alloc, &bytes)?;
-        assert_eq!(rt; told, tells, "at {place}");
-        assert_eq!(rt; left.as_slice(), bytes.as_slice());
+        let (answer, told, disk) = outcome(alloc, &bytes)?;
+        assert_eq!(rt; (answer, told), (number, tells));
+        assert_eq!(rt; disk.image()?.as_slice(), bytes.as_slice());
     }
-    Ok(())
-}
-
-#[test]
-fn what_stands_is_placed(rt: HostRuntime) -> Result<(), Fail> {
-    let alloc = rt.alloc();
-    let (journal, _) = load(alloc, &ONE)??;
-    let journal = journal.append(alloc, &[5, 6])?;
-    let mut bytes = journal.close().image()?.as_slice().to_vec(alloc)?;
-    bytes.extend_from_slice(&[9, 9])?;
-    let (journal, placed) = load(alloc, bytes.as_slice())??;
-    let places: Vec<u64> = placed.iter().map(|p| p.gate).collect(alloc)?;
-    assert_eq!(rt; places.as_slice(), [12, 26].as_slice());
-    let lengths: Vec<usize> = placed
-        .iter()
-        .map(|p| p.bytes.as_slice().len())
-        .collect(alloc)?;
-    assert_eq!(rt; lengths.as_slice(), [9, 2].as_slice());
-    assert_eq!(rt; journal.end(), 33);
     Ok(())
 }
