@@ -6,7 +6,7 @@ cd "$(dirname "$0")/.." || exit 1
 failed=0
 
 words='document|paper|request|demand|rung|definition|theorem|row'
-letters='T[1-5]|D[0-9]{1,2}|R[0-9]{1,2}|W[0-9]{1,2}|[AFGKLMPQSV][0-9]{1,2}'
+letters='T[1-5]|D[0-9]{1,2}|R[0-9]{1,2}|W[0-9]{1,2}|[AFGKLMNPQSV][0-9]{1,2}'
 names=$(git grep -nIE "\\b($words) ?[0-9]{1,2}\\b|\\b($letters)\\b" -- ':!*.edit' |
     grep -vE 'sha|uuid|0x|hex|u8|u16|u32|u64')
 if [ -n "$names" ]; then

@@ -22,7 +22,7 @@ kind_word Striped = codes "str"
 abbrev pub node_words : List NodeId → List (List ℕ)
 node_words nodes = map (λ node. decimal node.0) nodes
 
--- F rep STRIPE N1 .. Nn
+-- F rep STRIPE NODE .. NODE
 abbrev pub file_words : ℕ → Location → List (List ℕ)
 file_words number location =
     decimal number ∷ kind_word location.kind ∷ decimal location.stripe ∷ node_words location.members

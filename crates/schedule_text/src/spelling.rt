@@ -137,7 +137,7 @@ pub(crate) fn push_nodes(out: &mut Vec<u8>, nodes: &[NodeId]) -> Result<(), OutO
     Ok(())
 }
 
-/// Appends ` F rep STRIPE N1 .. Nn`.
+/// Appends ` F rep STRIPE NODE .. NODE`.
 pub(crate) fn push_file(
     out: &mut Vec<u8>,
     number: u64,
@@ -193,7 +193,7 @@ pub(crate) fn push_named(out: &mut Vec<u8>, name: &[u8], number: u128) -> Result
     push_wide_number(out, number)
 }
 
-/// Appends `file F rep STRIPE N1 .. Nn`.
+/// Appends `file F rep STRIPE NODE .. NODE`.
 pub(crate) fn push_file_line(
     out: &mut Vec<u8>,
     number: u64,
