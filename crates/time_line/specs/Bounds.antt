@@ -13,13 +13,16 @@ FitsCall (call.Write file object at bytes) = (file < 2 ^ 64) × IsObject object 
 FitsCall (call.Truncate file size epoch) = (file < 2 ^ 64) × (size < 2 ^ 64) × (epoch < 2 ^ 62)
 FitsCall _ = Unit {0}
 
--- the values of a line; a message's number, and how many messages are settled, have none here
+-- the values of a line; a message's number, and how many messages are settled or come before a cut, have none here
 abbrev pub FitsLine : Line → Type 0
 FitsLine (line.Times lease drift) = Unit {0}
 FitsLine (line.Osd node) = FitsNode node
 FitsLine (line.Client node clock) = FitsNode node × (clock < 2 ^ 62)
 FitsLine (line.File number location) = (number < 1000000) × FitsLocation location
 FitsLine (line.Start node clock) = FitsNode node × (clock < 2 ^ 62)
+FitsLine (line.Stop node) = FitsNode node
+FitsLine (line.Crash node k fill) = FitsNode node × (1 ≤ k) × (k ≤ 4) × (fill < 256)
+FitsLine (line.Cut node count) = FitsNode node
 FitsLine (line.Tick count) = count < 2 ^ 32
 FitsLine (line.Call client c) = FitsNode client × FitsCall c
 FitsLine (line.Deliver number) = Unit {0}

@@ -1,7 +1,8 @@
 -- what a trace says of a file: its writes in order, and what its answers have to show
-use Rattle.std.specs.Prelude.{ℕ, Bool, ◌&&◌, ◌==◌, if◌then◌else◌, Option, Some, None, List, [], ◌∷◌, ◌++◌, ◌+◌, ◌-◌, ◌≡◌, ◌≤◌, length, slice_get}
-use Rattle.std.specs.List.{fold, filter_map}
+use Rattle.std.specs.Prelude.{ℕ, Bool, false, ◌&&◌, ◌==◌, if◌then◌else◌, Option, Some, None, List, [], ◌∷◌, ◌++◌, ◌+◌, ◌-◌, ◌≡◌, ◌≤◌, length, slice_get}
+use Rattle.std.specs.List.{fold, filter_map, list_any}
 use Rattle.std.specs.Option.{option_or}
+use Rattle.xt_base.specs.declared.ids.NodeId.{NodeId}
 use Rattle.xt_base.specs.declared.ids.OpId.{OpId}
 use Rattle.xt_base.specs.declared.file.Op.{Op}
 use Rattle.xt_base.specs.declared.file.Op.TheVariants as op
@@ -10,6 +11,7 @@ use Rattle.xt_base.specs.declared.event.Call.{Call}
 use Rattle.xt_base.specs.declared.event.Call.TheVariants as call
 use Rattle.time_line.specs.declared.entry.Entry.{Entry}
 use Rattle.time_line.specs.declared.entry.Entry.TheVariants as entry
+use Rattle.time_line.specs.declared.entry.Halt.TheVariants as halt
 use Rattle.time_line.specs.Content.{content_of, range_of, place_of}
 
 -- whether two ids are one
@@ -41,6 +43,21 @@ location_in file (e ∷ es) = option_or (location_told file e) (location_in file
 abbrev pub stripe_of : Option Location → ℕ
 stripe_of None = 0
 stripe_of (Some location) = location.stripe
+
+-- the nodes that keep the file
+abbrev pub members_of : Option Location → List NodeId
+members_of None = []
+members_of (Some location) = location.members
+
+-- whether one of these nodes stopped with a record kept of which nothing else came out
+abbrev pub keeps_untold : List NodeId → Entry → Bool
+keeps_untold nodes (entry.Down node clock halt.Kept) = list_any (λ n. n.0 == node.0) nodes
+keeps_untold nodes _ = false
+
+-- No OSD of the file has stopped with a record kept of which nothing else came out: the trace tells every write that the
+-- file has.
+unfoldable pub IsToldWhole : ℕ → List Entry → Type 0
+IsToldWhole file entries = list_any (keeps_untold (members_of (location_in file entries))) entries ≡ false
 
 -- what the call does to the file's content, where it is a call on this file
 abbrev pub operation_on : ℕ → Call → Option Op

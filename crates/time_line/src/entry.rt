@@ -1,6 +1,19 @@
 use std::alloc::Global;
 use xt_base::{Boot, Call, Copies, Location, NodeId, Octets, OpId, OutOfMemory, Outcome};
 
+/// How a node stopped.
+#[derive(Clone, Copy, Debug, PartialEq, Eq)]
+pub enum Halt {
+    /// Between two steps.
+    Idle,
+    /// In an append, and its record stands. Nothing else of that step came out.
+    Kept,
+    /// In an append, and its record doesn't stand. Nothing of that step came out.
+    Lost,
+    /// In the sending: some of the step's messages came out.
+    Cut,
+}
+
 /// A line of a trace.
 #[derive(Debug, Drop)]
 pub enum Entry {
@@ -23,6 +36,12 @@ pub enum Entry {
         node: NodeId,
         boot: Boot,
         clock: u64,
+    },
+    /// A node stopped.
+    Down {
+        node: NodeId,
+        clock: u64,
+        how: Halt,
     },
     /// A client's call began.
     Begin {
@@ -76,6 +95,11 @@ impl Copies for Entry {
                 node: *node,
                 boot: *boot,
                 clock: *clock,
+            },
+            Entry::Down { node, clock, how } => Entry::Down {
+                node: *node,
+                clock: *clock,
+                how: *how,
             },
             Entry::Begin {
                 client,

@@ -7,5 +7,5 @@
 mod entry;
 mod line;
 
-pub use entry::Entry;
+pub use entry::{Entry, Halt};
 pub use line::Line;

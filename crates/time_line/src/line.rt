@@ -14,6 +14,12 @@ pub enum Line {
     File { number: u64, location: Location },
     /// Starts a node.
     Start { node: NodeId, clock: u64 },
+    /// Stops a node between two steps.
+    Stop { node: NodeId },
+    /// The node's next append stops in this device call, from 1 to 4; each place that isn't synced then holds the byte.
+    Crash { node: NodeId, call: u8, fill: u8 },
+    /// The node's next step that sends stops behind so many messages, or behind all.
+    Cut { node: NodeId, count: u128 },
     /// Advances every running clock at once, in milliseconds.
     Tick { count: u64 },
     /// A client's call.
@@ -45,6 +51,16 @@ impl Copies for Line {
             Line::Start { node, clock } => Line::Start {
                 node: *node,
                 clock: *clock,
+            },
+            Line::Stop { node } => Line::Stop { node: *node },
+            Line::Crash { node, call, fill } => Line::Crash {
+                node: *node,
+                call: *call,
+                fill: *fill,
+            },
+            Line::Cut { node, count } => Line::Cut {
+                node: *node,
+                count: *count,
             },
             Line::Tick { count } => Line::Tick { count: *count },
             Line::Call { client, call } => Line::Call {

@@ -1,5 +1,5 @@
 -- bytes that are made of bytes
-use Rattle.std.proofs.Common.{◌≡◌, ℕ, zero, suc, ◌+◌, ◌-◌, ◌<◌, List, [], ◌∷◌, ◌++◌, length, length-append, take, drop, arith}
+use Rattle.std.proofs.Common.{◌≡◌, ℕ, zero, suc, ◌+◌, ◌-◌, ◌<◌, List, [], ◌∷◌, ◌++◌, length, length-append, length-drop, take, drop, ap, ◌∙◌, ◌≤◌, arith}
 use Rattle.std.specs.List.{AllByRecursion}
 use Rattle.std.proofs.lemmas.List.{length-take, length-replicate}
 use Rattle.xt_base.specs.Limits.{AreBytes}
@@ -45,3 +45,12 @@ each-filled bytes size each = each-append _ _ (each-take size bytes each) (each-
 
 pub length-filled : (bytes : List ℕ) (size : ℕ) → length (cut_or_filled bytes size) ≡ size
 length-filled bytes size = omega (arith, length-append (take size bytes) (zeros (size - length bytes)), length-take size bytes, length-replicate {A = ℕ} (size - length bytes) 0)
+
+-- the new bytes, and no more than both
+pub length-overlay : (old : List ℕ) (at : ℕ) (new : List ℕ) (limit : ℕ) → length old ≤ limit → at + length new ≤ limit → (length new ≤ length (overlay old at new)) × (length (overlay old at new) ≤ limit)
+length-overlay old at new limit few more =
+    let first = take at old ++ zeros (at - length old) in
+    let whole : length (overlay old at new) ≡ length first + length new + length (drop (at + length new) old) =
+    length-append (first ++ new) (drop (at + length new) old) ∙ ap (λ (n : ℕ). n + length (drop (at + length new) old)) (length-append first new)
+    in
+    omega (arith, whole, length-append (take at old) (zeros (at - length old)), length-take at old, length-replicate {A = ℕ} (at - length old) 0, length-drop (at + length new) old)

@@ -1,5 +1,11 @@
+pub mod Cases
 pub mod Grows
 pub mod Bytes
+pub mod Tables
+pub mod Heads
 pub mod Fits
+pub mod Kept
+pub mod Agrees
 pub mod FitsWorld
+pub mod FitsTurns
 pub mod FitsRuns

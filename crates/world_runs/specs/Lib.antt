@@ -3,3 +3,4 @@ pub mod Records
 pub mod Rules
 pub mod Lines
 pub mod Runs
+pub mod Fits

@@ -1,7 +1,9 @@
 -- how a line of a schedule changes a world
-use Rattle.std.specs.Prelude.{ℕ, true, false, nat_lt, ◌+◌, ◌-◌, if◌then◌else◌, is_some, Option, Some, None, Result, Ok, Err, List, [], ◌∷◌, ◌++◌, length, map, filter, sum_by, slice_get, slice_set, suc, zero}
+use Rattle.std.specs.Prelude.{ℕ, true, false, nat_lt, ◌+◌, ◌-◌, if◌then◌else◌, is_some, Option, Some, None, Result, Ok, Err, List, [], ◌∷◌, ◌++◌, length, map, filter, sum_by, slice_get, slice_set, take, suc, zero}
 use Rattle.std.specs.List.{filter_map}
+use Rattle.disk_model.specs.declared.plan.Stop.{Stop}
 use Rattle.xt_base.specs.declared.ids.NodeId.{NodeId}
+use Rattle.xt_base.specs.declared.ids.Boot.{Boot}
 use Rattle.xt_base.specs.declared.file.Capability.{Capability}
 use Rattle.xt_base.specs.declared.file.Location.{Location}
 use Rattle.xt_base.specs.declared.file.Op.{Op}
@@ -15,26 +17,30 @@ use Rattle.xt_base.specs.declared.record.Record.{Record}
 use Rattle.xt_base.specs.declared.record.Record.TheVariants as kept
 use Rattle.xt_base.specs.declared.status.Limited.{Limited}
 use Rattle.xt_base.specs.declared.status.Limited.TheVariants as limited
+use Rattle.xt_base.specs.declared.TheConstants.{COUNTS}
 use Rattle.xt_base.specs.Overlay.{zeros}
 use Rattle.xt_protocol.specs.declared.OsdState.{OsdState}
 use Rattle.xt_protocol.specs.declared.ClientState.{ClientState}
 use Rattle.xt_protocol.specs.declared.Turned.{Turned}
 use Rattle.xt_protocol.specs.FrameLength.{frame_length}
+use Rattle.xt_protocol.specs.Folds.{fold_of, files_from}
 use Rattle.xt_protocol.specs.OsdRows.{Ask, ask_step, head_in, with_head}
 use Rattle.xt_protocol.specs.ClientRows.{called, answered}
 use Rattle.time_line.specs.declared.line.Line.{Line}
 use Rattle.time_line.specs.declared.line.Line.TheVariants as line
 use Rattle.time_line.specs.declared.entry.Entry.{Entry}
 use Rattle.time_line.specs.declared.entry.Entry.TheVariants as entry
+use Rattle.time_line.specs.declared.entry.Halt.{Halt}
+use Rattle.time_line.specs.declared.entry.Halt.TheVariants as halt
 use Rattle.time_line.specs.TimeLine.{operation_on}
 use Rattle.world_runs.specs.declared.Node.{Node}
 use Rattle.world_runs.specs.declared.Role.{Role}
 use Rattle.world_runs.specs.declared.Role.TheVariants as role
+use Rattle.world_runs.specs.declared.Running.{Running}
 use Rattle.world_runs.specs.declared.Sent.{Sent}
-use Rattle.world_runs.specs.declared.NodeRecord.{NodeRecord}
 use Rattle.world_runs.specs.declared.TheConstants.{NODES, MESSAGES, MESSAGE_BYTES}
 use Rattle.world_runs.specs.World.{World, node_in, with_node, file_in}
-use Rattle.world_runs.specs.Records.{body_in, boot_in}
+use Rattle.world_runs.specs.Records.{with_record, with_kept, body_in, keeps_record}
 use Rattle.world_runs.specs.Rules.{called_file}
 
 -- the line of the trace for a mark of a node; the marks of leases and primaries have none yet
@@ -56,19 +62,50 @@ pending message = record { message = message; pending = true }
 abbrev pub numbered : List Node → List Msg → List Sent
 numbered nodes outs = map pending (filter (λ message. is_some (node_in nodes message.to.0)) outs)
 
--- the record of a step, as its node's
-abbrev pub kept_of : NodeId → Option Record → List NodeRecord
-kept_of node None = []
-kept_of node (Some rec) = record { node = node; rec = rec } ∷ []
-
 -- The end of a step: its record is kept, its marks become entries, its messages are numbered.
 abbrev pub after_turn : World → NodeId → Turned → World
 after_turn w node turned =
     record w {
-      records = w.records ++ kept_of node turned.rec;
+      records = with_kept w.records node turned.rec;
       entries = w.entries ++ filter_map (entry_of node) turned.marks;
       sent = w.sent ++ numbered w.nodes turned.outs;
     }
+
+-- the node no longer runs; what it keeps is its records
+abbrev pub stopped : Node → Node
+stopped node = record node { up = None }
+
+-- the world in which a running node has stopped
+abbrev pub halted : World → Node → Running → Halt → World
+halted w node running how =
+    record w { nodes = with_node w.nodes (stopped node); entries = w.entries ++ entry.Down node.id running.clock how ∷ [] }
+
+-- The append of a step is stopped: its record is kept or lost, and nothing else comes of it.
+abbrev pub stopped_in_append : World → Node → Running → Stop → Record → World
+stopped_in_append w node running stop rec =
+    if keeps_record stop then halted (record w { records = with_record w.records node.id rec }) node running halt.Kept
+    else halted w node running halt.Lost
+
+-- The sending of a step is cut: all comes of it but the later messages, and the node stops.
+abbrev pub cut_in_sending : World → Node → Running → ℕ → Turned → World
+cut_in_sending w node running count turned =
+    halted (after_turn w node.id (record turned { outs = take count turned.outs })) node running halt.Cut
+
+-- a step that sends, where a cut is planned; one that doesn't leaves the plan
+abbrev pub sends : World → Node → Running → Option ℕ → List Msg → Turned → World
+sends w node running None outs turned = after_turn w node.id turned
+sends w node running (Some count) [] turned = after_turn w node.id turned
+sends w node running (Some count) (out ∷ outs) turned = cut_in_sending w node running count turned
+
+-- a step that appends, where a crash is planned; one that doesn't leaves the plan
+abbrev pub appends : World → Node → Running → Option Stop → Option Record → Turned → World
+appends w node running (Some stop) (Some rec) turned = stopped_in_append w node running stop rec
+appends w node running _ _ turned = sends w node running running.cut turned.outs turned
+
+-- what comes of a step of this node
+abbrev pub ends_step : World → Node → Option Running → Turned → World
+ends_step w node None turned = after_turn w node.id turned
+ends_step w node (Some running) turned = appends w node running running.crash turned.rec turned
 
 -- the bytes of the frames of these messages
 abbrev pub frame_bytes : List Sent → ℕ
@@ -84,14 +121,15 @@ within_limits w =
 -- a node does a step that leaves it in this role
 abbrev pub turned_to : World → Node → Role → Turned → World
 turned_to w node role turned =
-    after_turn (record w { nodes = with_node w.nodes (record node { role = role }) }) node.id turned
+    let there : Node = record node { role = role } in
+    ends_step (record w { nodes = with_node w.nodes there }) there node.up turned
 
 -- an OSD handles an ask
 abbrev pub handle_ask : World → Node → OsdState → NodeId → ℕ → Capability → Op → World
 handle_ask w node osd from number capability op =
     let file = capability.file in
     let ask : Ask = record { file = file; id = record { client = from; number = number }; stripe = capability.location.stripe; op = op } in
-    let step = ask_step node.id (body_in w.records node.id.0 file.number) (head_in osd.files file.number) ask op in
+    let step = ask_step node.id (body_in (w.records node.id.0) file) (head_in osd.files file) ask op in
     turned_to w node (role.Osd (record { files = with_head osd.files file step.head })) step.turned
 
 -- an OSD handles a message; other messages do nothing yet
@@ -156,16 +194,41 @@ declared w node entries =
     if nat_lt (length w.nodes) NODES then Whole (record w { nodes = w.nodes ++ node ∷ []; entries = w.entries ++ entries })
     else Stopped limited.Nodes w
 
--- an OSD starts with the boot behind the last one that it kept, and keeps it first
-abbrev pub started : World → NodeId → ℕ → Option Node → World
-started w id clock None = w
+-- a running node with no plan to stop it
+abbrev pub runs : Boot → ℕ → Running
+runs boot clock = record { boot = boot; clock = clock; crash = None; cut = None }
+
+-- An OSD starts from what its records say, with the boot behind its last one, and keeps that first.
+abbrev pub started : World → NodeId → ℕ → Option Node → Applied
+started w id clock None = Whole w
 started w id clock (Some node) =
-    let boot = boot_in w.records id.0 + 1 in
-    record w {
-      nodes = with_node w.nodes (record node { up = Some (record { boot = record { 0 = boot }; clock = clock }) });
-      records = w.records ++ record { node = id; rec = kept.Boot (record { 0 = boot }) } ∷ [];
-      entries = w.entries ++ entry.Up id (record { 0 = boot }) clock ∷ [];
-    }
+    let boot : Boot = record { 0 = (fold_of (w.records id.0)).boot.0 + 1 } in
+    if nat_lt boot.0 COUNTS then
+    Whole (record w {
+      nodes = with_node w.nodes (record node { up = Some (runs boot clock); role = role.Osd (record { files = files_from (w.records id.0) }) });
+      records = with_record w.records id (kept.Boot boot);
+      entries = w.entries ++ entry.Up id boot clock ∷ [];
+    })
+    else Stopped limited.Boots w
+
+-- a running node stops between two steps
+abbrev pub stops : World → Option Node → World
+stops w None = w
+stops w (Some node) = elim node.up [ None ↦ w | Some running ↦ halted w node running halt.Idle ]
+
+-- how a running node is planned to stop is changed
+abbrev pub planned : World → Option Node → (Running → Running) → World
+planned w None plan = w
+planned w (Some node) plan =
+    elim node.up [ None ↦ w | Some running ↦ record w { nodes = with_node w.nodes (record node { up = Some (plan running) }) } ]
+
+-- its next append stops in this call, with this byte at each place that isn't synced
+abbrev pub crashes : ℕ → ℕ → Running → Running
+crashes k fill running = record running { crash = Some (record { call = k; fill = fill }) }
+
+-- its next step that sends stops behind so many messages
+abbrev pub cuts : ℕ → Running → Running
+cuts count running = record running { cut = Some count }
 
 -- a running clock advances
 abbrev pub ticked : ℕ → Node → Node
@@ -209,11 +272,14 @@ line_applied w (line.Osd node) =
     declared w (record { id = node; up = None; role = role.Osd (record { files = [] }) }) []
 line_applied w (line.Client node clock) =
     declared w
-    (record { id = node; up = Some (record { boot = record { 0 = 1 }; clock = clock }); role = role.Client (record { next = 1; running = None }) })
+    (record { id = node; up = Some (runs (record { 0 = 1 }) clock); role = role.Client (record { next = 1; running = None }) })
     (entry.Up node (record { 0 = 1 }) clock ∷ [])
 line_applied w (line.File number location) =
     Whole (record w { files = w.files ++ record { number = number; location = location } ∷ []; entries = w.entries ++ entry.File number location ∷ [] })
-line_applied w (line.Start node clock) = Whole (started w node clock (node_in w.nodes node.0))
+line_applied w (line.Start node clock) = started w node clock (node_in w.nodes node.0)
+line_applied w (line.Stop node) = Whole (stops w (node_in w.nodes node.0))
+line_applied w (line.Crash node k fill) = Whole (planned w (node_in w.nodes node.0) (crashes k fill))
+line_applied w (line.Cut node count) = Whole (planned w (node_in w.nodes node.0) (cuts count))
 line_applied w (line.Tick count) =
     Whole (record w { nodes = map (ticked count) w.nodes; entries = w.entries ++ entry.Tick count ∷ [] })
 line_applied w (line.Call client c) =

@@ -1,48 +1,27 @@
--- what the records that the nodes keep say
-use Rattle.std.specs.Prelude.{ℕ, Bool, ◌==◌, ◌&&◌, if◌then◌else◌, unwrap_or, Option, Some, None, List, []}
-use Rattle.std.specs.List.{fold}
+-- the records that the nodes keep
+use Rattle.std.specs.Prelude.{ℕ, Bool, ◌==◌, ◌&&◌, nat_le, if◌then◌else◌, unwrap_or, Option, Some, None, List, [], ◌∷◌, ◌++◌}
+use Rattle.disk_model.specs.declared.plan.Stop.{Stop}
+use Rattle.xt_base.specs.declared.ids.NodeId.{NodeId}
+use Rattle.xt_base.specs.declared.ids.FileId.{FileId}
 use Rattle.xt_base.specs.declared.ids.Stamp.{Stamp}
 use Rattle.xt_base.specs.declared.record.Record.{Record}
-use Rattle.xt_base.specs.declared.record.Record.TheVariants as kept
-use Rattle.world_runs.specs.declared.NodeRecord.{NodeRecord}
+use Rattle.xt_protocol.specs.Folds.{body_kept}
 
--- whether two stamps are one
-abbrev pub is_stamp : Stamp → Stamp → Bool
-is_stamp a b =
-    (a.epoch.number == b.epoch.number) && (a.epoch.node.0 == b.epoch.node.0) && (a.count == b.count)
+-- the records of each node, with one more of this node
+abbrev pub with_record : (ℕ → List Record) → NodeId → Record → ℕ → List Record
+with_record records node rec n = if n == node.0 then records n ++ rec ∷ [] else records n
 
--- the body that a record puts for this version of this object of the file
-abbrev pub body_put : ℕ → ℕ → Stamp → Record → Option (List ℕ)
-body_put file object version (kept.Update f update) =
-    if (f.number == file) && (update.object == object) && is_stamp update.stamp version then Some update.body else None
-body_put file object version (kept.Stage f o v bytes) =
-    if (f.number == file) && (o == object) && is_stamp v version then Some bytes else None
-body_put file object version _ = None
-
--- what is kept after a record: the body that it puts, else the one before
-abbrev pub newer : Option (List ℕ) → Option (List ℕ) → Option (List ℕ)
-newer before None = before
-newer before (Some bytes) = Some bytes
-
-abbrev pub body_after : ℕ → ℕ → ℕ → Stamp → Option (List ℕ) → NodeRecord → Option (List ℕ)
-body_after node file object version before r =
-    if r.node.0 == node then newer before (body_put file object version r.rec) else before
-
--- What a node keeps as this version of this object of the file: what the last record put, none where none did.
-unfoldable pub body_kept : List NodeRecord → ℕ → ℕ → ℕ → Stamp → Option (List ℕ)
-body_kept records node file object version = fold (body_after node file object version) None records
+-- the records with that of a step, if it has one
+abbrev pub with_kept : (ℕ → List Record) → NodeId → Option Record → ℕ → List Record
+with_kept records node None = records
+with_kept records node (Some rec) = with_record records node rec
 
 -- the body as a step sees it: empty where none is kept
-abbrev pub body_in : List NodeRecord → ℕ → ℕ → ℕ → Stamp → List ℕ
-body_in records node file object version = unwrap_or (body_kept records node file object version) []
+abbrev pub body_in : List Record → FileId → ℕ → Stamp → List ℕ
+body_in records file object version = unwrap_or (body_kept records file object version) []
 
--- the boot after a record
-abbrev pub boot_after : ℕ → ℕ → NodeRecord → ℕ
-boot_after node before r =
-    if r.node.0 == node then
-    elim r.rec [ kept.Boot boot ↦ boot.0 | _ ↦ before ]
-    else before
-
--- a node's last start, 0 before the first
-unfoldable pub boot_in : List NodeRecord → ℕ → ℕ
-boot_in records node = fold (boot_after node) 0 records
+-- An append is four device calls: the record is written behind a closed gate, and synced; the gate is opened by a write, and
+-- synced. One that is stopped in a call leaves a byte at each place that isn't synced. So its record stands where its gate
+-- was being opened and the byte is an open gate's.
+abbrev pub keeps_record : Stop → Bool
+keeps_record stop = nat_le 3 stop.call && (stop.fill == 165)

@@ -41,6 +41,13 @@ start_refusal w id =
     else if is_up (node_in w.nodes id.0) then Some (rule.Running id)
     else None
 
+-- only a declared OSD that runs is stopped, at once or as planned
+abbrev pub stop_refusal : World → NodeId → Option Rule
+stop_refusal w id =
+    if not (is_osd (node_in w.nodes id.0)) then Some (rule.NoSuchNode id)
+    else if is_up (node_in w.nodes id.0) then None
+    else Some (rule.NotRunning id)
+
 -- whether a node runs and its clock would reach its end
 abbrev pub would_end : ℕ → Option Running → Bool
 would_end count None = false
@@ -102,6 +109,9 @@ refusal w (line.Osd node) = twice (is_some (node_in w.nodes node.0)) node.0
 refusal w (line.Client node clock) = twice (is_some (node_in w.nodes node.0)) node.0
 refusal w (line.File number location) = file_refusal w number location.members
 refusal w (line.Start node clock) = start_refusal w node
+refusal w (line.Stop node) = stop_refusal w node
+refusal w (line.Crash node k fill) = stop_refusal w node
+refusal w (line.Cut node count) = stop_refusal w node
 refusal w (line.Tick count) = clock_end (least_ending count w.nodes)
 refusal w (line.Call client c) = call_refusal w client c
 refusal w (line.Deliver number) = message_refusal w.sent number

@@ -1,6 +1,7 @@
 -- a world of nodes, and its tables
 use Rattle.std.specs.Prelude.{ℕ, Bool, true, false, ◌==◌, if◌then◌else◌, Option, Some, None, List, [], ◌∷◌}
 use Rattle.xt_base.specs.declared.file.Location.{Location}
+use Rattle.xt_base.specs.declared.record.Record.{Record}
 use Rattle.xt_base.specs.TimeSettings.{TimeSettings}
 use Rattle.time_line.specs.declared.line.Line.{Line}
 use Rattle.time_line.specs.declared.entry.Entry.{Entry}
@@ -8,16 +9,15 @@ use Rattle.world_runs.specs.declared.Node.{Node}
 use Rattle.world_runs.specs.declared.Role.TheVariants as role
 use Rattle.world_runs.specs.declared.DeclaredFile.{DeclaredFile}
 use Rattle.world_runs.specs.declared.Sent.{Sent}
-use Rattle.world_runs.specs.declared.NodeRecord.{NodeRecord}
 
--- the declared nodes and files, every message that was ever sent, the records that the nodes keep, the trace so far
--- and the lines so far
+-- the declared nodes and files, every message that was ever sent, the records that each node keeps, the trace so far and
+-- the lines so far
 pub record World : Type 0 where
   pub times : TimeSettings
   pub nodes : List Node
   pub files : List DeclaredFile
   pub sent : List Sent
-  pub records : List NodeRecord
+  pub records : ℕ → List Record
   pub entries : List Entry
   pub lines : List Line
 
@@ -29,7 +29,7 @@ start_world =
       nodes = [];
       files = [];
       sent = [];
-      records = [];
+      records = λ _. [];
       entries = [];
       lines = [];
     }

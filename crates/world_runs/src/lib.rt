@@ -5,8 +5,15 @@
 //! good, and may be delivered at any time, in any order and again: so a run is any interleaving of the nodes' steps.
 #![tactic(auto)]
 
-use xt_base::{Boot, Location, Msg, NodeId, Record};
+use disk_model::Stop;
+use xt_base::{Boot, Location, Msg, NodeId};
 use xt_protocol::{ClientState, OsdState};
+
+/// How many lines a schedule may have.
+pub const LINES: u64 = 65_536;
+
+/// How many bytes a line of a schedule may have, without its line feed.
+pub const LINE_BYTES: u64 = 300_000;
 
 /// How many nodes a schedule may declare.
 pub const NODES: u64 = 64;
@@ -17,11 +24,15 @@ pub const MESSAGES: u64 = 1_048_576;
 /// How many bytes the frames of the numbered messages may have in all.
 pub const MESSAGE_BYTES: u64 = 1_073_741_824;
 
-/// A running node's start, and what its clock reads, in milliseconds.
+/// A running node: its start, what its clock reads, in milliseconds, and how a schedule plans to stop it.
 #[derive(Clone, Copy, Debug, PartialEq, Eq)]
 pub struct Running {
     pub boot: Boot,
     pub clock: u64,
+    /// Where its next append stops.
+    pub crash: Option<Stop>,
+    /// Behind how many messages its next step that sends stops.
+    pub cut: Option<u128>,
 }
 
 /// What a node is, with its state.
@@ -51,11 +62,4 @@ pub struct DeclaredFile {
 pub struct Sent {
     pub message: Msg,
     pub pending: bool,
-}
-
-/// A record that a node keeps.
-#[derive(Debug, Drop)]
-pub struct NodeRecord {
-    pub node: NodeId,
-    pub rec: Record,
 }

@@ -1,4 +1,6 @@
+pub mod FileIds
 pub mod Heads
+pub mod Folds
 pub mod OsdRows
 pub mod ClientRows
 pub mod FrameLength

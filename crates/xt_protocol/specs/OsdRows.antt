@@ -20,6 +20,7 @@ use Rattle.xt_base.specs.declared.TheConstants.{OBJECTS, CLIENTS, COUNTS, NO_OBJ
 use Rattle.xt_base.specs.Overlay.{overlay, cut_or_filled}
 use Rattle.xt_protocol.specs.declared.FileState.{FileState}
 use Rattle.xt_protocol.specs.declared.Turned.{Turned}
+use Rattle.xt_protocol.specs.FileIds.{is_file}
 use Rattle.xt_protocol.specs.Heads.{new_head, version_of, session_of, head_after, plain_stamp}
 
 -- what a client asks of a file: who, under which number, the size of an object, and the operation
@@ -138,12 +139,12 @@ ask_step node body head ask (op.Write object at bytes) =
 ask_step node body head ask (op.Truncate size) = nothing head
 
 -- a file's head at an OSD: that of its first row, or a new one
-abbrev pub head_in : List FileState → ℕ → FileHead
-head_in [] number = new_head
-head_in (f ∷ fs) number = if f.file.number == number then f.head else head_in fs number
+abbrev pub head_in : List FileState → FileId → FileHead
+head_in [] file = new_head
+head_in (f ∷ fs) file = if is_file f.file file then f.head else head_in fs file
 
 -- the files with this head of the file, which is added where it isn't there
 abbrev pub with_head : List FileState → FileId → FileHead → List FileState
 with_head [] file head = record { file = file; head = head } ∷ []
 with_head (f ∷ fs) file head =
-    if f.file.number == file.number then record { file = file; head = head } ∷ fs else f ∷ with_head fs file head
+    if is_file f.file file then record { file = file; head = head } ∷ fs else f ∷ with_head fs file head

@@ -1,0 +1,149 @@
+-- What the records of a node say: its last start, and the row of each file.
+use Rattle.std.specs.Prelude.{ℕ, Bool, ◌&&◌, ◌==◌, ◌≡◌, ◌⊎◌, ◌+◌, true, if◌then◌else◌, Option, Some, None, List, [], ◌∷◌, ◌++◌, map, Contains}
+use Rattle.std.specs.List.{fold, All}
+use Rattle.xt_base.specs.Limits.{FitsHead, is_at_most}
+use Rattle.xt_base.specs.declared.ids.FileId.{FileId}
+use Rattle.xt_base.specs.declared.ids.Stamp.{Stamp}
+use Rattle.xt_base.specs.declared.file.ObjectVersion.{ObjectVersion}
+use Rattle.xt_base.specs.declared.file.FileHead.{FileHead}
+use Rattle.xt_base.specs.declared.file.Update.{Update}
+use Rattle.xt_base.specs.declared.record.Record.{Record}
+use Rattle.xt_base.specs.declared.record.Record.TheVariants as kept
+use Rattle.xt_base.specs.declared.record.FileRow.{FileRow}
+use Rattle.xt_base.specs.declared.record.Folded.{Folded}
+use Rattle.xt_base.specs.declared.TheConstants.{NO_OBJECT}
+use Rattle.xt_protocol.specs.declared.FileState.{FileState}
+use Rattle.xt_protocol.specs.FileIds.{is_file, is_before}
+use Rattle.xt_protocol.specs.Heads.{first_epoch, new_head, head_after}
+
+-- ---- one file
+
+-- what a file begins as: nothing is written, held or known of it
+abbrev pub new_row : FileId → FileRow
+new_row file = record { file = file; head = new_head; held = []; location = None }
+
+-- a body that is held
+abbrev pub body_of : ℕ → Stamp → ObjectVersion
+body_of object version = record { object = object; version = version }
+
+-- the body that an update makes, where it makes one
+abbrev pub body_made : Update → List ObjectVersion
+body_made update = if update.object == NO_OBJECT then [] else body_of update.object update.stamp ∷ []
+
+-- the row of a file after a record of it
+abbrev pub row_after : FileRow → Record → FileRow
+row_after row (kept.Promise file epoch) = record row { head = record row.head { promised = epoch } }
+row_after row (kept.Update file update) = record row { head = head_after row.head update; held = row.held ++ body_made update }
+row_after row (kept.Stage file object version bytes) = record row { held = row.held ++ body_of object version ∷ [] }
+row_after row (kept.Head file head) = record row { head = head }
+row_after row (kept.View file location) = record row { location = Some location }
+row_after row (kept.Boot boot) = row
+row_after row (kept.Meta from number now nodes request) = row
+
+-- the file that a record is of, if any
+abbrev pub file_of : Record → Option FileId
+file_of (kept.Promise file epoch) = Some file
+file_of (kept.Update file update) = Some file
+file_of (kept.Stage file object version bytes) = Some file
+file_of (kept.Head file head) = Some file
+file_of (kept.View file location) = Some file
+file_of (kept.Boot boot) = None
+file_of (kept.Meta from number now nodes request) = None
+
+-- ---- all files
+
+-- the row of a file: a new one where there is none
+unfoldable pub row_in : List FileRow → FileId → FileRow
+row_in [] file = new_row file
+row_in (r ∷ rs) file = if is_file r.file file then r else row_in rs file
+
+-- the rows with this one, in its place
+unfoldable pub with_row : List FileRow → FileRow → List FileRow
+with_row [] row = row ∷ []
+with_row (r ∷ rs) row =
+    if is_file r.file row.file then row ∷ rs else if is_before row.file r.file then row ∷ r ∷ rs else r ∷ with_row rs row
+
+-- the rows after a record
+abbrev pub rows_after : List FileRow → Record → Option FileId → List FileRow
+rows_after rows rec None = rows
+rows_after rows rec (Some file) = with_row rows (row_after (row_in rows file) rec)
+
+-- the last start after a record
+abbrev pub boot_after : ℕ → Record → ℕ
+boot_after boot (kept.Boot b) = b.0
+boot_after boot _ = boot
+
+abbrev pub folded_after : Folded → Record → Folded
+folded_after folded rec =
+    record { boot = record { 0 = boot_after folded.boot.0 rec }; files = rows_after folded.files rec (file_of rec) }
+
+-- before the first record
+abbrev pub nothing_kept : Folded
+nothing_kept = record { boot = record { 0 = 0 }; files = [] }
+
+-- What these records say, the first of them first.
+unfoldable pub fold_of : List Record → Folded
+fold_of records = fold folded_after nothing_kept records
+
+-- ---- which records may come next
+
+-- an update may come where its epoch is the promised one, or the one before any primary, its count is the next one, and
+-- the head after it is within its limits
+abbrev pub FollowsHead : FileHead → Update → Type 0
+FollowsHead head update =
+    ((update.stamp.epoch ≡ head.promised) ⊎ (update.stamp.epoch ≡ first_epoch))
+    × (update.stamp.count ≡ head.stamp.count + 1)
+    × FitsHead (head_after head update)
+
+-- A promise isn't below the one before, an update follows the head, and each version that a head names is held. Every other
+-- record may come at any time.
+abbrev pub IsInPlace : Folded → Record → Type 0
+IsInPlace folded (kept.Promise file epoch) = is_at_most (row_in folded.files file).head.promised epoch ≡ true
+IsInPlace folded (kept.Update file update) = FollowsHead (row_in folded.files file).head update
+IsInPlace folded (kept.Head file head) = All (Contains (row_in folded.files file).held) head.versions
+IsInPlace folded (kept.Stage file object version bytes) = Unit {0}
+IsInPlace folded (kept.View file location) = Unit {0}
+IsInPlace folded (kept.Boot boot) = Unit {0}
+IsInPlace folded (kept.Meta from number now nodes request) = Unit {0}
+
+-- each record is in its place behind those before it
+abbrev pub AreInPlace : Folded → List Record → Type 0
+AreInPlace folded [] = Unit {0}
+AreInPlace folded (rec ∷ recs) = IsInPlace folded rec × AreInPlace (folded_after folded rec) recs
+
+-- ---- bodies
+
+-- whether two stamps are one
+abbrev pub is_stamp : Stamp → Stamp → Bool
+is_stamp a b =
+    (a.epoch.number == b.epoch.number) && (a.epoch.node.0 == b.epoch.node.0) && (a.count == b.count)
+
+-- the body that a record puts for this version of this object of the file
+abbrev pub body_put : FileId → ℕ → Stamp → Record → Option (List ℕ)
+body_put file object version (kept.Update f update) =
+    if is_file f file && (update.object == object) && is_stamp update.stamp version then Some update.body else None
+body_put file object version (kept.Stage f o v bytes) =
+    if is_file f file && (o == object) && is_stamp v version then Some bytes else None
+body_put file object version _ = None
+
+-- what is kept after a record: the body that it puts, else the one before
+abbrev pub newer : Option (List ℕ) → Option (List ℕ) → Option (List ℕ)
+newer before None = before
+newer before (Some bytes) = Some bytes
+
+abbrev pub body_after : FileId → ℕ → Stamp → Option (List ℕ) → Record → Option (List ℕ)
+body_after file object version before rec = newer before (body_put file object version rec)
+
+-- What these records keep as this version of this object of the file: what the last of them put, none where none did.
+unfoldable pub body_kept : List Record → FileId → ℕ → Stamp → Option (List ℕ)
+body_kept records file object version = fold (body_after file object version) None records
+
+-- ---- an OSD that starts
+
+-- the state of a file at an OSD that starts
+abbrev pub state_of : FileRow → FileState
+state_of row = record { file = row.file; head = row.head }
+
+-- the files of an OSD that starts from these records
+abbrev pub files_from : List Record → List FileState
+files_from records = map state_of (fold_of records).files
