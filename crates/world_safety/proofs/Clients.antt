@@ -29,14 +29,13 @@ use Rattle.world_runs.specs.declared.Node.{Node}
 use Rattle.world_runs.specs.declared.Role.{Role}
 use Rattle.world_runs.specs.declared.Role.TheVariants as role
 use Rattle.world_runs.specs.World.{World, node_in, with_node, file_in}
-use Rattle.world_runs.specs.Records.{body_in}
 use Rattle.world_runs.specs.Lines.{entry_of, turned_to, first_target, declared_capability, client_calls}
 use Rattle.world_safety.proofs.Lists.{option_or-none}
 use Rattle.world_safety.proofs.Entries.{is_id-same, is_id-true, begun-push, operation-at}
-use Rattle.world_safety.proofs.Sound.{EndShown, AskStands, MessageStands, ReplyStands, Sound}
+use Rattle.world_safety.proofs.Sound.{EndShown, declared_id, AskStands, MessageStands, ReplyStands, Sound}
 use Rattle.world_safety.proofs.Growth.{location-kept, sound-plain, sound-quiet}
-use Rattle.world_safety.proofs.Turns.{heads_of, nexts_of, messages_of, role_head, role_next, in_role, IsSound, heads-same_role, nexts-same_role, next-turned, next-before, nexts-turned, turned-sound}
-use Rattle.world_safety.proofs.Asks.{by_test}
+use Rattle.world_safety.proofs.Kept.{heads_of, bodies_of}
+use Rattle.world_safety.proofs.Turns.{nexts_of, messages_of, role_next, in_role, by_test, IsSound, nexts-same_role, next-turned, next-before, nexts-turned, turned-sound}
 
 -- the end that a reply gives, where it gives one, shows what the reply shows
 abbrev ends_shown : List Entry → OpId → Option Outcome → Type 0
@@ -58,29 +57,23 @@ module _ (w : World) (node : Node) (client : ClientState) (here : node_in w.node
   abbrev Done : ClientStep → Type 0
   Done step = IsSound (turned_to w node (role.Client step.client) step.turned)
 
-  heads_are : (after : ClientState) → heads_of (with_node w.nodes (in_role node (role.Client after))) ≡ heads_of w.nodes
-  heads_are after = heads-same_role w.nodes node (role.Client after) here (λ f. sym (ap (λ r. role_head r f) is_client))
-
   nexts_are : (after : ClientState) → after.next ≡ client.next → nexts_of (with_node w.nodes (in_role node (role.Client after))) ≡ nexts_of w.nodes
   nexts_are after same = nexts-same_role w.nodes node (role.Client after) here (same ∙ sym (ap role_next is_client))
 
   -- a step of a client keeps the heads and no record
   done-marked : (after : ClientState) (outs : List Msg) (marks : List Mark)
       → ((f : ℕ) → file_in w.files f ≡ location_in f (w.entries ++ filter_map (entry_of node.id) marks))
-      → Sound (heads_of w.nodes) (body_in w.records) (nexts_of (with_node w.nodes (in_role node (role.Client after)))) (messages_of w.sent) (w.entries ++ filter_map (entry_of node.id) marks)
+      → Sound (heads_of w.records) (bodies_of w.records) (nexts_of (with_node w.nodes (in_role node (role.Client after)))) (messages_of w.sent) (w.entries ++ filter_map (entry_of node.id) marks)
       → All (MessageStands (w.entries ++ filter_map (entry_of node.id) marks)) outs
       → Done (record { client = after; turned = record { rec = None; outs = outs; marks = marks } })
   done-marked after outs marks places new stand =
-      turned-sound w node (role.Client after) (record { rec = None; outs = outs; marks = marks }) places
-      (subst (λ h. Sound h (body_in (w.records ++ [])) (nexts_of (with_node w.nodes (in_role node (role.Client after)))) (messages_of w.sent) (w.entries ++ filter_map (entry_of node.id) marks)) (sym (heads_are after))
-      (subst (λ rs. Sound (heads_of w.nodes) (body_in rs) (nexts_of (with_node w.nodes (in_role node (role.Client after)))) (messages_of w.sent) (w.entries ++ filter_map (entry_of node.id) marks)) (sym (append-nil w.records)) new))
-      stand
+      turned-sound w node (role.Client after) here sound outs marks places stand new
 
   done-nothing : Done (nothing client)
   done-nothing =
       done-marked client [] [] (λ f. sound.places f ∙ ap (location_in f) (sym (append-nil w.entries)))
-      (subst (Sound (heads_of w.nodes) (body_in w.records) (nexts_of (with_node w.nodes (in_role node (role.Client client)))) (messages_of w.sent)) (sym (append-nil w.entries))
-      (subst (λ n. Sound (heads_of w.nodes) (body_in w.records) n (messages_of w.sent) w.entries) (sym (nexts_are client refl)) sound.sound))
+      (subst (Sound (heads_of w.records) (bodies_of w.records) (nexts_of (with_node w.nodes (in_role node (role.Client client)))) (messages_of w.sent)) (sym (append-nil w.entries))
+      (subst (λ n. Sound (heads_of w.records) (bodies_of w.records) n (messages_of w.sent) w.entries) (sym (nexts_are client refl)) sound.sound))
       (All-nil (MessageStands (w.entries ++ [])))
 
   done-ended : (number : ℕ) (how : Option Outcome) → ends_shown w.entries (id_of node.id number) how → Done (ended client number how)
@@ -90,8 +83,8 @@ module _ (w : World) (node : Node) (client : ClientState) (here : node_in w.node
       let after : ClientState = record { next = client.next; running = None } in
       done-marked after [] (mark.Done number how ∷ [])
       (λ f. sound.places f ∙ sym (location-kept f w.entries e (λ g. refl)))
-      (subst (λ n. Sound (heads_of w.nodes) (body_in w.records) n (messages_of w.sent) (w.entries ++ e ∷ [])) (sym (nexts_are after refl))
-      (sound-quiet (heads_of w.nodes) (body_in w.records) (nexts_of w.nodes) (messages_of w.sent) w.entries e (λ f. refl) (λ f o. refl) (λ id. refl) shown sound.sound))
+      (subst (λ n. Sound (heads_of w.records) (bodies_of w.records) n (messages_of w.sent) (w.entries ++ e ∷ [])) (sym (nexts_are after refl))
+      (sound-quiet (heads_of w.records) (bodies_of w.records) (nexts_of w.nodes) (messages_of w.sent) w.entries e (λ f. refl) (λ f o. refl) (λ id. refl) shown sound.sound))
       (All-nil (MessageStands (w.entries ++ e ∷ [])))
 
   done-answered : (from to : NodeId) (number file : ℕ) (r : Reply) → to.0 ≡ node.id.0 → ReplyStands w.entries to number file r
@@ -151,10 +144,11 @@ module _ (w : World) (node : Node) (client : ClientState) (here : node_in w.node
           omega arith
 
   module _ (c : Call) (file : ℕ) (location : Location) (operation : Op) (there : file_in w.files file ≡ Some location) (does : operation_on file c ≡ Some operation) where
-    ask_stands : AskStands (w.entries ++ begin c ∷ []) node.id (first_target location) client.next file location.stripe operation
+    ask_stands : AskStands (w.entries ++ begin c ∷ []) node.id (first_target location) client.next (declared_id file) location.stripe operation
     ask_stands =
         record {
           location = location;
+          declared = refl;
           told = location-kept file w.entries (begin c) (λ g. refl) ∙ sym (sound.places file) ∙ there;
           stripe_is = refl;
           target = refl;
@@ -171,7 +165,7 @@ module _ (w : World) (node : Node) (client : ClientState) (here : node_in w.node
     done-begun =
         done-marked the_client (the_message ∷ []) (mark.Begin client.next c ∷ [])
         (λ f. sound.places f ∙ sym (location-kept f w.entries (begin c) (λ g. refl)))
-        (sound-plain (heads_of w.nodes) (body_in w.records) (nexts_of w.nodes) (nexts_of (with_node w.nodes (in_role node (role.Client the_client)))) (messages_of w.sent) w.entries (begin c)
+        (sound-plain (heads_of w.records) (bodies_of w.records) (nexts_of w.nodes) (nexts_of (with_node w.nodes (in_role node (role.Client the_client)))) (messages_of w.sent) w.entries (begin c)
         (λ f. refl) (λ f o. refl) tt (numbers-called c the_client refl) sound.sound)
         (All-cons (MessageStands (w.entries ++ begin c ∷ [])) the_message [] ask_stands (All-nil (MessageStands (w.entries ++ begin c ∷ []))))
 

@@ -9,9 +9,9 @@ use Rattle.xt_base.specs.declared.file.Op.TheVariants as op
 use Rattle.xt_base.specs.declared.event.Call.{Call}
 use Rattle.time_line.specs.declared.entry.Entry.{Entry}
 use Rattle.time_line.specs.declared.entry.Entry.TheVariants as entry
-use Rattle.time_line.specs.TimeLine.{begun, operation_begun, write_order, HasPosition, OperationShown}
+use Rattle.time_line.specs.TimeLine.{begun, IsToldWhole, operation_begun, write_order, HasPosition, OperationShown}
 use Rattle.time_line.specs.Fresh.{is_change, is_reading, ok_entry, HasBegunOn, EndsAreAnswered, IsReadOf, ReadsSeeWrites, ReadsDoNotGoBack, WritesKeepOrder, IsFresh}
-use Rattle.world_safety.proofs.Entries.{has_begun, one_file, order-front, order-length, position-grown, position-within, operation-grown, HasBegunOn-grown}
+use Rattle.world_safety.proofs.Entries.{has_begun, one_file, order-front, order-length, position-grown, position-within, operation-grown, HasBegunOn-grown, told-front}
 use Rattle.world_safety.proofs.Sound.{IsAnswered, EachFront}
 use Rattle.world_safety.proofs.Growth.{answered-grown}
 
@@ -45,6 +45,10 @@ slice_get-append_left (x ∷ xs) ys (suc i) h = slice_get-append_left xs ys i (o
 fronts-front : (es before tail : List Entry) → es ≡ before ++ tail → EachFront es → EachFront before
 fronts-front es before tail split each first rest e inner = each first (rest ++ tail) e (split ∙ ap (λ xs. xs ++ tail) inner ∙ append_assoc first (e ∷ rest) tail)
 
+-- what is told whole was so in front
+pub whole-front : (file : ℕ) (es before tail : List Entry) → es ≡ before ++ tail → IsToldWhole file es → IsToldWhole file before
+whole-front file es before tail split whole = told-front file before tail (subst (IsToldWhole file) split whole)
+
 begun_in : (file : ℕ) (es front tail : List Entry) (id : OpId) → es ≡ front ++ tail → HasBegunOn file front id → HasBegunOn file es id
 begun_in file es front tail id split h = subst (λ xs. HasBegunOn file xs id) (sym split) (HasBegunOn-grown file front tail id h)
 
@@ -66,9 +70,11 @@ ended-before file es id count bytes each there on_file =
     (answered-grown file at.0 (ok_entry id count bytes ∷ at.1) id count bytes (end-answered file es at.0 at.1 id count bytes each at.2 on_file))
 
 -- what an answer showed
-answer-shown : (file : ℕ) (es : List Entry) (id : OpId) (count : ℕ) (bytes : List ℕ) → EachFront es → (a : IsAnswered file es id count bytes)
+answer-shown : (file : ℕ) (es : List Entry) (id : OpId) (count : ℕ) (bytes : List ℕ) → EachFront es → IsToldWhole file es → (a : IsAnswered file es id count bytes)
     → OperationShown file a.front id count bytes (operation_begun file a.front id)
-answer-shown file es id count bytes each a = (each a.front a.rest (entry.Answer a.node file id count bytes) a.split).said
+answer-shown file es id count bytes each whole a =
+    (each a.front a.rest (entry.Answer a.node file id count bytes) a.split).said
+    (whole-front file es a.front (entry.Answer a.node file id count bytes ∷ a.rest) a.split whole)
 
 change_begun : (o : Option Op) → is_change o ≡ true → (operation : Op) × (o ≡ Some operation)
 change_begun None h = absurd cc
@@ -98,37 +104,38 @@ same_operation file es id count bytes a =
     ∙ operation-grown file a.front (entry.Answer a.node file id count bytes ∷ a.rest) id a.has_begun.0 a.has_begun.1 ∙ sym a.has_begun.1
 
 -- a write or truncation that had ended has its position
-change-position : (file : ℕ) (es : List Entry) (id : OpId) (count : ℕ) (bytes : List ℕ) → EachFront es → Contains es (ok_entry id count bytes)
+change-position : (file : ℕ) (es : List Entry) (id : OpId) (count : ℕ) (bytes : List ℕ) → EachFront es → IsToldWhole file es → Contains es (ok_entry id count bytes)
     → is_change (operation_begun file es id) ≡ true → HasPosition file es id count
-change-position file es id count bytes each there change =
+change-position file es id count bytes each whole there change =
     let a = ended-before file es id count bytes each there (change_begun (operation_begun file es id) change) in
     subst (λ xs. HasPosition file xs id count) (sym a.split)
     (position-grown file a.front (entry.Answer a.node file id count bytes ∷ a.rest) id count
-    (shown_change file a.front id count bytes (operation_begun file a.front id) (answer-shown file es id count bytes each a)
+    (shown_change file a.front id count bytes (operation_begun file a.front id) (answer-shown file es id count bytes each whole a)
     (sym (ap is_change (same_operation file es id count bytes a)) ∙ change)))
 
 -- a read that had ended counted at most the writes there
-reading-count : (file : ℕ) (es : List Entry) (id : OpId) (count : ℕ) (bytes : List ℕ) → EachFront es → Contains es (ok_entry id count bytes)
+reading-count : (file : ℕ) (es : List Entry) (id : OpId) (count : ℕ) (bytes : List ℕ) → EachFront es → IsToldWhole file es → Contains es (ok_entry id count bytes)
     → is_reading (operation_begun file es id) ≡ true → count ≤ length (write_order file es)
-reading-count file es id count bytes each there reading =
+reading-count file es id count bytes each whole there reading =
     let a = ended-before file es id count bytes each there (reading_begun (operation_begun file es id) reading) in
     let counted : count ≡ length (write_order file a.front)
-    = shown_reading file a.front id count bytes (operation_begun file a.front id) (answer-shown file es id count bytes each a)
+    = shown_reading file a.front id count bytes (operation_begun file a.front id) (answer-shown file es id count bytes each whole a)
     (sym (ap is_reading (same_operation file es id count bytes a)) ∙ reading) in
     let more : length (write_order file a.front) ≤ length (write_order file (a.front ++ entry.Answer a.node file id count bytes ∷ a.rest))
     = order-length file a.front (entry.Answer a.node file id count bytes ∷ a.rest) in
-    let whole : length (write_order file es) ≡ length (write_order file (a.front ++ entry.Answer a.node file id count bytes ∷ a.rest))
+    let all : length (write_order file es) ≡ length (write_order file (a.front ++ entry.Answer a.node file id count bytes ∷ a.rest))
     = ap (λ xs. length (write_order file xs)) a.split in
     omega arith
 
 -- a read counts the writes before its beginning
-reads-count : (file : ℕ) (es before : List Entry) (id : OpId) (count : ℕ) → EachFront es → IsReadOf file es before id count → length (write_order file before) ≤ count
-reads-count file es before id count each r =
+reads-count : (file : ℕ) (es before : List Entry) (id : OpId) (count : ℕ) → EachFront es → IsToldWhole file es → IsReadOf file es before id count → length (write_order file before) ≤ count
+reads-count file es before id count each whole r =
     let split : es ≡ before ++ entry.Begin id.client id.number r.0 ∷ r.1 ++ ok_entry id count r.3 ∷ r.2 = r.4 in
     let a = end-answered file es (before ++ entry.Begin id.client id.number r.0 ∷ r.1) r.2 id count r.3 each split (reading_begun (operation_begun file es id) r.6) in
     let each_whole = fronts-front es (before ++ entry.Begin id.client id.number r.0 ∷ r.1) (ok_entry id count r.3 ∷ r.2) split each in
     counted file before (entry.Begin id.client id.number r.0 ∷ r.1) id count r.3 a r.5
-    (shown_reading file a.front id count r.3 (operation_begun file a.front id) (answer-shown file (before ++ entry.Begin id.client id.number r.0 ∷ r.1) id count r.3 each_whole a)
+    (shown_reading file a.front id count r.3 (operation_begun file a.front id) (answer-shown file (before ++ entry.Begin id.client id.number r.0 ∷ r.1) id count r.3 each_whole
+    (whole-front file es (before ++ entry.Begin id.client id.number r.0 ∷ r.1) (ok_entry id count r.3 ∷ r.2) split whole) a)
     (sym (ap is_reading (at_end file es (before ++ entry.Begin id.client id.number r.0 ∷ r.1) (ok_entry id count r.3 ∷ r.2) id count r.3 split a)) ∙ r.6))
   where
     at_end : (file : ℕ) (es whole tail : List Entry) (id : OpId) (count : ℕ) (bytes : List ℕ) → es ≡ whole ++ tail → (a : IsAnswered file whole id count bytes)
@@ -153,7 +160,7 @@ reads-count file es before id count each r =
               absurd cc)
         ]
 
-module _ (file : ℕ) (es : List Entry) (each : EachFront es)
+module _ (file : ℕ) (es : List Entry) (each : EachFront es) (whole : IsToldWhole file es)
     (each_once : (i j : ℕ) (id : OpId) → slice_get (write_order file es) i ≡ Some id → slice_get (write_order file es) j ≡ Some id → i ≡ j) where
   answered : EndsAreAnswered file es
   answered before after id count bytes split on_file =
@@ -167,16 +174,16 @@ module _ (file : ℕ) (es : List Entry) (each : EachFront es)
   writes_seen : ReadsSeeWrites file es
   writes_seen before reading count r writing position bytes there change =
       let front = read_front before reading count r in
-      let here : HasPosition file before writing position = change-position file before writing position bytes (fronts-front es before front.0 front.1 each) there change in
+      let here : HasPosition file before writing position = change-position file before writing position bytes (fronts-front es before front.0 front.1 each) (whole-front file es before front.0 front.1 whole) there change in
       let below : position ≤ length (write_order file before) = position-within file before writing position here in
-      let least : length (write_order file before) ≤ count = reads-count file es before reading count each r in
+      let least : length (write_order file before) ≤ count = reads-count file es before reading count each whole r in
       (subst (λ xs. HasPosition file xs writing position) (sym front.1) (position-grown file before front.0 writing position here), omega arith)
 
   no_way_back : ReadsDoNotGoBack file es
   no_way_back before reading count r earlier earlier_count bytes there is_read =
       let front = read_front before reading count r in
-      let below : earlier_count ≤ length (write_order file before) = reading-count file before earlier earlier_count bytes (fronts-front es before front.0 front.1 each) there is_read in
-      let least : length (write_order file before) ≤ count = reads-count file es before reading count each r in
+      let below : earlier_count ≤ length (write_order file before) = reading-count file before earlier earlier_count bytes (fronts-front es before front.0 front.1 each) (whole-front file es before front.0 front.1 whole) there is_read in
+      let least : length (write_order file before) ≤ count = reads-count file es before reading count each whole r in
       omega arith
 
   -- a write that hasn't begun has no position yet
@@ -188,9 +195,9 @@ module _ (file : ℕ) (es : List Entry) (each : EachFront es)
         | inr h ↦
             (let front = order-front file before (entry.Begin later.client later.number c ∷ after) in
             let some : 1 ≤ position = at.0 in
-            let whole : write_order file es ≡ write_order file before ++ front.0 = ap (write_order file) split ∙ front.1 in
+            let grown : write_order file es ≡ write_order file before ++ front.0 = ap (write_order file) split ∙ front.1 in
             let here : slice_get (write_order file before) (position - 1) ≡ Some later
-            = sym (slice_get-append_left (write_order file before) front.0 (position - 1) (omega arith)) ∙ ap (λ o. slice_get o (position - 1)) (sym whole) ∙ at.1 in
+            = sym (slice_get-append_left (write_order file before) front.0 (position - 1) (omega arith)) ∙ ap (λ o. slice_get o (position - 1)) (sym grown) ∙ at.1 in
             let made = (each before after (entry.Begin later.client later.number c) split).order_begun file (position - 1) later here in
             let found = has_begun file before later made.0 made.1 in
             let begun_is : begun later before ≡ Some found.0 = found.1 in
@@ -200,13 +207,14 @@ module _ (file : ℕ) (es : List Entry) (each : EachFront es)
   order_kept : WritesKeepOrder file es
   order_kept before after later c split none change earlier count bytes there earlier_change earlier_position later_position at later_at =
       let here : HasPosition file before earlier count
-      = change-position file before earlier count bytes (fronts-front es before (entry.Begin later.client later.number c ∷ after) split each) there earlier_change in
+      = change-position file before earlier count bytes (fronts-front es before (entry.Begin later.client later.number c ∷ after) split each)
+      (whole-front file es before (entry.Begin later.client later.number c ∷ after) split whole) there earlier_change in
       let below : count ≤ length (write_order file before) = position-within file before earlier count here in
-      let whole : HasPosition file es earlier count
+      let there_too : HasPosition file es earlier count
       = subst (λ xs. HasPosition file xs earlier count) (sym split) (position-grown file before (entry.Begin later.client later.number c ∷ after) earlier count here) in
-      let same : earlier_position - 1 ≡ count - 1 = each_once (earlier_position - 1) (count - 1) earlier at.1 whole.1 in
+      let same : earlier_position - 1 ≡ count - 1 = each_once (earlier_position - 1) (count - 1) earlier at.1 there_too.1 in
       let first : 1 ≤ earlier_position = at.0 in
-      let second : 1 ≤ count = whole.0 in
+      let second : 1 ≤ count = there_too.0 in
       let above : length (write_order file before) < later_position = later_place before after later c later_position split none later_at in
       omega arith
 

@@ -1,19 +1,23 @@
 -- what a trace tells with entries behind it
-use Rattle.std.proofs.Common.{◌≡◌, ℕ, ◌+◌, ◌-◌, ◌<◌, ◌≤◌, List, [], ◌∷◌, ◌++◌, length, refl, ap, sym, ◌∙◌, arith, Option, Some, None, true, false}
-use Rattle.std.specs.Prelude.{slice_get, ◌==◌, ◌&&◌, if◌then◌else◌}
-use Rattle.std.specs.List.{fold}
+use Rattle.std.proofs.Common.{◌≡◌, ℕ, ◌+◌, ◌-◌, ◌<◌, ◌≤◌, List, [], ◌∷◌, ◌++◌, length, refl, ap, sym, ◌∙◌, subst, arith, Option, Some, None, Bool, true, false}
+use Rattle.std.specs.Prelude.{slice_get, ◌==◌, ◌&&◌, ◌||◌, if◌then◌else◌}
+use Rattle.std.specs.List.{fold, list_any}
 use Rattle.std.specs.Option.{option_or}
 use Rattle.std.proofs.lemmas.Bool.Decides.{nat_tests}
 use Rattle.std.proofs.lemmas.Grind.{common_steps, fold-append}
 use Rattle.std.proofs.lemmas.List.{append_assoc, append-nil}
+use Rattle.std.proofs.lemmas.List.Folds.{list_any-append}
 use Rattle.std.proofs.lemmas.Option.{slice_get_within}
+use Rattle.xt_base.specs.declared.ids.NodeId.{NodeId}
 use Rattle.xt_base.specs.declared.ids.OpId.{OpId}
+use Rattle.xt_base.specs.declared.file.Location.{Location}
 use Rattle.xt_base.specs.declared.file.Op.{Op}
 use Rattle.xt_base.specs.declared.event.Call.{Call}
 use Rattle.xt_base.specs.declared.event.Call.TheVariants as call
 use Rattle.time_line.specs.declared.entry.Entry.{Entry}
 use Rattle.time_line.specs.declared.entry.Entry.TheVariants as entry
-use Rattle.time_line.specs.TimeLine.{is_id, call_begun, begun, location_told, location_in, operation_on, operation_begun, order_after, write_order, HasPosition}
+use Rattle.time_line.specs.declared.entry.Halt.TheVariants as halt
+use Rattle.time_line.specs.TimeLine.{is_id, call_begun, begun, location_told, location_in, members_of, keeps_untold, IsToldWhole, operation_on, operation_begun, order_after, write_order, HasPosition}
 use Rattle.time_line.specs.Fresh.{HasBegunOn}
 use Rattle.world_runs.specs.Rules.{called_file}
 use Rattle.world_safety.proofs.Lists.{slice_get-append, option_or-some, option_or-with_none, option_or_assoc}
@@ -71,6 +75,7 @@ order_after-front file order (entry.Times lease drift) = ([], sym (append-nil or
 order_after-front file order (entry.File number location) = ([], sym (append-nil order))
 order_after-front file order (entry.Tick count) = ([], sym (append-nil order))
 order_after-front file order (entry.Up node boot clock) = ([], sym (append-nil order))
+order_after-front file order (entry.Down node clock how) = ([], sym (append-nil order))
 order_after-front file order (entry.Begin client number c) = ([], sym (append-nil order))
 order_after-front file order (entry.Issue node f count id) = ([], sym (append-nil order))
 order_after-front file order (entry.Answer node f id count bytes) = ([], sym (append-nil order))
@@ -150,3 +155,58 @@ one_file f g entries id a b =
     let there : called_file second.0 ≡ Some g = called_on g second.0 b.0 second.2 in
     let both : called_file first.0 ≡ called_file second.0 = ap called_file calls in
     cc
+
+-- no entry keeps a record untold of no nodes
+none_untold : (e : Entry) → keeps_untold [] e ≡ false
+none_untold (entry.Down node clock halt.Kept) = refl
+none_untold (entry.Down node clock halt.Idle) = refl
+none_untold (entry.Down node clock halt.Lost) = refl
+none_untold (entry.Down node clock halt.Cut) = refl
+none_untold (entry.Times lease drift) = refl
+none_untold (entry.File number location) = refl
+none_untold (entry.Tick count) = refl
+none_untold (entry.Up node boot clock) = refl
+none_untold (entry.Begin client number c) = refl
+none_untold (entry.Issue node f count id) = refl
+none_untold (entry.Commit node f count id) = refl
+none_untold (entry.Answer node f id count bytes) = refl
+none_untold (entry.Done client number outcome) = refl
+
+none_told : (es : List Entry) → list_any (keeps_untold []) es ≡ false
+none_told [] = refl
+none_told (e ∷ es) = rw (none_untold e) (none_told es)
+
+or_first : (a b : Bool) → (a || b) ≡ false → a ≡ false
+or_first true b h = absurd cc
+or_first false b h = refl
+
+or_second : (a b : Bool) → b ≡ true → (a || b) ≡ true
+or_second true b h = refl
+or_second false b h = h
+
+-- what is told whole was so before
+pub told-front : (file : ℕ) (xs ys : List Entry) → IsToldWhole file (xs ++ ys) → IsToldWhole file xs
+unfolding IsToldWhole
+told-front file xs ys h = at_place (location_in file xs) refl
+  where
+    at_place : (place : Option Location) → location_in file xs ≡ place → list_any (keeps_untold (members_of place)) xs ≡ false
+    at_place None e = none_told xs
+    at_place (Some location) e =
+        let same : location_in file (xs ++ ys) ≡ Some location = location-append file xs ys ∙ option_or-some (location_in file xs) (location_in file ys) location e in
+        or_first (list_any (keeps_untold location.members) xs) (list_any (keeps_untold location.members) ys)
+        (sym (list_any-append (keeps_untold location.members) xs ys) ∙ subst (λ o. list_any (keeps_untold (members_of o)) (xs ++ ys) ≡ false) same h)
+
+-- a file isn't told whole once a member of it stopped with a record kept
+pub told-no_more : (file : ℕ) (es : List Entry) (node : NodeId) (clock : ℕ) (location : Location) → location_in file es ≡ Some location
+    → list_any (λ (n : NodeId). n.0 == node.0) location.members ≡ true → IsToldWhole file (es ++ entry.Down node clock halt.Kept ∷ []) → ⊥
+unfolding IsToldWhole
+told-no_more file es node clock location e member h =
+    let down = entry.Down node clock halt.Kept in
+    let same : location_in file (es ++ entry.Down node clock halt.Kept ∷ []) ≡ Some location
+    = location-append file es (down ∷ []) ∙ option_or-some (location_in file es) (location_in file (down ∷ [])) location e in
+    let none : list_any (keeps_untold location.members) (es ++ entry.Down node clock halt.Kept ∷ []) ≡ false
+    = subst (λ o. list_any (keeps_untold (members_of o)) (es ++ entry.Down node clock halt.Kept ∷ []) ≡ false) same h in
+    let some : list_any (keeps_untold location.members) (es ++ entry.Down node clock halt.Kept ∷ []) ≡ true
+    = list_any-append (keeps_untold location.members) es (down ∷ [])
+    ∙ or_second (list_any (keeps_untold location.members) es) (list_any (keeps_untold location.members) (down ∷ [])) (ap (λ b. b || false) member) in
+    cc (none, some)

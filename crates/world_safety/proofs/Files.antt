@@ -1,8 +1,9 @@
 -- a file that is declared
-use Rattle.std.proofs.Common.{◌≡◌, ℕ, List, [], ◌∷◌, ◌++◌, refl, ap, sym, ◌∙◌, subst, Option, Some, None}
+use Rattle.std.proofs.Common.{◌≡◌, ℕ, List, [], ◌∷◌, ◌++◌, refl, ap, sym, ◌∙◌, subst, Option, Some, None, Bool, true, false}
 use Rattle.std.specs.Prelude.{◌==◌, if◌then◌else◌}
 use Rattle.std.specs.List.{filter_map}
 use Rattle.std.specs.Option.{option_or}
+use Rattle.std.proofs.lemmas.Option.{same_Some}
 use Rattle.xt_base.specs.declared.ids.Stamp.{Stamp}
 use Rattle.xt_base.specs.declared.file.FileHead.{FileHead}
 use Rattle.xt_base.specs.declared.file.Location.{Location}
@@ -12,16 +13,16 @@ use Rattle.time_line.specs.Content.{content_from, content_of}
 use Rattle.time_line.specs.declared.entry.Entry.{Entry}
 use Rattle.time_line.specs.declared.entry.Entry.TheVariants as entry
 use Rattle.time_line.specs.TimeLine.{begun, location_in, operation_begun, write_order}
-use Rattle.world_runs.specs.World.{World}
-use Rattle.world_runs.specs.Records.{body_in}
+use Rattle.world_runs.specs.World.{World, file_in}
 use Rattle.world_runs.specs.Lines.{first_target}
 use Rattle.world_safety.proofs.Lists.{option_or-none}
-use Rattle.world_safety.proofs.Entries.{begun-push, location-push}
+use Rattle.world_safety.proofs.Entries.{begun-push, location-push, told-front}
 use Rattle.world_safety.proofs.Tables.{file_in-push}
 use Rattle.world_safety.proofs.Writes.{new_head-stands}
 use Rattle.world_safety.proofs.Sound.{present, contents, HeadStands, FileStands, Sound}
 use Rattle.world_safety.proofs.Growth.{fronts-push, messages-grown, order-kept, begun-kept, file-kept}
-use Rattle.world_safety.proofs.Turns.{heads_of, nexts_of, messages_of, IsSound}
+use Rattle.world_safety.proofs.Kept.{heads_of, bodies_of}
+use Rattle.world_safety.proofs.Turns.{nexts_of, messages_of, HasKeeper, IsSound}
 
 module _ (heads : ℕ → ℕ → FileHead) (bodies : ℕ → ℕ → ℕ → Stamp → List ℕ) where
   -- new heads show that nothing was written
@@ -51,18 +52,34 @@ module _ (heads : ℕ → ℕ → FileHead) (bodies : ℕ → ℕ → ℕ → St
         order_begun = λ file. begun-kept es e file (keeps file) s.order_begun;
         numbers = λ id h. begun-push id es e ∙ option_or-none (begun id es) None (s.numbers id h);
         messages_stand = messages-grown es (e ∷ []) messages s.messages_stand;
-        files = λ file.
+        files = λ file whole.
             subst (FileStands heads bodies file (es ++ e ∷ [])) (sym (location-push file es e))
-            (file-told file (es ++ e ∷ []) (location_in file es) (if number == file then Some location else None) (file-kept heads bodies file es e (location_in file es) (keeps file) s.order_begun (s.files file)));
+            (file-told file (es ++ e ∷ []) (location_in file es) (if number == file then Some location else None)
+            (file-kept heads bodies file es e (location_in file es) (keeps file) s.order_begun (s.files file (told-front file es (e ∷ []) whole))));
       }
 
-pub filed : (w : World) (number : ℕ) (location : Location) → IsSound w
+-- where a file is, with one more
+places-told : (w : World) (number : ℕ) (location : Location) (f : ℕ)
+    → file_in (w.files ++ record { number = number; location = location } ∷ []) f ≡ option_or (file_in w.files f) (if number == f then Some location else None)
+places-told w number location f = file_in-push w.files (record { number = number; location = location }) f
+
+-- a place is the new one or an old one
+keeper-told : (old : Option Location) (test : Bool) (location found : Location) → ((l : Location) → old ≡ Some l → HasKeeper l) → HasKeeper location
+    → option_or old (if test then Some location else None) ≡ Some found → HasKeeper found
+keeper-told None true location found olds new e = subst HasKeeper (same_Some location found e) new
+keeper-told None false location found olds new e = absurd cc
+keeper-told (Some l) test location found olds new e = olds found e
+
+-- a file with a member is declared
+pub filed : (w : World) (number : ℕ) (location : Location) → HasKeeper location → IsSound w
     → IsSound (record w { files = w.files ++ record { number = number; location = location } ∷ []; entries = w.entries ++ entry.File number location ∷ [] })
-filed w number location s =
+filed w number location kept s =
     record {
       places = λ f.
-          file_in-push w.files (record { number = number; location = location }) f
+          places-told w number location f
           ∙ ap (λ o. option_or o (if number == f then Some location else None)) (s.places f)
           ∙ sym (location-push f w.entries (entry.File number location));
-      sound = sound-told (heads_of w.nodes) (body_in w.records) (nexts_of w.nodes) (messages_of w.sent) w.entries number location s.sound;
+      keepers = λ f found e.
+          keeper-told (file_in w.files f) (number == f) location found (s.keepers f) kept (sym (places-told w number location f) ∙ e);
+      sound = sound-told (heads_of w.records) (bodies_of w.records) (nexts_of w.nodes) (messages_of w.sent) w.entries number location s.sound;
     }

@@ -6,6 +6,7 @@ use Rattle.std.specs.Option.{option_or}
 use Rattle.std.proofs.lemmas.List.{append_assoc}
 use Rattle.std.proofs.lemmas.List.Elements.{All-weaker, All-append}
 use Rattle.xt_base.specs.declared.ids.NodeId.{NodeId}
+use Rattle.xt_base.specs.declared.ids.FileId.{FileId}
 use Rattle.xt_base.specs.declared.ids.OpId.{OpId}
 use Rattle.xt_base.specs.declared.ids.Stamp.{Stamp}
 use Rattle.xt_base.specs.declared.file.Op.{Op}
@@ -22,7 +23,7 @@ use Rattle.time_line.specs.Content.{content_of}
 use Rattle.time_line.specs.TimeLine.{call_begun, begun, location_told, location_in, operation_begun, order_after, write_order}
 use Rattle.time_line.specs.Fresh.{HasBegunOn, id_of}
 use Rattle.world_safety.proofs.Lists.{push_split, option_or-some, option_or-none, option_or-with_none, filter_map-same}
-use Rattle.world_safety.proofs.Entries.{begun-push, location-append, location-push, order-push, operation-grown, HasBegunOn-grown}
+use Rattle.world_safety.proofs.Entries.{begun-push, location-append, location-push, order-push, operation-grown, HasBegunOn-grown, told-front}
 use Rattle.world_safety.proofs.Sound.{IsAnswered, Said, OrderBegun, Front, EachFront, AskStands, ReplyStands, PayloadStands, MessageStands, contents, FileStands, Sound}
 
 -- fronts
@@ -43,14 +44,15 @@ answered-grown file xs ys id count bytes h =
       has_begun = h.has_begun;
     }
 
-ask-grown : (xs ys : List Entry) (from to : NodeId) (number file stripe : ℕ) (op : Op) → AskStands xs from to number file stripe op → AskStands (xs ++ ys) from to number file stripe op
+ask-grown : (xs ys : List Entry) (from to : NodeId) (number : ℕ) (file : FileId) (stripe : ℕ) (op : Op) → AskStands xs from to number file stripe op → AskStands (xs ++ ys) from to number file stripe op
 ask-grown xs ys from to number file stripe op h =
     record {
       location = h.location;
-      told = location-append file xs ys ∙ option_or-some (location_in file xs) (location_in file ys) h.location h.told;
+      declared = h.declared;
+      told = location-append file.number xs ys ∙ option_or-some (location_in file.number xs) (location_in file.number ys) h.location h.told;
       stripe_is = h.stripe_is;
       target = h.target;
-      has_begun = operation-grown file xs ys (id_of from number) op h.has_begun;
+      has_begun = operation-grown file.number xs ys (id_of from number) op h.has_begun;
     }
 
 reply-grown : (xs ys : List Entry) (to : NodeId) (number file : ℕ) (r : Reply) → ReplyStands xs to number file r → ReplyStands (xs ++ ys) to number file r
@@ -65,7 +67,7 @@ reply-grown xs ys to number file (reply.TooFar object) h = h
 reply-grown xs ys to number file reply.ClientsFull h = h
 
 payload-grown : (xs ys : List Entry) (from to : NodeId) (p : Payload) → PayloadStands xs from to p → PayloadStands (xs ++ ys) from to p
-payload-grown xs ys from to (payload.Ask number capability op) h = ask-grown xs ys from to number capability.file.number capability.location.stripe op h
+payload-grown xs ys from to (payload.Ask number capability op) h = ask-grown xs ys from to number capability.file capability.location.stripe op h
 payload-grown xs ys from to (payload.Reply number file r) h = reply-grown xs ys to number file.number r h
 payload-grown xs ys from to _ h = tt
 
@@ -122,7 +124,9 @@ module _ (heads : ℕ → ℕ → FileHead) (bodies : ℕ → ℕ → ℕ → St
         order_begun = λ file. begun-kept es e file (order-kept file es e keeps) sound.order_begun;
         numbers = numbers;
         messages_stand = messages-grown es (e ∷ []) messages sound.messages_stand;
-        files = λ file. rw (location-kept file es e none) (file-kept file es e (location_in file es) (order-kept file es e keeps) sound.order_begun (sound.files file));
+        files = λ file whole.
+            rw (location-kept file es e none)
+            (file-kept file es e (location_in file es) (order-kept file es e keeps) sound.order_begun (sound.files file (told-front file es (e ∷ []) whole)));
       }
 
   -- an entry that begins no call either

@@ -3,8 +3,8 @@ pub mod Entries
 pub mod Bytes
 pub mod Flat
 pub mod Tables
-pub mod Bodies
 pub mod Sound
+pub mod Kept
 pub mod Growth
 pub mod Writes
 pub mod Commits

@@ -2,6 +2,7 @@
 use Rattle.std.proofs.Common.{◌≡◌, ℕ, ◌-◌, ◌≤◌, List, [], ◌∷◌, ◌++◌, length, Option, Some, None}
 use Rattle.std.specs.Prelude.{slice_get, All}
 use Rattle.std.specs.List.{filter_map}
+use Rattle.xt_base.specs.declared.ids.FileId.{FileId}
 use Rattle.xt_base.specs.declared.ids.NodeId.{NodeId}
 use Rattle.xt_base.specs.declared.ids.OpId.{OpId}
 use Rattle.xt_base.specs.declared.ids.Stamp.{Stamp}
@@ -17,12 +18,13 @@ use Rattle.xt_base.specs.declared.message.Payload.TheVariants as payload
 use Rattle.xt_base.specs.declared.reply.Reply.{Reply}
 use Rattle.xt_base.specs.declared.reply.Reply.TheVariants as reply
 use Rattle.xt_base.specs.declared.TheConstants.{NO_OBJECT}
+use Rattle.xt_base.specs.Overlay.{zeros}
 use Rattle.xt_protocol.specs.Heads.{new_head, version_of, session_of}
 use Rattle.xt_protocol.specs.OsdRows.{present_body}
 use Rattle.time_line.specs.declared.entry.Entry.{Entry}
 use Rattle.time_line.specs.declared.entry.Entry.TheVariants as entry
 use Rattle.time_line.specs.Content.{content_of}
-use Rattle.time_line.specs.TimeLine.{begun, location_in, operation_begun, write_order, OperationShown}
+use Rattle.time_line.specs.TimeLine.{begun, location_in, operation_begun, write_order, IsToldWhole, OperationShown}
 use Rattle.time_line.specs.Fresh.{HasBegunOn, id_of}
 use Rattle.world_runs.specs.Lines.{first_target}
 use Rattle.world_safety.proofs.Flat.{IsFlat}
@@ -49,10 +51,11 @@ Said before (entry.Times lease drift) = Unit {0}
 Said before (entry.File number location) = Unit {0}
 Said before (entry.Tick count) = Unit {0}
 Said before (entry.Up node boot clock) = Unit {0}
+Said before (entry.Down node clock how) = Unit {0}
 Said before (entry.Begin client number c) = Unit {0}
 Said before (entry.Issue node file count id) = Unit {0}
 Said before (entry.Commit node file count id) = Unit {0}
-Said before (entry.Answer node file id count bytes) = OperationShown file before id count bytes (operation_begun file before id)
+Said before (entry.Answer node file id count bytes) = IsToldWhole file before → OperationShown file before id count bytes (operation_begun file before id)
 Said before (entry.Done client number outcome) = EndShown before (id_of client number) outcome
 
 -- every write of every order has begun
@@ -67,13 +70,18 @@ pub record Front (before : List Entry) (e : Entry) : Type 0 where
 abbrev pub EachFront : List Entry → Type 0
 EachFront entries = (before after : List Entry) (e : Entry) → entries ≡ before ++ e ∷ after → Front before e
 
+-- the id of a declared file
+abbrev pub declared_id : ℕ → FileId
+declared_id file = record { volume = zeros 16; number = file }
+
 -- an ask that was sent: of a declared file, to its first target, for a call that has begun
-pub record AskStands (entries : List Entry) (from to : NodeId) (number file stripe : ℕ) (op : Op) : Type 0 where
+pub record AskStands (entries : List Entry) (from to : NodeId) (number : ℕ) (file : FileId) (stripe : ℕ) (op : Op) : Type 0 where
   pub location : Location
-  pub told : location_in file entries ≡ Some location
+  pub declared : file ≡ declared_id file.number
+  pub told : location_in file.number entries ≡ Some location
   pub stripe_is : stripe ≡ location.stripe
   pub target : to.0 ≡ (first_target location).0
-  pub has_begun : operation_begun file entries (id_of from number) ≡ Some op
+  pub has_begun : operation_begun file.number entries (id_of from number) ≡ Some op
 
 -- a reply that was sent: if it is Ok, then the call was answered so
 abbrev pub ReplyStands : List Entry → NodeId → ℕ → ℕ → Reply → Type 0
@@ -88,7 +96,7 @@ ReplyStands entries to number file (reply.TooFar object) = Unit {0}
 ReplyStands entries to number file reply.ClientsFull = Unit {0}
 
 abbrev pub PayloadStands : List Entry → NodeId → NodeId → Payload → Type 0
-PayloadStands entries from to (payload.Ask number capability op) = AskStands entries from to number capability.file.number capability.location.stripe op
+PayloadStands entries from to (payload.Ask number capability op) = AskStands entries from to number capability.file capability.location.stripe op
 PayloadStands entries from to (payload.Reply number file answer) = ReplyStands entries to number file.number answer
 PayloadStands entries from to _ = Unit {0}
 
@@ -113,7 +121,8 @@ pub record HeadStands (stripe : ℕ) (head : FileHead) (bodies : ℕ → List �
   pub sized : head.mark.size ≡ length content
   pub objects : (object : ℕ) → NO_OBJECT ≤ object → version_of head.versions object ≡ None
 
--- a file that isn't declared has no writes; of a declared one, the head of its first target shows the writes
+-- a file that isn't declared has no writes; of a declared one, the head of its first target shows the writes (this is owed
+-- only of a file that is told whole)
 abbrev pub FileStands : (ℕ → ℕ → FileHead) → (ℕ → ℕ → ℕ → Stamp → List ℕ) → ℕ → List Entry → Option Location → Type 0
 FileStands heads bodies file entries None = (write_order file entries ≡ []) × ((node : ℕ) → heads node file ≡ new_head)
 FileStands heads bodies file entries (Some location) =
@@ -128,4 +137,4 @@ pub record Sound (heads : ℕ → ℕ → FileHead) (bodies : ℕ → ℕ → �
   pub order_begun : OrderBegun entries
   pub numbers : (id : OpId) → nexts id.client.0 ≤ id.number → begun id entries ≡ None
   pub messages_stand : All (MessageStands entries) messages
-  pub files : (file : ℕ) → FileStands heads bodies file entries (location_in file entries)
+  pub files : (file : ℕ) → IsToldWhole file entries → FileStands heads bodies file entries (location_in file entries)

@@ -1,17 +1,13 @@
--- the rows of a head, of an OSD's files, of the nodes, of the files and of the kept records
+-- the rows of a head, of the nodes and of the files
 use Rattle.std.proofs.Common.{◌≡◌, ◌≢◌, ℕ, ◌<◌, ◌≤◌, inl, inr, List, [], ◌∷◌, ◌++◌, refl, arith, Some, None}
 use Rattle.std.specs.Prelude.{◌==◌, if◌then◌else◌}
 use Rattle.std.specs.Option.{option_or}
 use Rattle.std.proofs.lemmas.Bool.Decides.{nat_tests}
 use Rattle.std.proofs.lemmas.Bool.{cases_eq}
-use Rattle.xt_base.specs.declared.ids.FileId.{FileId}
 use Rattle.xt_base.specs.declared.ids.Stamp.{Stamp}
 use Rattle.xt_base.specs.declared.file.ObjectVersion.{ObjectVersion}
 use Rattle.xt_base.specs.declared.file.Session.{Session}
-use Rattle.xt_base.specs.declared.file.FileHead.{FileHead}
-use Rattle.xt_protocol.specs.declared.FileState.{FileState}
 use Rattle.xt_protocol.specs.Heads.{version_of, with_version, versions_below, session_of, with_session}
-use Rattle.xt_protocol.specs.OsdRows.{head_in, with_head}
 use Rattle.world_runs.specs.declared.Node.{Node}
 use Rattle.world_runs.specs.declared.DeclaredFile.{DeclaredFile}
 use Rattle.world_runs.specs.World.{node_in, with_node, file_in}
@@ -49,15 +45,6 @@ version_of-below (x ∷ xs) end object h = let rest = version_of-below xs end ob
 pub version_of-above : (versions : List ObjectVersion) (end object : ℕ) → end ≤ object → version_of (versions_below versions end) object ≡ None
 version_of-above [] end object h = refl
 version_of-above (x ∷ xs) end object h = let rest = version_of-above xs end object h in grind (arith, nat_tests)
-
--- the heads of an OSD's files
-pub head_in-new : (files : List FileState) (file : FileId) (head : FileHead) → head_in (with_head files file head) file.number ≡ head
-head_in-new [] file head = grind (arith, nat_tests)
-head_in-new (x ∷ xs) file head = let rest = head_in-new xs file head in grind (arith, nat_tests)
-
-pub head_in-other : (files : List FileState) (file : FileId) (head : FileHead) (other : ℕ) → other ≢ file.number → head_in (with_head files file head) other ≡ head_in files other
-head_in-other [] file head other ne = grind (arith, nat_tests)
-head_in-other (x ∷ xs) file head other ne = let rest = head_in-other xs file head other ne in grind (arith, nat_tests)
 
 -- nodes
 pub node_in-id : (nodes : List Node) (id : ℕ) (node : Node) → node_in nodes id ≡ Some node → node.id.0 ≡ id
