@@ -10,12 +10,12 @@ use Rattle.xt_base.specs.declared.event.Call.TheVariants as call
 use Rattle.time_line.specs.declared.line.Line.{Line}
 use Rattle.time_line.specs.declared.line.Line.TheVariants as line
 use Rattle.xt_base.specs.declared.ids.NodeId.{NodeId}
-use Rattle.schedule_text.specs.Words.{spaced, hex_of}
+use Rattle.schedule_text.specs.Words.{spaced, hex_of, hex_pair}
 use Rattle.schedule_text.specs.LineText.{line_text, line_words, IsLine, IsPlace, IsOneOsd, IsCall, AreBytes}
 use Rattle.schedule_text.specs.CallText.{call_name, call_words, file_words}
 use Rattle.schedule_text.specs.Reading.{first_word, other_words}
-use Rattle.schedule_text.specs.LineReading.{times_at, osd_at, client_at, file_at, start_at, tick_at, read_at, write_place, write_at, deliver_at, drop_at, settle_at, named_line, line_at}
-use Rattle.schedule_text.proofs.WordsAgain.{number_at_again, first_again, others_again, hex-IsWord, hex_again}
+use Rattle.schedule_text.specs.LineReading.{times_at, osd_at, client_at, file_at, start_at, stop_at, crash_at, cut_at, tick_at, read_at, write_place, write_at, deliver_at, drop_at, settle_at, named_line, line_at}
+use Rattle.schedule_text.proofs.WordsAgain.{number_at_again, first_again, others_again, hex-IsWord, hex_again, pair-IsWord, byte_again}
 
 abbrev IsRead : Line → Type 0
 IsRead line = line_at (line_text line) ≡ Some line
@@ -38,6 +38,30 @@ start_again : (node : NodeId) (clock : ℕ) → node.0 < 2 ^ 32 → clock < 2 ^ 
 unfolding line_text line_words line_at named_line start_at first_word other_words
 start_again node clock p q =
     rw (number_at_again 32 node.0 (decimal clock ∷ []) p (omega arith), number_at_again 64 clock [] q (omega arith)) refl
+
+stop_again : (node : NodeId) → node.0 < 2 ^ 32 → IsRead (line.Stop node)
+unfolding line_text line_words line_at named_line stop_at first_word other_words
+stop_again node p = rw (number_at_again 32 node.0 [] p (omega arith)) refl
+
+-- first_word stays as it is here, so the byte is passed by lemma
+crash_words_again : (node : NodeId) (device_call fill : ℕ) → node.0 < 2 ^ 32 → device_call < 2 ^ 8 → fill < 256 → crash_at (spaced (decimal node.0 ∷ decimal device_call ∷ hex_pair fill ∷ [])) ≡ Some (line.Crash node device_call fill)
+unfolding crash_at
+crash_words_again node device_call fill p q r =
+    rw (
+      number_at_again 32 node.0 (decimal device_call ∷ hex_pair fill ∷ []) p (omega arith),
+      number_at_again 8 device_call (hex_pair fill ∷ []) q (omega arith),
+      first_again (hex_pair fill) [] (pair-IsWord fill r),
+      byte_again fill r,
+    ) refl
+
+crash_again : (node : NodeId) (device_call fill : ℕ) → node.0 < 2 ^ 32 → device_call < 2 ^ 8 → fill < 256 → IsRead (line.Crash node device_call fill)
+unfolding line_text line_words line_at named_line first_word other_words
+crash_again node device_call fill p q r = crash_words_again node device_call fill p q r
+
+cut_again : (node : NodeId) (count : ℕ) → node.0 < 2 ^ 32 → count < 2 ^ 128 → IsRead (line.Cut node count)
+unfolding line_text line_words line_at named_line cut_at first_word other_words
+cut_again node count p q =
+    rw (number_at_again 32 node.0 (decimal count ∷ []) p (omega arith), number_at_again 128 count [] q q) refl
 
 tick_again : (count : ℕ) → count < 2 ^ 64 → IsRead (line.Tick count)
 unfolding line_text line_words line_at named_line tick_at first_word other_words
@@ -135,6 +159,9 @@ line_again first (line.Osd node) h = osd_again node h
 line_again first (line.Client node clock) h = client_again node clock h.0 (omega arith)
 line_again first (line.File number location) h = place_again number location h.0 h.1
 line_again first (line.Start node clock) h = start_again node clock h.0 (omega arith)
+line_again first (line.Stop node) h = stop_again node h
+line_again first (line.Crash node device_call fill) h = crash_again node device_call fill h.0 (omega arith) h.3
+line_again first (line.Cut node count) h = cut_again node count h.0 h.1
 line_again first (line.Tick count) h = tick_again count (omega arith)
 line_again first (line.Call client made) h = call_again client made h.0 h.1
 line_again first (line.Deliver number) h = deliver_again number h

@@ -14,8 +14,8 @@ use Rattle.std.proofs.lemmas.Fmt.{decimal_is_IsNumeral_wide, decimal_by_steps_wi
 use Rattle.std.proofs.lemmas.Str.Parse.{digit_from_value}
 use Rattle.std.proofs.lemmas.Bool.Decides.{nat_tests}
 use Rattle.schedule_text.specs.LineText.{AreBytes}
-use Rattle.schedule_text.specs.Words.{spaced, hex_of, hex_digit}
-use Rattle.schedule_text.specs.Reading.{first_word, other_words, with_digit, number_of, number_at, digit_of, bytes_of}
+use Rattle.schedule_text.specs.Words.{spaced, hex_of, hex_pair, hex_digit}
+use Rattle.schedule_text.specs.Reading.{first_word, other_words, with_digit, number_of, number_at, digit_of, byte_of, bytes_of}
 
 -- no space stands in it
 abbrev pub IsWord : List ℕ → Type 0
@@ -83,3 +83,11 @@ hex_again [] fits = refl
 hex_again (byte ∷ bytes) fits =
     let here : byte < 256 = fits 0 in
     rw (digit_again (byte / 16) (omega arith), digit_again (byte % 16) (omega arith), hex_again bytes (λ i. fits (suc i))) (ap (λ (n : ℕ). n ∷ bytes) (omega arith))
+
+pub pair-IsWord : (byte : ℕ) → byte < 256 → IsWord (hex_pair byte)
+pair-IsWord byte fits = (digit_above (byte / 16) (omega arith), (digit_above (byte % 16) (omega arith), tt))
+
+pub byte_again : (byte : ℕ) → byte < 256 → byte_of (hex_pair byte) ≡ Some byte
+unfolding byte_of
+byte_again byte fits =
+    rw (digit_again (byte / 16) (omega arith), digit_again (byte % 16) (omega arith)) (ap Some (omega arith))

@@ -6,6 +6,8 @@ use Rattle.xt_base.specs.declared.ids.NodeId.{NodeId}
 use Rattle.xt_base.specs.declared.ids.OpId.{OpId}
 use Rattle.time_line.specs.declared.entry.Entry.{Entry}
 use Rattle.time_line.specs.declared.entry.Entry.TheVariants as entry
+use Rattle.time_line.specs.declared.entry.Halt.{Halt}
+use Rattle.time_line.specs.declared.entry.Halt.TheVariants as halt
 use Rattle.schedule_text.specs.Words.{spaced, hex_or_dash}
 use Rattle.schedule_text.specs.CallText.{file_words, call_name, call_words}
 use Rattle.schedule_text.specs.OutcomeText.{outcome_words}
@@ -15,12 +17,20 @@ abbrev pub update_words : NodeId → ℕ → ℕ → OpId → List (List ℕ)
 update_words node file count id =
     decimal node.0 ∷ decimal file ∷ decimal count ∷ decimal id.client.0 ∷ decimal id.number ∷ []
 
+-- the word of how a node stopped
+abbrev pub halt_word : Halt → List ℕ
+halt_word halt.Idle = codes "idle"
+halt_word halt.Kept = codes "kept"
+halt_word halt.Lost = codes "lost"
+halt_word halt.Cut = codes "cut"
+
 -- the words of a trace's line
 unfoldable pub entry_words : Entry → List (List ℕ)
 entry_words (entry.Times lease drift) = codes "times" ∷ decimal lease ∷ decimal drift ∷ []
 entry_words (entry.File number location) = codes "file" ∷ file_words number location
 entry_words (entry.Tick count) = codes "tick" ∷ decimal count ∷ []
 entry_words (entry.Up node boot clock) = codes "up" ∷ decimal node.0 ∷ decimal boot.0 ∷ decimal clock ∷ []
+entry_words (entry.Down node clock how) = codes "down" ∷ decimal node.0 ∷ decimal clock ∷ halt_word how ∷ []
 entry_words (entry.Begin client number call) =
     codes "begin" ∷ decimal client.0 ∷ decimal number ∷ call_name call ∷ call_words call
 entry_words (entry.Issue node file count id) = codes "issue" ∷ update_words node file count id

@@ -6,7 +6,7 @@ use Rattle.xt_base.specs.declared.file.Kind.TheVariants.{Replicated}
 use Rattle.xt_base.specs.declared.event.Call.TheVariants as call
 use Rattle.time_line.specs.declared.line.Line.{Line}
 use Rattle.time_line.specs.declared.line.Line.TheVariants as line
-use Rattle.schedule_text.specs.Reading.{◌>>=◌, number_at, first_word, other_words, bytes_of}
+use Rattle.schedule_text.specs.Reading.{◌>>=◌, number_at, first_word, other_words, byte_of, bytes_of}
 
 -- the node of a number
 abbrev pub node_of : ℕ → NodeId
@@ -41,6 +41,24 @@ start_at words = do
   node ← number_at 32 words
   clock ← number_at 64 node.1
   Some (line.Start (node_of node.0) clock.0)
+
+unfoldable pub stop_at : List ℕ → Option Line
+stop_at words = do
+  node ← number_at 32 words
+  Some (line.Stop (node_of node.0))
+
+unfoldable pub crash_at : List ℕ → Option Line
+crash_at words = do
+  node ← number_at 32 words
+  device_call ← number_at 8 node.1
+  fill ← byte_of (first_word device_call.1)
+  Some (line.Crash (node_of node.0) device_call.0 fill)
+
+unfoldable pub cut_at : List ℕ → Option Line
+cut_at words = do
+  node ← number_at 32 words
+  count ← number_at 128 node.1
+  Some (line.Cut (node_of node.0) count.0)
 
 unfoldable pub tick_at : List ℕ → Option Line
 tick_at words = do
@@ -93,6 +111,9 @@ named_line name words =
     else if bytes_eq name (codes "client") then client_at words
     else if bytes_eq name (codes "file") then file_at words
     else if bytes_eq name (codes "start") then start_at words
+    else if bytes_eq name (codes "stop") then stop_at words
+    else if bytes_eq name (codes "crash") then crash_at words
+    else if bytes_eq name (codes "cut") then cut_at words
     else if bytes_eq name (codes "tick") then tick_at words
     else if bytes_eq name (codes "read") then read_at words
     else if bytes_eq name (codes "deliver") then deliver_at words

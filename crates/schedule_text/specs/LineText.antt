@@ -10,7 +10,7 @@ use Rattle.xt_base.specs.declared.event.Call.TheVariants as call
 use Rattle.xt_base.specs.TimeSettings.{AreTimes}
 use Rattle.time_line.specs.declared.line.Line.{Line}
 use Rattle.time_line.specs.declared.line.Line.TheVariants as line
-use Rattle.schedule_text.specs.Words.{spaced}
+use Rattle.schedule_text.specs.Words.{spaced, hex_pair}
 use Rattle.schedule_text.specs.CallText.{file_words, call_name, call_words}
 
 -- the words of a schedule's line
@@ -20,6 +20,9 @@ line_words (line.Osd node) = codes "osd" ∷ decimal node.0 ∷ []
 line_words (line.Client node clock) = codes "client" ∷ decimal node.0 ∷ decimal clock ∷ []
 line_words (line.File number location) = codes "file" ∷ file_words number location
 line_words (line.Start node clock) = codes "start" ∷ decimal node.0 ∷ decimal clock ∷ []
+line_words (line.Stop node) = codes "stop" ∷ decimal node.0 ∷ []
+line_words (line.Crash node device_call fill) = codes "crash" ∷ decimal node.0 ∷ decimal device_call ∷ hex_pair fill ∷ []
+line_words (line.Cut node count) = codes "cut" ∷ decimal node.0 ∷ decimal count ∷ []
 line_words (line.Tick count) = codes "tick" ∷ decimal count ∷ []
 line_words (line.Call client made) = call_name made ∷ decimal client.0 ∷ call_words made
 line_words (line.Deliver number) = codes "deliver" ∷ decimal number ∷ []
@@ -74,6 +77,9 @@ IsLine first (line.Osd node) = node.0 < 2 ^ 32
 IsLine first (line.Client node clock) = (node.0 < 2 ^ 32) × (clock < 2 ^ 62)
 IsLine first (line.File number location) = (number < 1000000) × IsPlace location
 IsLine first (line.Start node clock) = (node.0 < 2 ^ 32) × (clock < 2 ^ 62)
+IsLine first (line.Stop node) = node.0 < 2 ^ 32
+IsLine first (line.Crash node device_call fill) = (node.0 < 2 ^ 32) × (1 ≤ device_call) × (device_call ≤ 4) × (fill < 256)
+IsLine first (line.Cut node count) = (node.0 < 2 ^ 32) × (count < 2 ^ 128)
 IsLine first (line.Tick count) = count < 2 ^ 32
 IsLine first (line.Call client made) = (client.0 < 2 ^ 32) × IsCall made
 IsLine first (line.Deliver number) = number < 2 ^ 128

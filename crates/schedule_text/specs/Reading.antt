@@ -30,6 +30,11 @@ number_at bits words = if nat_lt (number_of (first_word words)) (2 ^ bits) then 
 abbrev pub digit_of : ℕ → ℕ
 digit_of byte = if nat_lt byte 58 then byte % 16 else (byte + 9) % 16
 
+-- the byte that two hex digits spell
+unfoldable pub byte_of : List ℕ → Option ℕ
+byte_of (high ∷ low ∷ []) = Some (digit_of high * 16 + digit_of low)
+byte_of _ = None
+
 -- the bytes that hex digits spell
 abbrev pub bytes_of : List ℕ → List ℕ
 bytes_of [] = []

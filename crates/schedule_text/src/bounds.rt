@@ -75,7 +75,7 @@ pub(crate) fn is_line(first: bool, line: &Line) -> bool
 {
     match line {
         Line::Times { lease, drift } => first && Times::new(*lease, *drift).is_ok(),
-        Line::Osd { node } => {
+        Line::Osd { node } | Line::Stop { node } => {
             let _fits = node.0;
             true
         }
@@ -84,6 +84,16 @@ pub(crate) fn is_line(first: bool, line: &Line) -> bool
             *clock < COUNTS
         }
         Line::File { number, location } => *number < 1_000_000 && is_place(location),
+        Line::Crash { node, call, fill } => {
+            let _node_fits = node.0;
+            let _fill_fits = *fill;
+            (1..=4).contains(call)
+        }
+        Line::Cut { node, count } => {
+            let _node_fits = node.0;
+            let _count_fits = *count;
+            true
+        }
         Line::Tick { count } => *count < 1 << 32,
         Line::Call { client, call } => {
             let _fits = client.0;

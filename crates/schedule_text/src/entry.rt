@@ -3,7 +3,7 @@ ghost use Rattle.std.specs.Fmt.{decimal};
 ghost use Rattle.schedule_text.specs.Words.{behind, spaced, hex_or_dash};
 ghost use Rattle.schedule_text.specs.CallText.{call_name, call_words};
 ghost use Rattle.schedule_text.specs.OutcomeText.{outcome_words};
-ghost use Rattle.schedule_text.specs.EntryText.{entry_text, trace_text, update_words};
+ghost use Rattle.schedule_text.specs.EntryText.{entry_text, trace_text, update_words, halt_word};
 
 use crate::call::{call_name, push_call};
 use crate::outcome::push_outcome;
@@ -12,7 +12,7 @@ use crate::spelling::{
     push_number, push_times, push_word,
 };
 use std::alloc::Global;
-use time_line::Entry;
+use time_line::{Entry, Halt};
 use xt_base::{Boot, Call, NodeId, Octets, OpId, OutOfMemory, Outcome};
 
 /// Appends ` CLIENT NUMBER`.
@@ -29,6 +29,26 @@ fn push_up(out: &mut Vec<u8>, node: NodeId, boot: Boot, clock: u64) -> Result<()
 {
     push_clock(out, b"up", node, boot.0)?;
     push_number(out, clock)
+}
+
+/// The word of how a node stopped.
+fn halt_word(how: Halt) -> &'static [u8]
+    ensures { result.now ≡ halt_word how }
+{
+    match how {
+        Halt::Idle => b"idle",
+        Halt::Kept => b"kept",
+        Halt::Lost => b"lost",
+        Halt::Cut => b"cut",
+    }
+}
+
+/// Appends `down N CLOCK` and how the node stopped.
+fn push_down(out: &mut Vec<u8>, node: NodeId, clock: u64, how: Halt) -> Result<(), OutOfMemory>
+    ensures { OnOk result (out.new.items ≡ out.old.items ++ spaced (codes "down" ∷ decimal node.0 ∷ decimal clock ∷ halt_word how ∷ [])) }
+{
+    push_clock(out, b"down", node, clock)?;
+    push_word(out, halt_word(how))
 }
 
 /// Appends `begin C NUMBER` and the call.
@@ -101,6 +121,7 @@ fn push_entry(out: &mut Vec<u8>, entry: &Entry) -> Result<(), OutOfMemory>
         Entry::File { number, location } => push_file_line(out, *number, location),
         Entry::Tick { count } => push_named(out, b"tick", u128::from(*count)),
         Entry::Up { node, boot, clock } => push_up(out, *node, *boot, *clock),
+        Entry::Down { node, clock, how } => push_down(out, *node, *clock, *how),
         Entry::Begin {
             client,
             number,

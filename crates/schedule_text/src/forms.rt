@@ -1,7 +1,7 @@
 ghost use Rattle.std.specs.Prelude.{◌≡◌, IfOk, MatchOption, Some, None};
-ghost use Rattle.schedule_text.specs.LineReading.{times_at, osd_at, client_at, file_at, start_at, tick_at, read_at, write_place, write_at, deliver_at, drop_at, settle_at, named_line, line_at};
+ghost use Rattle.schedule_text.specs.LineReading.{times_at, osd_at, client_at, file_at, start_at, stop_at, crash_at, cut_at, tick_at, read_at, write_place, write_at, deliver_at, drop_at, settle_at, named_line, line_at};
 
-use crate::words::{bytes_of, cut, u32_at, u64_at, u128_at};
+use crate::words::{byte_of, bytes_of, cut, u8_at, u32_at, u64_at, u128_at};
 use std::alloc::Global;
 use time_line::Line;
 use xt_base::{Call, Kind, Location, Members, NodeId, OutOfMemory};
@@ -63,6 +63,39 @@ pub(crate) fn start(words: &[u8]) -> Option<Line>
     let (clock, _) = u64_at(words)?;
     let node = NodeId(node);
     Some(Line::Start { node, clock })
+}
+
+/// `stop N`
+#[tactic(auto, unfolding(crate::specs::LineReading::stop_at))]
+pub(crate) fn stop(words: &[u8]) -> Option<Line>
+    ensures { result ≡ stop_at words.now }
+{
+    let (node, _) = u32_at(words)?;
+    Some(Line::Stop { node: NodeId(node) })
+}
+
+/// `crash N K BYTE`
+#[tactic(auto, unfolding(crate::specs::LineReading::crash_at))]
+pub(crate) fn crash(words: &[u8]) -> Option<Line>
+    ensures { result ≡ crash_at words.now }
+{
+    let (node, words) = u32_at(words)?;
+    let (call, words) = u8_at(words)?;
+    let (digits, _) = cut(words);
+    let fill = byte_of(digits)?;
+    let node = NodeId(node);
+    Some(Line::Crash { node, call, fill })
+}
+
+/// `cut N COUNT`
+#[tactic(auto, unfolding(crate::specs::LineReading::cut_at))]
+pub(crate) fn cut_line(words: &[u8]) -> Option<Line>
+    ensures { result ≡ cut_at words.now }
+{
+    let (node, words) = u32_at(words)?;
+    let (count, _) = u128_at(words)?;
+    let node = NodeId(node);
+    Some(Line::Cut { node, count })
 }
 
 /// `tick COUNT`
@@ -136,6 +169,12 @@ pub(crate) fn named_line(name: &[u8], words: &[u8]) -> Option<Line>
         file(words)
     } else if name == b"start".as_slice() {
         start(words)
+    } else if name == b"stop".as_slice() {
+        stop(words)
+    } else if name == b"crash".as_slice() {
+        crash(words)
+    } else if name == b"cut".as_slice() {
+        cut_line(words)
     } else if name == b"tick".as_slice() {
         tick(words)
     } else if name == b"read".as_slice() {

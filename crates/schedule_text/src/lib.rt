@@ -19,5 +19,5 @@ mod tests;
 mod words;
 
 pub use entry::{print_entries, print_entry};
-pub use line::{LineErr, one_line_a_spelling, print_line, read_line};
+pub use line::{LineErr, lines_fit, one_line_a_spelling, print_line, read_line};
 pub use status::print_status;

@@ -1,15 +1,17 @@
-ghost use Rattle.std.specs.Prelude.{◌≡◌, ◌++◌, ◌∷◌, Bool, IsTrue, ◌↔◌, OnOk, IfOk, MatchResult};
+ghost use Rattle.std.specs.Prelude.{◌≡◌, ◌++◌, ◌∷◌, [], Bool, IsTrue, ◌↔◌, OnOk, IfOk, MatchResult, codes};
 ghost use Rattle.std.specs.Fmt.{decimal};
 ghost use Rattle.time_line.specs.declared.line.Line.{Line};
-ghost use Rattle.schedule_text.specs.Words.{spaced};
+ghost use Rattle.schedule_text.specs.Words.{spaced, hex_pair};
 ghost use Rattle.schedule_text.specs.CallText.{call_name, call_words};
 ghost use Rattle.schedule_text.specs.LineText.{line_text, IsLine};
+ghost use Rattle.time_line.specs.Bounds.{FitsLine};
 
 use crate::bounds::is_line;
 use crate::call::{call_name, push_call};
 use crate::forms::loose_line;
 use crate::spelling::{
-    push_clock, push_file_line, push_named, push_named_node, push_node, push_times,
+    push_bytes, push_clock, push_file_line, push_named, push_named_node, push_node, push_times,
+    push_wide_number,
 };
 use std::alloc::Global;
 use time_line::Line;
@@ -42,6 +44,22 @@ fn push_call_line(out: &mut Vec<u8>, client: NodeId, call: &Call) -> Result<(), 
     push_call(out, call)
 }
 
+/// Appends `crash N K BYTE`.
+fn push_crash(out: &mut Vec<u8>, node: NodeId, call: u8, fill: u8) -> Result<(), OutOfMemory>
+    ensures { OnOk result (out.new.items ≡ out.old.items ++ spaced (codes "crash" ∷ decimal node.0 ∷ decimal call ∷ hex_pair fill ∷ [])) }
+{
+    push_clock(out, b"crash", node, u64::from(call))?;
+    push_bytes(out, &[fill])
+}
+
+/// Appends `cut N COUNT`.
+fn push_cut(out: &mut Vec<u8>, node: NodeId, count: u128) -> Result<(), OutOfMemory>
+    ensures { OnOk result (out.new.items ≡ out.old.items ++ spaced (codes "cut" ∷ decimal node.0 ∷ decimal count ∷ [])) }
+{
+    push_named_node(out, b"cut", node)?;
+    push_wide_number(out, count)
+}
+
 /// Appends a line, without a line feed.
 #[tactic(auto, unfolding(crate::specs::LineText::line_text, crate::specs::LineText::line_words))]
 fn push_line(out: &mut Vec<u8>, line: &Line) -> Result<(), OutOfMemory>
@@ -53,6 +71,9 @@ fn push_line(out: &mut Vec<u8>, line: &Line) -> Result<(), OutOfMemory>
         Line::Client { node, clock } => push_clock(out, b"client", *node, *clock),
         Line::File { number, location } => push_file_line(out, *number, location),
         Line::Start { node, clock } => push_clock(out, b"start", *node, *clock),
+        Line::Stop { node } => push_named_node(out, b"stop", *node),
+        Line::Crash { node, call, fill } => push_crash(out, *node, *call, *fill),
+        Line::Cut { node, count } => push_cut(out, *node, *count),
         Line::Tick { count } => push_named(out, b"tick", u128::from(*count)),
         Line::Call { client, call } => push_call_line(out, *client, call),
         Line::Deliver { number } => push_named(out, b"deliver", *number),
@@ -104,4 +125,9 @@ pub fn read_line(alloc: Global, bytes: &[u8], first: bool) -> Result<Line, LineE
 /// Two lines of the language that are spelled alike are one line.
 pub fn one_line_a_spelling()
     ensures { (first second : Bool) (a b : Line) → IsLine first a → IsLine second b → line_text a ≡ line_text b → a ≡ b }
+{}
+
+/// The values of a line of the language fit what a schedule may hold.
+pub fn lines_fit()
+    ensures { (first : Bool) (line : Line) → IsLine first line → FitsLine line }
 {}

@@ -1,7 +1,7 @@
 use crate::{LineErr, print_entries, print_entry, print_line, print_status, read_line};
 use std::alloc::Global;
 use std::test::Fail;
-use time_line::{Entry, Line};
+use time_line::{Entry, Halt, Line};
 use xt_base::{
     AskRefusal, Boot, Call, Denial, Kind, Limited, Location, Members, NodeId, Octets, OpId,
     OutOfMemory, Outcome, Rule, Status,
@@ -26,7 +26,14 @@ deliver 1\n\
 deliver 340282366920938463463374607431768211455\n\
 drop 3\n\
 settle 0\n\
-settle 100";
+settle 100\n\
+stop 1\n\
+stop 4294967295\n\
+crash 1 1 00\n\
+crash 1 3 a5\n\
+crash 4294967295 4 ff\n\
+cut 1 0\n\
+cut 4294967295 340282366920938463463374607431768211455";
 
 /// Lines that none may have.
 const MALFORMED: &str = "\
@@ -58,7 +65,26 @@ write 10 1 0 0 6\n\
 write 10 1 0 0 AB\n\
 write 10 1 0 0 6g\n\
 deliver 340282366920938463463374607431768211456\n\
-stop 1\n\
+stop\n\
+stop 01\n\
+stop 1 1\n\
+stop 4294967296\n\
+crash 1 0 00\n\
+crash 1 5 00\n\
+crash 1 03 00\n\
+crash 1 260 00\n\
+crash 1 1\n\
+crash 1 1 a\n\
+crash 1 1 AB\n\
+crash 1 1 g0\n\
+crash 1 1 a5a5\n\
+crash 1 1 -\n\
+crash 4294967296 1 00\n\
+cut 1\n\
+cut 1 00\n\
+cut 1 340282366920938463463374607431768211456\n\
+cut 4294967296 0\n\
+down 1 0 idle\n\
 meta 1 1 1 stat /v";
 
 /// Whether the line is read, and printed as it was.
@@ -173,6 +199,35 @@ fn entries_of_nodes_are_printed(rt: HostRuntime) -> Result<(), Fail> {
         },
     };
     assert!(rt; is_printed(rt.alloc(), file, "file 1 rep 131072 1 2 3")?);
+    Ok(())
+}
+
+/// A node that stopped so.
+fn down(how: Halt) -> Entry {
+    Entry::Down {
+        node: NodeId(47),
+        clock: 1100,
+        how,
+    }
+}
+
+#[test]
+fn stops_are_printed(rt: HostRuntime) -> Result<(), Fail> {
+    assert!(rt; is_printed(rt.alloc(), down(Halt::Idle), "down 47 1100 idle")?);
+    assert!(rt; is_printed(rt.alloc(), down(Halt::Kept), "down 47 1100 kept")?);
+    assert!(rt; is_printed(rt.alloc(), down(Halt::Lost), "down 47 1100 lost")?);
+    assert!(rt; is_printed(rt.alloc(), down(Halt::Cut), "down 47 1100 cut")?);
+    Ok(())
+}
+
+#[test]
+fn a_crash_is_spelled_in_this_order(rt: HostRuntime) -> Result<(), Fail> {
+    let line = Line::Crash {
+        node: NodeId(7),
+        call: 3,
+        fill: 0xa5,
+    };
+    assert!(rt; is_spelled(rt.alloc(), line, "crash 7 3 a5")?);
     Ok(())
 }
 

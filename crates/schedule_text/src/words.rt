@@ -1,6 +1,6 @@
 ghost use Rattle.std.specs.Prelude.{◌≡◌, ◌==◌, IfOk, MatchOption, Some, None};
 ghost use Rattle.std.specs.List.{position};
-ghost use Rattle.schedule_text.specs.Reading.{first_word, other_words, number_of, number_at, digit_of, bytes_of};
+ghost use Rattle.schedule_text.specs.Reading.{first_word, other_words, number_of, number_at, digit_of, byte_of, bytes_of};
 
 use std::alloc::Global;
 use xt_base::{Octets, OutOfMemory};
@@ -65,6 +65,16 @@ pub(crate) fn u32_at(words: &[u8]) -> Option<(u32, &[u8])>
     Some((number, rest))
 }
 
+/// The first word's number, where it is below 2^8, and the other words.
+#[tactic(auto, unfolding(crate::specs::Reading::number_at))]
+pub(crate) fn u8_at(words: &[u8]) -> Option<(u8, &[u8])>
+    ensures { MatchOption result (number_at 8 words.now ≡ None) (λ x. number_at 8 words.now ≡ Some (x.0, x.1.now)) }
+{
+    let (word, rest) = cut(words);
+    let number = u8::try_from(number_of(word)).ok()?;
+    Some((number, rest))
+}
+
 /// What a hex digit stands for. Another byte stands for some number.
 pub(crate) fn digit_of(byte: u8) -> u8
     ensures { result ≡ digit_of byte }
@@ -73,6 +83,17 @@ pub(crate) fn digit_of(byte: u8) -> u8
         byte % 16
     } else {
         byte.wrapping_add(9) % 16
+    }
+}
+
+/// The byte that two hex digits spell. Two other bytes spell some byte.
+#[tactic(auto, unfolding(crate::specs::Reading::byte_of))]
+pub(crate) fn byte_of(word: &[u8]) -> Option<u8>
+    ensures { result ≡ byte_of word.now }
+{
+    match word {
+        [high, low] => Some(digit_of(*high) * 16 + digit_of(*low)),
+        _ => None,
     }
 }
 
