@@ -1,0 +1,5 @@
+pub mod HeadRows
+pub mod FileRows
+pub mod RecordLaws
+pub mod PayloadLength
+pub mod Held

@@ -1,0 +1,10 @@
+use Rattle.std.proofs.Common.{◌≡◌, length, map}
+use Rattle.xt_base.specs.Limits.{rise}
+use Rattle.replica_records.proofs.order.clients_rise.Given as goal
+
+-- what is left rises exactly where all do
+abbrev pub invariant-loop-rest : goal.invariant-loop-rest
+invariant-loop-rest l = rise (map (λ s. s.client.0) l.rest) ≡ rise (map (λ s. s.client.0) l.sessions)
+
+abbrev pub decreases-loop-rest : goal.decreases-loop-rest
+decreases-loop-rest l = length l.rest

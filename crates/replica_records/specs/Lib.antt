@@ -1,0 +1,4 @@
+pub mod RecordText
+pub mod RecordFields
+pub mod RowPlaces
+pub mod KeptBodies

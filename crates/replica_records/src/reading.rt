@@ -1,0 +1,183 @@
+ghost use Rattle.std.specs.Prelude.{◌≡◌, ◌≤◌, take, IfOk, IfErr, Ok};
+ghost use Rattle.xt_wire.specs.Reading.{Gives, Fails};
+ghost use Rattle.xt_wire.specs.BasicFields.{list_at};
+ghost use Rattle.xt_wire.specs.IdFields.{node_at};
+ghost use Rattle.replica_records.specs.RecordFields.{nodes_at, logged_at, meta_logged_at, registry_logged_at, record_at, boot_record_at, promise_record_at, update_record_at, stage_record_at, head_record_at, view_record_at, meta_record_at};
+
+use std::alloc::Global;
+use xt_base::{Logged, Members, NodeId, Record};
+use xt_wire::{FieldErr, FieldReader};
+
+/// The longest `bytes` field, in bytes.
+const BODY_LIMIT: u32 = 131_072;
+
+/// A record.
+#[tactic(auto, unfolding(crate::specs::RecordFields::record_at, crate::specs::RecordFields::record_arms))]
+pub(crate) fn record_at(reader: &mut FieldReader<'_>, alloc: Global) -> Result<Record, FieldErr>
+    ensures { Gives result reader.new (record_at reader.old) }
+{
+    match reader.byte()? {
+        1 => boot_record(reader),
+        2 => promise_record(reader),
+        3 => update_record(reader, alloc),
+        4 => stage_record(reader, alloc),
+        5 => head_record(reader, alloc),
+        6 => view_record(reader),
+        7 => meta_record(reader, alloc),
+        _ => Err(FieldErr::Unfit),
+    }
+}
+
+/// A start.
+#[tactic(auto, unfolding(crate::specs::RecordFields::boot_record_at))]
+fn boot_record(reader: &mut FieldReader<'_>) -> Result<Record, FieldErr>
+    ensures { Gives result reader.new (boot_record_at reader.old) }
+{
+    let boot = reader.boot()?;
+    Ok(Record::Boot { boot })
+}
+
+/// A replica's promise.
+#[tactic(auto, unfolding(crate::specs::RecordFields::promise_record_at))]
+fn promise_record(reader: &mut FieldReader<'_>) -> Result<Record, FieldErr>
+    ensures { Gives result reader.new (promise_record_at reader.old) }
+{
+    let file = reader.file()?;
+    let epoch = reader.epoch()?;
+    Ok(Record::Promise { file, epoch })
+}
+
+/// A write or truncation.
+#[tactic(auto, unfolding(crate::specs::RecordFields::update_record_at))]
+fn update_record(reader: &mut FieldReader<'_>, alloc: Global) -> Result<Record, FieldErr>
+    ensures { Gives result reader.new (update_record_at reader.old) }
+{
+    let file = reader.file()?;
+    let update = reader.update(alloc)?;
+    Ok(Record::Update { file, update })
+}
+
+/// Bytes that are held.
+#[tactic(auto, unfolding(crate::specs::RecordFields::stage_record_at))]
+fn stage_record(reader: &mut FieldReader<'_>, alloc: Global) -> Result<Record, FieldErr>
+    ensures { Gives result reader.new (stage_record_at reader.old) }
+{
+    let file = reader.file()?;
+    let object = reader.object()?;
+    let version = reader.stamp()?;
+    let bytes = reader.octets(alloc, BODY_LIMIT)?;
+    Ok(Record::Stage {
+        file,
+        object,
+        version,
+        bytes,
+    })
+}
+
+/// A head that is taken.
+#[tactic(auto, unfolding(crate::specs::RecordFields::head_record_at))]
+fn head_record(reader: &mut FieldReader<'_>, alloc: Global) -> Result<Record, FieldErr>
+    ensures { Gives result reader.new (head_record_at reader.old) }
+{
+    let file = reader.file()?;
+    let head = reader.head(alloc)?;
+    Ok(Record::Head { file, head })
+}
+
+/// Where a file's content is kept.
+#[tactic(auto, unfolding(crate::specs::RecordFields::view_record_at))]
+fn view_record(reader: &mut FieldReader<'_>) -> Result<Record, FieldErr>
+    ensures { Gives result reader.new (view_record_at reader.old) }
+{
+    let file = reader.file()?;
+    let location = reader.location()?;
+    Ok(Record::View { file, location })
+}
+
+/// A recorded request.
+#[tactic(auto, unfolding(crate::specs::RecordFields::meta_record_at))]
+fn meta_record(reader: &mut FieldReader<'_>, alloc: Global) -> Result<Record, FieldErr>
+    ensures { Gives result reader.new (meta_record_at reader.old) }
+{
+    let from = reader.node()?;
+    let number = reader.count()?;
+    let now = reader.count()?;
+    let nodes = nodes(reader)?;
+    let request = logged(reader, alloc)?;
+    Ok(Record::Meta {
+        from,
+        number,
+        now,
+        nodes,
+        request,
+    })
+}
+
+/// So many nodes, at most nine, in the first places.
+fn node_list(reader: &mut FieldReader<'_>, count: u8) -> Result<[NodeId; 9], FieldErr>
+    requires { count ≤ 9 }
+    ensures ok { IfOk result (λ nodes. list_at node_at count reader.old ≡ Ok (take count nodes, reader.new)) }
+    ensures err { IfErr result (λ e. Fails e (list_at node_at count reader.old)) }
+{
+    let mut nodes = [NodeId(0); 9];
+    for place in 0..count {
+        let node = reader.node()?;
+        nodes[usize::from(place)] = node;
+    }
+    Ok(nodes)
+}
+
+/// At most nine different nodes, none where there are 0.
+#[tactic(auto, unfolding(crate::specs::RecordFields::nodes_at, crate::specs::RecordFields::nodes_arms))]
+fn nodes(reader: &mut FieldReader<'_>) -> Result<Option<Members>, FieldErr>
+    ensures { Gives result reader.new (nodes_at reader.old) }
+{
+    let count = reader.byte()?;
+    if count == 0 {
+        return Ok(None);
+    }
+    if count > 9 {
+        return Err(FieldErr::Over);
+    }
+    let nodes = node_list(reader, count)?;
+    match Members::new(&nodes[..usize::from(count)]) {
+        Ok(members) => Ok(Some(members)),
+        Err(_) => Err(FieldErr::Unfit),
+    }
+}
+
+/// A request, under the kind of its message.
+#[tactic(auto, unfolding(crate::specs::RecordFields::logged_at, crate::specs::RecordFields::logged_arms))]
+fn logged(reader: &mut FieldReader<'_>, alloc: Global) -> Result<Logged, FieldErr>
+    ensures { Gives result reader.new (logged_at reader.old) }
+{
+    match reader.byte()? {
+        20 => meta_logged(reader, alloc),
+        22 => registry_logged(reader, alloc),
+        _ => Err(FieldErr::Unfit),
+    }
+}
+
+/// A request to the metadata server.
+#[tactic(auto, unfolding(crate::specs::RecordFields::meta_logged_at))]
+fn meta_logged(reader: &mut FieldReader<'_>, alloc: Global) -> Result<Logged, FieldErr>
+    ensures { Gives result reader.new (meta_logged_at reader.old) }
+{
+    let user = reader.word()?;
+    let group = reader.word()?;
+    let request = reader.meta_req(alloc)?;
+    Ok(Logged::Meta {
+        user,
+        group,
+        request,
+    })
+}
+
+/// A request to the directory service.
+#[tactic(auto, unfolding(crate::specs::RecordFields::registry_logged_at))]
+fn registry_logged(reader: &mut FieldReader<'_>, alloc: Global) -> Result<Logged, FieldErr>
+    ensures { Gives result reader.new (registry_logged_at reader.old) }
+{
+    let request = reader.registry_req(alloc)?;
+    Ok(Logged::Registry { request })
+}
