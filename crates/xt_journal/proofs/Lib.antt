@@ -1,5 +1,7 @@
 pub mod Outcomes
 pub mod Push
 pub mod Records
+pub mod Taken
+pub mod Found
 pub mod Unique
 pub mod Steps

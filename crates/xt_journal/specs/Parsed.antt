@@ -1,5 +1,5 @@
 -- What a parser answers of bytes.
-use Rattle.std.specs.Prelude.{ℕ, ◌+◌, ◌≤◌, ◌≡◌, ◌≢◌, Bool, true, false, List, ◌∷◌, ◌++◌, length, Vec, Option, None, Some, Result, Ok, Err}
+use Rattle.std.specs.Prelude.{ℕ, ◌+◌, ◌≤◌, ◌≡◌, ◌≢◌, Bool, true, false, List, ◌∷◌, ◌++◌, length, map, Vec, Option, None, Some, Result, Ok, Err}
 use Rattle.std.specs.List.{All}
 use Rattle.std.specs.declared.alloc.Global.{Global}
 use Rattle.xt_journal.specs.declared.placed.Placed.{Placed}
@@ -7,8 +7,8 @@ use Rattle.xt_journal.specs.declared.format.Trouble.{Trouble}
 use Rattle.xt_journal.specs.declared.format.Trouble.TheVariants as trouble
 use Rattle.xt_journal.specs.declared.format.Next.{Next}
 use Rattle.xt_journal.specs.declared.format.Next.TheVariants as next
-use Rattle.xt_journal.specs.Format.{open_gate, record_of, records, end_of, IsPayload}
-use Rattle.xt_journal.specs.Reading.{Reading, ReadsAs, Stands, Foreign, Unknown, Damaged, IsCutOff, payloads_of, placed_from}
+use Rattle.xt_journal.specs.Format.{header, open_gate, record_of, records, end_of, IsPayload}
+use Rattle.xt_journal.specs.Reading.{Reading, ReadsAs, Stands, Foreign, Unknown, Damaged, IsCutOff, placed_from}
 
 -- the reading is the one of these bytes
 abbrev pub Gives : List ℕ → Result (ℕ × Vec Placed Global) Trouble → Type 0
@@ -19,15 +19,25 @@ Gives bytes (Err (trouble.Damaged place)) = ReadsAs bytes (Damaged place)
 Gives bytes (Err trouble.DiskFault) = Unit {0}
 Gives bytes (Err trouble.OutOfMemory) = Unit {0}
 
+-- where the gates of these records stand
+abbrev pub gates_of : List (List ℕ) → List ℕ
+gates_of payloads = map (λ p. p.gate) (placed_from 12 payloads)
+
+-- the header and these records, whose gates stand at these places
+pub record HasRecords (bytes gates : List ℕ) (payloads : List (List ℕ)) : Type 0 where
+  pub are : bytes ≡ header ++ records payloads
+  pub places : gates ≡ gates_of payloads
+
 -- behind the header: records up to a gate that isn't open
-pub record AreRecords (bytes : List ℕ) (end : ℕ) (placed : List Placed) : Type 0 where
-  pub fit : All IsPayload (payloads_of placed)
+pub record AreRecords (bytes : List ℕ) (end : ℕ) (gates : List ℕ) : Type 0 where
+  pub payloads : List (List ℕ)
+  pub fit : All IsPayload payloads
   pub gate : ℕ
   pub rest : List ℕ
   pub shut : gate ≢ open_gate
-  pub are : bytes ≡ records (payloads_of placed) ++ gate ∷ rest
-  pub places : placed ≡ placed_from 12 (payloads_of placed)
-  pub is_end : end ≡ end_of (payloads_of placed)
+  pub are : bytes ≡ records payloads ++ gate ∷ rest
+  pub places : gates ≡ gates_of payloads
+  pub is_end : end ≡ end_of payloads
 
 -- behind the header: records up to an open gate that isn't followed by one
 pub record AreDamaged (bytes : List ℕ) (place : ℕ) : Type 0 where
@@ -38,13 +48,27 @@ pub record AreDamaged (bytes : List ℕ) (place : ℕ) : Type 0 where
   pub cut_off : IsCutOff rest
   pub is_place : place ≡ end_of payloads
 
-abbrev pub GivesRecords : List ℕ → Result (ℕ × Vec Placed Global) Trouble → Type 0
-GivesRecords bytes (Ok found) = AreRecords bytes found.0 found.1.items
-GivesRecords bytes (Err (trouble.NotOurs first)) = ⊥
-GivesRecords bytes (Err (trouble.Layout version)) = ⊥
-GivesRecords bytes (Err (trouble.Damaged place)) = AreDamaged bytes place
-GivesRecords bytes (Err trouble.DiskFault) = ⊥
-GivesRecords bytes (Err trouble.OutOfMemory) = Unit {0}
+abbrev pub FindsRecords : List ℕ → Result (ℕ × Vec ℕ Global) Trouble → Type 0
+FindsRecords bytes (Ok found) = AreRecords bytes found.0 found.1.items
+FindsRecords bytes (Err (trouble.NotOurs first)) = ⊥
+FindsRecords bytes (Err (trouble.Layout version)) = ⊥
+FindsRecords bytes (Err (trouble.Damaged place)) = AreDamaged bytes place
+FindsRecords bytes (Err trouble.DiskFault) = ⊥
+FindsRecords bytes (Err trouble.OutOfMemory) = Unit {0}
+
+-- the header and such records
+pub record IsFound (bytes : List ℕ) (end : ℕ) (gates : List ℕ) : Type 0 where
+  pub rest : List ℕ
+  pub are : bytes ≡ header ++ rest
+  pub records : AreRecords rest end gates
+
+abbrev pub Finds : List ℕ → Result (ℕ × Vec ℕ Global) Trouble → Type 0
+Finds bytes (Ok found) = IsFound bytes found.0 found.1.items
+Finds bytes (Err (trouble.NotOurs first)) = ReadsAs bytes (Foreign first)
+Finds bytes (Err (trouble.Layout version)) = ReadsAs bytes (Unknown version)
+Finds bytes (Err (trouble.Damaged place)) = ReadsAs bytes (Damaged place)
+Finds bytes (Err trouble.DiskFault) = Unit {0}
+Finds bytes (Err trouble.OutOfMemory) = Unit {0}
 
 pub record IsRecord (bytes payload rest : List ℕ) : Type 0 where
   pub are : bytes ≡ open_gate ∷ (record_of payload ++ rest)

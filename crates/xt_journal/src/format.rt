@@ -1,8 +1,8 @@
-ghost use Rattle.std.specs.Prelude.{◌≡◌, ◌≤◌, ◌<◌, IfOk, IsErrOf, length};
+ghost use Rattle.std.specs.Prelude.{◌≡◌, ◌≤◌, ◌<◌, ◌+◌, ℕ, List, IfOk, OnOk, IsErrOf, length, take, drop};
 ghost use Rattle.xt_journal.specs.declared.format.Trouble.TheVariants.{OutOfMemory};
 ghost use Rattle.xt_journal.specs.Format.{end_of, IsJournal};
-ghost use Rattle.xt_journal.specs.Parsed.{Gives, GivesRecords, IsNext};
-ghost use Rattle.xt_journal.specs.Reading.{payloads_of};
+ghost use Rattle.xt_journal.specs.Parsed.{Finds, FindsRecords, Gives, HasRecords, IsNext};
+ghost use Rattle.xt_journal.specs.Reading.{payloads_of, placed_from};
 
 use crate::placed::Placed;
 use byteorder::{BigEndian, ByteOrder};
@@ -57,12 +57,27 @@ pub enum Next<'a> {
 }
 
 /// The payloads that stand in more than 13 bytes, and the place of the gate behind them.
-pub fn parse(alloc: Global, bytes: &[u8]) -> Result<(u64, Vec<Placed>), Trouble>
-    requires { 13 < length bytes.now }
-    ensures gives { Gives bytes.now result }
+///
+/// The memory of the bytes is given back while they are taken, so that they never stand there twice.
+pub fn parse(alloc: Global, bytes: Vec<u8>) -> Result<(u64, Vec<Placed>), Trouble>
+    requires { 13 < length bytes.items }
+    ensures gives { Gives bytes.items result }
     ensures no_fault { IsErrOf result Trouble.DiskFault → ⊥ }
-    ensures journal { IfOk result (λ found. IsJournal bytes.now (payloads_of found.1.items)) }
+    ensures journal { IfOk result (λ found. IsJournal bytes.items (payloads_of found.1.items)) }
     ensures end { IfOk result (λ found. found.0 ≡ end_of (payloads_of found.1.items)) }
+{
+    let (end, gates) = find(alloc, bytes.as_slice())?;
+    let mut records = bytes;
+    records.truncate(end as usize);
+    let placed = take_payloads(alloc, records, gates)?;
+    Ok((end, placed))
+}
+
+/// The places of the gates of the records that stand in more than 13 bytes, and of the gate behind them.
+fn find(alloc: Global, bytes: &[u8]) -> Result<(u64, Vec<u64>), Trouble>
+    requires { 13 < length bytes.now }
+    ensures found { Finds bytes.now result }
+    ensures no_fault { IsErrOf result Trouble.DiskFault → ⊥ }
 {
     let mut first = [0; 8];
     first.copy_from_slice(&bytes[..8]);
@@ -73,32 +88,70 @@ pub fn parse(alloc: Global, bytes: &[u8]) -> Result<(u64, Vec<Placed>), Trouble>
     if version != LAYOUT {
         return Err(Trouble::Layout { version });
     }
-    parse_records(alloc, &bytes[12..])
+    find_records(alloc, &bytes[12..])
 }
 
 /// The same behind the header.
-fn parse_records(alloc: Global, records: &[u8]) -> Result<(u64, Vec<Placed>), Trouble>
+fn find_records(alloc: Global, records: &[u8]) -> Result<(u64, Vec<u64>), Trouble>
     requires { 1 ≤ length records.now }
-    ensures gives { GivesRecords records.now result }
+    ensures found { FindsRecords records.now result }
 {
-    let mut placed = Vec::new(alloc);
+    let mut gates = Vec::new(alloc);
     let mut gate: u64 = 12;
     let mut rest = records;
     loop {
         match next_record(rest) {
-            Next::Closed => return Ok((gate, placed)),
+            Next::Closed => return Ok((gate, gates)),
             Next::CutOff => return Err(Trouble::Damaged { place: gate }),
             Next::Record {
                 payload,
                 rest: behind,
             } => {
-                let bytes = Octets::of(alloc, payload)?;
-                placed.push(Placed { gate, bytes })?;
+                gates.push(gate)?;
                 gate += 5 + payload.len() as u64;
                 rest = behind;
             }
         }
     }
+}
+
+/// Takes the payloads out of a header and records with these gates, from the last on.
+fn take_payloads(
+    alloc: Global,
+    records: Vec<u8>,
+    gates: Vec<u64>,
+) -> Result<Vec<Placed>, OutOfMemory>
+    requires { (payloads : List (List ℕ)) × HasRecords records.items gates.items payloads }
+    ensures taken { (payloads : List (List ℕ)) → HasRecords records.items gates.items payloads →
+        IfOk result (λ placed. placed.items ≡ placed_from 12 payloads) }
+{
+    let mut left = records;
+    let mut open = gates;
+    let mut placed = Vec::with_capacity(alloc, open.len())?;
+    while let Some(gate) = open.pop() {
+        let bytes = take_last(&mut left, gate)?;
+        placed.push(Placed { gate, bytes })?;
+    }
+    placed.reverse();
+    Ok(placed)
+}
+
+/// How many bytes may lie idle before they are given back.
+const SLACK: usize = 1 << 20;
+
+/// Takes the last record off, and gives its payload.
+fn take_last(records: &mut Vec<u8>, gate: u64) -> Result<Octets, OutOfMemory>
+    requires { gate + 5 ≤ length records.old.items }
+    ensures payload { IfOk result (λ payload. payload ≡ drop (gate + 5) records.old.items) }
+    ensures rest { OnOk result (records.new.items ≡ take gate records.old.items) }
+{
+    let place = gate as usize;
+    let payload = records.split_off(place + 5)?;
+    records.truncate(place);
+    if records.capacity() - records.len() >= SLACK {
+        records.shrink_to_fit();
+    }
+    Ok(Octets::from(payload))
 }
 
 fn next_record(rest: &[u8]) -> Next<'_>

@@ -158,6 +158,13 @@ impl<D: Disk> Journal<D> {
         self.end
     }
 
+    /// The disk, to be looked at.
+    pub fn disk(&self) -> &D
+        ensures { result.now ≡ disk_of self.now }
+    {
+        &self.disk
+    }
+
     /// Hands the disk back.
     pub fn close(self) -> D
         ensures { result ≡ disk_of self }

@@ -155,7 +155,7 @@ fn read_long<D: Disk>(alloc: Global, disk: &mut D, len: u64) -> Result<(u64, Vec
         return Err(Trouble::OutOfMemory);
     };
     match disk.read(0, bytes.as_mut_slice()) {
-        Ok(()) => parse(alloc, bytes.as_slice()),
+        Ok(()) => parse(alloc, bytes),
         Err(Failed) => Err(Trouble::DiskFault),
     }
 }

@@ -1,0 +1,8 @@
+use Rattle.std.proofs.Common.{sym, ◌∙◌}
+use Rattle.object_store.proofs.Outcomes.{none_of}
+use Rattle.object_store.proofs.Placing.{with_room}
+use Rattle.object_store.proofs.places.Places.make_room.Goals as goal
+
+pub returns-in_ok-insert-clause-same : goal.returns-in_ok-insert-clause-same
+returns-in_ok-insert-clause-same c =
+    with_room c.args.self.now _ c.in-Some.key (none_of _ (sym c.contains_key.ensures ∙ c.if-not-contains_key.true)) c.in_ok-insert.ensures.updates

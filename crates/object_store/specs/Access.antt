@@ -1,0 +1,18 @@
+-- What a store shows.
+use Rattle.std.specs.Prelude.{List}
+use Rattle.disk_model.specs.declared.disk.Disk.{Ghosts}
+use Rattle.xt_base.specs.declared.record.Record.{Record}
+use Rattle.xt_journal.specs.declared.journal.Journal.{Journal}
+use Rattle.xt_journal.specs.Access as journal
+use Rattle.object_store.specs.declared.store.Store.{Store}
+
+module _ {D : Type 0} {g : Ghosts D} where
+  abbrev pub journal_of : Store D g → Journal D g
+  journal_of store = store.journal
+
+  abbrev pub disk_of : Store D g → D
+  disk_of store = journal.disk_of store.journal
+
+  -- the records that it keeps, in order
+  abbrev pub records_of : Store D g → List Record
+  records_of store = store.records.items

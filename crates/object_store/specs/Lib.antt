@@ -1,0 +1,8 @@
+pub mod Places
+pub mod Texts
+pub mod Laws
+pub mod Refused
+pub mod KeptJournals
+pub mod Access
+pub mod Loading
+pub mod Answers

@@ -1,0 +1,62 @@
+-- where the record stands that put a body last
+use Rattle.std.specs.Prelude.{ℕ, ◌≡◌, ◌≢◌, ◌<◌, Option, Some, None, List, [], length, slice_get, unwrap_or}
+use Rattle.std.specs.Option.{option_map}
+use Rattle.std.specs.Ordering.{ordering_then, nat_cmp}
+use Rattle.std.specs.declared.cmp.Ordering.{Ordering}
+use Rattle.std.specs.BTreeMap.{get}
+use Rattle.std.proofs.Props.{props}
+use Rattle.xt_base.specs.declared.ids.Stamp.{Stamp}
+use Rattle.xt_base.specs.declared.record.Record.{Record}
+use Rattle.xt_base.specs.declared.record.Record.TheVariants as kept
+use Rattle.xt_protocol.specs.FileIds.{file_cmp}
+use Rattle.xt_protocol.specs.Folds.{body_kept}
+use Rattle.object_store.specs.declared.places.BodyKey.{BodyKey}
+use Rattle.object_store.specs.declared.places.Places.{Places}
+
+-- by the places as they stand
+abbrev pub stamp_cmp : Stamp → Stamp → Ordering
+stamp_cmp a b =
+    ordering_then (ordering_then (nat_cmp a.epoch.number b.epoch.number) (nat_cmp a.epoch.node.0 b.epoch.node.0)) (nat_cmp a.count b.count)
+
+abbrev pub body_cmp : BodyKey → BodyKey → Ordering
+body_cmp a b = ordering_then (file_cmp a.file b.file) (ordering_then (nat_cmp a.object b.object) (stamp_cmp a.version b.version))
+
+-- which body a record puts, if it puts one
+abbrev pub key_put : Record → Option BodyKey
+key_put (kept.Update file update) = Some (record { file = file; object = update.object; version = update.stamp })
+key_put (kept.Stage file object version bytes) = Some (record { file = file; object = object; version = version })
+key_put (kept.Boot boot) = None
+key_put (kept.Promise file epoch) = None
+key_put (kept.Head file head) = None
+key_put (kept.View file location) = None
+key_put (kept.Meta from number now nodes request) = None
+
+-- the body that a record puts; empty where it puts none
+abbrev pub body_in : Record → List ℕ
+body_in (kept.Update file update) = update.body
+body_in (kept.Stage file object version bytes) = bytes
+body_in (kept.Boot boot) = []
+body_in (kept.Promise file epoch) = []
+body_in (kept.Head file head) = []
+body_in (kept.View file location) = []
+body_in (kept.Meta from number now nodes request) = []
+
+-- the body that the record at a place puts
+abbrev pub body_at : List Record → ℕ → List ℕ
+body_at records place = unwrap_or (option_map body_in (slice_get records place)) []
+
+-- where the record stands that put the body last; none where there is room for a place alone, or not even that
+abbrev pub place_in : Places → BodyKey → Option ℕ
+place_in places key = unwrap_or (get body_cmp places.places key) None
+
+-- The places are those of these records: the record at each puts the body that is kept.
+pub record ArePlacesIn (places : Places) (records : List Record) : Type 0 where
+  pub inside : (key : BodyKey) (place : ℕ) → place_in places key ≡ Some place → place < length records
+  pub found : (key : BodyKey) → option_map (body_at records) (place_in places key) ≡ body_kept records key.file key.object key.version
+
+-- there is room for the place of the body that the record puts
+abbrev pub HasRoomFor : Places → Record → Type 0
+HasRoomFor places rec = (key : BodyKey) → key_put rec ≡ Some key → get body_cmp places.places key ≢ None
+
+pub are_places_prop : (places : Places) (records : List Record) → IsProp (ArePlacesIn places records)
+are_places_prop places records = hlevel props

@@ -1,0 +1,75 @@
+ghost use Rattle.std.specs.Prelude.{◌≡◌};
+ghost use Rattle.object_store.specs.Places.{body_in};
+
+use crate::places::BodyKey;
+use crate::store::Store;
+use disk_model::Disk;
+use replica_records::{Bodies, BodyErr};
+use std::alloc::Global;
+use xt_base::{Copies, FileId, Octets, Record, Stamp};
+
+/// The body that a record puts; empty where it puts none.
+fn body_in(rec: &Record) -> &[u8]
+    ensures { result.now ≡ body_in rec.now }
+{
+    match rec {
+        Record::Update { update, .. } => update.body.as_slice(),
+        Record::Stage { bytes, .. } => bytes.as_slice(),
+        _ => &[],
+    }
+}
+
+impl<D: Disk> Store<D> {
+    ghost use Rattle.std.specs.Prelude.{◌↔◌, List, Some, None, Err, IfOk};
+    ghost use Rattle.xt_protocol.specs.Folds.{body_kept};
+    ghost use Rattle.replica_records.specs.declared.errors.BodyErr.TheVariants.{NoSuchVersion};
+    ghost use Rattle.replica_records.specs.KeptBodies.{fault_in};
+    ghost use Rattle.object_store.specs.Access.{records_of};
+
+    /// The body that was put last as this version of this object of the file. All bodies are in memory, so this never
+    /// fails.
+    pub fn find(
+        &self,
+        alloc: Global,
+        file: &FileId,
+        object: u64,
+        version: &Stamp,
+    ) -> Result<Octets, BodyErr>
+        ensures found { IfOk result (λ bytes.
+            body_kept (records_of self.now) file.now object version.now ≡ Some bytes) }
+        ensures missing { (result ≡ Err NoSuchVersion) ↔
+            (body_kept (records_of self.now) file.now object version.now ≡ None) }
+        ensures sound { fault_in result ≡ None }
+    {
+        let key = BodyKey {
+            file: *file,
+            object,
+            version: *version,
+        };
+        let Some(place) = self.places.place(&key) else {
+            return Err(BodyErr::NoSuchVersion);
+        };
+        match Octets::of(alloc, body_in(&self.records[place])) {
+            Ok(body) => Ok(body),
+            Err(_) => Err(BodyErr::OutOfMemory),
+        }
+    }
+}
+
+impl<D: Disk> Bodies for Store<D> {
+    ghost use Rattle.object_store.specs.Access.{records_of, disk_of};
+
+    ghost records = { λ store. records_of store };
+
+    ghost fault_count = { λ store. D.fault_count (disk_of store) };
+
+    fn body(
+        &mut self,
+        alloc: Global,
+        file: &FileId,
+        object: u64,
+        version: &Stamp,
+    ) -> Result<Octets, BodyErr> {
+        self.find(alloc, file, object, version)
+    }
+}

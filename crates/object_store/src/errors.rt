@@ -1,0 +1,31 @@
+use crate::store::Store;
+use disk_model::Disk;
+use xt_journal::Journal;
+
+/// Why a journal isn't loaded. It comes back as it was.
+#[derive(Debug, Drop)]
+pub enum StoreErr<D: Disk> {
+    /// The payload at this index, from 0, isn't a record in its place, and those before it are.
+    BadRecord { index: usize, journal: Journal<D> },
+    OutOfMemory { journal: Journal<D> },
+}
+
+/// Why a record isn't put.
+#[derive(Debug, Drop)]
+pub enum AppendErr<D: Disk> {
+    /// The disk has failed; this is its count of faults. The store is gone, and must be loaded again.
+    Broken {
+        count: u64,
+        disk: D,
+    },
+    /// The journal would need this many bytes, at most `u64::MAX`, which passes the limit. The store is as it was.
+    Full {
+        store: Store<D>,
+        need: u64,
+        limit: u64,
+    },
+    /// The store comes back as it was. No device call was made.
+    OutOfMemory {
+        store: Store<D>,
+    },
+}

@@ -1,0 +1,72 @@
+//! Records from the payloads of a journal.
+ghost use Rattle.std.specs.Prelude.{◌≡◌, IfOk, IfSome, IfNone};
+ghost use Rattle.xt_base.specs.Limits.{FitsRecord};
+ghost use Rattle.xt_base.specs.declared.record.Record.{Record};
+ghost use Rattle.xt_protocol.specs.Folds.{IsInPlace};
+ghost use Rattle.replica_records.specs.RecordText.{record_text};
+ghost use Rattle.xt_journal.specs.Reading.{payloads_of};
+ghost use Rattle.object_store.specs.Refused.{IsReadOf};
+ghost use Rattle.object_store.specs.declared.loading.Trouble.TheVariants.{OutOfMemory};
+
+use crate::keeping::{keep, make_room};
+use crate::places::Places;
+use replica_records::{Folding, RecordErr, read_record};
+use std::alloc::{AllocError, Global};
+use xt_base::{OutOfMemory, Record};
+use xt_journal::Placed;
+
+/// Why payloads aren't read as records.
+#[derive(Clone, Copy, Debug, PartialEq, Eq)]
+pub enum Trouble {
+    /// The payload at this index isn't a record in its place, and those before it are.
+    BadRecord(usize),
+    OutOfMemory,
+}
+
+impl From<AllocError> for Trouble {
+    ghost from_gives = { λ _ trouble. trouble ≡ OutOfMemory };
+
+    fn from(_: AllocError) -> Trouble {
+        Trouble::OutOfMemory
+    }
+}
+
+/// The record that the payload is, where it is one in its place.
+fn record_in_place(
+    alloc: Global,
+    folding: &Folding,
+    payload: &[u8],
+) -> Result<Option<Record>, OutOfMemory>
+    ensures found { IfOk result (λ given. IfSome given (λ rec.
+        FitsRecord rec × (payload.now ≡ record_text rec) × IsInPlace folding.now rec)) }
+    ensures bad { IfOk result (λ given. IfNone given ((rec : Record) →
+        FitsRecord rec → payload.now ≡ record_text rec → IsInPlace folding.now rec → ⊥)) }
+{
+    match read_record(alloc, payload) {
+        Ok(rec) => Ok(if folding.is_in_place(alloc, &rec)? {
+            Some(rec)
+        } else {
+            None
+        }),
+        Err(RecordErr::BadRecord) => Ok(None),
+        Err(RecordErr::OutOfMemory) => Err(AllocError),
+    }
+}
+
+/// The records that the payloads are, and where their bodies stand.
+pub fn read_all(alloc: Global, payloads: &[Placed]) -> Result<(Vec<Record>, Places), Trouble>
+    ensures { IsReadOf (payloads_of payloads.now) result }
+{
+    let mut records = Vec::new(alloc);
+    let mut places = Places::new(alloc);
+    let mut folding = Folding::new(alloc);
+    for placed in payloads {
+        let Some(rec) = record_in_place(alloc, &folding, placed.bytes.as_slice())? else {
+            return Err(Trouble::BadRecord(records.len()));
+        };
+        folding.take(alloc, &rec)?;
+        make_room(&mut records, &mut places, &rec)?;
+        keep(&mut records, &mut places, rec);
+    }
+    Ok((records, places))
+}

@@ -1,0 +1,94 @@
+//! Where the bodies stand among the records.
+
+use std::alloc::Global;
+use std::collections::BTreeMap;
+use xt_base::{FileId, OutOfMemory, Record, Stamp};
+
+/// Which version of which object of which file.
+#[derive(Clone, Copy, Debug, PartialEq, Eq, PartialOrd, Ord)]
+pub struct BodyKey {
+    pub file: FileId,
+    pub object: u64,
+    pub version: Stamp,
+}
+
+/// Where the last record stands that put each body. A key with no place is room for one.
+#[derive(Debug, Drop)]
+pub struct Places {
+    places: BTreeMap<BodyKey, Option<usize>>,
+}
+
+impl BodyKey {
+    ghost use Rattle.std.specs.Prelude.{◌≡◌};
+    ghost use Rattle.object_store.specs.Places.{key_put};
+
+    /// Which body the record puts, if it puts one.
+    pub fn of(rec: &Record) -> Option<BodyKey>
+        ensures { result ≡ key_put rec.now }
+    {
+        match rec {
+            Record::Update { file, update } => Some(BodyKey {
+                file: *file,
+                object: update.object,
+                version: update.stamp,
+            }),
+            Record::Stage {
+                file,
+                object,
+                version,
+                ..
+            } => Some(BodyKey {
+                file: *file,
+                object: *object,
+                version: *version,
+            }),
+            _ => None,
+        }
+    }
+}
+
+impl Places {
+    ghost use Rattle.std.specs.Prelude.{◌≡◌, ◌++◌, ◌∷◌, [], List, OnOk, OnErr, length};
+    ghost use Rattle.xt_base.specs.declared.record.Record.{Record};
+    ghost use Rattle.object_store.specs.Places.{ArePlacesIn, HasRoomFor, place_in};
+
+    /// The places in no records.
+    pub fn new(alloc: Global) -> Places
+        ensures { ArePlacesIn result [] }
+    {
+        Places {
+            places: BTreeMap::new(alloc),
+        }
+    }
+
+    /// Makes room for the place of the body that the record puts.
+    pub fn make_room(&mut self, rec: &Record) -> Result<(), OutOfMemory>
+        ensures room { OnOk result (HasRoomFor self.new rec.now) }
+        ensures same { (records : List Record) → ArePlacesIn self.old records → ArePlacesIn self.new records }
+    {
+        if let Some(key) = BodyKey::of(rec) {
+            if !self.places.contains_key(&key) {
+                self.places.insert(key, None)?;
+            }
+        }
+        Ok(())
+    }
+
+    /// Takes the record at the end of the list, which is this place.
+    pub fn put(&mut self, rec: &Record, place: usize)
+        requires { HasRoomFor self.old rec.now }
+        ensures { (records : List Record) → place ≡ length records → ArePlacesIn self.old records → ArePlacesIn self.new (records ++ rec.now ∷ []) }
+    {
+        if let Some(key) = BodyKey::of(rec) {
+            let put: Result<_, _> = self.places.insert(key, Some(place));
+            let _before = put.unwrap();
+        }
+    }
+
+    /// Where the record stands that put the body last.
+    pub fn place(&self, key: &BodyKey) -> Option<usize>
+        ensures { result ≡ place_in self.now key.now }
+    {
+        self.places.get(key).copied().flatten()
+    }
+}
