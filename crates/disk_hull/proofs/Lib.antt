@@ -1,0 +1,3 @@
+mod StoredRecords
+mod Stopping
+mod Hulls

@@ -1,0 +1,143 @@
+-- bytes stand for one list of records
+use Rattle.std.proofs.Common.{◌≡◌, ℕ, ◌+◌, ◌<◌, ◌≤◌, List, [], ◌∷◌, ◌++◌, length, refl, sym, ◌∙◌, ap, subst, inl, inr, arith, length-append, Bool, true, false, nat_le}
+use Rattle.std.proofs.Math.Logic.{∥∥₁_elim, ∥∥₁_map}
+use Rattle.std.proofs.lemmas.List.Elements.{All-head, All-tail, All-push}
+use Rattle.std.proofs.lemmas.List.{map-append}
+use Rattle.std.proofs.lemmas.Bool.{leb-true, leb-false}
+use Rattle.std.specs.List.{All, fold}
+use Rattle.std.specs.Coded.{Coded-set, coded_list}
+use Rattle.xt_base.specs.Limits.{FitsRecord}
+use Rattle.xt_base.specs.contracts.record.Record as record_type
+use Rattle.xt_base.specs.declared.record.Folded.{Folded}
+use Rattle.xt_base.specs.declared.record.Record.{Record}
+use Rattle.xt_protocol.specs.Folds.{folded_after, nothing_kept, fold_of, IsInPlace, AreInPlace}
+use Rattle.replica_records.specs.RecordText.{record_text}
+use Rattle.replica_records.specs.RecordFields.{recorded}
+use Rattle.replica_records.proofs.RecordLaws.{recorded_again}
+use Rattle.xt_journal.specs.declared.placed.Placed.{Placed}
+use Rattle.disk_model.specs.Disk.{Kept, IsImage}
+use Rattle.disk_model.proofs.Images.{rest_stays}
+use Rattle.xt_journal.specs.Format.{KeepsJournal, StandsFor, records, end_of, journal_of}
+use Rattle.xt_journal.specs.Loaded.{IsReady}
+use Rattle.xt_journal.specs.Reading.{Reading, Stands, ReadsAs, IsTheReading, payloads_of, placed_from}
+use Rattle.xt_journal.proofs.Push.{end_of-push}
+use Rattle.xt_journal.proofs.Steps.{each_stands}
+use Rattle.xt_journal.proofs.Unique.{stands_for_one}
+use Rattle.object_store.specs.Texts.{texts_of, AreRecords, IsFirstBad}
+use Rattle.disk_hull.specs.Disks.{AreOn, HasRecords}
+
+-- ---- records from their texts
+
+one_text : (a b : Record) → FitsRecord a → FitsRecord b → record_text a ≡ record_text b → a ≡ b
+one_text a b fits_a fits_b same =
+    let read = sym (recorded_again a fits_a) ∙ ap recorded same ∙ recorded_again b fits_b in cc
+
+one_list : (xs ys : List Record) → All FitsRecord xs → All FitsRecord ys → texts_of xs ≡ texts_of ys → xs ≡ ys
+one_list [] [] fit_a fit_b same = refl
+one_list [] (b ∷ ys) fit_a fit_b same = absurd cc
+one_list (a ∷ xs) [] fit_a fit_b same = absurd cc
+one_list (a ∷ xs) (b ∷ ys) fit_a fit_b same =
+    let first : a ≡ b = one_text a b (All-head FitsRecord a xs fit_a) (All-head FitsRecord b ys fit_b) (cc same) in
+    let rest : xs ≡ ys = one_list xs ys (All-tail FitsRecord a xs fit_a) (All-tail FitsRecord b ys fit_b) (cc same) in
+    cc (first, rest)
+
+-- the same bytes stand for the same records
+pub one_on : (bytes : List ℕ) (xs ys : List Record) → ∥ AreOn bytes xs ∥₁ → ∥ AreOn bytes ys ∥₁ → xs ≡ ys
+one_on bytes xs ys on_a on_b =
+    ∥∥₁_elim on_a (Coded-set (coded_list record_type.the_row.coded) xs ys) (λ a.
+    ∥∥₁_elim on_b (Coded-set (coded_list record_type.the_row.coded) xs ys) (λ b.
+    one_list xs ys a.sound.fit b.sound.fit (stands_for_one bytes (texts_of xs) (texts_of ys) a.stand b.stand)))
+
+-- ---- loading
+
+payloads_placed : (gate : ℕ) (payloads : List (List ℕ)) → payloads_of (placed_from gate payloads) ≡ payloads
+payloads_placed gate [] = refl
+payloads_placed gate (payload ∷ payloads) = ap (λ ps. payload ∷ ps) (payloads_placed (gate + (5 + length payload)) payloads)
+
+reads_so : (bytes : List ℕ) (payloads : List (List ℕ)) → StandsFor bytes payloads → ReadsAs bytes (Stands (placed_from 12 payloads))
+reads_so bytes payloads stands =
+    let same : payloads ≡ payloads_of (placed_from 12 payloads) = sym (payloads_placed 12 payloads) in
+    (subst (λ (ps : List (List ℕ)). StandsFor bytes ps) same stands, ap (placed_from 12) same)
+
+-- where records stand, nothing else is read
+pub nothing_else : (bytes : List ℕ) (reading : Reading) → HasRecords bytes → IsTheReading bytes reading → ((placed : List Placed) → reading ≡ Stands placed → ⊥) → ⊥
+nothing_else bytes reading has is other =
+    ∥∥₁_elim has (λ x y. absurd x) (λ some. other _ (sym (is.no_other (Stands (placed_from 12 (texts_of some.0))) (reads_so bytes (texts_of some.0) some.1.stand))))
+
+-- ---- no record is bad
+
+next_fits : (folded : Folded) (records before : List Record) (payload : List ℕ) (rest : List (List ℕ))
+    → All FitsRecord records → AreInPlace folded records → All FitsRecord before
+    → texts_of records ≡ texts_of before ++ payload ∷ rest
+    → (rec : Record) × FitsRecord rec × (payload ≡ record_text rec) × IsInPlace (fold folded_after folded before) rec
+next_fits folded [] [] payload rest fit placed fit_b split = absurd cc
+next_fits folded [] (b ∷ before) payload rest fit placed fit_b split = absurd cc
+next_fits folded (r ∷ records) [] payload rest fit placed fit_b split = (r, All-head FitsRecord r records fit, cc, placed.0)
+next_fits folded (r ∷ records) (b ∷ before) payload rest fit placed fit_b split =
+    let first : r ≡ b = one_text r b (All-head FitsRecord r records fit) (All-head FitsRecord b before fit_b) (cc split) in
+    let found = next_fits (folded_after folded r) records before payload rest (All-tail FitsRecord r records fit) placed.1 (All-tail FitsRecord b before fit_b) (cc split) in
+    subst (λ (f : Record). (rec : Record) × FitsRecord rec × (payload ≡ record_text rec) × IsInPlace (fold folded_after (folded_after folded f) before) rec)
+    first found
+
+not_bad : (records : List Record) (index : ℕ) → AreRecords records → IsFirstBad (texts_of records) index → ⊥
+unfolding fold_of
+not_bad records index are bad =
+    let found = next_fits nothing_kept records bad.before bad.payload bad.rest are.fit are.placed bad.are.fit bad.split in
+    bad.bad found.0 found.1 found.2 found.3
+
+pub none_bad : (bytes : List ℕ) (payloads : List (List ℕ)) (index : ℕ) → HasRecords bytes → StandsFor bytes payloads → IsFirstBad payloads index → ⊥
+none_bad bytes payloads index has stands bad =
+    ∥∥₁_elim has (λ x y. absurd x) (λ some.
+    let same : payloads ≡ texts_of some.0 = stands_for_one bytes payloads (texts_of some.0) stands some.1.stand in
+    not_bad some.0 index some.1.sound (subst (λ (ps : List (List ℕ)). IsFirstBad ps index) same bad))
+
+pub are_on : (bytes : List ℕ) (payloads : List (List ℕ)) (records : List Record) → StandsFor bytes payloads → texts_of records ≡ payloads → ∥ AreRecords records ∥₁
+    → ∥ AreOn bytes records ∥₁
+are_on bytes payloads records stands same sound =
+    ∥∥₁_map sound (λ are. record { stand = subst (λ (ps : List (List ℕ)). StandsFor bytes ps) (sym same) stands; sound = are })
+
+pub has : (bytes : List ℕ) (records : List Record) → ∥ AreOn bytes records ∥₁ → HasRecords bytes
+has bytes records on = ∥∥₁_map on (λ are. (records, are))
+
+-- ---- a record more
+
+placed-push : (folded : Folded) (records : List Record) (rec : Record) → AreInPlace folded records → IsInPlace (fold folded_after folded records) rec
+    → AreInPlace folded (records ++ rec ∷ [])
+placed-push folded [] rec are is = (is, tt)
+placed-push folded (r ∷ records) rec are is = (are.0, placed-push (folded_after folded r) records rec are.1 is)
+
+pub are-push : (records : List Record) (rec : Record) → FitsRecord rec → IsInPlace (fold_of records) rec → AreRecords records → AreRecords (records ++ rec ∷ [])
+unfolding fold_of
+are-push records rec fits is are = record {
+  fit = All-push FitsRecord records rec are.fit fits;
+  placed = placed-push nothing_kept records rec are.placed is;
+}
+
+pub none_stand : ∥ AreOn [] [] ∥₁
+none_stand = ∣ record { stand = inl (omega arith, refl); sound = record { fit = λ k d less. absurd (omega arith); placed = tt } } ∣₁
+
+-- ---- ready
+
+-- a journal with a record has more than 13 bytes
+pub ready_with : (kept : Kept) (new rs : List Record) (rec : Record) → new ≡ rs ++ rec ∷ [] → KeepsJournal kept (texts_of new) → IsReady kept.read
+ready_with kept new rs rec more keeps =
+    let is = keeps.journal in
+    let texts : texts_of new ≡ texts_of rs ++ record_text rec ∷ [] = ap texts_of more ∙ map-append record_text rs (rec ∷ []) in
+    inl (omega (arith, ap length is.are, length-append (records (texts_of new)) (is.gate ∷ is.rest), ap end_of texts, end_of-push (texts_of rs) (record_text rec)))
+
+pub ready_loaded : (before after : List ℕ) → (13 < length before → after ≡ before) → (length before ≤ 13 → after ≡ journal_of []) → IsReady after
+ready_loaded before after same fresh = at (nat_le (length before) 13) refl
+  where
+    at : (b : Bool) → nat_le (length before) 13 ≡ b → IsReady after
+    at true short = inr (fresh (leb-true (length before) 13 short))
+    at false is =
+        let long : 13 < length before = leb-false (length before) 13 is in
+        inl (omega (arith, long, ap length (same long)))
+
+-- what a crash leaves of a disk at rest
+pub image_on : (kept : Kept) (records : List Record) (image : List ℕ) → KeepsJournal kept (texts_of records) → ∥ AreRecords records ∥₁ → IsImage kept image → ∥ AreOn image records ∥₁
+image_on kept records image keeps sound is = are_on image (texts_of records) records (each_stands kept (texts_of records) image keeps is) refl sound
+
+pub image_ready : (kept : Kept) (records : List Record) (image : List ℕ) → KeepsJournal kept (texts_of records) → IsReady kept.read → IsImage kept image → IsReady image
+image_ready kept records image keeps ready is =
+    subst IsReady (sym (rest_stays kept.read image (subst (λ (k : Kept). IsImage k image) keeps.rests is))) ready

@@ -1,0 +1,14 @@
+//! A hull over real frames, parts, journals and stores.
+//!
+//! `DiskHull` carries each message as its frame, cut into parts that are joined again. Each node's records are a store on a
+//! disk in memory. A stop in an append stops that disk in one of the append's calls, and what a crash leaves of it is what
+//! the node finds when it starts again. So the hull's promises are those of the disks, and nothing is kept beside them.
+#![tactic(auto)]
+
+mod carrying;
+mod disk_hull;
+mod node_store;
+#[cfg(test)]
+mod tests;
+
+pub use disk_hull::DiskHull;

@@ -1,0 +1,9 @@
+use Rattle.std.proofs.Common.{sym, ◌∙◌, ap, unwrap_or, []}
+use Rattle.xt_protocol.specs.Folds.{body_kept}
+use Rattle.xt_protocol.proofs.Folds.{body_kept-nothing}
+use Rattle.world_hull.proofs.list_hull.ListHullHull.body.Goals as goal
+
+pub returns-in-None-clause-body : goal.returns-in-None-clause-body
+returns-in-None-clause-body c =
+    ap (λ log. body_kept (unwrap_or log []) c.args.file.now c.args.object c.args.version.now) (sym c.in-None.ensures.value)
+    ∙ body_kept-nothing c.args.file.now c.args.object c.args.version.now

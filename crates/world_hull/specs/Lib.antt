@@ -1,0 +1,4 @@
+pub mod Answers
+pub mod Appends
+pub mod BodyPlaces
+pub mod Logs

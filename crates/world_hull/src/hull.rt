@@ -1,0 +1,98 @@
+ghost use Rattle.std.specs.Prelude.{◌≡◌, ℕ, List, IfOk, IfErr};
+ghost use Rattle.xt_base.specs.declared.record.Record.{Record};
+ghost use Rattle.xt_base.specs.Limits.{FitsMessage, FitsRecord};
+ghost use Rattle.xt_protocol.specs.Folds.{IsInPlace, fold_of, body_kept};
+ghost use Rattle.world_hull.specs.Answers.{IsFullOrMemory, GivesBody};
+ghost use Rattle.world_hull.specs.Appends.{IsInAppend, IsAppended, kept_by};
+
+use crate::errors::WorldErr;
+use disk_model::Stop;
+use replica_records::BodyErr;
+use std::alloc::Global;
+use xt_base::{FileId, Msg, NodeId, Octets, Record, Stamp};
+
+/// How an append ended.
+#[derive(Clone, Copy, Debug, PartialEq, Eq)]
+pub enum Kept {
+    /// The record is kept.
+    Done,
+    /// The node stopped in it, and the record is kept.
+    StoppedKept,
+    /// The node stopped in it, and the record is lost.
+    StoppedLost,
+}
+
+/// The byte of an open gate: a stop that leaves it where a gate was being opened leaves the record.
+const OPEN: u8 = 0xa5;
+
+impl Kept {
+    /// How an append ends that this stop is in, or none.
+    pub fn by(stop: Option<Stop>) -> Kept
+        ensures { result ≡ kept_by stop }
+    {
+        match stop {
+            None => Kept::Done,
+            Some(stop) => {
+                if stop.call >= 3 && stop.fill == OPEN {
+                    Kept::StoppedKept
+                } else {
+                    Kept::StoppedLost
+                }
+            }
+        }
+    }
+}
+
+/// Keeps the records of a world's nodes, and carries their messages.
+pub trait Hull: Drop {
+    /// The records of each node, by its number, in the order in which they were kept.
+    ghost kept: { Self → ℕ → List Record };
+
+    /// How often a record had no room.
+    ghost fulls: { Self → ℕ };
+
+    /// The very message, or `OutOfMemory`.
+    fn carry(&mut self, alloc: Global, msg: &Msg) -> Result<Msg, WorldErr>
+        requires { FitsMessage msg.now }
+        ensures message { IfOk result (λ carried. carried ≡ msg.now) }
+        ensures error { IfErr result (λ error. error ≡ WorldErr.OutOfMemory) }
+        ensures records { kept self.new ≡ kept self.old }
+        ensures room { fulls self.new ≡ fulls self.old };
+
+    /// Appends the node's record, or stops in one of the four device calls of that. `Full` comes only where the
+    /// record has no room. After an error the hull isn't to be used for its records again.
+    fn append(
+        &mut self,
+        alloc: Global,
+        node: NodeId,
+        rec: &Record,
+        stop: Option<Stop>,
+    ) -> Result<Kept, WorldErr>
+        requires fits { FitsRecord rec.now }
+        requires place { IsInPlace (fold_of (kept self.old node.0)) rec.now }
+        requires call { IsInAppend stop }
+        ensures records { IfOk result (λ end. IsAppended (kept self.old) (kept self.new) node rec.now stop end) }
+        ensures room { IfOk result (λ _. fulls self.new ≡ fulls self.old) }
+        ensures error { IfErr result (IsFullOrMemory (fulls self.old) (fulls self.new)) };
+
+    /// What the node that starts again finds: records that say what its records say. Only memory may run out.
+    fn revive(&mut self, alloc: Global, node: NodeId) -> Result<Vec<Record>, WorldErr>
+        ensures found { IfOk result (λ found. fold_of found.items ≡ fold_of (kept self.old node.0)) }
+        ensures error { IfErr result (λ error. error ≡ WorldErr.OutOfMemory) }
+        ensures records { kept self.new ≡ kept self.old }
+        ensures room { fulls self.new ≡ fulls self.old };
+
+    /// What the node keeps as this version of this object of the file. `NoSuchVersion` comes exactly where it keeps
+    /// none; it is never `Failed`.
+    fn body(
+        &mut self,
+        alloc: Global,
+        node: NodeId,
+        file: &FileId,
+        object: u64,
+        version: &Stamp,
+    ) -> Result<Octets, BodyErr>
+        ensures body { GivesBody (body_kept (kept self.old node.0) file.now object version.now) result }
+        ensures records { kept self.new ≡ kept self.old }
+        ensures room { fulls self.new ≡ fulls self.old };
+}

@@ -1,0 +1,90 @@
+//! A hull that keeps the records in memory.
+ghost use Rattle.std.specs.Prelude.{◌≡◌, [], OnOk};
+ghost use Rattle.world_runs.specs.Records.{with_record};
+ghost use Rattle.world_hull.specs.Logs.{records_of};
+
+use crate::errors::WorldErr;
+use crate::hull::{Hull, Kept};
+use crate::log::RecordLog;
+use disk_model::Stop;
+use replica_records::BodyErr;
+use std::alloc::Global;
+use std::collections::BTreeMap;
+use xt_base::{Copies, FileId, Msg, NodeId, Octets, OutOfMemory, Record, Stamp};
+
+/// The records of each node in memory.
+#[derive(Debug, Drop)]
+pub struct ListHull {
+    logs: BTreeMap<u32, RecordLog>,
+}
+
+impl ListHull {
+    /// No record is kept.
+    pub fn new(alloc: Global) -> ListHull
+        ensures { records_of result ≡ λ _. [] }
+    {
+        ListHull {
+            logs: BTreeMap::new(alloc),
+        }
+    }
+
+    /// Keeps the node's record.
+    fn keep(&mut self, alloc: Global, node: NodeId, rec: Record) -> Result<(), OutOfMemory>
+        ensures { OnOk result (records_of self.new ≡ with_record (records_of self.old) node rec) }
+    {
+        match self.logs.get_mut(&node.0) {
+            Some(log) => log.push(rec),
+            None => {
+                let mut log = RecordLog::new(alloc);
+                log.push(rec)?;
+                self.logs.insert(node.0, log)?;
+                Ok(())
+            }
+        }
+    }
+}
+
+impl Hull for ListHull {
+    ghost kept = { records_of };
+
+    ghost fulls = { λ _. 0 };
+
+    fn carry(&mut self, alloc: Global, msg: &Msg) -> Result<Msg, WorldErr> {
+        Ok(msg.copy(alloc)?)
+    }
+
+    fn append(
+        &mut self,
+        alloc: Global,
+        node: NodeId,
+        rec: &Record,
+        stop: Option<Stop>,
+    ) -> Result<Kept, WorldErr> {
+        let end = Kept::by(stop);
+        if end != Kept::StoppedLost {
+            self.keep(alloc, node, rec.copy(alloc)?)?;
+        }
+        Ok(end)
+    }
+
+    fn revive(&mut self, alloc: Global, node: NodeId) -> Result<Vec<Record>, WorldErr> {
+        match self.logs.get(&node.0) {
+            Some(log) => Ok(log.copies(alloc)?),
+            None => Ok(Vec::new(alloc)),
+        }
+    }
+
+    fn body(
+        &mut self,
+        alloc: Global,
+        node: NodeId,
+        file: &FileId,
+        object: u64,
+        version: &Stamp,
+    ) -> Result<Octets, BodyErr> {
+        match self.logs.get(&node.0) {
+            Some(log) => log.body(alloc, file, object, version),
+            None => Err(BodyErr::NoSuchVersion),
+        }
+    }
+}
