@@ -3,6 +3,7 @@ use Rattle.std.proofs.Common.{◌≡◌, ℕ, ◌+◌, ◌-◌, List, [], ◌∷
 use Rattle.std.proofs.lemmas.List.{append-nil}
 use Rattle.std.proofs.lemmas.Bool.{cases_eq}
 use Rattle.std.specs.Prelude.{slice_get}
+use Rattle.disk_model.specs.declared.plan.Stop.{Stop}
 use Rattle.xt_base.specs.declared.ids.NodeId.{NodeId}
 use Rattle.xt_base.specs.declared.file.Location.{Location}
 use Rattle.xt_base.specs.declared.file.Op.{Op}
@@ -12,15 +13,16 @@ use Rattle.xt_base.specs.declared.message.Payload.{Payload}
 use Rattle.xt_base.specs.declared.message.Payload.TheVariants as payload
 use Rattle.xt_protocol.specs.declared.OsdState.{OsdState}
 use Rattle.xt_protocol.specs.declared.ClientState.{ClientState}
-use Rattle.time_line.specs.declared.entry.Entry.{Entry}
 use Rattle.world_runs.specs.declared.Node.{Node}
-use Rattle.world_runs.specs.declared.NodeRecord.{NodeRecord}
+use Rattle.world_runs.specs.declared.Running.{Running}
 use Rattle.world_runs.specs.declared.Sent.{Sent}
 use Rattle.world_runs.specs.declared.Role.{Role}
 use Rattle.world_runs.specs.declared.Role.TheVariants as role
-use Rattle.world_runs.specs.World.{World, node_in, with_node}
-use Rattle.world_runs.specs.Lines.{after_turn, osd_handles, client_handles, role_handles, comes_to, no_longer_pending, delivered, client_calls}
+use Rattle.world_runs.specs.World.{World, node_in, with_node, file_in}
+use Rattle.world_runs.specs.Lines.{after_turn, sends, appends, ends_step, turned_to, osd_handles, client_handles, role_handles, comes_to, no_longer_pending, delivered, client_calls, call_made}
+use Rattle.time_line.specs.TimeLine.{operation_on}
 use Rattle.world_core.specs.Turns.{nothing}
+use Rattle.world_core.specs.Steps.{step_ended}
 use Rattle.world_core.specs.Handling.{Handled, osd_handled, client_handled, role_handled, handled, client_called}
 
 same_cases : (n : Node) (nodes : List Node) (node : Node) (id : ℕ) → node_in (n ∷ nodes) id ≡ Some node
@@ -45,24 +47,44 @@ unfolding node_in with_node
 same_node [] node id found = absurd (cc found)
 same_node (n ∷ nodes) node id found = same_cases n nodes node id found (same_node nodes node id) (cases_eq n.id.0 id)
 
--- a step that gives nothing changes nothing
+-- ---- a step that gives nothing
+
+after_nothing : (w : World) (id : NodeId) → after_turn w id nothing ≡ w
+after_nothing w id =
+    ap (λ entries. record w { entries = entries; sent = w.sent ++ [] }) (append-nil w.entries)
+    ∙ ap (λ sent. record w { sent = sent }) (append-nil w.sent)
+
+sends_nothing : (w : World) (node : Node) (running : Running) (cut : Option ℕ) → sends w node running cut [] nothing ≡ after_turn w node.id nothing
+sends_nothing w node running None = refl
+sends_nothing w node running (Some count) = refl
+
+appends_nothing : (w : World) (node : Node) (running : Running) (crash : Option Stop) → appends w node running crash None nothing ≡ after_turn w node.id nothing
+appends_nothing w node running None = sends_nothing w node running running.cut
+appends_nothing w node running (Some stop) = sends_nothing w node running running.cut
+
+ends_nothing : (w : World) (node : Node) (up : Option Running) → ends_step w node up nothing ≡ w
+ends_nothing w node None = after_nothing w node.id
+ends_nothing w node (Some running) = appends_nothing w node running running.crash ∙ after_nothing w node.id
+
+pub nothing_at : (w : World) (id : NodeId) (o : Option Node) → step_ended w id o nothing ≡ w
+nothing_at w id None = after_nothing w id
+nothing_at w id (Some node) = ends_nothing w node node.up
+
 pub nothing_is : (w : World) (node : Node) (r : Role) → with_node w.nodes (record node { role = r }) ≡ w.nodes
-    → after_turn (record w { nodes = with_node w.nodes (record node { role = r }) }) node.id nothing ≡ w
+    → turned_to w node r nothing ≡ w
 nothing_is w node r same =
-    let f : List Node → List NodeRecord → List Entry → List Sent → World =
-    λ nodes records entries sent. record w { nodes = nodes; records = records; entries = entries; sent = sent } in
-    ap (λ nodes. f nodes (w.records ++ []) (w.entries ++ []) (w.sent ++ [])) same
-    ∙ ap (λ records. f w.nodes records (w.entries ++ []) (w.sent ++ [])) (append-nil w.records)
-    ∙ ap (λ entries. f w.nodes w.records entries (w.sent ++ [])) (append-nil w.entries)
-    ∙ ap (λ sent. f w.nodes w.records w.entries sent) (append-nil w.sent)
+    ends_nothing (record w { nodes = with_node w.nodes (record node { role = r }) }) (record node { role = r }) node.up
+    ∙ ap (λ nodes. record w { nodes = nodes }) same
+
+-- ---- what a node handles
 
 -- the world after a node has handled something
 abbrev pub with_handled : World → Node → Handled → World
-with_handled w node h = after_turn (record w { nodes = with_node w.nodes (record node { role = h.role }) }) node.id h.turned
+with_handled w node h = turned_to w node h.role h.turned
 
 osd_is : (w : World) (node : Node) (osd : OsdState) (from : NodeId) (p : Payload)
     → with_node w.nodes (record node { role = role.Osd osd }) ≡ w.nodes
-    → osd_handles w node osd from p ≡ with_handled w node (osd_handled w.records node.id osd from p)
+    → osd_handles w node osd from p ≡ with_handled w node (osd_handled (w.records node.id.0) node.id osd from p)
 osd_is w node osd from (payload.Ask number capability op) same = refl
 osd_is w node osd from _ same = sym (nothing_is w node (role.Osd osd) same)
 
@@ -74,7 +96,7 @@ client_is w node client from _ same = sym (nothing_is w node (role.Client client
 
 role_is : (w : World) (node : Node) (r : Role) (m : Msg)
     → with_node w.nodes (record node { role = r }) ≡ w.nodes
-    → role_handles w node r m ≡ with_handled w node (role_handled w.records node.id r m)
+    → role_handles w node r m ≡ with_handled w node (role_handled (w.records node.id.0) node.id r m)
 role_is w node (role.Osd osd) m same = osd_is w node osd m.from m.payload same
 role_is w node (role.Client client) m same = client_is w node client m.from m.payload same
 
@@ -142,3 +164,23 @@ pub delivered_lost : (w : World) (place : ℕ) (s : Sent) → slice_get w.sent p
 delivered_lost w place s there lost =
     delivered_is w place s there
     ∙ comes_lost (record w { sent = no_longer_pending w.sent (place + 1) }) (node_in w.nodes s.message.to.0) s.message lost
+
+-- ---- calls of which nothing comes
+
+pub no_client_calls : (w : World) (o : Option Node) (c : Call) (file : Option ℕ) → o ≡ None → call_made w o c file ≡ w
+no_client_calls w None c file is = refl
+no_client_calls w (Some node) c file is = absurd (cc is)
+
+pub no_file_calls : (w : World) (o : Option Node) (c : Call) (file : Option ℕ) → file ≡ None → call_made w o c file ≡ w
+no_file_calls w None c file is = refl
+no_file_calls w (Some node) c None is = refl
+no_file_calls w (Some node) c (Some file) is = absurd (cc is)
+
+nowhere : (w : World) (node : Node) (r : Role) (c : Call) (file : ℕ) (o : Option Op) → client_calls w node r c file None o ≡ w
+nowhere w node (role.Osd osd) c file o = refl
+nowhere w node (role.Client client) c file o = refl
+
+pub no_location_calls : (w : World) (o : Option Node) (c : Call) (file : ℕ) → file_in w.files file ≡ None → call_made w o c (Some file) ≡ w
+no_location_calls w None c file is = refl
+no_location_calls w (Some node) c file is =
+    ap (λ l. client_calls w node node.role c file l (operation_on file c)) is ∙ nowhere w node node.role c file (operation_on file c)

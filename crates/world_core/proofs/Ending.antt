@@ -1,5 +1,5 @@
 -- how the ends of steps make the end of a line
-use Rattle.std.proofs.Common.{◌≡◌, ℕ, ◌+◌, ◌<◌, ◌≤◌, List, [], ◌∷◌, ◌++◌, refl, ap, ◌∙◌, sym, arith, true, false, Some, None, subst, inl, inr, length, drop, length-drop}
+use Rattle.std.proofs.Common.{◌≡◌, ℕ, ◌+◌, ◌<◌, ◌≤◌, List, [], ◌∷◌, ◌++◌, refl, ap, ◌∙◌, sym, arith, true, false, Some, None, subst, inl, inr, length, drop, length-drop, Result, Ok, Err, OnOk, IfErr}
 use Rattle.std.proofs.lemmas.Grind.{common_steps}
 use Rattle.time_line.specs.declared.line.Line.{Line}
 use Rattle.time_line.specs.declared.line.Line.TheVariants as line
@@ -7,8 +7,8 @@ use Rattle.world_runs.specs.World.{World}
 use Rattle.world_runs.specs.Rules.{refusal}
 use Rattle.world_runs.specs.Lines.{Whole, one_step, settled, line_applied, within_limits, least_pending, delivered}
 use Rattle.world_runs.specs.Runs.{with_line, after, after_refusal, left_by}
-use Rattle.world_core.specs.declared.errors.WorldErr.{WorldErr}
-use Rattle.world_core.specs.declared.errors.WorldErr.TheVariants as error
+use Rattle.world_hull.specs.declared.errors.WorldErr.{WorldErr}
+use Rattle.world_hull.specs.declared.errors.WorldErr.TheVariants as error
 use Rattle.world_core.specs.Standing.{Standing, IsLeft, IsRefused, IsDone}
 use Rattle.world_core.specs.Steps.{IsFinished, IsUntold, IsUnfinished, IsKept, IsWhole, IsStoppedFirst, IsStopped}
 use Rattle.world_core.proofs.Settling.{settled_limit, settled_more, settled_zero, whole_is}
@@ -133,7 +133,7 @@ pub refused_is : (old mid : Standing) (l : Line) (new : Standing) (e : WorldErr)
 refused_is old mid l new e legal same h =
     refused_at old l new e legal (subst (λ (x : Standing). IsStopped x l new e) same h)
 
-after_is : (w : World) (l : Line) (whole : World) → refusal w l ≡ None → line_applied w l ≡ Whole whole
+pub after_is : (w : World) (l : Line) (whole : World) → refusal w l ≡ None → line_applied w l ≡ Whole whole
     → after w l ≡ with_line whole l
 unfolding after
 after_is w l whole legal applied =
@@ -201,3 +201,50 @@ shown_is old began taken shown new l whole none going b t s n =
     (t ∙ ap (λ (x : Standing). record x { world = whole }) b)
     ∙ ap (λ ls. record old { world = with_line whole l; begun = ls; ended = false }) (sym none)
     ∙ ap (λ e. record old { world = with_line whole l; ended = e }) (sym going)
+
+-- ---- a step that goes on from where another left
+
+pub finished_from : (old mid : Standing) (a b : World) (new : Standing) → IsKept old mid → a ≡ b → IsFinished mid a new → IsFinished old b new
+finished_from old mid a b new left same h = (
+  subst (λ (w : World). within_limits w ≡ Ok w) same h.0,
+  h.1
+      ∙ ap (λ (w : World). record mid { world = w }) same
+      ∙ ap (λ ls. record mid { world = b; begun = ls }) left.0.2
+      ∙ ap (λ n. record mid { world = b; begun = old.begun; fulls = n }) left.1
+      ∙ ap (λ e. record mid { world = b; begun = old.begun; fulls = old.fulls; ended = e }) left.0.3,
+  h.2 ∙ left.0.1,
+)
+
+untold_from : (old mid new : Standing) → IsUntold old mid → IsUntold mid new → IsUntold old new
+untold_from old mid new first second = (second.0 ∙ first.0, second.1 ∙ first.1, second.2 ∙ first.2, second.3 ∙ first.3)
+
+pub unfinished_from : (old mid : Standing) (a b : World) (new : Standing) (e : WorldErr) → IsKept old mid → a ≡ b
+    → IsUnfinished mid a new e → IsUnfinished old b new e
+unfinished_from old mid a b new (error.Illegal rule) left same h = h
+unfinished_from old mid a b new (error.Limit what limit) left same h = (
+  untold_from old mid new left.0 h.0,
+  subst (λ (w : World). within_limits w ≡ Err what) same h.1,
+  h.2,
+  h.3 ∙ left.1,
+)
+unfinished_from old mid a b new (error.Full need limit) left same h = (untold_from old mid new left.0 h.0, subst (λ n. n < new.fulls) left.1 h.1)
+unfinished_from old mid a b new error.OutOfMemory left same h = (untold_from old mid new left.0 h.0, h.1 ∙ left.1)
+
+-- the same step in other words
+pub finished_as : {A : Type 0} (r : Result A WorldErr) (old : Standing) (a b : World) (new : Standing) → a ≡ b
+    → OnOk r (IsFinished old a new) → OnOk r (IsFinished old b new)
+finished_as r old a b new same h = subst (λ (w : World). OnOk r (IsFinished old w new)) same h
+
+pub unfinished_as : {A : Type 0} (r : Result A WorldErr) (old : Standing) (a b : World) (new : Standing) → a ≡ b
+    → IfErr r (IsUnfinished old a new) → IfErr r (IsUnfinished old b new)
+unfinished_as r old a b new same h = subst (λ (w : World). IfErr r (IsUnfinished old w new)) same h
+
+pub done_from : {A : Type 0} (r : Result A WorldErr) (old mid : Standing) (a b : World) (new : Standing) → IsKept old mid → a ≡ b
+    → OnOk r (IsFinished mid a new) → OnOk r (IsFinished old b new)
+done_from (Ok done) old mid a b new left same h = finished_from old mid a b new left same h
+done_from (Err e) old mid a b new left same h = tt
+
+pub ended_from : {A : Type 0} (r : Result A WorldErr) (old mid : Standing) (a b : World) (new : Standing) → IsKept old mid → a ≡ b
+    → IfErr r (IsUnfinished mid a new) → IfErr r (IsUnfinished old b new)
+ended_from (Ok done) old mid a b new left same h = tt
+ended_from (Err e) old mid a b new left same h = unfinished_from old mid a b new e left same h

@@ -1,4 +1,3 @@
-pub mod Rows
 pub mod Places
 pub mod MessageCounts
 pub mod NodeSearch
@@ -6,6 +5,8 @@ pub mod HostPlaces
 pub mod Delivery
 pub mod Settling
 pub mod Handing
-pub mod BodyIndex
 pub mod Ending
 pub mod Legal
+pub mod Stops
+pub mod Carried
+pub mod Told

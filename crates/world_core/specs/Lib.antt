@@ -1,10 +1,7 @@
-pub mod Errors
 pub mod Standing
 pub mod Counts
-pub mod Rows
 pub mod Turns
 pub mod Places
 pub mod Handling
 pub mod NodePlaces
 pub mod Steps
-pub mod BodyIndex

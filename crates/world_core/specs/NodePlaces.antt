@@ -6,6 +6,7 @@ use Rattle.xt_base.specs.declared.status.Rule.TheVariants as rule
 use Rattle.xt_base.specs.declared.event.Call.{Call}
 use Rattle.world_runs.specs.declared.DeclaredFile.{DeclaredFile}
 use Rattle.world_runs.specs.declared.Node.{Node}
+use Rattle.world_runs.specs.declared.Running.{Running}
 use Rattle.world_runs.specs.World.{node_in, with_node, file_in, is_client, is_osd}
 use Rattle.world_runs.specs.Rules.{first_stranger, is_up, is_busy, called_file}
 
@@ -35,6 +36,17 @@ start_refusal_in nodes id =
     if not (is_osd (node_in nodes id.0)) then Some (rule.NoSuchNode id)
     else if is_up (node_in nodes id.0) then Some (rule.Running id)
     else None
+
+abbrev pub stop_refusal_in : List Node → NodeId → Option Rule
+stop_refusal_in nodes id =
+    if not (is_osd (node_in nodes id.0)) then Some (rule.NoSuchNode id)
+    else if is_up (node_in nodes id.0) then None
+    else Some (rule.NotRunning id)
+
+-- how a node runs, if it is there and does
+abbrev pub up_in : Option Node → Option Running
+up_in None = None
+up_in (Some node) = node.up
 
 abbrev pub lacks_file_in : List DeclaredFile → Option ℕ → Option Rule
 lacks_file_in files None = None

@@ -1,5 +1,5 @@
 -- maps that tell where the rows of a list stand
-use Rattle.std.specs.Prelude.{ℕ, ◌≡◌, ◌==◌, ◌+◌, if◌then◌else◌, Option, Some, None, List, [], ◌∷◌}
+use Rattle.std.specs.Prelude.{ℕ, ◌≡◌, ◌+◌, if◌then◌else◌, Option, Some, None, List, [], ◌∷◌}
 use Rattle.std.specs.Ordering.{nat_cmp}
 use Rattle.std.specs.Option.{option_map}
 use Rattle.std.specs.BTreeMap.{BTreeMap, get}
@@ -10,6 +10,7 @@ use Rattle.world_runs.specs.declared.Role.{Role}
 use Rattle.world_runs.specs.declared.Role.TheVariants as role
 use Rattle.xt_base.specs.declared.ids.FileId.{FileId}
 use Rattle.xt_base.specs.declared.file.FileHead.{FileHead}
+use Rattle.xt_protocol.specs.FileIds.{is_file, file_cmp}
 use Rattle.xt_protocol.specs.OsdRows.{head_in, with_head}
 use Rattle.world_runs.specs.World.{file_in}
 
@@ -23,16 +24,16 @@ files_of (role.Osd osd) = osd.files
 files_of (role.Client client) = []
 
 -- where the first row of the file stands
-abbrev pub place_in : List FileState → ℕ → Option ℕ
-place_in [] number = None
-place_in (f ∷ fs) number = if f.file.number == number then Some 0 else option_map (λ place. place + 1) (place_in fs number)
+abbrev pub place_in : List FileState → FileId → Option ℕ
+place_in [] file = None
+place_in (f ∷ fs) file = if is_file f.file file then Some 0 else option_map (λ place. place + 1) (place_in fs file)
 
 -- the map tells where each file's row stands
-abbrev pub AreRowPlaces : List FileState → BTreeMap ℕ ℕ → Type 0
-AreRowPlaces files places = (number : ℕ) → get nat_cmp places number ≡ place_in files number
+abbrev pub AreRowPlaces : List FileState → BTreeMap FileId ℕ → Type 0
+AreRowPlaces files places = (file : FileId) → get file_cmp places file ≡ place_in files file
 
 -- the file's row stands there, and an OSD sees the file as before
 pub record IsMet (old : List FileState) (file : FileId) (new : List FileState) (place : ℕ) : Type 0 where
-  pub found : place_in new file.number ≡ Some place
-  pub same : head_in new file.number ≡ head_in old file.number
+  pub found : place_in new file ≡ Some place
+  pub same : head_in new file ≡ head_in old file
   pub put : (head : FileHead) → with_head new file head ≡ with_head old file head

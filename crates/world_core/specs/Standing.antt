@@ -1,33 +1,89 @@
 -- a world that is run by code, and what a line makes of it
-use Rattle.std.specs.Prelude.{ℕ, Bool, true, ◌≡◌, ◌<◌, ◌++◌, ◌∷◌, [], List, ◌⊎◌, Some, None}
+use Rattle.std.specs.Prelude.{ℕ, Bool, true, false, ◌-◌, ◌≡◌, ◌<◌, ◌++◌, ◌∷◌, [], List, ◌⊎◌, Some, None}
+use Rattle.std.specs.List.{AllByRecursion}
+use Rattle.xt_base.specs.declared.TheConstants.{COUNTS}
 use Rattle.xt_base.specs.declared.status.Limited.{Limited}
 use Rattle.xt_base.specs.declared.status.Limited.TheVariants as limited
+use Rattle.xt_base.specs.TimeSettings.{TimeSettings}
+use Rattle.xt_base.specs.declared.record.Record.{Record}
 use Rattle.time_line.specs.declared.line.Line.{Line}
-use Rattle.world_runs.specs.declared.TheConstants.{NODES, MESSAGES, MESSAGE_BYTES}
+use Rattle.time_line.specs.declared.entry.Entry.{Entry}
+use Rattle.world_runs.specs.declared.Node.{Node}
+use Rattle.world_runs.specs.declared.DeclaredFile.{DeclaredFile}
+use Rattle.world_runs.specs.declared.Sent.{Sent}
+use Rattle.time_line.specs.Bounds.{FitsLine}
+use Rattle.world_runs.specs.declared.TheConstants.{LINES, LINE_BYTES, NODES, MESSAGES, MESSAGE_BYTES}
 use Rattle.world_runs.specs.World.{World}
 use Rattle.world_runs.specs.Rules.{refusal}
 use Rattle.world_runs.specs.Lines.{Whole, Stopped, line_applied}
-use Rattle.world_runs.specs.Runs.{with_line, after, IsPartOf}
-use Rattle.world_core.specs.declared.errors.WorldErr.{WorldErr}
-use Rattle.world_core.specs.declared.errors.WorldErr.TheVariants as error
+use Rattle.world_runs.specs.Runs.{with_line, after, run_of, IsPartOf}
+use Rattle.world_hull.specs.declared.errors.WorldErr.{WorldErr}
+use Rattle.world_hull.specs.declared.errors.WorldErr.TheVariants as error
 
--- a world, the line that has begun and isn't among its lines yet, how often its hull had no room, and whether a line
--- ended early
+-- the world that is run, the line that has begun and isn't among its lines yet, how often its hull had no room, and
+-- whether a line ended early
 pub record Standing : Type 0 where
   pub world : World
   pub begun : List Line
   pub fulls : ℕ
   pub ended : Bool
 
+-- a world whose records a hull keeps
+pub record WorldOver (H : Type 0) : Type 0 where
+  pub times : TimeSettings
+  pub nodes : List Node
+  pub files : List DeclaredFile
+  pub sent : List Sent
+  pub hull : H
+  pub entries : List Entry
+  pub lines : List Line
+
+-- the same, as code holds it
+pub record Held (H : Type 0) : Type 0 where
+  pub world : WorldOver H
+  pub begun : List Line
+  pub ended : Bool
+
+-- the world with the records that the hull keeps
+abbrev pub seen : {H : Type 0} → (H → ℕ → List Record) → WorldOver H → World
+seen kept w =
+    record {
+      times = w.times;
+      nodes = w.nodes;
+      files = w.files;
+      sent = w.sent;
+      records = kept w.hull;
+      entries = w.entries;
+      lines = w.lines;
+    }
+
+-- what is held, by what its hull keeps and how often it had no room
+abbrev pub standing : {H : Type 0} → (H → ℕ → List Record) → (H → ℕ) → Held H → Standing
+standing kept fulls held =
+    record { world = seen kept held.world; begun = held.begun; fulls = fulls held.world.hull; ended = held.ended }
+
+-- before the first line, over a hull
+abbrev pub starting : {H : Type 0} → H → Held H
+starting hull =
+    record {
+      world = record { times = record { lease = 14000; drift = 1000 }; nodes = []; files = []; sent = []; hull = hull; entries = []; lines = [] };
+      begun = [];
+      ended = false;
+    }
+
+-- Until a line ends early, the world is the run of its lines, each of which is within its limits.
+abbrev pub IsRun : Standing → Type 0
+IsRun s = s.ended ≡ false → (s.world ≡ run_of s.world.lines) × AllByRecursion FitsLine s.world.lines
+
 -- the value that a limited count may not pass
 abbrev pub limit_of : Limited → ℕ
-limit_of limited.Lines = 65536
-limit_of limited.Line = 300000
+limit_of limited.Lines = LINES
+limit_of limited.Line = LINE_BYTES
 limit_of limited.Nodes = NODES
 limit_of limited.Messages = MESSAGES
 limit_of limited.Bytes = MESSAGE_BYTES
-limit_of limited.Boots = 4611686018427387903
-limit_of limited.Numbers = 4611686018427387903
+limit_of limited.Boots = COUNTS - 1
+limit_of limited.Numbers = COUNTS - 1
 
 -- The line finished no step, and nothing was added; or it is the last line, behind the entries of the steps that it finished.
 abbrev pub IsLeft : World → Line → World → Type 0

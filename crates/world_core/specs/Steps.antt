@@ -1,21 +1,89 @@
 -- how a step of a world that is run by code ends
-use Rattle.std.specs.Prelude.{◌≡◌, ◌<◌, ◌++◌, List, Option, Ok, Err}
+use Rattle.std.specs.Prelude.{ℕ, ◌≡◌, ◌<◌, ◌+◌, ◌++◌, ◌∷◌, [], nat_lt, take, if◌then◌else◌, List, Option, Some, None, Ok, Err}
+use Rattle.std.specs.Option.{IfSome}
+use Rattle.disk_model.specs.declared.plan.Stop.{Stop}
+use Rattle.xt_base.specs.declared.ids.Boot.{Boot}
+use Rattle.xt_base.specs.declared.TheConstants.{COUNTS}
 use Rattle.xt_base.specs.declared.ids.NodeId.{NodeId}
 use Rattle.xt_base.specs.declared.message.Msg.{Msg}
 use Rattle.xt_base.specs.declared.record.Record.{Record}
 use Rattle.time_line.specs.declared.entry.Entry.{Entry}
+use Rattle.time_line.specs.declared.entry.Entry.TheVariants as entry
+use Rattle.time_line.specs.declared.entry.Halt.{Halt}
+use Rattle.time_line.specs.declared.entry.Halt.TheVariants as halt
 use Rattle.xt_protocol.specs.declared.Turned.{Turned}
 use Rattle.time_line.specs.declared.line.Line.{Line}
-use Rattle.world_runs.specs.World.{World}
-use Rattle.world_runs.specs.Lines.{Applied, Whole, Stopped, within_limits, after_turn, kept_of, numbered}
-use Rattle.world_core.specs.declared.errors.WorldErr.{WorldErr}
-use Rattle.world_core.specs.declared.errors.WorldErr.TheVariants as error
+use Rattle.world_runs.specs.declared.Node.{Node}
+use Rattle.world_runs.specs.declared.Running.{Running}
+use Rattle.world_runs.specs.World.{World, node_in, with_node}
+use Rattle.world_runs.specs.Fits.{FitsRunning, FitsTurned}
+use Rattle.world_runs.specs.Records.{with_record, with_kept, keeps_record}
+use Rattle.world_runs.specs.Lines.{Applied, Whole, Stopped, within_limits, after_turn, stopped, sends, ends_step, numbered}
+use Rattle.world_hull.specs.declared.errors.WorldErr.{WorldErr}
+use Rattle.world_hull.specs.declared.errors.WorldErr.TheVariants as error
+use Rattle.world_core.specs.NodePlaces.{up_in}
 use Rattle.world_core.specs.Standing.{Standing, limit_of, IsLeft, CameTo}
 
 -- a world with what a step gives: its record, its messages and its entries
 abbrev pub with_given : World → NodeId → Option Record → List Msg → List Entry → World
 with_given w node rec outs made =
-    record w { records = w.records ++ kept_of node rec; entries = w.entries ++ made; sent = w.sent ++ numbered w.nodes outs }
+    record w { records = with_kept w.records node rec; entries = w.entries ++ made; sent = w.sent ++ numbered w.nodes outs }
+
+-- ---- how a node's step ends
+
+-- the nodes with that of this place changed, if it is there
+abbrev pub changed_in : List Node → Option Node → (Node → Node) → List Node
+changed_in nodes None change = nodes
+changed_in nodes (Some node) change = with_node nodes (change node)
+
+-- a node that runs on so
+abbrev pub runs_on : Running → Node → Node
+runs_on running node = record node { up = Some running }
+
+-- a world in which a node has stopped
+abbrev pub went_down : World → NodeId → ℕ → Halt → World
+went_down w id clock how =
+    record w {
+      nodes = changed_in w.nodes (node_in w.nodes id.0) stopped;
+      entries = w.entries ++ entry.Down id clock how ∷ [];
+    }
+
+-- a record is kept or lost where its append is stopped
+abbrev pub halt_in_append : Stop → Halt
+halt_in_append stop = if keeps_record stop then halt.Kept else halt.Lost
+
+abbrev pub kept_by_stop : (ℕ → List Record) → NodeId → Record → Stop → ℕ → List Record
+kept_by_stop records id rec stop = if keeps_record stop then with_record records id rec else records
+
+-- a world in which a node has stopped in an append
+abbrev pub went_down_in_append : World → NodeId → ℕ → Stop → Record → World
+went_down_in_append w id clock stop rec =
+    went_down (record w { records = kept_by_stop w.records id rec stop }) id clock (halt_in_append stop)
+
+-- a world in which a node has stopped behind so many messages
+abbrev pub went_down_sending : World → NodeId → ℕ → ℕ → Turned → World
+went_down_sending w id clock count turned =
+    went_down (after_turn w id (record turned { outs = take count turned.outs })) id clock halt.Cut
+
+-- what comes of a step in which no append is stopped
+abbrev pub step_sends : World → Option Node → Running → Turned → World
+step_sends w None running turned = w
+step_sends w (Some node) running turned = sends w node running running.cut turned.outs turned
+
+-- what comes of a step of the node of this id
+abbrev pub step_ended : World → NodeId → Option Node → Turned → World
+step_ended w id None turned = after_turn w id turned
+step_ended w id (Some node) turned = ends_step w node node.up turned
+
+-- what a step gives can be sent and kept, and where its append is to stop, it can
+abbrev pub IsReady : World → NodeId → Turned → Type 0
+IsReady w id turned = FitsTurned (w.records id.0) turned × IfSome (up_in (node_in w.nodes id.0)) FitsRunning
+
+-- the start behind the last one, where there is one within the limit
+abbrev pub next_boot : Boot → Option Boot
+next_boot last = if nat_lt (last.0 + 1) COUNTS then Some (record { 0 = last.0 + 1 }) else None
+
+-- ---- the ends of steps and lines
 
 -- the step is finished within the limits
 abbrev pub IsFinished : Standing → World → Standing → Type 0
@@ -42,7 +110,8 @@ IsKept old new = IsUntold old new × (new.fulls ≡ old.fulls)
 
 -- what a node's step gives is still to be kept, told and sent: then the world is this one
 abbrev pub IsHanded : Standing → World → Standing → NodeId → Turned → Type 0
-IsHanded old next new node turned = (after_turn new.world node turned ≡ next) × IsKept old new
+IsHanded old next new id turned =
+    (step_ended new.world id (node_in new.world.nodes id.0) turned ≡ next) × IsKept old new
 
 -- the line is done
 abbrev pub IsWhole : Standing → Applied → Standing → Type 0

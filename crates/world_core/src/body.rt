@@ -4,9 +4,9 @@ ghost use Rattle.xt_base.specs.Overlay.{zeros, overlay, cut_or_filled};
 ghost use Rattle.xt_protocol.specs.OsdRows.{present_body, readable};
 ghost use Rattle.world_runs.specs.Records.{body_in};
 
-use crate::errors::BodyErr;
-use crate::hull::Hull;
+use replica_records::BodyErr;
 use std::alloc::{AllocError, Global};
+use world_hull::Hull;
 use xt_base::{FileId, NodeId, Octets, OutOfMemory, Stamp};
 
 /// Appends as many zeros.
@@ -73,7 +73,7 @@ pub fn present_body<H: Hull>(
     object: u64,
     version: Option<Stamp>,
 ) -> Result<Octets, OutOfMemory>
-    ensures body { IfOk result (λ body. body ≡ present_body (body_in (H.kept hull.old) node.0 file.now.number) version object) }
+    ensures body { IfOk result (λ body. body ≡ present_body (body_in (H.kept hull.old node.0) file.now) version object) }
     ensures records { H.kept hull.new ≡ H.kept hull.old }
     ensures room { H.fulls hull.new ≡ H.fulls hull.old }
 {

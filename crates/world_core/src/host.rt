@@ -1,23 +1,24 @@
 //! A declared node with its state, and where the row of each of its files stands.
-ghost use Rattle.std.specs.Prelude.{◌≡◌, ◌+◌, ◌<◌, ◌∷◌, [], Some, None, IfOk, false, ℕ, length};
+ghost use Rattle.std.specs.Prelude.{◌≡◌, ◌+◌, ◌<◌, ◌∷◌, [], Some, None, IfOk, OnOk, false, length};
+ghost use Rattle.xt_base.specs.declared.ids.FileId.{FileId};
 ghost use Rattle.xt_protocol.specs.Heads.{new_head};
 ghost use Rattle.xt_protocol.specs.OsdRows.{ask_step, head_in, with_head};
 ghost use Rattle.world_runs.specs.World.{is_client, is_osd};
 ghost use Rattle.world_runs.specs.Rules.{is_busy, would_end, called_file};
-ghost use Rattle.world_runs.specs.Lines.{ticked};
+ghost use Rattle.world_runs.specs.Lines.{ticked, runs, stopped};
 ghost use Rattle.world_runs.specs.Records.{body_in};
 ghost use Rattle.world_core.specs.Turns.{with_op};
 ghost use Rattle.world_core.specs.Places.{AreRowPlaces, IsMet, place_in, files_of};
 ghost use Rattle.world_core.specs.Handling.{osd_handled, handled, role_called};
 
 use crate::client::{answered, called, declared_capability, first_target, operation_of};
-use crate::head::new_head;
-use crate::hull::Hull;
 use crate::osd::{Asker, ask_step};
 use crate::turned::nothing;
+use replica_records::new_head;
 use std::alloc::{AllocError, Global};
 use std::collections::BTreeMap;
 use std::marker::Model;
+use world_hull::Hull;
 use world_runs::{Node, Role, Running};
 use xt_base::{
     Boot, COUNTS, Call, Capability, FileId, Location, Msg, NodeId, Op, OpId, OutOfMemory, Payload,
@@ -30,7 +31,7 @@ use xt_protocol::{ClientState, FileState, OsdState, Turned};
 pub struct Host {
     node: Node,
     /// Where the row of each file that an OSD has met stands.
-    places: BTreeMap<u64, usize>,
+    places: BTreeMap<FileId, usize>,
 }
 
 impl Model for Host {
@@ -45,25 +46,51 @@ impl Model for Host {
     ghost invariant = { λ host. AreRowPlaces (files_of host.node.role) host.places };
 }
 
+/// A running node with no plan to stop it.
+fn fresh_run(boot: Boot, clock: u64) -> Running
+    ensures { result ≡ runs boot clock }
+{
+    Running {
+        boot,
+        clock,
+        crash: None,
+        cut: None,
+    }
+}
+
+/// Where the first row of each file stands.
+fn places_of(alloc: Global, files: &[FileState]) -> Result<BTreeMap<FileId, usize>, OutOfMemory>
+    ensures { IfOk result (λ places. AreRowPlaces files.now places) }
+{
+    let mut places = BTreeMap::new(alloc);
+    for (place, row) in files.iter().enumerate() {
+        if places.contains_key(&row.file) {
+            continue;
+        }
+        places.insert(row.file, place)?;
+    }
+    Ok(places)
+}
+
 /// Adds a row for the file, which has none.
 fn add(
     alloc: Global,
     files: &mut Seq<FileState>,
-    places: &mut BTreeMap<u64, usize>,
+    places: &mut BTreeMap<FileId, usize>,
     file: FileId,
 ) -> Result<usize, OutOfMemory>
     requires rows { AreRowPlaces files.old places.old }
-    requires absent { place_in files.old file.number ≡ None }
+    requires absent { place_in files.old file ≡ None }
     ensures places { AreRowPlaces files.new places.new }
     ensures met { IfOk result (λ place. IsMet files.old file files.new place) }
 {
-    let number = file.number;
+    let key = file;
     let place = files.items.len();
     files.items.push(FileState {
         file,
         head: new_head(alloc),
     })?;
-    match places.insert(number, place) {
+    match places.insert(key, place) {
         Ok(_) => Ok(place),
         Err(_) => {
             files.items.pop();
@@ -76,14 +103,14 @@ fn add(
 fn meet(
     alloc: Global,
     files: &mut Seq<FileState>,
-    places: &mut BTreeMap<u64, usize>,
+    places: &mut BTreeMap<FileId, usize>,
     file: FileId,
 ) -> Result<usize, OutOfMemory>
     requires { AreRowPlaces files.old places.old }
     ensures places { AreRowPlaces files.new places.new }
     ensures met { IfOk result (λ place. IsMet files.old file files.new place) }
 {
-    match places.get(&file.number).copied() {
+    match places.get(&file).copied() {
         Some(place) => Ok(place),
         None => add(alloc, files, places, file),
     }
@@ -99,9 +126,9 @@ fn ask_at<H: Hull>(
     asker: &Asker,
     operation: &Op,
 ) -> Result<Turned, OutOfMemory>
-    requires { place_in files.old asker.now.file.number ≡ Some place }
-    ensures places { (number : ℕ) → place_in files.new number ≡ place_in files.old number }
-    ensures step { IfOk result (λ turned. let step = ask_step node (body_in (H.kept hull.old) node.0 asker.now.file.number) (head_in files.old asker.now.file.number) (with_op asker.now operation.now) operation.now in (files.new ≡ with_head files.old asker.now.file step.head) × (turned ≡ step.turned)) }
+    requires { place_in files.old asker.now.file ≡ Some place }
+    ensures places { (file : FileId) → place_in files.new file ≡ place_in files.old file }
+    ensures step { IfOk result (λ turned. let step = ask_step node (body_in (H.kept hull.old node.0) asker.now.file) (head_in files.old asker.now.file) (with_op asker.now operation.now) operation.now in (files.new ≡ with_head files.old asker.now.file step.head) × (turned ≡ step.turned)) }
     ensures records { H.kept hull.new ≡ H.kept hull.old }
     ensures room { H.fulls hull.new ≡ H.fulls hull.old }
 {
@@ -116,7 +143,7 @@ fn osd_asked<H: Hull>(
     hull: &mut H,
     node: NodeId,
     files: &mut Seq<FileState>,
-    places: &mut BTreeMap<u64, usize>,
+    places: &mut BTreeMap<FileId, usize>,
     from: NodeId,
     number: u64,
     capability: &Capability,
@@ -124,7 +151,7 @@ fn osd_asked<H: Hull>(
 ) -> Result<Turned, OutOfMemory>
     requires { AreRowPlaces files.old places.old }
     ensures places { AreRowPlaces files.new places.new }
-    ensures step { IfOk result (λ turned. let after = osd_handled (H.kept hull.old) node (record { files = files.old }) from (Payload.Ask number capability.now operation.now) in (Role.Osd (record { files = files.new }) ≡ after.role) × (turned ≡ after.turned)) }
+    ensures step { IfOk result (λ turned. let after = osd_handled (H.kept hull.old node.0) node (record { files = files.old }) from (Payload.Ask number capability.now operation.now) in (Role.Osd (record { files = files.new }) ≡ after.role) × (turned ≡ after.turned)) }
     ensures records { H.kept hull.new ≡ H.kept hull.old }
     ensures room { H.fulls hull.new ≡ H.fulls hull.old }
 {
@@ -158,7 +185,7 @@ impl Host {
 
     /// A new client, which runs.
     pub fn client(alloc: Global, id: NodeId, clock: u64) -> Host
-        ensures { result ≡ record { id = id; up = Some (record { boot = record { 0 = 1 }; clock = clock }); role = Role.Client (record { next = 1; running = None }) } }
+        ensures { result ≡ record { id = id; up = Some (runs (record { 0 = 1 }) clock); role = Role.Client (record { next = 1; running = None }) } }
     {
         let boot = Boot(1);
         let state = ClientState {
@@ -168,7 +195,7 @@ impl Host {
         Host {
             node: Node {
                 id,
-                up: Some(Running { boot, clock }),
+                up: Some(fresh_run(boot, clock)),
                 role: Role::Client(state),
             },
             places: BTreeMap::new(alloc),
@@ -226,11 +253,34 @@ impl Host {
         }
     }
 
-    /// It starts.
-    pub fn start(&mut self, boot: Boot, clock: u64)
-        ensures { self.new ≡ record self.old { up = Some (record { boot = boot; clock = clock }) } }
+    /// It starts as an OSD that has met these files. Where memory runs out, nothing has changed.
+    pub fn start(
+        &mut self,
+        alloc: Global,
+        boot: Boot,
+        clock: u64,
+        files: Seq<FileState>,
+    ) -> Result<(), OutOfMemory>
+        ensures { OnOk result (self.new ≡ record self.old { up = Some (runs boot clock); role = Role.Osd (record { files = files }) }) }
     {
-        self.node.up = Some(Running { boot, clock });
+        self.places = places_of(alloc, files.as_slice())?;
+        self.node.role = Role::Osd(OsdState { files });
+        self.node.up = Some(fresh_run(boot, clock));
+        Ok(())
+    }
+
+    /// It stops.
+    pub fn stop(&mut self)
+        ensures { self.new ≡ stopped self.old }
+    {
+        self.node.up = None;
+    }
+
+    /// It runs on so.
+    pub fn run_on(&mut self, running: Running)
+        ensures { self.new ≡ record self.old { up = Some running } }
+    {
+        self.node.up = Some(running);
     }
 
     /// Its clock advances, where it runs.
@@ -240,10 +290,7 @@ impl Host {
     {
         if let Some(running) = self.node.up {
             let clock = running.clock + count;
-            self.node.up = Some(Running {
-                boot: running.boot,
-                clock,
-            });
+            self.node.up = Some(Running { clock, ..running });
         }
     }
 

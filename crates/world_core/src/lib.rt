@@ -7,21 +7,17 @@
 mod body;
 mod client;
 mod entries;
-mod errors;
 mod files;
 mod frame;
-mod head;
 mod host;
-mod hull;
-mod index;
-mod list_hull;
+mod keeping;
 mod nodes;
 mod osd;
+mod restart;
 mod sent;
+mod state;
 mod turned;
 mod world;
 
-pub use errors::{BodyErr, WorldErr};
-pub use hull::Hull;
-pub use list_hull::ListHull;
 pub use world::World;
+pub use world_hull::{BodyErr, Hull, Kept, ListHull, WorldErr};

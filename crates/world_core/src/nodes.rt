@@ -3,11 +3,12 @@ ghost use Rattle.std.specs.Prelude.{◌≡◌, ◌+◌, ◌<◌, ◌∷◌, [], 
 ghost use Rattle.world_runs.specs.World.{node_in, is_client, is_osd, file_in};
 ghost use Rattle.world_runs.specs.Rules.{twice, first_stranger, is_up, least_ending, lesser, clock_end, is_busy, would_end};
 ghost use Rattle.world_runs.specs.Lines.{ticked};
-ghost use Rattle.world_core.specs.NodePlaces.{IsNodePlace, IsRunningPlace, file_refusal_in, start_refusal_in, call_refusal_in, message_refusal_of};
+ghost use Rattle.world_core.specs.NodePlaces.{IsNodePlace, IsRunningPlace, file_refusal_in, start_refusal_in, stop_refusal_in, call_refusal_in, message_refusal_of, up_in};
 
 use crate::client::called_file;
 use crate::files::Files;
 use crate::host::Host;
+use world_runs::Running;
 use xt_base::{Call, Location, NodeId, Rule};
 
 /// Where the node of this id stands.
@@ -69,6 +70,16 @@ fn is_up(nodes: &[Host], id: NodeId) -> bool
     }
 }
 
+/// How the node of this id runs, if it does.
+pub fn run_of(nodes: &[Host], id: NodeId) -> Option<Running>
+    ensures { result ≡ up_in (node_in nodes.now id.0) }
+{
+    match place_of(nodes, id) {
+        None => None,
+        Some(place) => nodes[place].up(),
+    }
+}
+
 fn is_busy(nodes: &[Host], id: NodeId) -> bool
     ensures { result ≡ is_busy (node_in nodes.now id.0) }
 {
@@ -124,6 +135,19 @@ pub fn start_refusal(nodes: &[Host], id: NodeId) -> Option<Rule>
         Some(Rule::Running { node: id })
     } else {
         None
+    }
+}
+
+/// Only a declared OSD that runs is stopped, at once or as planned.
+pub fn stop_refusal(nodes: &[Host], id: NodeId) -> Option<Rule>
+    ensures { result ≡ stop_refusal_in nodes.now id }
+{
+    if !is_osd(nodes, id) {
+        Some(Rule::NoSuchNode { node: id })
+    } else if is_up(nodes, id) {
+        None
+    } else {
+        Some(Rule::NotRunning { node: id })
     }
 }
 

@@ -8,10 +8,10 @@ ghost use Rattle.world_core.specs.Turns.{with_op, reply_to, refusal_given, answe
 ghost use Rattle.xt_protocol.specs.Heads.{session_of, head_after};
 
 use crate::body::{behind, cut_or_filled, overlay, present_body, readable};
-use crate::head::{plain_stamp, session_of, sessions_with, take_update, version_of};
-use crate::hull::Hull;
 use crate::turned::{nothing, one};
+use replica_records::{plain_stamp, session_of, sessions_with, take_update, version_of};
 use std::alloc::Global;
+use world_hull::Hull;
 use xt_base::{
     CLIENTS, COUNTS, Copies, Denial, FileHead, FileId, Mark, Msg, NO_OBJECT, NodeId, OBJECTS,
     Octets, Op, OpId, OutOfMemory, Payload, Record, Reply, Seq, Session, SizeMark, Update,
@@ -102,7 +102,7 @@ fn read_served<H: Hull>(
     at: u32,
     len: u32,
 ) -> Result<Turned, OutOfMemory>
-    ensures turned { IfOk result (λ turned. turned ≡ (read_served node (body_in (H.kept hull.old) node.0 asker.now.file.number) head.now (with_op asker.now (op.Read object at len)) object at len).turned) }
+    ensures turned { IfOk result (λ turned. turned ≡ (read_served node (body_in (H.kept hull.old node.0) asker.now.file) head.now (with_op asker.now (op.Read object at len)) object at len).turned) }
     ensures records { H.kept hull.new ≡ H.kept hull.old }
     ensures room { H.fulls hull.new ≡ H.fulls hull.old }
 {
@@ -142,7 +142,7 @@ fn update_of_write<H: Hull>(
     requires counted { head.now.stamp.count < COUNTS }
     requires near { object < OBJECTS }
     requires inside { at + length bytes.now ≤ asker.now.stripe }
-    ensures update { IfOk result (λ update. update ≡ update_of_write (body_in (H.kept hull.old) node.0 asker.now.file.number) head.now (with_op asker.now (op.Write object at bytes.now)) object at bytes.now) }
+    ensures update { IfOk result (λ update. update ≡ update_of_write (body_in (H.kept hull.old node.0) asker.now.file) head.now (with_op asker.now (op.Write object at bytes.now)) object at bytes.now) }
     ensures records { H.kept hull.new ≡ H.kept hull.old }
     ensures room { H.fulls hull.new ≡ H.fulls hull.old }
 {
@@ -206,7 +206,7 @@ fn fresh_write<H: Hull>(
     bytes: &Octets,
 ) -> Result<Turned, OutOfMemory>
     requires { at + length bytes.now ≤ asker.now.stripe }
-    ensures step { IfOk result (λ turned. let step = fresh_write node (body_in (H.kept hull.old) node.0 asker.now.file.number) head.old (with_op asker.now (op.Write object at bytes.now)) object at bytes.now in (head.new ≡ step.head) × (turned ≡ step.turned)) }
+    ensures step { IfOk result (λ turned. let step = fresh_write node (body_in (H.kept hull.old node.0) asker.now.file) head.old (with_op asker.now (op.Write object at bytes.now)) object at bytes.now in (head.new ≡ step.head) × (turned ≡ step.turned)) }
     ensures records { H.kept hull.new ≡ H.kept hull.old }
     ensures room { H.fulls hull.new ≡ H.fulls hull.old }
 {
@@ -234,7 +234,7 @@ fn write_served<H: Hull>(
     bytes: &Octets,
 ) -> Result<Turned, OutOfMemory>
     requires { at + length bytes.now ≤ asker.now.stripe }
-    ensures step { IfOk result (λ turned. let step = write_served node (body_in (H.kept hull.old) node.0 asker.now.file.number) head.old (with_op asker.now (op.Write object at bytes.now)) object at bytes.now (session_of head.old.sessions asker.now.id.client.0) in (head.new ≡ step.head) × (turned ≡ step.turned)) }
+    ensures step { IfOk result (λ turned. let step = write_served node (body_in (H.kept hull.old node.0) asker.now.file) head.old (with_op asker.now (op.Write object at bytes.now)) object at bytes.now (session_of head.old.sessions asker.now.id.client.0) in (head.new ≡ step.head) × (turned ≡ step.turned)) }
     ensures records { H.kept hull.new ≡ H.kept hull.old }
     ensures room { H.fulls hull.new ≡ H.fulls hull.old }
 {
@@ -266,7 +266,7 @@ pub fn ask_step<H: Hull>(
     asker: &Asker,
     operation: &Op,
 ) -> Result<Turned, OutOfMemory>
-    ensures step { IfOk result (λ turned. let step = ask_step node (body_in (H.kept hull.old) node.0 asker.now.file.number) head.old (with_op asker.now operation.now) operation.now in (head.new ≡ step.head) × (turned ≡ step.turned)) }
+    ensures step { IfOk result (λ turned. let step = ask_step node (body_in (H.kept hull.old node.0) asker.now.file) head.old (with_op asker.now operation.now) operation.now in (head.new ≡ step.head) × (turned ≡ step.turned)) }
     ensures records { H.kept hull.new ≡ H.kept hull.old }
     ensures room { H.fulls hull.new ≡ H.fulls hull.old }
 {

@@ -1,5 +1,5 @@
 //! The messages that were sent, with which of them are pending.
-ghost use Rattle.std.specs.Prelude.{◌≡◌, ◌++◌, ◌∷◌, [], ◌+◌, ◌<◌, ◌≤◌, length, Some, None, slice_get, Bool, OnOk, MatchOption, ℕ};
+ghost use Rattle.std.specs.Prelude.{take, ◌≡◌, ◌++◌, ◌∷◌, [], ◌+◌, ◌<◌, ◌≤◌, length, Some, None, slice_get, Bool, OnOk, MatchOption, ℕ};
 ghost use Rattle.world_runs.specs.Lines.{pending, least_pending, no_longer_pending};
 ghost use Rattle.world_core.specs.Counts.{limit_passed, IsFirstPending};
 
@@ -30,6 +30,17 @@ impl Model for Messages {
     ghost view = { λ messages. messages.list.items };
 
     ghost invariant = { λ messages. AreCounts messages.list.items messages.first messages.bytes };
+}
+
+/// The first so many messages.
+pub fn front(outs: &[Msg], count: u128) -> &[Msg]
+    ensures { result.now ≡ take count outs.now }
+{
+    if count < outs.len() as u128 {
+        &outs[..count as usize]
+    } else {
+        outs
+    }
 }
 
 /// The place of the first pending message from a place on, or the end.
