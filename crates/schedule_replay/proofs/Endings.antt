@@ -1,6 +1,5 @@
 -- why a replay ends, from what its steps did
-use Rattle.std.proofs.Common.{◌≡◌, ◌≢◌, ◌∙◌, ℕ, ◌+◌, ◌==◌, ◌⊎◌, Option, Some, None, Result, Ok, Err, OnOk, IfErr, List, [], ◌∷◌, ◌++◌, length, refl, sym, ap, subst, inl, inr, append_assoc, append-nil}
-use Rattle.xt_base.specs.declared.status.Limited.{Limited}
+use Rattle.std.proofs.Common.{◌≡◌, ◌∙◌, ℕ, ◌+◌, ◌<◌, ◌==◌, ◌⊎◌, Option, Some, Result, Ok, Err, OnOk, IfErr, List, [], ◌∷◌, ◌++◌, length, refl, sym, ap, subst, inl, inr, append_assoc, append-nil}
 use Rattle.xt_base.specs.declared.status.Status.{Status}
 use Rattle.xt_base.specs.declared.status.Status.TheVariants as status
 use Rattle.node_links.specs.Streams.{Puts}
@@ -11,118 +10,144 @@ use Rattle.schedule_text.specs.LineText.{line_text, IsLine}
 use Rattle.schedule_text.specs.EntryText.{trace_text}
 use Rattle.schedule_text.specs.StatusText.{last_line}
 use Rattle.world_runs.specs.World.{World}
-use Rattle.world_runs.specs.Rules.{refusal}
-use Rattle.world_runs.specs.Lines.{Applied, Whole, Stopped, line_applied}
-use Rattle.world_runs.specs.Runs.{with_line, left_by, IsPartOf}
+use Rattle.world_runs.specs.Lines.{Applied}
+use Rattle.world_runs.specs.Runs.{left_by}
 use Rattle.world_runs.proofs.Grows.{line_grows}
-use Rattle.world_core.specs.declared.errors.WorldErr.{WorldErr}
-use Rattle.world_core.specs.declared.errors.WorldErr.TheVariants as error
+use Rattle.world_hull.specs.declared.errors.WorldErr.{WorldErr}
+use Rattle.world_hull.specs.declared.errors.WorldErr.TheVariants as error
 use Rattle.world_core.specs.Standing.{Standing, IsDone, IsRefused, IsLeft}
-use Rattle.schedule_replay.specs.Fronts.{IsFrontOf, PutsFront}
+use Rattle.world_runs.specs.declared.TheConstants.{LINES}
+use Rattle.schedule_replay.specs.Fronts.{IsFrontOf}
 use Rattle.schedule_replay.specs.NextLine.{ended, StopsReading}
-use Rattle.schedule_replay.specs.Replay.{EndsAt, IsAdded, AddsSome}
+use Rattle.schedule_replay.specs.Replay.{AddsPart, AddsAll, EndsWith, IsCutShort, EndsAt}
 use Rattle.schedule_replay.specs.Steps.{IsPut, IsFinished, Grown, status_for}
-use Rattle.schedule_replay.proofs.Streamed.{Puts-append, Puts-nothing}
-
--- the whole is a front of itself
-pub whole_front : (bytes : List ℕ) → IsFrontOf bytes bytes
-whole_front bytes = ([], sym (append-nil bytes))
-
--- nothing is a front
-pub no_front : (bytes : List ℕ) → IsFrontOf [] bytes
-no_front bytes = (bytes, refl)
+use Rattle.schedule_replay.proofs.Streamed.{Puts-append}
 
 -- a front behind the same bytes
-pub front_behind : (before front bytes : List ℕ) → IsFrontOf front bytes → IsFrontOf (before ++ front) (before ++ bytes)
-front_behind before front bytes (rest, same) = (rest, ap (λ (b : List ℕ). before ++ b) same ∙ sym (append_assoc before front rest))
+front_behind : (before front bytes : List ℕ) → IsFrontOf front bytes → IsFrontOf (before ++ front) (before ++ bytes)
+front_behind before front bytes (rest, same, some) =
+    (rest, ap (λ (b : List ℕ). before ++ b) same ∙ sym (append_assoc before front rest), some)
+
+nothing_first : (first second : List ℕ) → first ++ second ≡ [] → first ≡ []
+nothing_first [] second none = refl
+nothing_first (byte ∷ bytes) second none = cc
 
 -- a front of what comes first
-pub front_of_first : (front first second : List ℕ) → IsFrontOf front first → IsFrontOf front (first ++ second)
-front_of_first front first second (rest, same) = (rest ++ second, ap (λ (b : List ℕ). b ++ second) same ∙ append_assoc front rest second)
+front_of_first : (front first second : List ℕ) → IsFrontOf front first → IsFrontOf front (first ++ second)
+front_of_first front first second (rest, same, some) =
+    (rest ++ second, ap (λ (b : List ℕ). b ++ second) same ∙ append_assoc front rest second, λ none. some (nothing_first rest second none))
 
 -- nothing was added where a list stayed as it was
-pub nothing_added : (old more : List Entry) → old ≡ old ++ more → more ≡ []
+nothing_added : (old more : List Entry) → old ≡ old ++ more → more ≡ []
 nothing_added [] more same = sym same
 nothing_added (x ∷ xs) more same = nothing_added xs more (let e : xs ≡ xs ++ more = cc in e)
 
+-- a status that has a last line
+abbrev pub IsTold : Status → Type 0
+IsTold status.Done = ⊥
+IsTold _ = Unit {0}
+
 -- the reading stopped
-pub stop_ends : (w : World) (taken : List ℕ) (left : Option (List ℕ)) (s : Status) → StopsReading (length w.lines) taken left s → EndsAt w taken left (last_line s) s
-unfolding trace_text last_line
-stop_ends w taken left (status.Malformed number) stops = (stops, refl)
-stop_ends w taken left (status.SourceFault count) stops = (stops, refl)
-stop_ends w taken left (status.Limit what limit) stops = inr (inl (stops, refl))
-stop_ends w taken left status.OutOfMemory stops = ([], status.OutOfMemory, inl refl, whole_front (last_line status.OutOfMemory))
-stop_ends w taken left _ stops = absurd stops
+pub stop_ends : (w : World) (taken : List ℕ) (left : Option (List ℕ)) (s : Status) → length w.lines < LINES → StopsReading (length w.lines) taken left s → EndsWith w taken left [] s
+stop_ends w taken left (status.Malformed number) few stops = ((few, stops), refl)
+stop_ends w taken left (status.SourceFault count) few stops = (inl (few, stops), refl)
+stop_ends w taken left (status.Limit what limit) few stops = inr (inl ((few, stops), refl))
+stop_ends w taken left status.OutOfMemory few stops = inl ((few, stops), refl)
+stop_ends w taken left _ few stops = absurd stops
+
+pub stop_told : (before : ℕ) (taken : List ℕ) (left : Option (List ℕ)) (s : Status) → StopsReading before taken left s → IsTold s
+stop_told before taken left status.Done stops = absurd stops
+stop_told before taken left _ stops = tt
+
+-- all was put
+all_put : (w : World) (taken : List ℕ) (left : Option (List ℕ)) (new : List Entry) (s : Status) → EndsWith w taken left new s → EndsAt w taken left new (trace_text new ++ last_line s) s
+all_put w taken left new (status.SinkFault count) ends = absurd ends
+all_put w taken left new status.OutOfMemory ends = inr (status.OutOfMemory, ends, inr refl)
+all_put w taken left new _ ends = (ends, refl)
+
+-- there was no memory for some text
+text_missing : (put : List ℕ) (new : List Entry) (s : Status) → IsTold s → (put ≡ []) ⊎ (put ≡ trace_text new) → IsCutShort put new s
+text_missing put new status.Done told part = absurd told
+text_missing put new status.OutOfMemory told part = inl part
+text_missing put new _ told part = part
 
 -- the last line was put behind the entries, or as much of it as could be
 pub finished_ends : (w : World) (taken : List ℕ) (left : Option (List ℕ)) (more : List Entry) (s given : Status) (before mid after : Option (List ℕ))
     → Puts before mid (trace_text more)
     → IsFinished mid after s given
-    → IsAdded w more
-    → EndsAt w taken left (trace_text more ++ last_line s) s
-    → (put : List ℕ) × Puts before after put × EndsAt w taken left put given
-unfolding trace_text last_line
-finished_ends w taken left more s given before mid after shown (inl (same, put)) added ends =
-    (trace_text more ++ last_line s, Puts-append before mid after (trace_text more) (last_line s) shown put, subst (EndsAt w taken left (trace_text more ++ last_line s)) (sym same) ends)
-finished_ends w taken left more s given before mid after shown (inr (inl (count, same, (front, put, is_front)))) added ends = (
+    → IsTold s
+    → EndsWith w taken left more s
+    → (put : List ℕ) × Puts before after put × EndsAt w taken left more put given
+finished_ends w taken left more s given before mid after shown (inl (same, put)) told ends = (
+  trace_text more ++ last_line s,
+  Puts-append before mid after (trace_text more) (last_line s) shown put,
+  subst (EndsAt w taken left more (trace_text more ++ last_line s)) (sym same) (all_put w taken left more s ends),
+)
+finished_ends w taken left more s given before mid after shown (inr (inl (count, same, (front, put, is_front)))) told ends = (
   trace_text more ++ front,
   Puts-append before mid after (trace_text more) front shown put,
-  subst (EndsAt w taken left (trace_text more ++ front)) (sym same) (more, s, added, front_behind (trace_text more) front (last_line s) is_front),
+  subst (EndsAt w taken left more (trace_text more ++ front)) (sym same) (inr (s, ends, front_behind (trace_text more) front (last_line s) is_front)),
 )
-finished_ends w taken left more s given before mid after shown (inr (inr (same, put))) added ends = (
+finished_ends w taken left more s given before mid after shown (inr (inr (same, put))) told ends = (
   trace_text more ++ [],
   Puts-append before mid after (trace_text more) [] shown put,
-  subst (EndsAt w taken left (trace_text more ++ [])) (sym same) (more, s, added, front_behind (trace_text more) [] (last_line s) (no_front (last_line s))),
+  subst (EndsAt w taken left more (trace_text more ++ [])) (sym same) (inr (s, ends, text_missing (trace_text more ++ []) more s told (inr (append-nil (trace_text more))))),
 )
+
+-- what a line comes to whose entries couldn't be put
+abbrev pub Comes : World → List ℕ → Option (List ℕ) → List Entry → Type 0
+Comes w taken left more = AddsAll w taken more ⊎ ((said : Status) × IsTold said × EndsWith w taken left more said)
 
 -- the entries couldn't be put
 pub put_ends : (w : World) (taken : List ℕ) (left : Option (List ℕ)) (more : List Entry) (s : Status) (before after : Option (List ℕ))
     → IsPut before after (trace_text more) (Some s)
-    → IsAdded w more
-    → (put : List ℕ) × Puts before after put × EndsAt w taken left put s
-unfolding trace_text last_line
-put_ends w taken left more (status.SinkFault count) before after (front, put, is_front) added =
-    (front, put, (more, status.Done, added, front_of_first front (trace_text more) [] is_front))
-put_ends w taken left more status.OutOfMemory before after put added =
-    ([], put, (more, status.Done, added, no_front (trace_text more ++ [])))
-put_ends w taken left more _ before after put added = absurd put
+    → Comes w taken left more
+    → (put : List ℕ) × Puts before after put × EndsAt w taken left more put s
+put_ends w taken left more (status.SinkFault count) before after (front, put, is_front) (inl done) =
+    (front, put, inl (done, is_front))
+put_ends w taken left more (status.SinkFault count) before after (front, put, is_front) (inr (said, told, ends)) =
+    (front, put, inr (said, ends, front_of_first front (trace_text more) (last_line said) is_front))
+put_ends w taken left more status.OutOfMemory before after put (inl done) = ([], put, inl (done, refl))
+put_ends w taken left more status.OutOfMemory before after put (inr (said, told, ends)) =
+    ([], put, inr (said, ends, text_missing [] more said told (inl refl)))
+put_ends w taken left more _ before after put comes = absurd put
 
 -- a line that is done adds what all its steps add
-pub done_added : (old new : Standing) (l : Line) (more : List Entry) → IsDone old l new → new.world.entries ≡ old.world.entries ++ more → IsAdded old.world more
-done_added old new l more done same =
-    inr (l, done.1.0, done.0, sym (ap (λ (s : Standing). s.world.entries) done.1.2) ∙ same, inl done.1.1)
-
-left_added : (old new : World) (l : Line) (more : List Entry) → refusal old l ≡ None → IsLeft old l new → new.entries ≡ old.entries ++ more → IsAdded old more
-left_added old new l more legal (inl kept) same = inl (nothing_added old.entries more (sym kept.0 ∙ same))
-left_added old new l more legal (inr part) same = inr (l, part.0, legal, sym part.2 ∙ same, inr (inr part.1))
+pub done_adds : (old new : Standing) (l : Line) (more : List Entry)
+    → length old.world.lines < LINES
+    → IsLine (length old.world.lines == 0) l
+    → IsDone old l new
+    → new.world.entries ≡ old.world.entries ++ more
+    → AddsAll old.world (ended (line_text l)) more
+done_adds old new l more few formed done same =
+    (l, ((few, formed, refl), done.0), (done.1.0, done.1.1, sym (ap (λ (s : Standing). s.world.entries) done.1.2) ∙ same))
 
 -- and one that ended early what its finished steps add
-pub refused_added : (old new : Standing) (l : Line) (e : WorldErr) (more : List Entry) → IsRefused old l new e → new.world.entries ≡ old.world.entries ++ more → IsAdded old.world more
-refused_added old new l (error.Illegal rule) more r same =
-    inl (nothing_added old.world.entries more (sym (ap (λ (s : Standing). s.world.entries) r.1) ∙ same))
-refused_added old new l (error.Limit what limit) more r same =
-    inr (l, r.1.0, r.0.0, sym r.1.2 ∙ same, inr (inl (what, r.1.1)))
-refused_added old new l (error.Full need limit) more r same = left_added old.world new.world l more r.0.0 r.0.2 same
-refused_added old new l error.OutOfMemory more r same = left_added old.world new.world l more r.0.0 r.0.2 same
+left_adds : (old new : World) (l : Line) (more : List Entry) → IsLeft old l new → new.entries ≡ old.entries ++ more → AddsPart old l more
+left_adds old new l more (inl kept) same = inl (nothing_added old.entries more (sym kept.0 ∙ same))
+left_adds old new l more (inr part) same = inr (part.0, part.1, sym part.2 ∙ same)
 
 -- a line that isn't done ends the replay behind what its finished steps add
-pub refused_ends : (old new : Standing) (l : Line) (e : WorldErr) (more : List Entry) (number : ℕ) (taken : List ℕ) (left : Option (List ℕ))
+pub refused_ends : (old new : Standing) (l : Line) (e : WorldErr) (more : List Entry) (left : Option (List ℕ))
+    → length old.world.lines < LINES
     → IsLine (length old.world.lines == 0) l
-    → taken ≡ ended (line_text l)
-    → number ≡ length old.world.lines + 1
     → IsRefused old l new e
     → new.world.entries ≡ old.world.entries ++ more
-    → EndsAt old.world taken left (trace_text more ++ last_line (status_for number e)) (status_for number e)
-unfolding trace_text last_line
-refused_ends old new l (error.Illegal rule) more number taken left formed text counted r same =
-    let none = nothing_added old.world.entries more (sym (ap (λ (s : Standing). s.world.entries) r.1) ∙ same) in
-    (l, (formed, text), r.0, counted, ap (λ (m : List Entry). trace_text m ++ last_line (status.Illegal number rule)) none)
-refused_ends old new l (error.Limit what limit) more number taken left formed text counted r same =
-    inr (inr (l, (formed, text), r.0.0, (r.1.0, r.1.1, r.2, (more, sym r.1.2 ∙ same, refl))))
-refused_ends old new l (error.Full need limit) more number taken left formed text counted r same =
-    (l, (formed, text), (more, refused_added old new l (error.Full need limit) more r same, refl))
-refused_ends old new l error.OutOfMemory more number taken left formed text counted r same =
-    (more, status.OutOfMemory, refused_added old new l error.OutOfMemory more r same, whole_front _)
+    → EndsWith old.world (ended (line_text l)) left more (status_for (length old.world.lines + 1) e)
+refused_ends old new l (error.Illegal rule) more left few formed r same =
+    (l, (few, formed, refl), r.0, refl, nothing_added old.world.entries more (sym (ap (λ (s : Standing). s.world.entries) r.1) ∙ same))
+refused_ends old new l (error.Limit what limit) more left few formed r same =
+    inr (inr (l, ((few, formed, refl), r.0.0), (r.1.0, r.1.1, r.2, sym r.1.2 ∙ same)))
+refused_ends old new l (error.Full need limit) more left few formed r same =
+    (l, ((few, formed, refl), r.0.0), left_adds old.world new.world l more r.0.2 same)
+refused_ends old new l error.OutOfMemory more left few formed r same =
+    inr (l, ((few, formed, refl), r.0.0), left_adds old.world new.world l more r.0.2 same)
+
+pub refused_told : (number : ℕ) (e : WorldErr) → IsTold (status_for number e)
+refused_told number (error.Illegal rule) = tt
+refused_told number (error.Limit what limit) = tt
+refused_told number (error.Full need limit) = tt
+refused_told number error.OutOfMemory = tt
 
 left_grown : (old new : World) (l : Line) → IsLeft old l new → Grown old.entries new.entries
 left_grown old new l (inl kept) = ([], kept.0 ∙ sym (append-nil old.entries))

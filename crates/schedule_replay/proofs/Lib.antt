@@ -2,3 +2,6 @@ pub mod Streamed
 pub mod Endings
 pub mod Whole
 pub mod LineEnds
+pub mod Causes
+pub mod LineBytes
+pub mod Complete

@@ -1,5 +1,5 @@
 -- what was taken and put, piece by piece
-use Rattle.std.proofs.Common.{◌≡◌, ◌≢◌, ◌∙◌, ℕ, MatchOption, subst, Option, Some, None, List, [], ◌∷◌, ◌++◌, refl, sym, ap, append_assoc, append-nil}
+use Rattle.std.proofs.Common.{◌≡◌, ◌∙◌, ℕ, MatchOption, subst, Option, Some, None, List, [], ◌∷◌, ◌++◌, refl, sym, ap, append_assoc, append-nil}
 use Rattle.std.specs.List.{AllByRecursion}
 use Rattle.node_links.specs.Streams.{Takes, IsAtEnd, Puts}
 
@@ -28,6 +28,13 @@ IsAtEnd-before None b taken end = tt
 IsAtEnd-before (Some a) None taken end = absurd (let wrong : None ≡ Some taken.0 = taken.2 in cc)
 IsAtEnd-before (Some a) (Some b) taken end = let same : Some b ≡ Some taken.0 = taken.2 in let parts : a ≡ [] ++ taken.0 = taken.1 in cc
 
+-- where nothing was left, nothing is left
+IsAtEnd-after : (a b : Option (List ℕ)) → Takes a b [] → IsAtEnd a → IsAtEnd b
+IsAtEnd-after None None taken end = tt
+IsAtEnd-after None (Some b) taken end = absurd (let wrong : Some b ≡ None = taken in cc)
+IsAtEnd-after (Some a) None taken end = absurd (let wrong : None ≡ Some taken.0 = taken.2 in cc)
+IsAtEnd-after (Some a) (Some b) taken end = let same : Some b ≡ Some taken.0 = taken.2 in let parts : a ≡ [] ++ taken.0 = taken.1 in cc
+
 -- one more at the end
 pub AllByRecursion-more : (P : ℕ → Type 0) (xs : List ℕ) (x : ℕ) → AllByRecursion P xs → P x → AllByRecursion P (xs ++ x ∷ [])
 AllByRecursion-more P [] x all here = (here, tt)
@@ -37,6 +44,12 @@ AllByRecursion-more P (y ∷ ys) x all here = (all.0, AllByRecursion-more P ys x
 pub byte_taken : (a b : Option (List ℕ)) (found : Option ℕ) (byte : ℕ) → found ≡ Some byte → MatchOption found (IsAtEnd a × Takes a b []) (λ x. Takes a b (x ∷ [])) → Takes a b (byte ∷ [])
 byte_taken a b found byte same taken =
     subst (λ (f : Option ℕ). MatchOption f (IsAtEnd a × Takes a b []) (λ x. Takes a b (x ∷ []))) same taken
+
+-- no byte was taken, since none was left
+pub none_taken : (a b : Option (List ℕ)) (found : Option ℕ) → found ≡ None → MatchOption found (IsAtEnd a × Takes a b []) (λ x. Takes a b (x ∷ [])) → Takes a b [] × IsAtEnd b
+none_taken a b found same taken =
+    let end = subst (λ (f : Option ℕ). MatchOption f (IsAtEnd a × Takes a b []) (λ x. Takes a b (x ∷ []))) same taken in
+    (end.1, IsAtEnd-after a b end.1 end.0)
 
 -- nothing was put
 pub Puts-nothing : (held : Option (List ℕ)) → Puts held held []

@@ -1,29 +1,32 @@
 -- a replay as a whole, line by line
-use Rattle.std.proofs.Common.{◌≡◌, ◌∙◌, ℕ, zero, suc, ◌+◌, ◌==◌, ◌⊎◌, Bool, Option, Some, None, List, [], ◌∷◌, ◌++◌, length, length-append, refl, sym, ap, subst, inl, inr, append_assoc, append-nil, arith}
-use Rattle.std.specs.List.{fold, flat_map}
+use Rattle.std.proofs.Common.{◌≡◌, ◌∙◌, ℕ, suc, ◌+◌, ◌≤◌, ◌==◌, ◌⊎◌, Option, List, [], ◌∷◌, ◌++◌, length, refl, sym, ap, subst, inl, inr, append-nil, arith}
+use Rattle.std.specs.List.{fold, All}
+use Rattle.std.proofs.lemmas.List.Elements.{All-nil, All-cons}
 use Rattle.std.proofs.lemmas.Grind.{flat_map-append, fold-append}
 use Rattle.xt_base.specs.declared.status.Status.{Status}
 use Rattle.xt_base.specs.declared.status.Status.TheVariants as status
 use Rattle.xt_base.specs.declared.status.Limited.TheVariants as limited
-use Rattle.node_links.specs.Streams.{Takes, Puts, IsAtEnd, Rose}
+use Rattle.xt_base.specs.declared.record.Record.{Record}
+use Rattle.node_links.specs.Streams.{Takes, Puts, IsAtEnd}
 use Rattle.time_line.specs.declared.line.Line.{Line}
 use Rattle.time_line.specs.declared.entry.Entry.{Entry}
 use Rattle.schedule_text.specs.LineText.{line_text, schedule_text, IsLine}
 use Rattle.schedule_text.specs.EntryText.{trace_text}
 use Rattle.schedule_text.specs.StatusText.{last_line}
+use Rattle.schedule_text.proofs.LineFits.{line_fits}
 use Rattle.world_runs.specs.World.{World, start_world}
-use Rattle.world_runs.specs.Rules.{refusal}
-use Rattle.world_runs.specs.Lines.{Applied, Whole, Stopped, line_applied}
-use Rattle.world_runs.specs.Runs.{after, run_of, with_line, left_by}
+use Rattle.world_runs.specs.Lines.{Applied}
+use Rattle.world_runs.specs.Runs.{after, run_of, left_by}
 use Rattle.world_runs.proofs.Grows.{line_grows}
-use Rattle.world_core.specs.Standing.{Standing, IsDone}
-use Rattle.schedule_replay.specs.Fronts.{IsFrontOf}
-use Rattle.schedule_replay.specs.RawLine.{IsInLine}
-use Rattle.schedule_replay.specs.NextLine.{ended, StopsReading}
-use Rattle.schedule_replay.specs.Replay.{AreLines, IsDoneFrom, AreDoneFrom, AreRun, EndsAt, IsReplay}
+use Rattle.world_safety.specs.Members.{HasMember}
+use Rattle.world_safety.proofs.Runs.{fitting-member, run-answers, run-fresh}
+use Rattle.world_core.specs.Standing.{Standing, Held, starting, seen, IsDone}
+use Rattle.world_runs.specs.declared.TheConstants.{LINES}
+use Rattle.schedule_replay.specs.NextLine.{ended}
+use Rattle.schedule_replay.specs.Replay.{AreLines, IsDoneFrom, AreDoneFrom, AreRun, EndsAt, ShowsFiles, IsReplay}
 use Rattle.schedule_replay.specs.Steps.{IsNext, IsEnd, IsFinished}
 use Rattle.schedule_replay.proofs.Streamed.{Takes-append, Takes-nothing, Puts-append, Puts-nothing}
-use Rattle.schedule_replay.proofs.Endings.{stop_ends, finished_ends}
+use Rattle.schedule_replay.proofs.Endings.{finished_ends}
 
 -- one line more
 pub are_lines-more : (before : ℕ) (lines : List Line) (l : Line) → AreLines before lines → IsLine ((before + length lines) == 0) l → AreLines before (lines ++ l ∷ [])
@@ -46,6 +49,11 @@ schedule_text-more lines l = flat_map-append (λ line. ended (line_text line)) l
 pub trace_text-more : (old more : List Entry) → trace_text (old ++ more) ≡ trace_text old ++ trace_text more
 unfolding trace_text
 trace_text-more old more = flat_map-append _ old more
+
+-- a world over a hull that keeps no record
+pub starts : {H : Type 0} (kept : H → ℕ → List Record) (hull : H) (begun : Held H) → begun ≡ starting hull → kept hull ≡ start_world.records → seen kept begun.world ≡ start_world
+starts kept hull begun start none =
+    ap (λ (held : Held _). seen kept held.world) start ∙ ap (λ (records : ℕ → List Record). let w : World = record start_world { records = records } in w) none
 
 -- what is so of a replay that goes on: the lines so far were done, taken and shown
 pub record IsSoFar (source_before source_now sink_before sink_now : Option (List ℕ)) (w : World) : Type 0 where
@@ -91,20 +99,39 @@ goes_on source_before source_now source_after sink_before sink_now sink_after ol
           (subst (Puts sink_before sink_after) (sym (trace_text-more old.world.entries next.more)) (Puts-append sink_before sink_now sink_after _ _ so_far.sink next.sink));
     }
 
+-- each file has a member
+each_member : (before : ℕ) (lines : List Line) → AreLines before lines → All HasMember lines
+each_member before [] formed = All-nil HasMember
+each_member before (l ∷ lines) formed =
+    All-cons HasMember l lines (fitting-member l (line_fits (before == 0) l formed.0)) (each_member (before + 1) lines formed.1)
+
+-- the trace of a run shows its files, with more or without
+shows_more : (lines : List Line) (w : World) (more : List Entry) → AreLines 0 lines → w ≡ run_of lines → (more ≡ []) ⊎ ShowsFiles (w.entries ++ more) → ShowsFiles ((run_of lines).entries ++ more)
+shows_more lines w more formed same (inl none) =
+    let entries = (run_of lines).entries in
+    let members = each_member 0 lines formed in
+    subst (λ (es : List Entry). ShowsFiles (entries ++ es)) (sym none)
+    (subst ShowsFiles (sym (append-nil entries)) (record { answers = run-answers lines members; acknowledgements = run-fresh lines members }))
+shows_more lines w more formed same (inr shows) = subst (λ (v : World). ShowsFiles (v.entries ++ more)) same shows
+
 -- it ends
 pub ends_so : (source_before source_now source_after sink_before sink_now sink_after : Option (List ℕ)) (w : Standing) (s : Status)
     → IsSoFar source_before source_now sink_before sink_now w.world
+    → length w.world.lines ≤ LINES
     → IsEnd source_now source_after sink_now sink_after w s
     → IsReplay source_before source_after sink_before sink_after s
-ends_so source_before source_now source_after sink_before sink_now sink_after w s so_far end =
+ends_so source_before source_now source_after sink_before sink_now sink_after w s so_far few end =
     record {
       lines = w.world.lines;
+      few = few;
       run = so_far.run;
+      more = end.more;
       taken = end.taken;
       put = end.put;
       source = Takes-append source_before source_now source_after _ _ so_far.source end.source;
       sink = subst (λ (v : World). Puts sink_before sink_after (trace_text v.entries ++ end.put)) so_far.same (Puts-append sink_before sink_now sink_after _ _ so_far.sink end.sink);
-      ending = subst (λ (v : World). EndsAt v end.taken source_after end.put s) so_far.same end.ending;
+      ending = subst (λ (v : World). EndsAt v end.taken source_after end.more end.put s) so_far.same end.ending;
+      shows = shows_more w.world.lines w.world end.more so_far.run.formed so_far.same end.shows;
     }
 
 -- nothing was taken where what is left stayed so
@@ -113,28 +140,30 @@ nothing_taken before after same = subst (λ (left : Option (List ℕ)). Takes be
 
 -- behind the last line that a schedule may have
 pub past_end : (source_before source_after sink : Option (List ℕ)) (w : Standing) → Takes source_before source_after [] → IsAtEnd source_after → IsEnd source_before source_after sink sink w status.Done
+unfolding trace_text last_line
 past_end source_before source_after sink w taken end =
-    record { taken = []; put = []; source = taken; sink = Puts-nothing sink; ending = (refl, end, refl) }
+    record { more = []; taken = []; put = []; source = taken; sink = Puts-nothing sink; ending = ((refl, end, refl), refl); shows = inl refl }
 
 pub past_limit : (source_before source_after sink_before sink_after : Option (List ℕ)) (w : Standing) (byte : ℕ) (given : Status)
-    → length w.world.lines ≡ 65536
+    → length w.world.lines ≡ LINES
     → Takes source_before source_after (byte ∷ [])
-    → IsFinished sink_before sink_after (status.Limit limited.Lines 65536) given
+    → IsFinished sink_before sink_after (status.Limit limited.Lines LINES) given
     → IsEnd source_before source_after sink_before sink_after w given
 unfolding trace_text last_line
 past_limit source_before source_after sink_before sink_after w byte given full taken finished =
-    let ends = finished_ends w.world (byte ∷ []) source_after [] (status.Limit limited.Lines 65536) given sink_before sink_before sink_after (Puts-nothing sink_before) finished (inl refl)
+    let ends = finished_ends w.world (byte ∷ []) source_after [] (status.Limit limited.Lines LINES) given sink_before sink_before sink_after (Puts-nothing sink_before) finished tt
     (inl (refl, full, refl, refl, refl))
     in
-    record { taken = byte ∷ []; put = ends.0; source = taken; sink = ends.1; ending = ends.2 }
+    record { more = []; taken = byte ∷ []; put = ends.0; source = taken; sink = ends.1; ending = ends.2; shows = inl refl }
 
 pub past_fault : (source_before source_after sink_before sink_after : Option (List ℕ)) (w : Standing) (count : ℕ) (given : Status)
+    → length w.world.lines ≡ LINES
     → Takes source_before source_after []
     → IsFinished sink_before sink_after (status.SourceFault count) given
     → IsEnd source_before source_after sink_before sink_after w given
-unfolding trace_text last_line
-past_fault source_before source_after sink_before sink_after w count given taken finished =
-    let ends = finished_ends w.world [] source_after [] (status.SourceFault count) given sink_before sink_before sink_after (Puts-nothing sink_before) finished (inl refl)
-    (tt, refl)
+unfolding trace_text
+past_fault source_before source_after sink_before sink_after w count given full taken finished =
+    let ends = finished_ends w.world [] source_after [] (status.SourceFault count) given sink_before sink_before sink_after (Puts-nothing sink_before) finished tt
+    (inr (full, refl), refl)
     in
-    record { taken = []; put = ends.0; source = taken; sink = ends.1; ending = ends.2 }
+    record { more = []; taken = []; put = ends.0; source = taken; sink = ends.1; ending = ends.2; shows = inl refl }

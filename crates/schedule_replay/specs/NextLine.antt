@@ -1,12 +1,13 @@
 -- the next line of a schedule, as it is taken from a source
-use Rattle.std.specs.Prelude.{ℕ, Bool, ◌==◌, ◌≡◌, ◌≢◌, ◌≤◌, ◌+◌, ◌⊎◌, Option, List, [], ◌∷◌, ◌++◌, length}
+use Rattle.std.specs.Prelude.{ℕ, ◌==◌, ◌≡◌, ◌≢◌, ◌+◌, ◌⊎◌, Option, List, [], ◌∷◌, ◌++◌, length}
 use Rattle.xt_base.specs.declared.status.Limited.TheVariants as limited
 use Rattle.xt_base.specs.declared.status.Status.{Status}
 use Rattle.xt_base.specs.declared.status.Status.TheVariants as status
 use Rattle.node_links.specs.Streams.{Takes, IsAtEnd, Rose}
 use Rattle.time_line.specs.declared.line.Line.{Line}
+use Rattle.world_runs.specs.declared.TheConstants.{LINE_BYTES}
 use Rattle.schedule_text.specs.LineText.{line_text, IsLine}
-use Rattle.schedule_replay.specs.RawLine.{line_feed, longest_line, IsInLine}
+use Rattle.schedule_replay.specs.RawLine.{line_feed, IsInLine}
 use Rattle.schedule_replay.specs.declared.next.NextLine.{NextLine}
 use Rattle.schedule_replay.specs.declared.next.NextLine.TheVariants as next
 
@@ -28,7 +29,7 @@ StopsReading before taken left (status.Malformed number) =
 StopsReading before taken left (status.SourceFault count) = IsInLine taken
 -- one byte more came than a line may have
 StopsReading before taken left (status.Limit limited.Line limit) =
-    IsInLine taken × (length taken ≡ longest_line + 1) × (limit ≡ longest_line)
+    IsInLine taken × (length taken ≡ LINE_BYTES + 1) × (limit ≡ LINE_BYTES)
 -- memory ran out
 StopsReading before taken left status.OutOfMemory = Unit {0}
 -- nothing else stops the reading

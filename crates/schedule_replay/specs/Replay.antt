@@ -1,18 +1,20 @@
 -- what a replay takes and puts, and why it ends
-use Rattle.std.specs.Prelude.{ℕ, Bool, ◌==◌, ◌≡◌, ◌+◌, ◌⊎◌, Option, Some, None, List, [], ◌∷◌, ◌++◌, length}
-use Rattle.xt_base.specs.declared.status.Limited.{Limited}
+use Rattle.std.specs.Prelude.{ℕ, ◌==◌, ◌≡◌, ◌<◌, ◌≤◌, ◌+◌, ◌⊎◌, Option, Some, None, List, [], ◌∷◌, ◌++◌, length}
 use Rattle.xt_base.specs.declared.status.Limited.TheVariants as limited
 use Rattle.xt_base.specs.declared.status.Status.{Status}
 use Rattle.xt_base.specs.declared.status.Status.TheVariants as status
 use Rattle.node_links.specs.Streams.{Takes, IsAtEnd, Puts, Rose}
 use Rattle.time_line.specs.declared.line.Line.{Line}
 use Rattle.time_line.specs.declared.entry.Entry.{Entry}
+use Rattle.time_line.specs.TimeLine.{IsToldWhole, AnswersShow}
+use Rattle.time_line.specs.Fresh.{IsFresh}
 use Rattle.schedule_text.specs.LineText.{line_text, schedule_text, IsLine}
 use Rattle.schedule_text.specs.EntryText.{trace_text}
 use Rattle.schedule_text.specs.StatusText.{last_line}
+use Rattle.world_runs.specs.declared.TheConstants.{LINES}
 use Rattle.world_runs.specs.World.{World, start_world}
 use Rattle.world_runs.specs.Rules.{refusal}
-use Rattle.world_runs.specs.Lines.{Applied, Whole, Stopped, line_applied}
+use Rattle.world_runs.specs.Lines.{Whole, Stopped, line_applied}
 use Rattle.world_runs.specs.Runs.{after, run_of, IsPartOf}
 use Rattle.world_core.specs.Standing.{limit_of}
 use Rattle.schedule_replay.specs.Fronts.{IsFrontOf}
@@ -37,74 +39,121 @@ pub record AreRun (lines : List Line) : Type 0 where
   pub formed : AreLines 0 lines
   pub done : AreDoneFrom start_world lines
 
--- how many lines a schedule may have
-abbrev pub most_lines : ℕ
-most_lines = 65536
-
--- The entries that the finished steps of one line more add: all of its steps, those before a limit, or those that a settling
--- had finished when it ended early.
-abbrev pub AddsSome : World → List Entry → Type 0
-AddsSome w new =
-    (line : Line) × (shown : World) × (refusal w line ≡ None) × (shown.entries ≡ w.entries ++ new)
-    × ((line_applied w line ≡ Whole shown) ⊎ ((what : Limited) × (line_applied w line ≡ Stopped what shown)) ⊎ IsPartOf w line shown)
-
--- nothing, or what the finished steps of one line more add
-abbrev pub IsAdded : World → List Entry → Type 0
-IsAdded w new = (new ≡ []) ⊎ AddsSome w new
-
--- the line is taken whole, behind those that made the world
+-- the line is taken whole, behind those that made the world, of which there are fewer than a schedule may have
 abbrev pub IsTaken : World → List ℕ → Line → Type 0
-IsTaken w taken line = IsLine (length w.lines == 0) line × (taken ≡ ended (line_text line))
+IsTaken w taken line =
+    (length w.lines < LINES) × IsLine (length w.lines == 0) line × (taken ≡ ended (line_text line))
 
--- Why a replay ends behind the lines that made this world, by the bytes that it takes from there on and what is left of the
--- source, and by the bytes that it puts from there on.
-abbrev pub EndsAt : World → List ℕ → Option (List ℕ) → List ℕ → Status → Type 0
+-- another line may come, but none is read
+abbrev pub IsUnread : World → List ℕ → Option (List ℕ) → Status → Type 0
+IsUnread w taken left s = (length w.lines < LINES) × StopsReading (length w.lines) taken left s
+
+-- the line that is taken breaks no rule
+abbrev pub IsBegun : World → List ℕ → Line → Type 0
+IsBegun w taken line = IsTaken w taken line × (refusal w line ≡ None)
+
+-- a line that ended early adds the entries of its finished steps: none, or those of a settling's first deliveries
+abbrev pub AddsPart : World → Line → List Entry → Type 0
+AddsPart w line new = (new ≡ []) ⊎ ((part : World) × IsPartOf w line part × (part.entries ≡ w.entries ++ new))
+
+-- the line that is taken is done, and adds these entries
+abbrev pub AddsAll : World → List ℕ → List Entry → Type 0
+AddsAll w taken new =
+    (line : Line) × IsBegun w taken line
+    × ((whole : World) × (line_applied w line ≡ Whole whole) × (whole.entries ≡ w.entries ++ new))
+
+-- Why a replay ends with a status behind the lines that made this world, by the bytes that it takes from there on and what
+-- is left of the source, and by the entries that come before the status.
+abbrev pub EndsWith : World → List ℕ → Option (List ℕ) → List Entry → Status → Type 0
 -- the source is at its end
-EndsAt w taken left put status.Done = (taken ≡ []) × IsAtEnd left × (put ≡ [])
+EndsWith w taken left new status.Done = (taken ≡ []) × IsAtEnd left × (new ≡ [])
 -- the next line isn't one of a schedule, or the source ended within it
-EndsAt w taken left put (status.Malformed number) =
-    StopsReading (length w.lines) taken left (status.Malformed number) × (put ≡ last_line (status.Malformed number))
--- the source failed within the next line
-EndsAt w taken left put (status.SourceFault count) =
-    StopsReading (length w.lines) taken left (status.SourceFault count) × (put ≡ last_line (status.SourceFault count))
+EndsWith w taken left new (status.Malformed number) = IsUnread w taken left (status.Malformed number) × (new ≡ [])
+-- the source failed within the next line, or behind as many lines as a schedule may have
+EndsWith w taken left new (status.SourceFault count) =
+    (IsUnread w taken left (status.SourceFault count) ⊎ ((length w.lines ≡ LINES) × (taken ≡ []))) × (new ≡ [])
 -- the next line breaks this rule, the first that it breaks
-EndsAt w taken left put (status.Illegal number rule) =
-    (line : Line) × IsTaken w taken line × (refusal w line ≡ Some rule) × (number ≡ length w.lines + 1)
-    × (put ≡ last_line (status.Illegal number rule))
+EndsWith w taken left new (status.Illegal number rule) =
+    (line : Line) × IsTaken w taken line × (refusal w line ≡ Some rule) × (number ≡ length w.lines + 1) × (new ≡ [])
 -- there is a line more than a schedule may have, or the next one is longer than a line may be, or it came to another limit
--- behind the steps that are shown
-EndsAt w taken left put (status.Limit what limit) =
-    ((what ≡ limited.Lines) × (length w.lines ≡ most_lines) × (length taken ≡ 1) × (limit ≡ most_lines) × (put ≡ last_line (status.Limit what limit)))
-    ⊎ (StopsReading (length w.lines) taken left (status.Limit what limit) × (put ≡ last_line (status.Limit what limit)))
-    ⊎ ((line : Line) × IsTaken w taken line × (refusal w line ≡ None)
-    × ((stopped : World) × (line_applied w line ≡ Stopped what stopped) × (limit ≡ limit_of what)
-    × ((new : List Entry) × (stopped.entries ≡ w.entries ++ new) × (put ≡ trace_text new ++ last_line (status.Limit what limit)))))
--- a record of the next line had no room, behind the steps that are shown
-EndsAt w taken left put (status.JournalFull need limit) =
-    (line : Line) × IsTaken w taken line
-    × ((new : List Entry) × IsAdded w new × (put ≡ trace_text new ++ last_line (status.JournalFull need limit)))
--- the sink failed, or memory ran out: a front of what was to be put was put
-EndsAt w taken left put (status.SinkFault count) =
-    (new : List Entry) × (said : Status) × IsAdded w new × IsFrontOf put (trace_text new ++ last_line said)
-EndsAt w taken left put status.OutOfMemory =
-    (new : List Entry) × (said : Status) × IsAdded w new × IsFrontOf put (trace_text new ++ last_line said)
--- no other status comes of a replay
-EndsAt w taken left put _ = ⊥
+-- behind the steps that added these entries
+EndsWith w taken left new (status.Limit what limit) =
+    ((what ≡ limited.Lines) × (length w.lines ≡ LINES) × (length taken ≡ 1) × (limit ≡ LINES) × (new ≡ []))
+    ⊎ (IsUnread w taken left (status.Limit what limit) × (new ≡ []))
+    ⊎ ((line : Line) × IsBegun w taken line
+    × ((stopped : World) × (line_applied w line ≡ Stopped what stopped) × (limit ≡ limit_of what) × (stopped.entries ≡ w.entries ++ new)))
+-- a record of the next line had no room
+EndsWith w taken left new (status.JournalFull need limit) =
+    (line : Line) × IsBegun w taken line × AddsPart w line new
+-- memory ran out as the next line was read or done
+EndsWith w taken left new status.OutOfMemory =
+    (IsUnread w taken left status.OutOfMemory × (new ≡ []))
+    ⊎ ((line : Line) × IsBegun w taken line × AddsPart w line new)
+-- no other status ends a replay
+EndsWith w taken left new _ = ⊥
 
--- A replay: the lines that it did, what it took and put behind their text, and why it ended.
+-- Memory ran out for the text of the entries, or for that of the last line, or before. A replay that is done has no more text.
+abbrev pub IsCutShort : List ℕ → List Entry → Status → Type 0
+IsCutShort put new status.Done = ⊥
+IsCutShort put new status.OutOfMemory =
+    ((put ≡ []) ⊎ (put ≡ trace_text new)) ⊎ (put ≡ trace_text new ++ last_line status.OutOfMemory)
+IsCutShort put new said = (put ≡ []) ⊎ (put ≡ trace_text new)
+
+-- Why a replay ends behind the lines that made this world, by the entries that the line behind them adds, and by the bytes that
+-- are put from there on.
+abbrev pub EndsAt : World → List ℕ → Option (List ℕ) → List Entry → List ℕ → Status → Type 0
+-- the sink failed within the entries of a line that is done, or within what the end was to put
+EndsAt w taken left new put (status.SinkFault count) =
+    (AddsAll w taken new × IsFrontOf put (trace_text new))
+    ⊎ ((said : Status) × EndsWith w taken left new said × IsFrontOf put (trace_text new ++ last_line said))
+-- memory ran out for the entries of a line that is done, or in the end
+EndsAt w taken left new put status.OutOfMemory =
+    (AddsAll w taken new × (put ≡ []))
+    ⊎ ((said : Status) × EndsWith w taken left new said × IsCutShort put new said)
+-- all was put
+EndsAt w taken left new put s = EndsWith w taken left new s × (put ≡ trace_text new ++ last_line s)
+
+-- What a trace shows of each file that it tells whole: each answer shows the file as it stands, and the ends of its calls are
+-- fresh.
+pub record ShowsFiles (entries : List Entry) : Type 0 where
+  pub answers : (file : ℕ) → IsToldWhole file entries → AnswersShow file entries
+  pub acknowledgements : (file : ℕ) → IsToldWhole file entries → IsFresh file entries
+
+-- A replay: the lines that it did, the entries of the steps that a line behind them finished, what it took and put behind the
+-- text of these lines, and why it ended.
 pub record IsReplay (source_before source_after sink_before sink_after : Option (List ℕ)) (s : Status) : Type 0 where
   pub lines : List Line
+  pub few : length lines ≤ LINES
   pub run : AreRun lines
+  pub more : List Entry
   pub taken : List ℕ
   pub put : List ℕ
   pub source : Takes source_before source_after (schedule_text lines ++ taken)
   pub sink : Puts sink_before sink_after (trace_text (run_of lines).entries ++ put)
-  pub ending : EndsAt (run_of lines) taken source_after put s
+  pub ending : EndsAt (run_of lines) taken source_after more put s
+  pub shows : ShowsFiles ((run_of lines).entries ++ more)
 
--- a fault is told only where that object's count rose, with the count
-abbrev pub HasCause : ℕ → ℕ → ℕ → ℕ → Status → Type 0
-HasCause source_before source_after sink_before sink_after (status.SourceFault count) =
+-- how a good schedule's replay may end
+abbrev pub IsWhole : List Line → Option (List ℕ) → Option (List ℕ) → Status → Type 0
+IsWhole lines sink_before sink_after status.Done = Puts sink_before sink_after (trace_text (run_of lines).entries)
+IsWhole lines sink_before sink_after status.OutOfMemory = Unit {0}
+IsWhole lines sink_before sink_after (status.JournalFull need limit) = Unit {0}
+IsWhole lines sink_before sink_after _ = ⊥
+
+-- A fault is told only where that object's count rose, with the count; and a full journal only where the count of such
+-- answers did.
+abbrev pub HasCause : ℕ → ℕ → ℕ → ℕ → ℕ → ℕ → Status → Type 0
+HasCause source_before source_after sink_before sink_after fulls_before fulls_after (status.SourceFault count) =
     Rose source_before source_after × (count ≡ source_after)
-HasCause source_before source_after sink_before sink_after (status.SinkFault count) =
+HasCause source_before source_after sink_before sink_after fulls_before fulls_after (status.SinkFault count) =
     Rose sink_before sink_after × (count ≡ sink_after)
-HasCause source_before source_after sink_before sink_after _ = Unit {0}
+HasCause source_before source_after sink_before sink_after fulls_before fulls_after (status.JournalFull need limit) =
+    fulls_before < fulls_after
+HasCause source_before source_after sink_before sink_after fulls_before fulls_after _ = Unit {0}
+
+-- Where the source has a schedule whose lines are all well formed, legal and within the limits, the replay is done and its
+-- trace is whole, unless memory runs out or a journal is full.
+abbrev pub Completes : Option (List ℕ) → Option (List ℕ) → Option (List ℕ) → Status → Type 0
+Completes source_before sink_before sink_after s =
+    (lines : List Line) → source_before ≡ Some (schedule_text lines) → AreRun lines → length lines ≤ LINES
+    → IsWhole lines sink_before sink_after s

@@ -1,5 +1,5 @@
 -- one line of a replay, and what is put of it
-use Rattle.std.specs.Prelude.{ℕ, ◌==◌, ◌≡◌, ◌⊎◌, ◌+◌, Option, Some, None, List, [], ◌∷◌, ◌++◌, length}
+use Rattle.std.specs.Prelude.{ℕ, ◌==◌, ◌≡◌, ◌⊎◌, Option, Some, None, List, [], ◌++◌, length}
 use Rattle.xt_base.specs.declared.status.Status.{Status}
 use Rattle.xt_base.specs.declared.status.Status.TheVariants as status
 use Rattle.node_links.specs.Streams.{Takes, Puts, Rose}
@@ -8,12 +8,12 @@ use Rattle.time_line.specs.declared.entry.Entry.{Entry}
 use Rattle.schedule_text.specs.LineText.{line_text, IsLine}
 use Rattle.schedule_text.specs.EntryText.{trace_text}
 use Rattle.schedule_text.specs.StatusText.{last_line}
-use Rattle.world_core.specs.declared.errors.WorldErr.{WorldErr}
-use Rattle.world_core.specs.declared.errors.WorldErr.TheVariants as error
+use Rattle.world_hull.specs.declared.errors.WorldErr.{WorldErr}
+use Rattle.world_hull.specs.declared.errors.WorldErr.TheVariants as error
 use Rattle.world_core.specs.Standing.{Standing, IsDone}
 use Rattle.schedule_replay.specs.Fronts.{PutsFront}
 use Rattle.schedule_replay.specs.NextLine.{ended}
-use Rattle.schedule_replay.specs.Replay.{EndsAt, HasCause}
+use Rattle.schedule_replay.specs.Replay.{EndsAt, ShowsFiles, HasCause}
 
 -- the text was put, or the sink failed behind a front of it
 abbrev pub IsPut : Option (List ℕ) → Option (List ℕ) → List ℕ → Option Status → Type 0
@@ -41,11 +41,14 @@ pub record IsNext (source_before source_after sink_before sink_after : Option (L
 
 -- The replay ends here.
 pub record IsEnd (source_before source_after sink_before sink_after : Option (List ℕ)) (old : Standing) (s : Status) : Type 0 where
+  pub more : List Entry
   pub taken : List ℕ
   pub put : List ℕ
   pub source : Takes source_before source_after taken
   pub sink : Puts sink_before sink_after put
-  pub ending : EndsAt old.world taken source_after put s
+  pub ending : EndsAt old.world taken source_after more put s
+  -- a trace that has more shows its files
+  pub shows : (more ≡ []) ⊎ ShowsFiles (old.world.entries ++ more)
 
 -- one line of a replay: it goes on, or it ends with a status
 abbrev pub IsStep : Option (List ℕ) → Option (List ℕ) → Option (List ℕ) → Option (List ℕ) → Standing → Standing → Option Status → Type 0
@@ -68,10 +71,12 @@ abbrev pub IsNoSinkFault : Status → Type 0
 IsNoSinkFault (status.SinkFault count) = ⊥
 IsNoSinkFault _ = Unit {0}
 
--- a failure of the source or the sink is told only where its count of faults rose, with that count
-abbrev pub CausesStep : ℕ → ℕ → ℕ → ℕ → Option Status → Type 0
-CausesStep source_before source_later sink_before sink_later None = (source_later ≡ source_before) × (sink_later ≡ sink_before)
-CausesStep source_before source_later sink_before sink_later (Some s) = HasCause source_before source_later sink_before sink_later s
+-- no count rose where the replay goes on, and the status where it ends has its cause
+abbrev pub CausesStep : ℕ → ℕ → ℕ → ℕ → ℕ → ℕ → Option Status → Type 0
+CausesStep source_before source_later sink_before sink_later fulls_before fulls_later None =
+    (source_later ≡ source_before) × (sink_later ≡ sink_before) × (fulls_later ≡ fulls_before)
+CausesStep source_before source_later sink_before sink_later fulls_before fulls_later (Some s) =
+    HasCause source_before source_later sink_before sink_later fulls_before fulls_later s
 
 -- more entries stand behind the old ones
 abbrev pub Grown : List Entry → List Entry → Type 0

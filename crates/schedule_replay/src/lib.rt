@@ -12,5 +12,6 @@ mod replaying;
 mod step;
 mod writing;
 
+pub use disk_hull::DiskHull;
 pub use ending::finish;
-pub use replaying::{LINES, replay};
+pub use replaying::replay;

@@ -1,11 +1,12 @@
 ghost use Rattle.std.specs.Prelude.{◌<◌, ◌≡◌};
 ghost use Rattle.schedule_replay.specs.NextLine.{IsReading, CountsFaults, IsLineOf};
 
-use crate::reading::{LINE_BYTES, RawLine, read_raw};
+use crate::reading::{RawLine, read_raw};
 use node_links::Source;
 use schedule_text::{LineErr, read_line};
 use std::alloc::Global;
 use time_line::Line;
+use world_runs::{LINE_BYTES, LINES};
 use xt_base::{Limited, Status};
 
 /// The next line of a schedule, or why there is none.
@@ -19,7 +20,7 @@ pub enum NextLine {
 
 /// What the bytes of a line are read as.
 fn line_of(alloc: Global, text: &[u8], before: u64) -> NextLine
-    requires { before < 65536 }
+    requires { before < LINES }
     ensures { IsLineOf before text.now result }
 {
     match read_line(alloc, text, before == 0) {
@@ -31,7 +32,7 @@ fn line_of(alloc: Global, text: &[u8], before: u64) -> NextLine
 
 /// Reads the next line, the one behind `before` others. `raw` is room for its bytes.
 pub fn next_line<S: Source>(alloc: Global, src: &mut S, raw: &mut Vec<u8>, before: u64) -> NextLine
-    requires { before < 65536 }
+    requires { before < LINES }
     ensures reading { IsReading before (S.left src.old) (S.left src.new) result }
     ensures faults { CountsFaults (S.fault_count src.old) (S.fault_count src.new) result }
 {
@@ -41,7 +42,7 @@ pub fn next_line<S: Source>(alloc: Global, src: &mut S, raw: &mut Vec<u8>, befor
         RawLine::Unended => NextLine::Stopped(Status::Malformed { line: before + 1 }),
         RawLine::TooLong => NextLine::Stopped(Status::Limit {
             what: Limited::Line,
-            limit: LINE_BYTES as u64,
+            limit: LINE_BYTES,
         }),
         RawLine::Failed => NextLine::Stopped(Status::SourceFault {
             count: src.faults(),

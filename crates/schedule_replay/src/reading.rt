@@ -3,10 +3,8 @@ ghost use Rattle.node_links.specs.Streams.{Takes, IsAtEnd, Rose};
 ghost use Rattle.schedule_replay.specs.RawLine.{IsRawLine};
 
 use node_links::Source;
+use world_runs::LINE_BYTES;
 use xt_base::Failed;
-
-/// The longest line, in bytes without its line feed.
-pub const LINE_BYTES: usize = 300_000;
 
 /// Why the reading of a line ended.
 #[derive(Clone, Copy, Debug, PartialEq, Eq)]

@@ -1,24 +1,25 @@
-ghost use Rattle.std.specs.Prelude.{◌≡◌, false, length};
+ghost use Rattle.std.specs.Prelude.{◌≡◌, ℕ, false, length};
+ghost use Rattle.node_links.specs.Streams.{Rose};
 ghost use Rattle.world_runs.specs.World.{start_world};
-ghost use Rattle.world_core.specs.Standing.{Standing};
-ghost use Rattle.schedule_replay.specs.Replay.{IsReplay, HasCause};
+ghost use Rattle.world_core.specs.Standing.{Standing, standing};
+ghost use Rattle.schedule_replay.specs.Replay.{IsReplay, HasCause, Completes};
 ghost use Rattle.schedule_replay.specs.Steps.{IsEnd};
 
 use crate::ending::finish;
 use crate::reading::take_byte;
 use crate::step::replay_line;
+use disk_hull::DiskHull;
 use node_links::{Sink, Source};
 use std::alloc::Global;
-use world_core::{Hull, ListHull, World};
+use world_core::World;
+use world_hull::Hull;
+use world_runs::LINES;
 use xt_base::{Failed, Limited, Status};
-
-/// How many lines a schedule may have.
-pub const LINES: u64 = 65_536;
 
 /// Ends a replay behind as many lines as a schedule may have.
 fn past_last<S: Source, K: Sink>(alloc: Global, src: &mut S, out: &mut K) -> Status
-    ensures end { (w : Standing) → length w.world.lines ≡ 65536 → IsEnd (S.left src.old) (S.left src.new) (K.held out.old) (K.held out.new) w result }
-    ensures cause { HasCause (S.fault_count src.old) (S.fault_count src.new) (K.fault_count out.old) (K.fault_count out.new) result }
+    ensures end { (w : Standing) → length w.world.lines ≡ LINES → IsEnd (S.left src.old) (S.left src.new) (K.held out.old) (K.held out.new) w result }
+    ensures cause { (before later : ℕ) → HasCause (S.fault_count src.old) (S.fault_count src.new) (K.fault_count out.old) (K.fault_count out.new) before later result }
 {
     match take_byte(src) {
         Ok(None) => Status::Done,
@@ -43,19 +44,18 @@ fn past_last<S: Source, K: Sink>(alloc: Global, src: &mut S, out: &mut K) -> Sta
 /// Replays the schedule that the source gives, over a world that begins, and puts its trace.
 fn replay_over<H: Hull, S: Source, K: Sink>(
     alloc: Global,
-    world: World<H>,
+    world: &mut World<H>,
     src: &mut S,
     out: &mut K,
 ) -> Status
-    requires start { world.world ≡ start_world }
-    requires going { world.ended ≡ false }
+    requires start { (standing H.kept H.fulls world.old).world ≡ start_world }
+    requires going { world.old.ended ≡ false }
     ensures replay { IsReplay (S.left src.old) (S.left src.new) (K.held out.old) (K.held out.new) result }
-    ensures cause { HasCause (S.fault_count src.old) (S.fault_count src.new) (K.fault_count out.old) (K.fault_count out.new) result }
+    ensures cause { HasCause (S.fault_count src.old) (S.fault_count src.new) (K.fault_count out.old) (K.fault_count out.new) (H.fulls world.old.world.hull) (H.fulls world.new.world.hull) result }
 {
-    let mut world = world;
     let mut raw = Vec::new(alloc);
     for _line in 0..LINES {
-        match replay_line(alloc, &mut world, src, out, &mut raw) {
+        match replay_line(alloc, world, src, out, &mut raw) {
             None => {}
             Some(status) => return status,
         }
@@ -67,8 +67,11 @@ fn replay_over<H: Hull, S: Source, K: Sink>(
 pub fn replay<S: Source, K: Sink>(alloc: Global, src: &mut S, out: &mut K) -> Status
     // The trace is that of a run of the lines that were taken.
     ensures replay { IsReplay (S.left src.old) (S.left src.new) (K.held out.old) (K.held out.new) result }
-    // A fault is told only where its object's count rose.
-    ensures cause { HasCause (S.fault_count src.old) (S.fault_count src.new) (K.fault_count out.old) (K.fault_count out.new) result }
+    // A fault is told only where its object's count rose, and a full journal only where the hull's count of those did.
+    ensures cause { (fulls : ℕ) × HasCause (S.fault_count src.old) (S.fault_count src.new) (K.fault_count out.old) (K.fault_count out.new) 0 fulls result }
+    // A good schedule is done whole, where neither the source nor the sink fails, unless memory or a journal runs out.
+    ensures complete { (Rose (S.fault_count src.old) (S.fault_count src.new) → ⊥) → (Rose (K.fault_count out.old) (K.fault_count out.new) → ⊥) → Completes (S.left src.old) (K.held out.old) (K.held out.new) result }
 {
-    replay_over(alloc, World::new(alloc, ListHull::new(alloc)), src, out)
+    let mut world = World::new(alloc, DiskHull::new(alloc));
+    replay_over(alloc, &mut world, src, out)
 }

@@ -1,5 +1,7 @@
 ghost use Rattle.std.specs.Prelude.{◌≡◌, ◌<◌, false, length, OnOk, IfErr};
-ghost use Rattle.world_core.specs.Standing.{IsDone, IsRefused};
+ghost use Rattle.time_line.specs.Bounds.{FitsLine};
+ghost use Rattle.world_core.specs.Standing.{standing, IsDone, IsRefused};
+ghost use Rattle.schedule_replay.specs.Replay.{ShowsFiles};
 ghost use Rattle.schedule_replay.specs.Steps.{IsStep, CausesStep, Grown, status_for};
 
 use crate::ending::{finish, put_entries};
@@ -7,7 +9,9 @@ use crate::next::{NextLine, next_line};
 use node_links::{Sink, Source};
 use std::alloc::Global;
 use time_line::Line;
-use world_core::{Hull, World, WorldErr};
+use world_core::World;
+use world_hull::{Hull, WorldErr};
+use world_runs::LINES;
 use xt_base::Status;
 
 /// The status with which a line ends a replay that isn't done.
@@ -24,10 +28,12 @@ fn status_of(number: u64, error: WorldErr) -> Status
 
 /// Applies a line. Its entries stand behind those that were there.
 fn apply<H: Hull>(world: &mut World<H>, line: Line) -> Result<(), WorldErr>
-    requires { world.old.ended ≡ false }
-    ensures done { OnOk result (IsDone world.old line world.new) }
-    ensures refused { IfErr result (IsRefused world.old line world.new) }
+    requires going { world.old.ended ≡ false }
+    requires values { FitsLine line }
+    ensures done { OnOk result (IsDone (standing H.kept H.fulls world.old) line (standing H.kept H.fulls world.new)) }
+    ensures refused { IfErr result (IsRefused (standing H.kept H.fulls world.old) line (standing H.kept H.fulls world.new)) }
     ensures grown { Grown world.old.world.entries world.new.world.entries }
+    ensures shows { ShowsFiles world.new.world.entries }
 {
     world.apply(&line)
 }
@@ -42,9 +48,9 @@ pub fn replay_line<H: Hull, S: Source, K: Sink>(
     raw: &mut Vec<u8>,
 ) -> Option<Status>
     requires going { world.old.ended ≡ false }
-    requires few { length world.old.world.lines < 65536 }
-    ensures step { IsStep (S.left src.old) (S.left src.new) (K.held out.old) (K.held out.new) world.old world.new result }
-    ensures cause { CausesStep (S.fault_count src.old) (S.fault_count src.new) (K.fault_count out.old) (K.fault_count out.new) result }
+    requires few { length world.old.world.lines < LINES }
+    ensures step { IsStep (S.left src.old) (S.left src.new) (K.held out.old) (K.held out.new) (standing H.kept H.fulls world.old) (standing H.kept H.fulls world.new) result }
+    ensures cause { CausesStep (S.fault_count src.old) (S.fault_count src.new) (K.fault_count out.old) (K.fault_count out.new) (H.fulls world.old.world.hull) (H.fulls world.new.world.hull) result }
 {
     let before = world.lines().len() as u64;
     let line = match next_line(alloc, src, raw, before) {

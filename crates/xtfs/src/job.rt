@@ -1,8 +1,9 @@
-ghost use Rattle.std.specs.Prelude.{◌≡◌, ◌≢◌, ◌↔◌, IsTrue, codes};
+ghost use Rattle.std.specs.Prelude.{◌≡◌, ◌≢◌, ℕ, ◌↔◌, IsTrue, codes};
 ghost use Rattle.xt_base.specs.declared.status.Status.TheVariants as status;
-ghost use Rattle.schedule_replay.specs.Replay.{HasCause};
+ghost use Rattle.node_links.specs.Streams.{Rose};
+ghost use Rattle.schedule_replay.specs.Replay.{HasCause, IsReplay, Completes};
 ghost use Rattle.schedule_replay.specs.Steps.{IsFinished};
-ghost use Rattle.xtfs.specs.Job.{IsJob, replay_words};
+ghost use Rattle.xtfs.specs.Job.{replay_words};
 
 use node_links::{Sink, Source};
 use schedule_replay::{finish, replay};
@@ -33,11 +34,14 @@ pub fn run<S: Source, K: Sink>(alloc: Global, words: &Words, src: &mut S, out: &
     ensures usage { words.now ≢ replay_words → IsFinished (K.held out.old) (K.held out.new) status.Usage result }
     ensures untouched { words.now ≢ replay_words → src.new ≡ src.old }
 
-    // The trace is the run of the lines that were taken; its answers show each file as it stands, and are fresh.
-    ensures replay { words.now ≡ replay_words → IsJob (S.left src.old) (S.left src.new) (K.held out.old) (K.held out.new) result }
+    // The trace is the run of the lines that were taken; what it tells of whole files is as they stand, and fresh.
+    ensures replay { words.now ≡ replay_words → IsReplay (S.left src.old) (S.left src.new) (K.held out.old) (K.held out.new) result }
 
-    // A fault is told only where its object's count rose.
-    ensures cause { HasCause (S.fault_count src.old) (S.fault_count src.new) (K.fault_count out.old) (K.fault_count out.new) result }
+    // A fault is told only where its object's count rose, and a full journal only where the hull's count of those did.
+    ensures cause { (fulls : ℕ) × HasCause (S.fault_count src.old) (S.fault_count src.new) (K.fault_count out.old) (K.fault_count out.new) 0 fulls result }
+
+    // A good schedule is done whole, where neither the source nor the sink fails, unless memory or a journal runs out.
+    ensures complete { words.now ≡ replay_words → (Rose (S.fault_count src.old) (S.fault_count src.new) → ⊥) → (Rose (K.fault_count out.old) (K.fault_count out.new) → ⊥) → Completes (S.left src.old) (K.held out.old) (K.held out.new) result }
 {
     if is_replay(words.as_slice()) {
         replay(alloc, src, out)

@@ -84,6 +84,59 @@ answer 1 1 10 2 1 616263
 done 10 2 ok 1 616263
 ";
 
+const STOPS: &[u8] = b"times 1000 100
+osd 1
+client 10 0
+start 1 0
+file 7 rep 1024 1
+write 10 7 0 0 6162
+deliver 1
+tick 5
+stop 1
+deliver 1
+start 1 5
+deliver 1
+settle 9
+crash 1 3 a5
+write 10 7 0 2 63
+settle 9
+start 1 5
+deliver 4
+settle 9
+cut 1 0
+read 10 7 0 0 4
+settle 9
+start 1 5
+deliver 6
+settle 9
+";
+
+const STOPS_TRACE: &[u8] = b"times 1000 100
+up 10 1 0
+up 1 1 0
+file 7 rep 1024 1
+begin 10 1 write 7 0 0 6162
+issue 1 7 1 10 1
+commit 1 7 1 10 1
+answer 1 7 10 1 1 -
+tick 5
+down 1 5 idle
+up 1 2 5
+answer 1 7 10 1 1 -
+done 10 1 ok 1 -
+begin 10 2 write 7 0 2 63
+down 1 5 kept
+up 1 3 5
+answer 1 7 10 2 2 -
+done 10 2 ok 2 -
+begin 10 3 read 7 0 0 4
+answer 1 7 10 3 2 616263
+down 1 5 cut
+up 1 4 5
+answer 1 7 10 3 2 616263
+done 10 3 ok 2 616263
+";
+
 #[test]
 fn an_empty_source_gives_an_empty_trace(rt: HostRuntime) -> Result<(), Fail> {
     gives(&rt, rt.alloc(), b"", 0, b"")
@@ -92,6 +145,11 @@ fn an_empty_source_gives_an_empty_trace(rt: HostRuntime) -> Result<(), Fail> {
 #[test]
 fn one_replica_is_written_and_read(rt: HostRuntime) -> Result<(), Fail> {
     gives(&rt, rt.alloc(), ONE_REPLICA, 0, ONE_REPLICA_TRACE)
+}
+
+#[test]
+fn a_node_stops_and_starts_again(rt: HostRuntime) -> Result<(), Fail> {
+    gives(&rt, rt.alloc(), STOPS, 0, STOPS_TRACE)
 }
 
 #[test]

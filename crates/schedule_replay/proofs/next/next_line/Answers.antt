@@ -1,7 +1,6 @@
-use Rattle.std.proofs.Common.{◌≡◌, ℕ, Option, List, [], ◌∷◌, ◌++◌, refl, subst, inl}
+use Rattle.std.proofs.Common.{ℕ, Option, List, refl, subst, inl}
 use Rattle.xt_base.specs.declared.status.Status.TheVariants as status
 use Rattle.node_links.specs.Streams.{Takes}
-use Rattle.schedule_text.specs.LineText.{line_text}
 use Rattle.schedule_replay.specs.RawLine.{IsInLine}
 use Rattle.schedule_replay.specs.NextLine.{IsReading, IsLineOf, ended}
 use Rattle.schedule_replay.specs.declared.next.NextLine.{NextLine}

@@ -1,8 +1,6 @@
-use Rattle.std.proofs.Common.{◌≡◌, ℕ, List, ◌∷◌, [], ◌++◌, length, arith, subst, sym}
-use Rattle.std.specs.Result.{is_err}
-use Rattle.std.specs.List.{AllByRecursion}
+use Rattle.std.proofs.Common.{◌≡◌, ℕ, List, ◌∷◌, [], ◌++◌, arith, subst, sym}
 use Rattle.node_links.specs.Streams.{Takes}
-use Rattle.schedule_replay.specs.RawLine.{IsInLine, line_feed}
+use Rattle.schedule_replay.specs.RawLine.{IsInLine}
 use Rattle.schedule_replay.proofs.Streamed.{Takes-append, byte_taken, AllByRecursion-more}
 use Rattle.schedule_replay.proofs.reading.read_raw.Goals as goal
 

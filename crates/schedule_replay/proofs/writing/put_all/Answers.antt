@@ -1,4 +1,4 @@
-use Rattle.std.proofs.Common.{◌≡◌, ◌≤◌, ◌<◌, ◌+◌, ◌-◌, ◌∙◌, List, ℕ, Option, length, length-drop, take, drop, subst, sym, ap, arith}
+use Rattle.std.proofs.Common.{◌≡◌, ◌<◌, ◌+◌, ◌-◌, ◌∙◌, List, ℕ, Option, length, length-drop, take, drop, subst, sym, ap, arith}
 use Rattle.std.proofs.lemmas.List.{take-append-drop}
 use Rattle.std.proofs.Math.Seq.{take-add, take-length}
 use Rattle.node_links.specs.Streams.{Puts}
@@ -20,12 +20,13 @@ further a b c piece place count before now =
     subst (λ (front : List ℕ). Puts a c front) (sym (take-add place count piece)) (Puts-append a b c _ _ before put)
 
 -- a front is a front
-stopped : (a b : Option (List ℕ)) (piece : List ℕ) (place : ℕ) → Puts a b (take place piece) → PutsFront a b piece
-stopped a b piece place before = (take place piece, before, (drop place piece, sym (take-append-drop place piece)))
+stopped : (a b : Option (List ℕ)) (piece : List ℕ) (place : ℕ) → place < length piece → Puts a b (take place piece) → PutsFront a b piece
+stopped a b piece place inside before =
+    (take place piece, before, (drop place piece, sym (take-append-drop place piece), λ none. absurd (omega (arith, ap length none, length-drop place piece))))
 
 pub returns-in-Err-clause-front : goal.returns-in-Err-clause-front
 returns-in-Err-clause-front g c =
-    stopped _ _ c.args.piece.now c.loop-place.place
+    stopped _ _ c.args.piece.now c.loop-place.place (omega arith)
     (subst (λ (held : Option (List ℕ)). Puts (g.K.Sink.held c.args.out.now) held (take c.loop-place.place c.args.piece.now)) (sym c.in-Err.ensures.kept) c.loop-place.invariant.front)
 
 pub loop-place-preserved : goal.loop-place-preserved
