@@ -1,0 +1,56 @@
+ghost use Rattle.std.specs.Prelude.{IfOk};
+ghost use Rattle.xt_base.specs.Limits.{FitsMessage};
+
+use anyhow::{Context, Result, ensure};
+use std::alloc::Global;
+use uuid::Uuid;
+use xt_base::{BODY, Epoch, FileId, Msg, NodeId, Octets, Payload, Stamp};
+use xt_frames::{decode, encode};
+
+/// A message that sends an object of so many bytes.
+fn object_of(alloc: Global, size: usize) -> Result<Msg>
+    ensures { IfOk result (λ msg. FitsMessage msg) }
+{
+    ensure!(size <= BODY, "{size} bytes don't fit a message");
+    let epoch = Epoch {
+        number: 1,
+        node: NodeId(1),
+    };
+    Ok(Msg {
+        from: NodeId(1),
+        to: NodeId(2),
+        list: 1,
+        payload: Payload::Object {
+            file: FileId {
+                volume: Uuid::nil(),
+                number: 1,
+            },
+            epoch,
+            object: 0,
+            version: Stamp { epoch, count: 1 },
+            bytes: Octets::from(vec![in alloc; 7u8; size]?),
+        },
+    })
+}
+
+/// Makes the frame of a message so many times, and gives the bytes of all.
+pub fn encode_times(alloc: Global, size: usize, times: u32) -> Result<u64> {
+    let msg = object_of(alloc, size)?;
+    let mut bytes = 0u64;
+    for _ in 0..times {
+        let frame = encode(alloc, &msg).context("encode")?;
+        bytes = bytes.saturating_add(frame.as_slice().len() as u64);
+    }
+    Ok(bytes)
+}
+
+/// Reads the frame of a message so many times, and gives the bytes of all.
+pub fn decode_times(alloc: Global, size: usize, times: u32) -> Result<u64> {
+    let frame = encode(alloc, &object_of(alloc, size)?).context("encode")?;
+    let mut bytes = 0u64;
+    for _ in 0..times {
+        let (_msg, len) = decode(alloc, frame.as_slice()).context("decode")?;
+        bytes = bytes.saturating_add(len as u64);
+    }
+    Ok(bytes)
+}

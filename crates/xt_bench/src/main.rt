@@ -1,0 +1,42 @@
+//! `xt_bench`: does a named piece of work so many times, and prints one line of what it did, for scripts to time.
+//!
+//! The works are `encode` and `decode` of frames, `cut` and `join` of parts, `append` to a journal in memory,
+//! `append-file` to one in a file, and `load` of one from a file. It is no part of the system, and promises no more than
+//! that it does each round in full, or says which call failed.
+#![tactic(auto)]
+
+mod done;
+mod frames;
+mod journals;
+mod parts;
+mod work;
+
+use anyhow::{Context, Result};
+use done::Done;
+use std::env;
+use work::Work;
+use xt_base::{Name, Words};
+
+/// Prints the words and what was made or read.
+fn tell(rt: &impl Print, words: &[Name], done: Done) -> Result<()> {
+    for word in words {
+        let word = word.as_str();
+        print!(rt; "{word} ")?;
+    }
+    let Done { pieces, bytes } = done;
+    println!(rt; "made or read {pieces} pieces of {bytes} bytes in all")?;
+    Ok(())
+}
+
+fn main(rt: HostRuntime) -> Result<()> {
+    let alloc = rt.alloc();
+    let mut words = Words::new(alloc);
+    for word in env::args(&rt)?.skip(1) {
+        words.push(alloc, word.as_str())?;
+    }
+    let words = words.as_slice();
+    let work = Work::of(words).context(
+        "usage: xt_bench encode|decode|cut|join|append SIZE N | append-file SIZE N PATH | load PATH",
+    )?;
+    tell(&rt, words, work.run(&rt, alloc)?)
+}

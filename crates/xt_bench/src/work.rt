@@ -1,0 +1,115 @@
+use crate::done::Done;
+use crate::frames::{decode_times, encode_times};
+use crate::journals::{append_file_times, append_times, load_file};
+use crate::parts::{cut_times, join_times};
+use anyhow::Result;
+use std::alloc::Global;
+use std::rt::Files;
+use xt_base::Name;
+
+/// What is done so many times.
+#[derive(Clone, Copy, Debug, PartialEq, Eq)]
+pub enum Task {
+    /// Makes the frame of an object's message.
+    Encode,
+    /// Reads that frame.
+    Decode,
+    /// Cuts a message into parts.
+    Cut,
+    /// Joins those parts.
+    Join,
+    /// Appends a payload to a journal in memory.
+    Append,
+}
+
+impl Task {
+    /// The task of this name.
+    fn of(word: &str) -> Option<Task> {
+        if word == "encode" {
+            Some(Task::Encode)
+        } else if word == "decode" {
+            Some(Task::Decode)
+        } else if word == "cut" {
+            Some(Task::Cut)
+        } else if word == "join" {
+            Some(Task::Join)
+        } else if word == "append" {
+            Some(Task::Append)
+        } else {
+            None
+        }
+    }
+
+    /// Does it on so many bytes, so many times, and gives how many bytes it made or read.
+    fn run(self, alloc: Global, size: usize, times: u32) -> Result<u64> {
+        match self {
+            Task::Encode => encode_times(alloc, size, times),
+            Task::Decode => decode_times(alloc, size, times),
+            Task::Cut => cut_times(alloc, size, times),
+            Task::Join => join_times(alloc, size, times),
+            Task::Append => append_times(alloc, size, times),
+        }
+    }
+}
+
+/// What is to be done, on so many bytes and so many times, or with the file at a path.
+#[derive(Clone, Copy, Debug)]
+pub enum Work<'a> {
+    Inside {
+        task: Task,
+        size: usize,
+        times: u32,
+    },
+    AppendFile {
+        size: usize,
+        times: u32,
+        path: &'a str,
+    },
+    LoadFile {
+        path: &'a str,
+    },
+}
+
+/// The two numbers that these words are.
+fn numbers(size: &Name, times: &Name) -> Option<(usize, u32)> {
+    let size = size.as_str().parse::<usize>().ok()?;
+    let times = times.as_str().parse::<u32>().ok()?;
+    Some((size, times))
+}
+
+impl<'a> Work<'a> {
+    /// The work that these words name, if they name one.
+    pub fn of(words: &'a [Name]) -> Option<Work<'a>> {
+        match words {
+            [task, size, times] => {
+                let task = Task::of(task.as_str())?;
+                let (size, times) = numbers(size, times)?;
+                Some(Work::Inside { task, size, times })
+            }
+            [task, size, times, path] if task.as_str() == "append-file" => {
+                let (size, times) = numbers(size, times)?;
+                let path = path.as_str();
+                Some(Work::AppendFile { size, times, path })
+            }
+            [task, path] if task.as_str() == "load" => Some(Work::LoadFile {
+                path: path.as_str(),
+            }),
+            _ => None,
+        }
+    }
+
+    /// Does it, and gives what it made or read.
+    pub fn run<R: Files>(self, rt: &R, alloc: Global) -> Result<Done> {
+        match self {
+            Work::Inside { task, size, times } => Ok(Done {
+                pieces: u64::from(times),
+                bytes: task.run(alloc, size, times)?,
+            }),
+            Work::AppendFile { size, times, path } => Ok(Done {
+                pieces: u64::from(times),
+                bytes: append_file_times(rt, alloc, size, times, path)?,
+            }),
+            Work::LoadFile { path } => load_file(rt, alloc, path),
+        }
+    }
+}
