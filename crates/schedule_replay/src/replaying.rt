@@ -67,7 +67,7 @@ fn replay_over<H: Hull, S: Source, K: Sink>(
 pub fn replay<S: Source, K: Sink>(alloc: Global, src: &mut S, out: &mut K) -> Status
     // The trace is that of a run of the lines that were taken.
     ensures replay { IsReplay (S.left src.old) (S.left src.new) (K.held out.old) (K.held out.new) result }
-    // A fault is told only where its object's count rose, and a full journal only where the hull's count of those did.
+    // A fault is told only where its object's count rose. Of a full journal nothing is said: some `fulls` always serves.
     ensures cause { (fulls : ℕ) × HasCause (S.fault_count src.old) (S.fault_count src.new) (K.fault_count out.old) (K.fault_count out.new) 0 fulls result }
     // A good schedule is done whole, where neither the source nor the sink fails, unless memory or a journal runs out.
     ensures complete { (Rose (S.fault_count src.old) (S.fault_count src.new) → ⊥) → (Rose (K.fault_count out.old) (K.fault_count out.new) → ⊥) → Completes (S.left src.old) (K.held out.old) (K.held out.new) result }

@@ -37,7 +37,7 @@ pub fn run<S: Source, K: Sink>(alloc: Global, words: &Words, src: &mut S, out: &
     // The trace is the run of the lines that were taken; what it tells of whole files is as they stand, and fresh.
     ensures replay { words.now ≡ replay_words → IsReplay (S.left src.old) (S.left src.new) (K.held out.old) (K.held out.new) result }
 
-    // A fault is told only where its object's count rose, and a full journal only where the hull's count of those did.
+    // A fault is told only where its object's count rose. Of a full journal nothing is said: some `fulls` always serves.
     ensures cause { (fulls : ℕ) × HasCause (S.fault_count src.old) (S.fault_count src.new) (K.fault_count out.old) (K.fault_count out.new) 0 fulls result }
 
     // A good schedule is done whole, where neither the source nor the sink fails, unless memory or a journal runs out.
