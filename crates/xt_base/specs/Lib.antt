@@ -1,3 +1,4 @@
+pub mod AddressText
 pub mod MemberList
 pub mod TimeSettings
 pub mod StatusCode

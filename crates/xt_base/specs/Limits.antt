@@ -2,6 +2,7 @@
 use Rattle.std.specs.Prelude.{ℕ, ◌<◌, ◌≤◌, ◌^◌, ◌%◌, ◌-◌, ◌≡◌, ◌⊎◌, List, [], ◌∷◌, length, map, IfSome, Bool, true, nat_lt, nat_le, ◌==◌, ◌&&◌, ◌||◌, IsTrue, IsUtf8, slice_index}
 use Rattle.std.specs.List.{AllByRecursion}
 use Rattle.xt_base.specs.MemberList.{are_members}
+use Rattle.xt_base.specs.declared.TheConstants.{BODY, CLIENTS, OBJECTS}
 use Rattle.xt_base.specs.declared.ids.NodeId.{NodeId}
 use Rattle.xt_base.specs.declared.ids.Boot.{Boot}
 use Rattle.xt_base.specs.declared.ids.FileId.{FileId}
@@ -53,7 +54,7 @@ IsCount n = n < 2 ^ 62
 -- at most 131,072 bytes
 pub record FitsBytes (bytes : List ℕ) : Type 0 where
   pub all : AreBytes bytes
-  pub few : length bytes ≤ 131072
+  pub few : length bytes ≤ BODY
 
 -- UTF-8 of at most so many bytes
 pub record FitsText (limit : ℕ) (text : List ℕ) : Type 0 where
@@ -122,7 +123,7 @@ is_at_most a b = nat_lt a.number b.number || (a.number == b.number && nat_le a.n
 -- 1,024 to 131,072 bytes, in steps of 1,024
 pub record FitsStripe (stripe : ℕ) : Type 0 where
   pub least : 1024 ≤ stripe
-  pub most : stripe ≤ 131072
+  pub most : stripe ≤ BODY
   pub step : stripe % 1024 ≡ 0
 
 -- one to nine different nodes
@@ -158,7 +159,7 @@ abbrev pub IsObjectOrNone : ℕ → Type 0
 IsObjectOrNone object = (object < 2 ^ 32 - 1) ⊎ (object ≡ no_object)
 
 abbrev pub FitsOp : Op → Type 0
-FitsOp (op.Read object at len) = IsObject object × (at < 2 ^ 32) × (1 ≤ len) × (len ≤ 131072)
+FitsOp (op.Read object at len) = IsObject object × (at < 2 ^ 32) × (1 ≤ len) × (len ≤ BODY)
 FitsOp (op.Write object at bytes) = IsObject object × (at < 2 ^ 32) × FitsBytes bytes × (1 ≤ length bytes)
 FitsOp (op.Truncate size) = size < 2 ^ 64
 
@@ -189,13 +190,13 @@ pub record FitsSession (session : Session) : Type 0 where
 
 -- at most 4,096 versions, rising by object
 pub record FitsVersions (versions : List ObjectVersion) : Type 0 where
-  pub few : length versions ≤ 4096
+  pub few : length versions ≤ OBJECTS
   pub each : AllByRecursion FitsVersion versions
   pub rising : IsTrue (rise (map (λ v. v.object) versions))
 
 -- at most 256 sessions, rising by client
 pub record FitsSessions (sessions : List Session) : Type 0 where
-  pub few : length sessions ≤ 256
+  pub few : length sessions ≤ CLIENTS
   pub each : AllByRecursion FitsSession sessions
   pub rising : IsTrue (rise (map (λ s. s.client.0) sessions))
 

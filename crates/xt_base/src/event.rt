@@ -105,6 +105,16 @@ pub enum Event {
     Call(Call),
 }
 
+impl Copies for Event {
+    fn copy(&self, alloc: Global) -> Result<Event, OutOfMemory> {
+        Ok(match self {
+            Event::Deliver(msg) => Event::Deliver(msg.copy(alloc)?),
+            Event::Wake => Event::Wake,
+            Event::Call(call) => Event::Call(call.copy(alloc)?),
+        })
+    }
+}
+
 /// What the MRC answered, as a trace shows it.
 #[derive(Debug, Drop)]
 pub enum MetaOutcome {

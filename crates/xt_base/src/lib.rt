@@ -6,6 +6,7 @@
 //! the fields stand in `specs/Limits.antt`.
 #![tactic(auto)]
 
+mod address;
 mod event;
 mod file;
 mod ids;
@@ -20,6 +21,7 @@ mod reply;
 mod status;
 mod times;
 
+pub use address::Address;
 pub use event::{Call, Event, Mark, Marks, MetaOutcome, Outcome, RegistryOutcome};
 pub use file::{
     Capability, FileHead, Kind, Location, ObjectVersion, Op, Session, Sessions, Update, Versions,

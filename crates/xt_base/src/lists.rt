@@ -206,3 +206,11 @@ impl Words {
         self.words.as_slice()
     }
 }
+
+impl Copies for Words {
+    fn copy(&self, alloc: Global) -> Result<Words, OutOfMemory> {
+        Ok(Words {
+            words: self.words.copy(alloc)?,
+        })
+    }
+}

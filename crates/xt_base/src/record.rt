@@ -163,6 +163,15 @@ pub struct Folded {
     pub files: FileTable,
 }
 
+impl Copies for Folded {
+    fn copy(&self, alloc: Global) -> Result<Folded, OutOfMemory> {
+        Ok(Folded {
+            boot: self.boot,
+            files: self.files.copy(alloc)?,
+        })
+    }
+}
+
 /// A body that is to be kept.
 #[derive(Clone, Copy, Debug, PartialEq, Eq)]
 pub struct KeepBody {

@@ -1,5 +1,6 @@
 -- how a frame is read from the front of bytes, or the first fault in the order in which it is tested
 use Rattle.std.specs.Prelude.{◌≡◌, ℕ, ◌+◌, ◌-◌, List, length, take, drop, nat_lt, nat_le, ◌==◌, ◌&&◌, Result, Ok, Err, if◌then◌else◌}
+use Rattle.xt_base.specs.declared.TheConstants.{FRAME}
 use Rattle.xt_base.specs.declared.message.Msg.{Msg}
 use Rattle.xt_wire.specs.declared.fault.FieldErr.{FieldErr}
 use Rattle.xt_wire.specs.declared.fault.FieldErr.TheVariants as field
@@ -28,7 +29,7 @@ as_frame (Err e) = Err fault.Field
 -- fewer than 4 bytes, a length above 262,144, fewer bytes than the length, a length below 14; else what is behind the length
 unfoldable pub cut_of : ℕ → List ℕ → Result (List ℕ) FrameErr
 cut_of len bytes =
-    if nat_lt 262144 len then Err fault.TooLong
+    if nat_lt FRAME len then Err fault.TooLong
     else if nat_lt (length bytes) len then Err fault.Truncated
     else if nat_lt len 14 then Err fault.Field
     else Ok (take (len - 4) (drop 4 bytes))

@@ -1,5 +1,6 @@
 -- the fields of each kind, read from the front of bytes
 use Rattle.std.specs.Prelude.{ℕ, Err, nat_lt, ◌==◌, if◌then◌else◌}
+use Rattle.xt_base.specs.declared.TheConstants.{BODY}
 use Rattle.xt_base.specs.declared.message.Payload.{Payload}
 use Rattle.xt_base.specs.declared.message.Payload.TheVariants as payload
 use Rattle.xt_base.specs.declared.message.Msg.{Msg}
@@ -37,10 +38,10 @@ unfoldable pub fetch_fields : Field Payload
 fetch_fields = made (λ f. payload.Fetch f.0.0.0 f.0.0.1 f.0.1 f.1) (file_at & epoch_at & word_at & stamp_at)
 
 unfoldable pub object_fields : Field Payload
-object_fields = made (λ f. payload.Object f.0.0.0.0 f.0.0.0.1 f.0.0.1 f.0.1 f.1) (file_at & epoch_at & word_at & stamp_at & octets_at 131072)
+object_fields = made (λ f. payload.Object f.0.0.0.0 f.0.0.0.1 f.0.0.1 f.0.1 f.1) (file_at & epoch_at & word_at & stamp_at & octets_at BODY)
 
 unfoldable pub stage_fields : Field Payload
-stage_fields = made (λ f. payload.Stage f.0.0.0.0 f.0.0.0.1 f.0.0.1 f.0.1 f.1) (file_at & epoch_at & word_at & stamp_at & octets_at 131072)
+stage_fields = made (λ f. payload.Stage f.0.0.0.0 f.0.0.0.1 f.0.0.1 f.0.1 f.1) (file_at & epoch_at & word_at & stamp_at & octets_at BODY)
 
 unfoldable pub staged_fields : Field Payload
 staged_fields = made (λ f. payload.Staged f.0.0.0 f.0.0.1 f.0.1 f.1) (file_at & epoch_at & word_at & stamp_at)

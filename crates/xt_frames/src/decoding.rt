@@ -11,7 +11,7 @@ use xt_base::{FRAME, Msg};
 use xt_wire::FieldReader;
 
 /// The version of frames.
-const VERSION: u8 = 1;
+pub(crate) const VERSION: u8 = 1;
 
 /// The shortest frame could have no fields.
 const SHORTEST: usize = 14;

@@ -1,16 +1,15 @@
 ghost use Rattle.std.specs.Prelude.{◌≡◌, ◌≤◌, ◌++◌, length, OnOk, IfOk};
+ghost use Rattle.xt_base.specs.declared.TheConstants.{FRAME};
 ghost use Rattle.xt_base.specs.Limits.{FitsMessage};
 ghost use Rattle.xt_protocol.specs.FrameLength.{frame_length};
 ghost use Rattle.xt_wire.specs.BasicFields.{word_bytes};
 ghost use Rattle.xt_frames.specs.Frames.{content_of, frame_of};
 
+use crate::decoding::VERSION;
 use crate::writing::{kind, put_payload};
 use std::alloc::Global;
 use xt_base::{Msg, Octets, OutOfMemory};
 use xt_wire::FieldWriter;
-
-/// The version of frames.
-const VERSION: u8 = 1;
 
 /// What is behind the length.
 fn put_content(writer: &mut FieldWriter, msg: &Msg) -> Result<(), OutOfMemory>
@@ -29,7 +28,7 @@ pub fn encode(alloc: Global, msg: &Msg) -> Result<Octets, OutOfMemory>
     requires { FitsMessage msg.now }
     ensures frame { IfOk result (λ frame. frame ≡ frame_of msg.now) }
     ensures len { IfOk result (λ frame. length frame ≡ frame_length msg.now) }
-    ensures short { IfOk result (λ frame. length frame ≤ 262144) }
+    ensures short { IfOk result (λ frame. length frame ≤ FRAME) }
 {
     let mut writer = FieldWriter::new(alloc);
     // the length is known once the rest is written

@@ -1,4 +1,5 @@
 use super::*;
+use std::alloc::Global;
 use std::test::*;
 use xt_base::{NodeId, Payload};
 
@@ -8,15 +9,54 @@ const GATHER: [u8; 50] = [
     0, 0, 0, 0, 0, 0, 1, 0, 0, 0, 0, 0, 0, 0, 1, 0, 0, 0, 1,
 ];
 
-/// The first six bytes in place of those of the frame, and why they are refused.
-const CHANGED: [([u8; 6], FrameErr); 6] = [
-    ([0, 4, 0, 0, 1, 6], FrameErr::Truncated),
-    ([0, 4, 0, 1, 1, 6], FrameErr::TooLong),
-    ([0, 0, 0, 13, 1, 6], FrameErr::Field),
-    ([0, 0, 0, 0x32, 2, 6], FrameErr::Version),
-    ([0, 0, 0, 0x32, 1, 25], FrameErr::Kind),
-    ([0, 0, 0, 0x32, 1, 0], FrameErr::Kind),
+/// The first six bytes in place of those of the frame, the first byte of the epoch's number in place of 0, and how many
+/// bytes there are; and the length of the frame that they begin with, or why they are refused.
+const CHANGED: [([u8; 6], u8, usize, Result<usize, FrameErr>); 20] = [
+    ([0, 0, 0, 0x32, 1, 6], 0, 50, Ok(50)),
+    ([0, 0, 0, 0x32, 1, 6], 0, 51, Ok(50)),
+    // the length
+    ([0, 4, 0, 0, 1, 6], 0, 50, Err(FrameErr::Truncated)),
+    ([0, 0, 0, 0x33, 1, 6], 0, 50, Err(FrameErr::Truncated)),
+    ([0, 4, 0, 1, 1, 6], 0, 50, Err(FrameErr::TooLong)),
+    ([0, 4, 0, 1, 1, 6], 0, 4, Err(FrameErr::TooLong)),
+    ([0, 0, 0, 0, 1, 6], 0, 50, Err(FrameErr::Field)),
+    ([0, 0, 0, 13, 1, 6], 0, 50, Err(FrameErr::Field)),
+    ([0, 0, 0, 13, 2, 25], 0, 50, Err(FrameErr::Field)),
+    ([0, 0, 0, 14, 1, 6], 0, 50, Err(FrameErr::Field)),
+    ([0, 0, 0, 0x31, 1, 6], 0, 50, Err(FrameErr::Field)),
+    ([0, 0, 0, 0x33, 1, 6], 0, 51, Err(FrameErr::Field)),
+    // the version
+    ([0, 0, 0, 0x32, 0, 6], 0, 50, Err(FrameErr::Version)),
+    ([0, 0, 0, 0x32, 2, 6], 0, 50, Err(FrameErr::Version)),
+    ([0, 0, 0, 0x32, 2, 25], 0, 50, Err(FrameErr::Version)),
+    // the kind
+    ([0, 0, 0, 0x32, 1, 0], 0, 50, Err(FrameErr::Kind)),
+    ([0, 0, 0, 0x32, 1, 25], 0, 50, Err(FrameErr::Kind)),
+    ([0, 0, 0, 0x32, 1, 25], 0x40, 50, Err(FrameErr::Kind)),
+    // the number of the epoch, 2^62 - 2^56 + 1 and 2^62 + 1
+    ([0, 0, 0, 0x32, 1, 6], 0x3f, 50, Ok(50)),
+    ([0, 0, 0, 0x32, 1, 6], 0x40, 50, Err(FrameErr::Field)),
 ];
+
+/// The length of the frame that these bytes begin with.
+fn frame_len(alloc: Global, bytes: &[u8]) -> Result<usize, FrameErr> {
+    match decode(alloc, bytes) {
+        Ok((_, len)) => Ok(len),
+        Err(fault) => Err(fault),
+    }
+}
+
+/// So many bytes of a row.
+fn changed(alloc: Global, front: &[u8], number: u8, len: usize) -> Result<Vec<u8>, Fail> {
+    let mut bytes = Vec::from_slice(alloc, front)?;
+    bytes.extend_from_slice(&GATHER[6..])?;
+    if let Some(first_of_number) = bytes.get_mut(38) {
+        *first_of_number = number;
+    }
+    bytes.push(0)?;
+    bytes.truncate(len);
+    Ok(bytes)
+}
 
 #[test]
 fn gather(rt: HostRuntime) -> Result<(), Fail> {
@@ -35,35 +75,15 @@ fn gather(rt: HostRuntime) -> Result<(), Fail> {
 }
 
 #[test]
-fn fronts_are_cut_off(rt: HostRuntime) {
+fn bytes_are_decoded_or_refused(rt: HostRuntime) -> Result<(), Fail> {
     for len in 0..GATHER.len() {
-        assert!(rt; matches!(decode(rt.alloc(), &GATHER[..len]), Err(FrameErr::Truncated)));
+        let given = frame_len(rt.alloc(), &GATHER[..len]);
+        assert_eq!(rt; given, Err(FrameErr::Truncated), "{len} bytes");
     }
-}
-
-#[test]
-fn changed_fronts(rt: HostRuntime) {
-    for (front, fault) in &CHANGED {
-        let mut bytes = GATHER;
-        bytes[..6].copy_from_slice(front);
-        let given = decode(rt.alloc(), &bytes).err();
-        assert_eq!(rt; given, Some(*fault));
+    for (front, number, len, wanted) in CHANGED {
+        let bytes = changed(rt.alloc(), &front, number, len)?;
+        let given = frame_len(rt.alloc(), bytes.as_slice());
+        assert_eq!(rt; given, wanted, "{front:?}, {number}, {len} bytes");
     }
-}
-
-#[test]
-fn changed_fields(rt: HostRuntime) {
-    let mut bytes = GATHER;
-    // the number of the epoch is 2^62 + 1
-    bytes[38] = 0x40;
-    assert!(rt; matches!(decode(rt.alloc(), &bytes), Err(FrameErr::Field)));
-}
-
-#[test]
-fn one_byte_more(rt: HostRuntime) {
-    let mut bytes = [0; 51];
-    bytes[..50].copy_from_slice(&GATHER);
-    assert!(rt; matches!(decode(rt.alloc(), &bytes), Ok((_, 50))));
-    bytes[3] = 0x33;
-    assert!(rt; matches!(decode(rt.alloc(), &bytes), Err(FrameErr::Field)));
+    Ok(())
 }

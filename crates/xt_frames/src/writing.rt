@@ -68,34 +68,41 @@ pub(crate) fn put_payload(writer: &mut FieldWriter, payload: &Payload) -> Result
         Payload::Accepted { file, ballot, boot } => put_accepted(writer, *file, *ballot, *boot),
         Payload::Outrun { file, ballot, seen } => put_outrun(writer, *file, *ballot, *seen),
         Payload::Gather { file, epoch } => put_gather(writer, *file, *epoch),
-        Payload::Status { file, epoch, head } => put_status(writer, *file, *epoch, head),
+        Payload::Status { file, epoch, head } | Payload::Head { file, epoch, head } => put_head(
+            writer, *file, *epoch, head,
+        ),
         Payload::Fetch {
             file,
             epoch,
             object,
             version,
-        } => put_fetch(writer, *file, *epoch, *object, *version),
+        }
+        | Payload::Staged {
+            file,
+            epoch,
+            object,
+            version,
+        }
+        | Payload::Missing {
+            file,
+            epoch,
+            object,
+            version,
+        } => put_version(writer, *file, *epoch, *object, *version),
         Payload::Object {
             file,
             epoch,
             object,
             version,
             bytes,
-        } => put_object(writer, *file, *epoch, *object, *version, bytes.as_slice()),
-        Payload::Stage {
+        }
+        | Payload::Stage {
             file,
             epoch,
             object,
             version,
             bytes,
-        } => put_stage(writer, *file, *epoch, *object, *version, bytes.as_slice()),
-        Payload::Staged {
-            file,
-            epoch,
-            object,
-            version,
-        } => put_staged(writer, *file, *epoch, *object, *version),
-        Payload::Head { file, epoch, head } => put_head(writer, *file, *epoch, head),
+        } => put_bytes(writer, *file, *epoch, *object, *version, bytes.as_slice()),
         Payload::Update { file, update } => put_update(writer, *file, update),
         Payload::Ack { file, stamp } => put_ack(writer, *file, *stamp),
         Payload::Refused {
@@ -104,12 +111,6 @@ pub(crate) fn put_payload(writer: &mut FieldWriter, payload: &Payload) -> Result
             promised,
         } => put_refused(writer, *file, *epoch, *promised),
         Payload::Behind { file, epoch, stamp } => put_behind(writer, *file, *epoch, *stamp),
-        Payload::Missing {
-            file,
-            epoch,
-            object,
-            version,
-        } => put_missing(writer, *file, *epoch, *object, *version),
         Payload::Ask {
             number,
             capability,
@@ -209,96 +210,7 @@ fn put_gather(writer: &mut FieldWriter, file: FileId, epoch: Epoch) -> Result<()
     writer.epoch(epoch)
 }
 
-/// A replica's head.
-fn put_status(
-    writer: &mut FieldWriter,
-    file: FileId,
-    epoch: Epoch,
-    head: &FileHead,
-) -> Result<(), OutOfMemory>
-    requires { FitsHead head.now }
-    ensures { OnOk result (writer.new ≡ writer.old ++ (file_bytes file ++ epoch_bytes epoch ++ head_bytes head.now)) }
-{
-    writer.file(file)?;
-    writer.epoch(epoch)?;
-    writer.head(head)
-}
-
-/// An object that is to be sent.
-fn put_fetch(
-    writer: &mut FieldWriter,
-    file: FileId,
-    epoch: Epoch,
-    object: u64,
-    version: Stamp,
-) -> Result<(), OutOfMemory>
-    requires { IsObject object }
-    ensures { OnOk result (writer.new ≡ writer.old ++ (file_bytes file ++ epoch_bytes epoch ++ word_bytes object ++ stamp_bytes version)) }
-{
-    writer.file(file)?;
-    writer.epoch(epoch)?;
-    writer.object(object)?;
-    writer.stamp(version)
-}
-
-/// An object that is sent.
-fn put_object(
-    writer: &mut FieldWriter,
-    file: FileId,
-    epoch: Epoch,
-    object: u64,
-    version: Stamp,
-    bytes: &[u8],
-) -> Result<(), OutOfMemory>
-    requires object_fits { IsObject object }
-    requires bytes_fits { length bytes.now < 2 ^ 32 }
-    ensures { OnOk result (writer.new ≡ writer.old ++ (file_bytes file ++ epoch_bytes epoch ++ word_bytes object ++ stamp_bytes version ++ octets_bytes bytes.now)) }
-{
-    writer.file(file)?;
-    writer.epoch(epoch)?;
-    writer.object(object)?;
-    writer.stamp(version)?;
-    writer.octets(bytes)
-}
-
-/// Bytes that are to be held.
-fn put_stage(
-    writer: &mut FieldWriter,
-    file: FileId,
-    epoch: Epoch,
-    object: u64,
-    version: Stamp,
-    bytes: &[u8],
-) -> Result<(), OutOfMemory>
-    requires object_fits { IsObject object }
-    requires bytes_fits { length bytes.now < 2 ^ 32 }
-    ensures { OnOk result (writer.new ≡ writer.old ++ (file_bytes file ++ epoch_bytes epoch ++ word_bytes object ++ stamp_bytes version ++ octets_bytes bytes.now)) }
-{
-    writer.file(file)?;
-    writer.epoch(epoch)?;
-    writer.object(object)?;
-    writer.stamp(version)?;
-    writer.octets(bytes)
-}
-
-/// That bytes are held.
-fn put_staged(
-    writer: &mut FieldWriter,
-    file: FileId,
-    epoch: Epoch,
-    object: u64,
-    version: Stamp,
-) -> Result<(), OutOfMemory>
-    requires { IsObject object }
-    ensures { OnOk result (writer.new ≡ writer.old ++ (file_bytes file ++ epoch_bytes epoch ++ word_bytes object ++ stamp_bytes version)) }
-{
-    writer.file(file)?;
-    writer.epoch(epoch)?;
-    writer.object(object)?;
-    writer.stamp(version)
-}
-
-/// A head that is to be taken.
+/// A head, which is a replica's or is to be taken.
 fn put_head(
     writer: &mut FieldWriter,
     file: FileId,
@@ -311,6 +223,40 @@ fn put_head(
     writer.file(file)?;
     writer.epoch(epoch)?;
     writer.head(head)
+}
+
+/// A version of an object, which is to be sent, is held or isn't held.
+fn put_version(
+    writer: &mut FieldWriter,
+    file: FileId,
+    epoch: Epoch,
+    object: u64,
+    version: Stamp,
+) -> Result<(), OutOfMemory>
+    requires { IsObject object }
+    ensures { OnOk result (writer.new ≡ writer.old ++ (file_bytes file ++ epoch_bytes epoch ++ word_bytes object ++ stamp_bytes version)) }
+{
+    writer.file(file)?;
+    writer.epoch(epoch)?;
+    writer.object(object)?;
+    writer.stamp(version)
+}
+
+/// A version of an object and its bytes, which are sent or are to be held.
+fn put_bytes(
+    writer: &mut FieldWriter,
+    file: FileId,
+    epoch: Epoch,
+    object: u64,
+    version: Stamp,
+    bytes: &[u8],
+) -> Result<(), OutOfMemory>
+    requires object_fits { IsObject object }
+    requires bytes_fits { length bytes.now < 2 ^ 32 }
+    ensures { OnOk result (writer.new ≡ writer.old ++ (file_bytes file ++ epoch_bytes epoch ++ word_bytes object ++ stamp_bytes version ++ octets_bytes bytes.now)) }
+{
+    put_version(writer, file, epoch, object, version)?;
+    writer.octets(bytes)
 }
 
 /// An update that is to be taken.
@@ -356,23 +302,6 @@ fn put_behind(
     writer.file(file)?;
     writer.epoch(epoch)?;
     writer.stamp(stamp)
-}
-
-/// That an object isn't held.
-fn put_missing(
-    writer: &mut FieldWriter,
-    file: FileId,
-    epoch: Epoch,
-    object: u64,
-    version: Stamp,
-) -> Result<(), OutOfMemory>
-    requires { IsObject object }
-    ensures { OnOk result (writer.new ≡ writer.old ++ (file_bytes file ++ epoch_bytes epoch ++ word_bytes object ++ stamp_bytes version)) }
-{
-    writer.file(file)?;
-    writer.epoch(epoch)?;
-    writer.object(object)?;
-    writer.stamp(version)
 }
 
 /// A client's operation.

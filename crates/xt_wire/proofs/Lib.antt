@@ -8,3 +8,4 @@ pub mod RegistryLaws
 pub mod Loops
 pub mod Texts
 pub mod Lengths
+pub mod FieldLengths

@@ -2,6 +2,7 @@
 use Rattle.std.specs.Prelude.{ℕ, ◌^◌, ◌%◌, List, ◌++◌, length, map, Ok, Err, Bool, not, nat_lt, ◌==◌, if◌then◌else◌}
 use Rattle.std.specs.List.{flat_map}
 use Rattle.xt_base.specs.MemberList.{are_members}
+use Rattle.xt_base.specs.declared.TheConstants.{BODY, CLIENTS, OBJECTS}
 use Rattle.xt_base.specs.Limits.{no_object, rise, is_at_most}
 use Rattle.xt_base.specs.declared.ids.NodeId.{NodeId}
 use Rattle.xt_base.specs.declared.file.Kind.{Kind}
@@ -39,7 +40,7 @@ unfoldable pub version_at : Field ℕ
 version_at = fit (λ n. nat_lt n (2 ^ 31)) word_at
 
 unfoldable pub stripe_at : Field ℕ
-stripe_at = fit (λ n. n % 1024 == 0) (within 1024 131072 word_at)
+stripe_at = fit (λ n. n % 1024 == 0) (within 1024 BODY word_at)
 
 -- a byte that says how many, and the nodes
 abbrev pub members_bytes : List NodeId → List ℕ
@@ -81,11 +82,11 @@ op_bytes (op.Write object at bytes) = byte_bytes 2 ++ word_bytes object ++ word_
 op_bytes (op.Truncate size) = byte_bytes 3 ++ long_bytes size
 
 unfoldable pub read_op_at : Field Op
-read_op_at = made (λ f. op.Read f.0.0 f.0.1 f.1) (word_at & word_at & within 1 131072 word_at)
+read_op_at = made (λ f. op.Read f.0.0 f.0.1 f.1) (word_at & word_at & within 1 BODY word_at)
 
 -- bytes that are not empty
 unfoldable pub some_octets_at : Field (List ℕ)
-some_octets_at = fit (λ bytes. not (length bytes == 0)) (octets_at 131072)
+some_octets_at = fit (λ bytes. not (length bytes == 0)) (octets_at BODY)
 
 unfoldable pub write_op_at : Field Op
 write_op_at = made (λ f. op.Write f.0.0 f.0.1 f.1) (word_at & word_at & some_octets_at)
@@ -124,7 +125,7 @@ has_its_body update = if length update.body == 0 then update.object == no_object
 unfoldable pub update_at : Field Update
 update_at =
     fit has_its_body (made (λ u. record { stamp = u.0.0.0.0.0; id = u.0.0.0.0.1; mark = u.0.0.0.1; drop_from = u.0.0.1; object = u.0.1; body = u.1 })
-    (stamp_at & op_id_at & mark_at & slot_at & slot_at & octets_at 131072))
+    (stamp_at & op_id_at & mark_at & slot_at & slot_at & octets_at BODY))
 
 -- ---- heads
 
@@ -144,13 +145,13 @@ abbrev pub versions_bytes : List ObjectVersion → List ℕ
 versions_bytes versions = word_bytes (length versions) ++ flat_map object_version_bytes versions
 
 unfoldable pub versions_at : Field (List ObjectVersion)
-versions_at = fit (λ versions. rise (map (λ v. v.object) versions)) (counted 4096 word_at object_version_at)
+versions_at = fit (λ versions. rise (map (λ v. v.object) versions)) (counted OBJECTS word_at object_version_at)
 
 abbrev pub sessions_bytes : List Session → List ℕ
 sessions_bytes sessions = word_bytes (length sessions) ++ flat_map session_bytes sessions
 
 unfoldable pub sessions_at : Field (List Session)
-sessions_at = fit (λ sessions. rise (map (λ s. s.client.0) sessions)) (counted 256 word_at session_at)
+sessions_at = fit (λ sessions. rise (map (λ s. s.client.0) sessions)) (counted CLIENTS word_at session_at)
 
 abbrev pub head_bytes : FileHead → List ℕ
 head_bytes head =

@@ -1,5 +1,6 @@
 -- replies of an OSD as fields
 use Rattle.std.specs.Prelude.{ℕ, List, ◌++◌, Ok, Err, ◌==◌, if◌then◌else◌}
+use Rattle.xt_base.specs.declared.TheConstants.{BODY}
 use Rattle.xt_base.specs.declared.reply.Denial.{Denial}
 use Rattle.xt_base.specs.declared.reply.Denial.TheVariants as denial
 use Rattle.xt_base.specs.declared.reply.Reply.{Reply}
@@ -43,7 +44,7 @@ reply_bytes (reply.TooFar object) = byte_bytes 8 ++ long_bytes object
 reply_bytes reply.ClientsFull = byte_bytes 9
 
 unfoldable pub ok_reply_at : Field Reply
-ok_reply_at = made (λ f. reply.Ok f.0.0 f.0.1 f.1) (count_at & mark_at & octets_at 131072)
+ok_reply_at = made (λ f. reply.Ok f.0.0 f.0.1 f.1) (count_at & mark_at & octets_at BODY)
 
 unfoldable pub no_lease_at : Field Reply
 no_lease_at = made reply.NoLease long_at

@@ -2,18 +2,24 @@ ghost use Rattle.std.specs.Prelude.{◌≡◌};
 ghost use Rattle.xt_wire.specs.declared.fault.FieldErr.TheVariants.{OutOfMemory};
 
 use std::alloc::{AllocError, AllocFailed};
+use thiserror::Error;
 
 /// Why a field wasn't read.
-#[derive(Clone, Copy, Debug, PartialEq, Eq)]
+#[derive(Clone, Copy, Debug, PartialEq, Eq, Error)]
 pub enum FieldErr {
+    #[error("no memory was left")]
     OutOfMemory,
     /// Too few bytes are left.
+    #[error("too few bytes are left")]
     Short,
     /// The written length passes the limit.
+    #[error("the length passes its limit")]
     Over,
     /// The bytes of a text aren't UTF-8.
+    #[error("the text isn't UTF-8")]
     NotText,
     /// The value is outside the limits of its field.
+    #[error("the value is outside its limits")]
     Unfit,
 }
 

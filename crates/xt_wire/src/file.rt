@@ -1,17 +1,17 @@
-ghost use Rattle.std.specs.Prelude.{◌≡◌, ◌≤◌, ◌<◌, ◌^◌, ◌++◌, length, map, take, OnOk, IfErr, IfOk, Ok, Err};
+ghost use Rattle.std.specs.Prelude.{◌≡◌, ◌≤◌, ◌<◌, ◌^◌, ◌++◌, length, map, take, OnOk, OnErr, IfErr, IfOk, Ok, Err};
 ghost use Rattle.xt_base.specs.Limits.{IsObject, IsObjectOrNone, FitsOp, FitsUpdate, FitsVersion, FitsVersions, FitsSessions, FitsHead, rise, is_at_most};
 ghost use Rattle.xt_wire.specs.Reading.{Gives, Fails};
 ghost use Rattle.xt_wire.specs.BasicFields.{byte_bytes, word_bytes, long_bytes, octets_bytes, word_at, list_at};
 ghost use Rattle.xt_wire.specs.IdFields.{node_at};
-ghost use Rattle.xt_wire.specs.FileFields.{kind_bytes, kind_at, version_at, stripe_at, members_bytes, members_at, location_bytes, location_at, sealed_bytes, capability_bytes, capability_at, op_bytes, op_at, read_op_at, write_op_at, truncate_op_at, some_octets_at, slot_bytes, slot_at, update_bytes, update_at, object_version_bytes, object_version_at, session_bytes, session_at, versions_bytes, versions_at, sessions_bytes, sessions_at, head_bytes, head_at};
+ghost use Rattle.xt_wire.specs.FileFields.{kind_bytes, kind_at, kind_arms, version_at, stripe_at, members_bytes, members_at, location_bytes, location_at, sealed_bytes, capability_bytes, capability_at, op_bytes, op_at, op_arms, read_op_at, write_op_at, truncate_op_at, some_octets_at, slot_bytes, slot_at, update_bytes, update_at, object_version_bytes, object_version_at, session_bytes, session_at, versions_bytes, versions_at, sessions_bytes, sessions_at, head_bytes, head_at};
 
 use crate::fault::FieldErr;
 use crate::reader::{BODY_LIMIT, FieldReader};
 use crate::writer::FieldWriter;
 use std::alloc::Global;
 use xt_base::{
-    Capability, Epoch, FileHead, Kind, Location, Members, NO_OBJECT, NodeId, ObjectVersion, Octets,
-    Op, OutOfMemory, Seq, Session, Sessions, Update, Versions,
+    CLIENTS, Capability, Epoch, FileHead, Kind, Location, Members, NO_OBJECT, NodeId, OBJECTS,
+    ObjectVersion, Octets, Op, OutOfMemory, Seq, Session, Sessions, Update, Versions,
 };
 
 /// The word that is sent for no object.
@@ -21,19 +21,19 @@ const NO_OBJECT_WORD: u32 = u32::MAX;
 const VERSIONS_END: u32 = 1 << 31;
 
 /// How many versions, and how many sessions, a head may have.
-const OBJECTS_LIMIT: u32 = 4_096;
+const OBJECTS_LIMIT: u32 = OBJECTS as u32;
 
-const CLIENTS_LIMIT: u32 = 256;
+const CLIENTS_LIMIT: u32 = CLIENTS as u32;
 
 /// Whether the first epoch is the second or before it.
-fn is_at_most(first: Epoch, second: Epoch) -> bool
+pub fn is_at_most(first: Epoch, second: Epoch) -> bool
     ensures { result ≡ is_at_most first second }
 {
     first.number < second.number || (first.number == second.number && first.node.0 <= second.node.0)
 }
 
 /// Whether each object's number is above the one before it.
-fn objects_rise(versions: &[ObjectVersion]) -> bool
+pub fn objects_rise(versions: &[ObjectVersion]) -> bool
     ensures { result ≡ rise (map (λ v. v.object) versions.now) }
 {
     let mut rest = versions;
@@ -49,7 +49,7 @@ fn objects_rise(versions: &[ObjectVersion]) -> bool
 }
 
 /// Whether each client's number is above the one before it.
-fn clients_rise(sessions: &[Session]) -> bool
+pub fn clients_rise(sessions: &[Session]) -> bool
     ensures { result ≡ rise (map (λ s. s.client.0) sessions.now) }
 {
     let mut rest = sessions;
@@ -67,7 +67,8 @@ fn clients_rise(sessions: &[Session]) -> bool
 impl<'a> FieldReader<'a> {
     /// An object.
     pub fn object(&mut self) -> Result<u64, FieldErr>
-        ensures { Gives result self.new (word_at self.old) }
+        ensures given { Gives result self.new (word_at self.old) }
+        ensures kept { OnErr result (self.new ≡ self.old) }
     {
         Ok(u64::from(self.word()?))
     }
@@ -86,11 +87,24 @@ impl<'a> FieldReader<'a> {
     }
 
     /// How a file's objects lie.
-    #[tactic(auto, unfolding(crate::specs::FileFields::kind_at, crate::specs::FileFields::kind_arms))]
+    #[tactic(auto, unfolding(crate::specs::FileFields::kind_at))]
     pub fn kind(&mut self) -> Result<Kind, FieldErr>
-        ensures { Gives result self.new (kind_at self.old) }
+        ensures given { Gives result self.new (kind_at self.old) }
+        ensures kept { OnErr result (self.new ≡ self.old) }
     {
-        match self.byte()? {
+        let mut ahead = self.ahead();
+        let number = ahead.byte()?;
+        let kind = ahead.kind_arm(number)?;
+        *self = ahead;
+        Ok(kind)
+    }
+
+    /// The kind of this number.
+    #[tactic(auto, unfolding(crate::specs::FileFields::kind_arms))]
+    fn kind_arm(&mut self, number: u8) -> Result<Kind, FieldErr>
+        ensures { Gives result self.new (kind_arms number self.old) }
+    {
+        match number {
             1 => Ok(Kind::Replicated),
             2 => Ok(Kind::Striped),
             _ => Err(FieldErr::Unfit),
@@ -100,24 +114,30 @@ impl<'a> FieldReader<'a> {
     /// The version of a location.
     #[tactic(auto, unfolding(crate::specs::FileFields::version_at))]
     pub fn version(&mut self) -> Result<u32, FieldErr>
-        ensures { Gives result self.new (version_at self.old) }
+        ensures given { Gives result self.new (version_at self.old) }
+        ensures kept { OnErr result (self.new ≡ self.old) }
     {
-        let version = self.word()?;
+        let mut ahead = self.ahead();
+        let version = ahead.word()?;
         if version >= VERSIONS_END {
             return Err(FieldErr::Unfit);
         }
+        *self = ahead;
         Ok(version)
     }
 
     /// The size of an object, in bytes.
     #[tactic(auto, unfolding(crate::specs::FileFields::stripe_at))]
     pub fn stripe(&mut self) -> Result<u32, FieldErr>
-        ensures { Gives result self.new (stripe_at self.old) }
+        ensures given { Gives result self.new (stripe_at self.old) }
+        ensures kept { OnErr result (self.new ≡ self.old) }
     {
-        let stripe = self.word_within(1_024, BODY_LIMIT)?;
+        let mut ahead = self.ahead();
+        let stripe = ahead.word_within(1_024, BODY_LIMIT)?;
         if stripe % 1_024 != 0 {
             return Err(FieldErr::Unfit);
         }
+        *self = ahead;
         Ok(stripe)
     }
 
@@ -138,15 +158,20 @@ impl<'a> FieldReader<'a> {
     /// One to nine different nodes.
     #[tactic(auto, unfolding(crate::specs::FileFields::members_at))]
     pub fn members(&mut self) -> Result<Members, FieldErr>
-        ensures { Gives result self.new (members_at self.old) }
+        ensures given { Gives result self.new (members_at self.old) }
+        ensures kept { OnErr result (self.new ≡ self.old) }
     {
-        let count = self.byte()?;
+        let mut ahead = self.ahead();
+        let count = ahead.byte()?;
         if count > 9 {
             return Err(FieldErr::Over);
         }
-        let nodes = self.node_list(count)?;
+        let nodes = ahead.node_list(count)?;
         match Members::new(&nodes[..usize::from(count)]) {
-            Ok(members) => Ok(members),
+            Ok(members) => {
+                *self = ahead;
+                Ok(members)
+            }
             Err(_) => Err(FieldErr::Unfit),
         }
     }
@@ -154,12 +179,15 @@ impl<'a> FieldReader<'a> {
     /// Where a file lies.
     #[tactic(auto, unfolding(crate::specs::FileFields::location_at))]
     pub fn location(&mut self) -> Result<Location, FieldErr>
-        ensures { Gives result self.new (location_at self.old) }
+        ensures given { Gives result self.new (location_at self.old) }
+        ensures kept { OnErr result (self.new ≡ self.old) }
     {
-        let version = self.version()?;
-        let kind = self.kind()?;
-        let stripe = self.stripe()?;
-        let members = self.members()?;
+        let mut ahead = self.ahead();
+        let version = ahead.version()?;
+        let kind = ahead.kind()?;
+        let stripe = ahead.stripe()?;
+        let members = ahead.members()?;
+        *self = ahead;
         Ok(Location {
             version,
             kind,
@@ -171,14 +199,17 @@ impl<'a> FieldReader<'a> {
     /// A capability.
     #[tactic(auto, unfolding(crate::specs::FileFields::capability_at))]
     pub fn capability(&mut self) -> Result<Capability, FieldErr>
-        ensures { Gives result self.new (capability_at self.old) }
+        ensures given { Gives result self.new (capability_at self.old) }
+        ensures kept { OnErr result (self.new ≡ self.old) }
     {
-        let file = self.file()?;
-        let mode = self.byte_within(1, 2)?;
-        let expiry = self.long()?;
-        let epoch = self.count()?;
-        let location = self.location()?;
-        let tag = self.tag()?;
+        let mut ahead = self.ahead();
+        let file = ahead.file()?;
+        let mode = ahead.byte_within(1, 2)?;
+        let expiry = ahead.long()?;
+        let epoch = ahead.count()?;
+        let location = ahead.location()?;
+        let tag = ahead.tag()?;
+        *self = ahead;
         Ok(Capability {
             file,
             mode,
@@ -190,11 +221,24 @@ impl<'a> FieldReader<'a> {
     }
 
     /// An operation.
-    #[tactic(auto, unfolding(crate::specs::FileFields::op_at, crate::specs::FileFields::op_arms))]
+    #[tactic(auto, unfolding(crate::specs::FileFields::op_at))]
     pub fn op(&mut self, alloc: Global) -> Result<Op, FieldErr>
-        ensures { Gives result self.new (op_at self.old) }
+        ensures given { Gives result self.new (op_at self.old) }
+        ensures kept { OnErr result (self.new ≡ self.old) }
     {
-        match self.byte()? {
+        let mut ahead = self.ahead();
+        let number = ahead.byte()?;
+        let op = ahead.op_arm(number, alloc)?;
+        *self = ahead;
+        Ok(op)
+    }
+
+    /// The operation of this number.
+    #[tactic(auto, unfolding(crate::specs::FileFields::op_arms))]
+    fn op_arm(&mut self, number: u8, alloc: Global) -> Result<Op, FieldErr>
+        ensures { Gives result self.new (op_arms number self.old) }
+    {
+        match number {
             1 => self.read_op(),
             2 => self.write_op(alloc),
             3 => self.truncate_op(),
@@ -248,17 +292,20 @@ impl<'a> FieldReader<'a> {
     /// An update.
     #[tactic(auto, unfolding(crate::specs::FileFields::update_at))]
     pub fn update(&mut self, alloc: Global) -> Result<Update, FieldErr>
-        ensures { Gives result self.new (update_at self.old) }
+        ensures given { Gives result self.new (update_at self.old) }
+        ensures kept { OnErr result (self.new ≡ self.old) }
     {
-        let stamp = self.stamp()?;
-        let id = self.op_id()?;
-        let mark = self.mark()?;
-        let drop_from = self.slot()?;
-        let object = self.slot()?;
-        let body = self.octets(alloc, BODY_LIMIT)?;
+        let mut ahead = self.ahead();
+        let stamp = ahead.stamp()?;
+        let id = ahead.op_id()?;
+        let mark = ahead.mark()?;
+        let drop_from = ahead.slot()?;
+        let object = ahead.slot()?;
+        let body = ahead.octets(alloc, BODY_LIMIT)?;
         if body.as_slice().is_empty() != (object == NO_OBJECT) {
             return Err(FieldErr::Unfit);
         }
+        *self = ahead;
         Ok(Update {
             stamp,
             id,
@@ -272,21 +319,27 @@ impl<'a> FieldReader<'a> {
     /// The version of an object.
     #[tactic(auto, unfolding(crate::specs::FileFields::object_version_at))]
     pub fn object_version(&mut self) -> Result<ObjectVersion, FieldErr>
-        ensures { Gives result self.new (object_version_at self.old) }
+        ensures given { Gives result self.new (object_version_at self.old) }
+        ensures kept { OnErr result (self.new ≡ self.old) }
     {
-        let object = self.object()?;
-        let version = self.stamp()?;
+        let mut ahead = self.ahead();
+        let object = ahead.object()?;
+        let version = ahead.stamp()?;
+        *self = ahead;
         Ok(ObjectVersion { object, version })
     }
 
     /// The last write of a client.
     #[tactic(auto, unfolding(crate::specs::FileFields::session_at))]
     pub fn session(&mut self) -> Result<Session, FieldErr>
-        ensures { Gives result self.new (session_at self.old) }
+        ensures given { Gives result self.new (session_at self.old) }
+        ensures kept { OnErr result (self.new ≡ self.old) }
     {
-        let client = self.node()?;
-        let number = self.count()?;
-        let count = self.count()?;
+        let mut ahead = self.ahead();
+        let client = ahead.node()?;
+        let number = ahead.count()?;
+        let count = ahead.count()?;
+        *self = ahead;
         Ok(Session {
             client,
             number,
@@ -309,16 +362,19 @@ impl<'a> FieldReader<'a> {
     /// At most 4,096 versions, rising by object.
     #[tactic(auto, unfolding(crate::specs::FileFields::versions_at))]
     pub fn versions(&mut self, alloc: Global) -> Result<Versions, FieldErr>
-        ensures { Gives result self.new (versions_at self.old) }
+        ensures given { Gives result self.new (versions_at self.old) }
+        ensures kept { OnErr result (self.new ≡ self.old) }
     {
-        let count = self.word()?;
+        let mut ahead = self.ahead();
+        let count = ahead.word()?;
         if count > OBJECTS_LIMIT {
             return Err(FieldErr::Over);
         }
-        let list = self.object_version_list(alloc, count)?;
+        let list = ahead.object_version_list(alloc, count)?;
         if !objects_rise(list.as_slice()) {
             return Err(FieldErr::Unfit);
         }
+        *self = ahead;
         Ok(list)
     }
 
@@ -337,33 +393,39 @@ impl<'a> FieldReader<'a> {
     /// At most 256 sessions, rising by client.
     #[tactic(auto, unfolding(crate::specs::FileFields::sessions_at))]
     pub fn sessions(&mut self, alloc: Global) -> Result<Sessions, FieldErr>
-        ensures { Gives result self.new (sessions_at self.old) }
+        ensures given { Gives result self.new (sessions_at self.old) }
+        ensures kept { OnErr result (self.new ≡ self.old) }
     {
-        let count = self.word()?;
+        let mut ahead = self.ahead();
+        let count = ahead.word()?;
         if count > CLIENTS_LIMIT {
             return Err(FieldErr::Over);
         }
-        let list = self.session_list(alloc, count)?;
+        let list = ahead.session_list(alloc, count)?;
         if !clients_rise(list.as_slice()) {
             return Err(FieldErr::Unfit);
         }
+        *self = ahead;
         Ok(list)
     }
 
     /// The state of a replica.
     #[tactic(auto, unfolding(crate::specs::FileFields::head_at))]
     pub fn head(&mut self, alloc: Global) -> Result<FileHead, FieldErr>
-        ensures { Gives result self.new (head_at self.old) }
+        ensures given { Gives result self.new (head_at self.old) }
+        ensures kept { OnErr result (self.new ≡ self.old) }
     {
-        let promised = self.epoch()?;
-        let stamp = self.stamp()?;
-        let last = self.op_id()?;
-        let mark = self.mark()?;
-        let versions = self.versions(alloc)?;
-        let sessions = self.sessions(alloc)?;
+        let mut ahead = self.ahead();
+        let promised = ahead.epoch()?;
+        let stamp = ahead.stamp()?;
+        let last = ahead.op_id()?;
+        let mark = ahead.mark()?;
+        let versions = ahead.versions(alloc)?;
+        let sessions = ahead.sessions(alloc)?;
         if !is_at_most(stamp.epoch, promised) {
             return Err(FieldErr::Unfit);
         }
+        *self = ahead;
         Ok(FileHead {
             promised,
             stamp,

@@ -1,7 +1,7 @@
-ghost use Rattle.std.specs.Prelude.{◌≡◌, ◌++◌, OnOk};
+ghost use Rattle.std.specs.Prelude.{◌≡◌, ◌++◌, OnOk, OnErr};
 ghost use Rattle.xt_wire.specs.Reading.{Gives};
 ghost use Rattle.xt_wire.specs.BasicFields.{byte_bytes};
-ghost use Rattle.xt_wire.specs.IdFields.{node_at, node_bytes, boot_at, boot_bytes, file_at, file_bytes, ballot_at, ballot_bytes, epoch_at, epoch_bytes, stamp_at, stamp_bytes, lease_at, lease_bytes, some_report_at, report_at, report_bytes, op_id_at, op_id_bytes, mark_at, mark_bytes};
+ghost use Rattle.xt_wire.specs.IdFields.{node_at, node_bytes, boot_at, boot_bytes, file_at, file_bytes, ballot_at, ballot_bytes, epoch_at, epoch_bytes, stamp_at, stamp_bytes, lease_at, lease_bytes, some_report_at, report_at, report_arms, report_bytes, op_id_at, op_id_bytes, mark_at, mark_bytes};
 
 use crate::fault::FieldErr;
 use crate::reader::FieldReader;
@@ -13,7 +13,8 @@ impl<'a> FieldReader<'a> {
     /// A node.
     #[tactic(auto, unfolding(crate::specs::IdFields::node_at))]
     pub fn node(&mut self) -> Result<NodeId, FieldErr>
-        ensures { Gives result self.new (node_at self.old) }
+        ensures given { Gives result self.new (node_at self.old) }
+        ensures kept { OnErr result (self.new ≡ self.old) }
     {
         Ok(NodeId(self.word()?))
     }
@@ -21,7 +22,8 @@ impl<'a> FieldReader<'a> {
     /// A boot.
     #[tactic(auto, unfolding(crate::specs::IdFields::boot_at))]
     pub fn boot(&mut self) -> Result<Boot, FieldErr>
-        ensures { Gives result self.new (boot_at self.old) }
+        ensures given { Gives result self.new (boot_at self.old) }
+        ensures kept { OnErr result (self.new ≡ self.old) }
     {
         Ok(Boot(self.count()?))
     }
@@ -29,72 +31,93 @@ impl<'a> FieldReader<'a> {
     /// A file.
     #[tactic(auto, unfolding(crate::specs::IdFields::file_at))]
     pub fn file(&mut self) -> Result<FileId, FieldErr>
-        ensures { Gives result self.new (file_at self.old) }
+        ensures given { Gives result self.new (file_at self.old) }
+        ensures kept { OnErr result (self.new ≡ self.old) }
     {
-        let volume = Uuid::from_bytes(self.volume()?);
-        let number = self.long()?;
+        let mut ahead = self.ahead();
+        let volume = Uuid::from_bytes(ahead.volume()?);
+        let number = ahead.long()?;
+        *self = ahead;
         Ok(FileId { volume, number })
     }
 
     /// A ballot.
     #[tactic(auto, unfolding(crate::specs::IdFields::ballot_at))]
     pub fn ballot(&mut self) -> Result<Ballot, FieldErr>
-        ensures { Gives result self.new (ballot_at self.old) }
+        ensures given { Gives result self.new (ballot_at self.old) }
+        ensures kept { OnErr result (self.new ≡ self.old) }
     {
-        let count = self.count()?;
-        let node = self.node()?;
-        let boot = self.boot()?;
+        let mut ahead = self.ahead();
+        let count = ahead.count()?;
+        let node = ahead.node()?;
+        let boot = ahead.boot()?;
+        *self = ahead;
         Ok(Ballot { count, node, boot })
     }
 
     /// An epoch.
     #[tactic(auto, unfolding(crate::specs::IdFields::epoch_at))]
     pub fn epoch(&mut self) -> Result<Epoch, FieldErr>
-        ensures { Gives result self.new (epoch_at self.old) }
+        ensures given { Gives result self.new (epoch_at self.old) }
+        ensures kept { OnErr result (self.new ≡ self.old) }
     {
-        let number = self.count()?;
-        let node = self.node()?;
+        let mut ahead = self.ahead();
+        let number = ahead.count()?;
+        let node = ahead.node()?;
+        *self = ahead;
         Ok(Epoch { number, node })
     }
 
     /// A stamp.
     #[tactic(auto, unfolding(crate::specs::IdFields::stamp_at))]
     pub fn stamp(&mut self) -> Result<Stamp, FieldErr>
-        ensures { Gives result self.new (stamp_at self.old) }
+        ensures given { Gives result self.new (stamp_at self.old) }
+        ensures kept { OnErr result (self.new ≡ self.old) }
     {
-        let epoch = self.epoch()?;
-        let count = self.count()?;
+        let mut ahead = self.ahead();
+        let epoch = ahead.epoch()?;
+        let count = ahead.count()?;
+        *self = ahead;
         Ok(Stamp { epoch, count })
     }
 
     /// A lease.
     #[tactic(auto, unfolding(crate::specs::IdFields::lease_at))]
     pub fn lease(&mut self) -> Result<Lease, FieldErr>
-        ensures { Gives result self.new (lease_at self.old) }
+        ensures given { Gives result self.new (lease_at self.old) }
+        ensures kept { OnErr result (self.new ≡ self.old) }
     {
-        let node = self.node()?;
-        let boot = self.boot()?;
-        let end = self.long()?;
+        let mut ahead = self.ahead();
+        let node = ahead.node()?;
+        let boot = ahead.boot()?;
+        let end = ahead.long()?;
+        *self = ahead;
         Ok(Lease { node, boot, end })
     }
 
     /// The id of an operation.
     #[tactic(auto, unfolding(crate::specs::IdFields::op_id_at))]
     pub fn op_id(&mut self) -> Result<OpId, FieldErr>
-        ensures { Gives result self.new (op_id_at self.old) }
+        ensures given { Gives result self.new (op_id_at self.old) }
+        ensures kept { OnErr result (self.new ≡ self.old) }
     {
-        let client = self.node()?;
-        let number = self.count()?;
+        let mut ahead = self.ahead();
+        let client = ahead.node()?;
+        let number = ahead.count()?;
+        *self = ahead;
         Ok(OpId { client, number })
     }
 
     /// A size mark.
     #[tactic(auto, unfolding(crate::specs::IdFields::mark_at))]
     pub fn mark(&mut self) -> Result<SizeMark, FieldErr>
-        ensures { Gives result self.new (mark_at self.old) }
+        ensures given { Gives result self.new (mark_at self.old) }
+        ensures kept { OnErr result (self.new ≡ self.old) }
     {
-        let epoch = self.count()?;
-        let size = self.long()?;
+        let mut ahead = self.ahead();
+        let epoch = ahead.count()?;
+        let size = ahead.long()?;
+        *self = ahead;
         Ok(SizeMark { epoch, size })
     }
 
@@ -108,11 +131,24 @@ impl<'a> FieldReader<'a> {
     }
 
     /// A lease, or that there is none.
-    #[tactic(auto, unfolding(crate::specs::IdFields::report_at, crate::specs::IdFields::report_arms))]
+    #[tactic(auto, unfolding(crate::specs::IdFields::report_at))]
     pub fn report(&mut self) -> Result<Option<Lease>, FieldErr>
-        ensures { Gives result self.new (report_at self.old) }
+        ensures given { Gives result self.new (report_at self.old) }
+        ensures kept { OnErr result (self.new ≡ self.old) }
     {
-        match self.byte()? {
+        let mut ahead = self.ahead();
+        let number = ahead.byte()?;
+        let report = ahead.report_arm(number)?;
+        *self = ahead;
+        Ok(report)
+    }
+
+    /// The report that follows this number.
+    #[tactic(auto, unfolding(crate::specs::IdFields::report_arms))]
+    fn report_arm(&mut self, number: u8) -> Result<Option<Lease>, FieldErr>
+        ensures { Gives result self.new (report_arms number self.old) }
+    {
+        match number {
             0 => Ok(None),
             1 => self.some_report(),
             _ => Err(FieldErr::Unfit),

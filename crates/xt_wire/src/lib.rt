@@ -16,6 +16,7 @@ mod spelling;
 mod writer;
 
 pub use fault::FieldErr;
+pub use file::{clients_rise, is_at_most, objects_rise};
 pub use reader::FieldReader;
 pub use spelling::each_has_one_spelling;
 pub use writer::FieldWriter;

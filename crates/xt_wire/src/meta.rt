@@ -1,4 +1,4 @@
-ghost use Rattle.std.specs.Prelude.{◌≡◌, ◌≤◌, ◌<◌, ◌^◌, ◌++◌, length, OnOk};
+ghost use Rattle.std.specs.Prelude.{◌≡◌, ◌≤◌, ◌<◌, ◌^◌, ◌++◌, length, OnOk, OnErr};
 ghost use Rattle.xt_base.specs.Limits.{FitsMetaReq, FitsMetaAnswer, FitsNames};
 ghost use Rattle.xt_wire.specs.Reading.{Gives, made};
 ghost use Rattle.xt_base.specs.declared.meta.MetaAnswer.TheVariants.{Refused};
@@ -6,7 +6,7 @@ ghost use Rattle.xt_wire.specs.BasicFields.{byte_bytes, half_bytes, word_bytes, 
 ghost use Rattle.xt_wire.specs.IdFields.{mark_bytes};
 ghost use Rattle.xt_wire.specs.FileFields.{kind_bytes, capability_bytes};
 ghost use Rattle.xt_wire.specs.ReplyFields.{denial_bytes};
-ghost use Rattle.xt_wire.specs.MetaFields.{meta_req_bytes, meta_req_at, mkdir_at, create_at, rename_at, unlink_at, rmdir_at, list_names_at, stat_at, chmod_at, grant_at, size_report_at, refusal_bytes, refusal_arms, forbidden_at, too_few_at, report_denied_at, names_bytes, names_at, row_kind_bytes, row_kind_at, meta_answer_bytes, meta_answer_at, names_answer_at, row_answer_at, granted_at};
+ghost use Rattle.xt_wire.specs.MetaFields.{meta_req_bytes, meta_req_at, meta_req_arms, mkdir_at, create_at, rename_at, unlink_at, rmdir_at, list_names_at, stat_at, chmod_at, grant_at, size_report_at, refusal_bytes, refusal_arms, forbidden_at, too_few_at, report_denied_at, names_bytes, names_at, row_kind_bytes, row_kind_at, meta_answer_bytes, meta_answer_at, meta_answer_arms, names_answer_at, row_answer_at, granted_at};
 
 use crate::fault::FieldErr;
 use crate::reader::{FieldReader, NAME_LIMIT};
@@ -22,11 +22,24 @@ const NAMES_LIMIT: u32 = 512;
 
 impl<'a> FieldReader<'a> {
     /// A request to the metadata server.
-    #[tactic(auto, unfolding(crate::specs::MetaFields::meta_req_at, crate::specs::MetaFields::meta_req_arms))]
+    #[tactic(auto, unfolding(crate::specs::MetaFields::meta_req_at))]
     pub fn meta_req(&mut self, alloc: Global) -> Result<MetaReq, FieldErr>
-        ensures { Gives result self.new (meta_req_at self.old) }
+        ensures given { Gives result self.new (meta_req_at self.old) }
+        ensures kept { OnErr result (self.new ≡ self.old) }
     {
-        match self.byte()? {
+        let mut ahead = self.ahead();
+        let number = ahead.byte()?;
+        let meta_req = ahead.meta_req_arm(number, alloc)?;
+        *self = ahead;
+        Ok(meta_req)
+    }
+
+    /// The request of this number.
+    #[tactic(auto, unfolding(crate::specs::MetaFields::meta_req_arms))]
+    fn meta_req_arm(&mut self, number: u8, alloc: Global) -> Result<MetaReq, FieldErr>
+        ensures { Gives result self.new (meta_req_arms number self.old) }
+    {
+        match number {
             1 => self.mkdir(alloc),
             2 => self.create(alloc),
             3 => self.rename(alloc),
@@ -174,13 +187,17 @@ impl<'a> FieldReader<'a> {
     /// At most 512 names.
     #[tactic(auto, unfolding(crate::specs::MetaFields::names_at))]
     pub fn names(&mut self, alloc: Global) -> Result<Names, FieldErr>
-        ensures { Gives result self.new (names_at self.old) }
+        ensures given { Gives result self.new (names_at self.old) }
+        ensures kept { OnErr result (self.new ≡ self.old) }
     {
-        let count = self.word()?;
+        let mut ahead = self.ahead();
+        let count = ahead.word()?;
         if count > NAMES_LIMIT {
             return Err(FieldErr::Over);
         }
-        self.name_list(alloc, count)
+        let names = ahead.name_list(alloc, count)?;
+        *self = ahead;
+        Ok(names)
     }
 
     /// The refusal of this number.
@@ -240,11 +257,23 @@ impl<'a> FieldReader<'a> {
     }
 
     /// An answer of the metadata server.
-    #[tactic(auto, unfolding(crate::specs::MetaFields::meta_answer_at, crate::specs::MetaFields::meta_answer_arms))]
+    #[tactic(auto, unfolding(crate::specs::MetaFields::meta_answer_at))]
     pub fn meta_answer(&mut self, alloc: Global) -> Result<MetaAnswer, FieldErr>
-        ensures { Gives result self.new (meta_answer_at self.old) }
+        ensures given { Gives result self.new (meta_answer_at self.old) }
+        ensures kept { OnErr result (self.new ≡ self.old) }
     {
-        let number = self.byte()?;
+        let mut ahead = self.ahead();
+        let number = ahead.byte()?;
+        let meta_answer = ahead.meta_answer_arm(number, alloc)?;
+        *self = ahead;
+        Ok(meta_answer)
+    }
+
+    /// The answer of this number.
+    #[tactic(auto, unfolding(crate::specs::MetaFields::meta_answer_arms))]
+    fn meta_answer_arm(&mut self, number: u8, alloc: Global) -> Result<MetaAnswer, FieldErr>
+        ensures { Gives result self.new (meta_answer_arms number self.old) }
+    {
         match number {
             0 => Ok(MetaAnswer::Done),
             12 => self.names_answer(alloc),

@@ -7,10 +7,10 @@ ghost use Rattle.xt_wire.specs.BasicFields.{byte_at, half_at, word_at, long_at, 
 use crate::fault::FieldErr;
 use std::alloc::Global;
 use std::marker::Model;
-use xt_base::{COUNTS, Name, Octets};
+use xt_base::{BODY, COUNTS, Name, Octets};
 
 /// The longest `bytes` field, in bytes.
-pub(crate) const BODY_LIMIT: u32 = 131_072;
+pub(crate) const BODY_LIMIT: u32 = BODY as u32;
 
 /// The longest name in a list of names, and the longest address, in bytes.
 pub(crate) const NAME_LIMIT: u16 = 255;
@@ -25,7 +25,8 @@ fn text_of(bytes: &[u8]) -> Option<&str>
     }
 }
 
-/// Reads fields from the front of bytes. Contracts see the bytes that are left.
+/// Reads fields from the front of bytes. A field that is refused leaves the reader as it was. Contracts see the bytes
+/// that are left.
 #[derive(Debug, Drop)]
 pub struct FieldReader<'a> {
     rest: &'a [u8],
@@ -45,6 +46,13 @@ impl<'a> FieldReader<'a> {
         ensures { result ≡ bytes.now }
     {
         FieldReader { rest: bytes }
+    }
+
+    /// A reader of the same bytes. A field is read by it first, so that a refused one leaves this reader as it was.
+    pub(crate) fn ahead(&self) -> FieldReader<'a>
+        ensures { result ≡ self.now }
+    {
+        FieldReader { rest: self.rest }
     }
 
     /// How many bytes are left.
@@ -127,43 +135,53 @@ impl<'a> FieldReader<'a> {
         ]))
     }
 
-    /// A number of eight bytes below 2^62.
+    /// A number of eight bytes below 2^62. After an error nothing is read.
     #[tactic(auto, unfolding(crate::specs::BasicFields::count_at))]
     pub fn count(&mut self) -> Result<u64, FieldErr>
-        ensures { Gives result self.new (count_at self.old) }
+        ensures given { Gives result self.new (count_at self.old) }
+        ensures kept { OnErr result (self.new ≡ self.old) }
     {
-        let count = self.long()?;
+        let mut ahead = self.ahead();
+        let count = ahead.long()?;
         if count >= COUNTS {
             return Err(FieldErr::Unfit);
         }
+        self.rest = ahead.rest;
         Ok(count)
     }
 
-    /// A number of one byte from `low` to `high`.
+    /// A number of one byte from `low` to `high`. After an error nothing is read.
     pub fn byte_within(&mut self, low: u8, high: u8) -> Result<u8, FieldErr>
-        ensures { Gives result self.new (within low high byte_at self.old) }
+        ensures given { Gives result self.new (within low high byte_at self.old) }
+        ensures kept { OnErr result (self.new ≡ self.old) }
     {
-        let value = self.byte()?;
+        let mut ahead = self.ahead();
+        let value = ahead.byte()?;
         if value < low || high < value {
             return Err(FieldErr::Unfit);
         }
+        self.rest = ahead.rest;
         Ok(value)
     }
 
-    /// A number of four bytes from `low` to `high`.
+    /// A number of four bytes from `low` to `high`. After an error nothing is read.
     pub fn word_within(&mut self, low: u32, high: u32) -> Result<u32, FieldErr>
-        ensures { Gives result self.new (within low high word_at self.old) }
+        ensures given { Gives result self.new (within low high word_at self.old) }
+        ensures kept { OnErr result (self.new ≡ self.old) }
     {
-        let value = self.word()?;
+        let mut ahead = self.ahead();
+        let value = ahead.word()?;
         if value < low || high < value {
             return Err(FieldErr::Unfit);
         }
+        self.rest = ahead.rest;
         Ok(value)
     }
 
     /// The sixteen bytes of a volume's UUID.
     pub(crate) fn volume(&mut self) -> Result<[u8; 16], FieldErr>
-        ensures { Gives result self.new (raw_at 16 self.old) }
+        ensures given { Gives result self.new (raw_at 16 self.old) }
+        ensures kept { OnErr result (self.new ≡ self.old) }
     {
         let bytes = self.raw(16)?;
         let mut volume = [0; 16];
@@ -171,9 +189,10 @@ impl<'a> FieldReader<'a> {
         Ok(volume)
     }
 
-    /// The 32 bytes of a tag.
+    /// The 32 bytes of a tag. `Short` exactly where fewer are left; nothing is read then.
     pub fn tag(&mut self) -> Result<[u8; 32], FieldErr>
-        ensures { Gives result self.new (raw_at 32 self.old) }
+        ensures given { Gives result self.new (raw_at 32 self.old) }
+        ensures kept { OnErr result (self.new ≡ self.old) }
     {
         let bytes = self.raw(32)?;
         let mut tag = [0; 32];
@@ -188,7 +207,7 @@ impl<'a> FieldReader<'a> {
         ensures given { Gives result self.new (octets_at limit self.old) }
         ensures kept { OnErr result (self.new ≡ self.old) }
     {
-        let mut ahead = FieldReader::new(self.rest);
+        let mut ahead = self.ahead();
         let len = ahead.word()?;
         if len > limit {
             return Err(FieldErr::Over);
@@ -205,7 +224,7 @@ impl<'a> FieldReader<'a> {
         ensures given { Gives result self.new (text_at limit self.old) }
         ensures kept { OnErr result (self.new ≡ self.old) }
     {
-        let mut ahead = FieldReader::new(self.rest);
+        let mut ahead = self.ahead();
         let len = ahead.half()?;
         if len > limit {
             return Err(FieldErr::Over);

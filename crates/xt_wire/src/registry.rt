@@ -1,9 +1,9 @@
-ghost use Rattle.std.specs.Prelude.{◌≡◌, ◌<◌, ◌^◌, ◌++◌, length, OnOk};
+ghost use Rattle.std.specs.Prelude.{◌≡◌, ◌<◌, ◌^◌, ◌++◌, length, OnOk, OnErr};
 ghost use Rattle.xt_base.specs.Limits.{FitsRegistryReq, FitsRegistryAnswer, FitsRow, FitsRows};
 ghost use Rattle.xt_wire.specs.Reading.{Gives};
 ghost use Rattle.xt_wire.specs.BasicFields.{byte_bytes, long_bytes, text_bytes, list_at};
 ghost use Rattle.xt_wire.specs.IdFields.{node_bytes};
-ghost use Rattle.xt_wire.specs.RegistryFields.{registry_req_bytes, registry_req_at, set_row_at, get_row_at, list_rows_at, remove_row_at, row_bytes, row_at, rows_bytes, rows_at, registry_answer_bytes, registry_answer_at, done_at, changed_at, row_told_at, rows_told_at};
+ghost use Rattle.xt_wire.specs.RegistryFields.{registry_req_bytes, registry_req_at, registry_req_arms, set_row_at, get_row_at, list_rows_at, remove_row_at, row_bytes, row_at, rows_bytes, rows_at, registry_answer_bytes, registry_answer_at, registry_answer_arms, done_at, changed_at, row_told_at, rows_told_at};
 
 use crate::fault::FieldErr;
 use crate::reader::{FieldReader, NAME_LIMIT};
@@ -16,11 +16,24 @@ const ROWS_LIMIT: u32 = 256;
 
 impl<'a> FieldReader<'a> {
     /// A request to the directory service.
-    #[tactic(auto, unfolding(crate::specs::RegistryFields::registry_req_at, crate::specs::RegistryFields::registry_req_arms))]
+    #[tactic(auto, unfolding(crate::specs::RegistryFields::registry_req_at))]
     pub fn registry_req(&mut self, alloc: Global) -> Result<RegistryReq, FieldErr>
-        ensures { Gives result self.new (registry_req_at self.old) }
+        ensures given { Gives result self.new (registry_req_at self.old) }
+        ensures kept { OnErr result (self.new ≡ self.old) }
     {
-        match self.byte()? {
+        let mut ahead = self.ahead();
+        let number = ahead.byte()?;
+        let registry_req = ahead.registry_req_arm(number, alloc)?;
+        *self = ahead;
+        Ok(registry_req)
+    }
+
+    /// The request of this number.
+    #[tactic(auto, unfolding(crate::specs::RegistryFields::registry_req_arms))]
+    fn registry_req_arm(&mut self, number: u8, alloc: Global) -> Result<RegistryReq, FieldErr>
+        ensures { Gives result self.new (registry_req_arms number self.old) }
+    {
+        match number {
             1 => self.set_row(alloc),
             2 => self.get_row(),
             3 => self.list_rows(),
@@ -78,12 +91,15 @@ impl<'a> FieldReader<'a> {
     /// A row of the registry.
     #[tactic(auto, unfolding(crate::specs::RegistryFields::row_at))]
     pub fn row(&mut self, alloc: Global) -> Result<RegistryRow, FieldErr>
-        ensures { Gives result self.new (row_at self.old) }
+        ensures given { Gives result self.new (row_at self.old) }
+        ensures kept { OnErr result (self.new ≡ self.old) }
     {
-        let node = self.node()?;
-        let kind = self.byte()?;
-        let address = self.text(alloc, NAME_LIMIT)?;
-        let version = self.count()?;
+        let mut ahead = self.ahead();
+        let node = ahead.node()?;
+        let kind = ahead.byte()?;
+        let address = ahead.text(alloc, NAME_LIMIT)?;
+        let version = ahead.count()?;
+        *self = ahead;
         Ok(RegistryRow {
             node,
             kind,
@@ -107,21 +123,38 @@ impl<'a> FieldReader<'a> {
     /// At most 256 rows.
     #[tactic(auto, unfolding(crate::specs::RegistryFields::rows_at))]
     pub fn rows(&mut self, alloc: Global) -> Result<RegistryRows, FieldErr>
-        ensures { Gives result self.new (rows_at self.old) }
+        ensures given { Gives result self.new (rows_at self.old) }
+        ensures kept { OnErr result (self.new ≡ self.old) }
     {
-        let count = self.word()?;
+        let mut ahead = self.ahead();
+        let count = ahead.word()?;
         if count > ROWS_LIMIT {
             return Err(FieldErr::Over);
         }
-        self.row_list(alloc, count)
+        let rows = ahead.row_list(alloc, count)?;
+        *self = ahead;
+        Ok(rows)
     }
 
     /// An answer of the directory service.
-    #[tactic(auto, unfolding(crate::specs::RegistryFields::registry_answer_at, crate::specs::RegistryFields::registry_answer_arms))]
+    #[tactic(auto, unfolding(crate::specs::RegistryFields::registry_answer_at))]
     pub fn registry_answer(&mut self, alloc: Global) -> Result<RegistryAnswer, FieldErr>
-        ensures { Gives result self.new (registry_answer_at self.old) }
+        ensures given { Gives result self.new (registry_answer_at self.old) }
+        ensures kept { OnErr result (self.new ≡ self.old) }
     {
-        match self.byte()? {
+        let mut ahead = self.ahead();
+        let number = ahead.byte()?;
+        let registry_answer = ahead.registry_answer_arm(number, alloc)?;
+        *self = ahead;
+        Ok(registry_answer)
+    }
+
+    /// The answer of this number.
+    #[tactic(auto, unfolding(crate::specs::RegistryFields::registry_answer_arms))]
+    fn registry_answer_arm(&mut self, number: u8, alloc: Global) -> Result<RegistryAnswer, FieldErr>
+        ensures { Gives result self.new (registry_answer_arms number self.old) }
+    {
+        match number {
             0 => self.done(),
             1 => self.changed(),
             2 => Ok(RegistryAnswer::Absent),

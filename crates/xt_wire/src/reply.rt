@@ -1,9 +1,9 @@
-ghost use Rattle.std.specs.Prelude.{◌≡◌, ◌<◌, ◌^◌, ◌++◌, length, OnOk};
+ghost use Rattle.std.specs.Prelude.{◌≡◌, ◌<◌, ◌^◌, ◌++◌, length, OnOk, OnErr};
 ghost use Rattle.xt_base.specs.Limits.{FitsReply};
 ghost use Rattle.xt_wire.specs.Reading.{Gives};
 ghost use Rattle.xt_wire.specs.BasicFields.{byte_bytes, word_bytes, long_bytes, octets_bytes};
 ghost use Rattle.xt_wire.specs.IdFields.{node_bytes, mark_bytes};
-ghost use Rattle.xt_wire.specs.ReplyFields.{denial_at, denial_bytes, reply_at, reply_bytes, ok_reply_at, no_lease_at, no_majority_at, elsewhere_at, denied_at, old_list_at, old_epoch_at, too_far_at};
+ghost use Rattle.xt_wire.specs.ReplyFields.{denial_at, denial_arms, denial_bytes, reply_at, reply_arms, reply_bytes, ok_reply_at, no_lease_at, no_majority_at, elsewhere_at, denied_at, old_list_at, old_epoch_at, too_far_at};
 
 use crate::fault::FieldErr;
 use crate::reader::{BODY_LIMIT, FieldReader};
@@ -13,11 +13,24 @@ use xt_base::{Denial, NodeId, OutOfMemory, Reply, SizeMark};
 
 impl<'a> FieldReader<'a> {
     /// Why an ask is denied.
-    #[tactic(auto, unfolding(crate::specs::ReplyFields::denial_at, crate::specs::ReplyFields::denial_arms))]
+    #[tactic(auto, unfolding(crate::specs::ReplyFields::denial_at))]
     pub fn denial(&mut self) -> Result<Denial, FieldErr>
-        ensures { Gives result self.new (denial_at self.old) }
+        ensures given { Gives result self.new (denial_at self.old) }
+        ensures kept { OnErr result (self.new ≡ self.old) }
     {
-        match self.byte()? {
+        let mut ahead = self.ahead();
+        let number = ahead.byte()?;
+        let denial = ahead.denial_arm(number)?;
+        *self = ahead;
+        Ok(denial)
+    }
+
+    /// The rule of this number.
+    #[tactic(auto, unfolding(crate::specs::ReplyFields::denial_arms))]
+    fn denial_arm(&mut self, number: u8) -> Result<Denial, FieldErr>
+        ensures { Gives result self.new (denial_arms number self.old) }
+    {
+        match number {
             1 => Ok(Denial::Tag),
             2 => Ok(Denial::File),
             3 => Ok(Denial::Expired),
@@ -29,11 +42,24 @@ impl<'a> FieldReader<'a> {
     }
 
     /// A reply.
-    #[tactic(auto, unfolding(crate::specs::ReplyFields::reply_at, crate::specs::ReplyFields::reply_arms))]
+    #[tactic(auto, unfolding(crate::specs::ReplyFields::reply_at))]
     pub fn reply(&mut self, alloc: Global) -> Result<Reply, FieldErr>
-        ensures { Gives result self.new (reply_at self.old) }
+        ensures given { Gives result self.new (reply_at self.old) }
+        ensures kept { OnErr result (self.new ≡ self.old) }
     {
-        match self.byte()? {
+        let mut ahead = self.ahead();
+        let number = ahead.byte()?;
+        let reply = ahead.reply_arm(number, alloc)?;
+        *self = ahead;
+        Ok(reply)
+    }
+
+    /// The reply of this number.
+    #[tactic(auto, unfolding(crate::specs::ReplyFields::reply_arms))]
+    fn reply_arm(&mut self, number: u8, alloc: Global) -> Result<Reply, FieldErr>
+        ensures { Gives result self.new (reply_arms number self.old) }
+    {
+        match number {
             1 => self.ok_reply(alloc),
             2 => self.no_lease(),
             3 => self.no_majority(),

@@ -7,11 +7,11 @@ use Rattle.xt_wire.proofs.reader.FieldReader.session_list.Goals as goal
 pub returns-in_err-entry : goal.returns-in_err-entry
 returns-in_err-entry c =
     let p = err_from_is_err_and c.from_residual.result c.from_residual.ensures.1 in
-    rw (p.1, p.2) (ends session_at c.in_err-entry.field-0.0 c.loop.list c.args.count c.loop.counter c.loop.self (list_at session_at c.args.count c.args.self.now) c.loop-test.true c.in_err-entry.ensures c.loop.invariant)
+    rw (p.1, p.2) (ends session_at c.in_err-entry.field-0.0 c.loop.list c.args.count c.loop.counter c.loop.self (list_at session_at c.args.count c.args.self.now) c.loop-test.true c.in_err-entry.ensures.given c.loop.invariant)
 
 pub loop-preserved : goal.loop-preserved
 loop-preserved c =
-    rw c.in_ok-push.ensures.ok (goes_on session_at c.loop.list c.args.count c.loop.counter c.loop.self c.in_ok-entry.entry c.session.new.self (list_at session_at c.args.count c.args.self.now) c.loop-test.true c.in_ok-entry.ensures c.loop.invariant)
+    rw c.in_ok-push.ensures.ok (goes_on session_at c.loop.list c.args.count c.loop.counter c.loop.self c.in_ok-entry.entry c.session.new.self (list_at session_at c.args.count c.args.self.now) c.loop-test.true c.in_ok-entry.ensures.given c.loop.invariant)
 
 pub returns : goal.returns
 returns c = is_done session_at c.loop.list c.args.count c.loop.counter c.loop.self (list_at session_at c.args.count c.args.self.now) c.loop-test.false c.loop.invariant
