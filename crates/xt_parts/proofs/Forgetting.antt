@@ -6,7 +6,7 @@ use Rattle.xt_parts.specs.declared.TheConstants.{HALF_JOINED}
 use Rattle.xt_parts.specs.declared.part.MessageId.{MessageId}
 use Rattle.xt_parts.specs.declared.part.Header.{Header}
 use Rattle.xt_parts.specs.Part.{read_part}
-use Rattle.xt_parts.specs.Joining.{HalfJoined, Taken, is_same, half_of, without, changed, newest, bytes_of, has_payload, settled, none_taken, begun, added, continued, joined_to}
+use Rattle.xt_parts.specs.Joining.{HalfJoined, Taken, is_same, half_of, without, changed, newest, bytes_of, has_payload, given_or_kept, none_taken, begun, added, continued, joined_to}
 use Rattle.xt_parts.specs.Runs.{AreApart}
 use Rattle.xt_parts.specs.Laws.{StaysFew, StaysApart, ForgetsGiven, ForgetsDropped}
 use Rattle.xt_parts.proofs.SameId.{same_id, other_way}
@@ -116,11 +116,11 @@ few-changed (half ∷ held) id new = at (is_same half.id id) (few-changed held i
 few-newest : (held : List HalfJoined) → length (newest held) ≤ HALF_JOINED
 few-newest held = omega (arith, length-drop (length held - HALF_JOINED) held)
 
-few-settled :
+few-given_or_kept :
     (id : MessageId) (forgotten kept : List HalfJoined) (bytes : Option (List ℕ)) → length forgotten ≤ HALF_JOINED →
-    length kept ≤ HALF_JOINED → length (settled id forgotten kept bytes).held ≤ HALF_JOINED
-few-settled id forgotten kept None few few_kept = few_kept
-few-settled id forgotten kept (Some bytes) few few_kept = few
+    length kept ≤ HALF_JOINED → length (given_or_kept id forgotten kept bytes).held ≤ HALF_JOINED
+few-given_or_kept id forgotten kept None few few_kept = few_kept
+few-given_or_kept id forgotten kept (Some bytes) few few_kept = few
 
 module _ (held : List HalfJoined) (few : length held ≤ HALF_JOINED) (header : Header) (payload : List ℕ) where
   few-continued :
@@ -133,7 +133,7 @@ module _ (held : List HalfJoined) (few : length held ≤ HALF_JOINED) (header : 
           length (if b then record { held = held; whole = None } else added held half header payload).held ≤ HALF_JOINED
       of_index true = few
       of_index false =
-          few-settled header.id (without held header.id)
+          few-given_or_kept header.id (without held header.id)
           (changed held header.id (record half { taken = slice_set half.taken header.index (Some payload) }))
           (bytes_of (slice_set half.taken header.index (Some payload)))
           (omega (arith, few-without held header.id, few))
@@ -155,7 +155,7 @@ module _ (held : List HalfJoined) (few : length held ≤ HALF_JOINED) (header : 
       let P : Taken → Type 0 = λ t. length t.held ≤ HALF_JOINED in
       let now = slice_set (none_taken header.size) header.index (Some payload) in
       subst P (same_Some _ taken e)
-      (few-settled header.id held
+      (few-given_or_kept header.id held
       (newest (held ++ record { id = header.id; size = header.size; taken = now } ∷ [])) (bytes_of now) few
       (few-newest (held ++ record { id = header.id; size = header.size; taken = now } ∷ [])))
   few-joined (Some half) taken e = few-continued half taken e
@@ -170,10 +170,10 @@ record Forgets (id : MessageId) (taken : Taken) : Type 0 where
   apart : AreApart taken.held
   given : IsSome taken.whole → half_of taken.held id ≡ None
 
-forgets-settled : (id : MessageId) (forgotten kept : List HalfJoined) (bytes : Option (List ℕ)) → AreApart forgotten →
-    half_of forgotten id ≡ None → AreApart kept → Forgets id (settled id forgotten kept bytes)
-forgets-settled id forgotten kept None apart absent kept_apart = record { apart = kept_apart; given = λ some. cc }
-forgets-settled id forgotten kept (Some bytes) apart absent kept_apart = record { apart = apart; given = λ some. absent }
+forgets-given_or_kept : (id : MessageId) (forgotten kept : List HalfJoined) (bytes : Option (List ℕ)) → AreApart forgotten →
+    half_of forgotten id ≡ None → AreApart kept → Forgets id (given_or_kept id forgotten kept bytes)
+forgets-given_or_kept id forgotten kept None apart absent kept_apart = record { apart = kept_apart; given = λ some. cc }
+forgets-given_or_kept id forgotten kept (Some bytes) apart absent kept_apart = record { apart = apart; given = λ some. absent }
 
 found_id : (held : List HalfJoined) (id : MessageId) (half : HalfJoined) → half_of held id ≡ Some half → half.id ≡ id
 found_id [] id half found = absurd (none-some half found)
@@ -189,13 +189,13 @@ module _ (held : List HalfJoined) (apart : AreApart held) (header : Header) (pay
   forgets-begun absent =
       let taken = slice_set (none_taken header.size) header.index (Some payload) in
       let half : HalfJoined = record { id = header.id; size = header.size; taken = taken } in
-      forgets-settled header.id held (newest (held ++ half ∷ [])) (bytes_of taken) apart absent
+      forgets-given_or_kept header.id held (newest (held ++ half ∷ [])) (bytes_of taken) apart absent
       (apart-drop (length (held ++ half ∷ []) - HALF_JOINED) (held ++ half ∷ []) (apart-append half held apart absent))
 
   forgets-added : (half : HalfJoined) → half.id ≡ header.id → Forgets header.id (added held half header payload)
   forgets-added half is =
       let taken = slice_set half.taken header.index (Some payload) in
-      forgets-settled header.id (without held header.id) (changed held header.id (record half { taken = taken })) (bytes_of taken)
+      forgets-given_or_kept header.id (without held header.id) (changed held header.id (record half { taken = taken })) (bytes_of taken)
       (apart-without held header.id apart) (gone-without held header.id apart)
       (apart-changed header.id (record half { taken = taken }) is held apart)
 

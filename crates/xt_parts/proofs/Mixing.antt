@@ -10,7 +10,7 @@ use Rattle.xt_parts.specs.declared.part.MessageId.{MessageId}
 use Rattle.xt_parts.specs.declared.part.Header.{Header}
 use Rattle.xt_parts.specs.declared.joining.Whole.{Whole}
 use Rattle.xt_parts.specs.Part.{parts_in, payload_of, part_of}
-use Rattle.xt_parts.specs.Joining.{HalfJoined, Taken, is_same, half_of, without, changed, newest, bytes_of, has_payload, settled, added, continued, joined_to, after_part}
+use Rattle.xt_parts.specs.Joining.{HalfJoined, Taken, is_same, half_of, without, changed, newest, bytes_of, has_payload, given_or_kept, added, continued, joined_to, after_part}
 use Rattle.xt_parts.specs.Runs.{Joined, joined, with_whole, CanBeCut, whole_of}
 use Rattle.xt_parts.specs.Laws.{NeverMixes}
 use Rattle.xt_parts.proofs.SameId.{same_id}
@@ -82,11 +82,11 @@ module _ (sent : MessageId → List ℕ) (Came : MessageId → Type 0) where
     pub whole : IfSome taken.whole OwnWhole
 
   module _ (id : MessageId) (came : Came id) where
-    apart-settled : (forgotten kept : List HalfJoined) (bytes : Option (List ℕ)) → AllOwn forgotten → AllOwn kept →
-        (bytes ≡ None) ⊎ (bytes ≡ Some (sent id)) → Apart (Some (settled id forgotten kept bytes))
-    apart-settled forgotten kept bytes all_forgotten all_kept (inl none) =
+    apart-given_or_kept : (forgotten kept : List HalfJoined) (bytes : Option (List ℕ)) → AllOwn forgotten → AllOwn kept →
+        (bytes ≡ None) ⊎ (bytes ≡ Some (sent id)) → Apart (Some (given_or_kept id forgotten kept bytes))
+    apart-given_or_kept forgotten kept bytes all_forgotten all_kept (inl none) =
         rw none (record { taken = record { held = kept; whole = None }; is = refl; held = all_kept; whole = tt })
-    apart-settled forgotten kept bytes all_forgotten all_kept (inr some) =
+    apart-given_or_kept forgotten kept bytes all_forgotten all_kept (inr some) =
         rw some (record {
           taken = record { held = forgotten; whole = Some (whole_of id (sent id)) };
           is = refl;
@@ -125,7 +125,7 @@ module _ (sent : MessageId → List ℕ) (Came : MessageId → Type 0) where
         of_index true = record { taken = record { held = held; whole = None }; is = refl; held = all; whole = tt }
         of_index false =
             let P : List (Option (List ℕ)) → Type 0 = λ taken. (bytes_of taken ≡ None) ⊎ (bytes_of taken ≡ Some (sent id)) in
-            apart-settled (without held id)
+            apart-given_or_kept (without held id)
             (changed held id (record half { taken = slice_set half.taken index (Some (payload_of (sent id) index)) }))
             (bytes_of (slice_set half.taken index (Some (payload_of (sent id) index))))
             (own-without held id all)
@@ -138,7 +138,7 @@ module _ (sent : MessageId → List ℕ) (Came : MessageId → Type 0) where
       apart-begun unknown =
           let own : Own (half_at id (sent id) can (index ∷ [])) = record { came = came; seen = index ∷ []; size = refl; taken = refl } in
           subst Apart (sym (begins id (sent id) can held unknown index below))
-          (apart-settled held (newest (held ++ half_at id (sent id) can (index ∷ []) ∷ [])) (bytes_of (taken_of (sent id) (index ∷ [])))
+          (apart-given_or_kept held (newest (held ++ half_at id (sent id) can (index ∷ []) ∷ [])) (bytes_of (taken_of (sent id) (index ∷ [])))
           all (own-drop (length (held ++ half_at id (sent id) can (index ∷ []) ∷ []) - HALF_JOINED) _
           (own-append held (half_at id (sent id) can (index ∷ [])) all own))
           (never_else (sent id) (index ∷ [])))

@@ -6,7 +6,7 @@ use Rattle.std.proofs.lemmas.List.{append-nil, map-id}
 use Rattle.std.proofs.lemmas.List.FromFn.{map-range_with_len_more, take-map-range_with_len}
 use Rattle.xt_parts.specs.declared.part.MessageId.{MessageId}
 use Rattle.xt_parts.specs.Part.{parts_in, payload_of, part_of, parts_of}
-use Rattle.xt_parts.specs.Joining.{HalfJoined, Taken, settled, after_part}
+use Rattle.xt_parts.specs.Joining.{HalfJoined, Taken, given_or_kept, after_part}
 use Rattle.xt_parts.specs.Runs.{joined, CanBeCut, whole_of, HasRoomFor, first_payloads, after_first, has_index, parts_at, IsLastOf}
 use Rattle.xt_parts.specs.Laws.{StepsInOrder, WholeInOrder, EarlyInOrder, WholeInAnyOrder, EarlyInAnyOrder}
 use Rattle.xt_parts.proofs.Taking.{lacking, complete, has_same, has_other, kept_index}
@@ -151,11 +151,11 @@ module _ (held : List HalfJoined) (id : MessageId) (message : List ℕ) (can : C
           })
       at (inl last) =
           rw (ne_eqb (taken + 1) 0 (λ same. omega arith), eq-eqb (taken + 1) (parts_in (length message)) last)
-          (ap (λ bytes. Some (settled id held (held ++ half_at id message can seen ∷ []) bytes))
+          (ap (λ bytes. Some (given_or_kept id held (held ++ half_at id message can seen ∷ []) bytes))
           (complete message seen (λ index below. has_below index (omega arith))))
       at (inr further) =
           let less : taken + 1 < parts_in (length message) = omega arith in
-          ap (λ bytes. Some (settled id held (held ++ half_at id message can seen ∷ []) bytes))
+          ap (λ bytes. Some (given_or_kept id held (held ++ half_at id message can seen ∷ []) bytes))
           (lacking message seen (taken + 1) less lacks_next)
           ∙ ap kept_half
           (sym (state_first (taken + 1) less ∙ ap (state id message can held room) (range_more taken)

@@ -8,7 +8,7 @@ use Rattle.xt_parts.specs.declared.TheConstants.{PAYLOAD, HALF_JOINED}
 use Rattle.xt_parts.specs.declared.part.MessageId.{MessageId}
 use Rattle.xt_parts.specs.declared.part.Header.{Header}
 use Rattle.xt_parts.specs.Part.{parts_in, bytes_in, payload_of, part_of, read_part}
-use Rattle.xt_parts.specs.Joining.{HalfJoined, Taken, is_same, half_of, without, changed, newest, bytes_of, settled, continued, joined_to, after_part}
+use Rattle.xt_parts.specs.Joining.{HalfJoined, Taken, is_same, half_of, without, changed, newest, bytes_of, given_or_kept, continued, joined_to, after_part}
 use Rattle.xt_parts.specs.Runs.{Joined, joined, with_whole, CanBeCut, whole_of, HasRoomFor, has_index, parts_at, IsLastOf}
 use Rattle.xt_parts.proofs.SameId.{same_itself}
 use Rattle.xt_parts.proofs.Reading.{reads}
@@ -77,16 +77,16 @@ module _ (id : MessageId) (message : List ℕ) where
     half_at indices = record { id = id; size = length message; taken = taken_of message indices }
 
     abbrev pub after_index : List HalfJoined → List ℕ → Taken
-    after_index held indices = settled id held (held ++ half_at indices ∷ []) (bytes_of (taken_of message indices))
+    after_index held indices = given_or_kept id held (held ++ half_at indices ∷ []) (bytes_of (taken_of message indices))
 
     -- the part that begins the message, where others are half joined
     pub begins : (held : List HalfJoined) → half_of held id ≡ None → (index : ℕ) → index < parts_in (length message) →
         after_part held (part_of id message index)
-        ≡ Some (settled id held (newest (held ++ half_at (index ∷ []) ∷ [])) (bytes_of (taken_of message (index ∷ []))))
+        ≡ Some (given_or_kept id held (newest (held ++ half_at (index ∷ []) ∷ [])) (bytes_of (taken_of message (index ∷ []))))
     begins held unknown index below =
         ap (option_and_then (λ part. joined_to held (half_of held part.0.id) part.0 part.1)) (reads_part index below)
         ∙ ap (λ found. joined_to held found (header_at index) (payload_of message index)) unknown
-        ∙ ap (λ taken. Some (settled id held
+        ∙ ap (λ taken. Some (given_or_kept id held
         (newest (held ++ record { id = id; size = length message; taken = taken } ∷ [])) (bytes_of taken)))
         (ap (λ taken. slice_set taken index (Some (payload_of message index))) (none_first message)
         ∙ more message [] index below)
@@ -99,7 +99,7 @@ module _ (id : MessageId) (message : List ℕ) where
           let few : length (held ++ half_at (index ∷ []) ∷ []) ≤ HALF_JOINED
           = omega (arith, length-append held (half_at (index ∷ []) ∷ []), room.room) in
           begins held room.unknown index below
-          ∙ ap (λ kept. Some (settled id held kept (bytes_of (taken_of message (index ∷ []))))) (newest-few _ few)
+          ∙ ap (λ kept. Some (given_or_kept id held kept (bytes_of (taken_of message (index ∷ []))))) (newest-few _ few)
 
       -- a further part of the message, repeated or not, while one is missing
       pub further_index : (seen : List ℕ) (missing : ℕ) → missing < parts_in (length message) →
@@ -117,8 +117,8 @@ module _ (id : MessageId) (message : List ℕ) where
               ≡ Some (after_index held (seen ++ index ∷ []))
           of_index true repeated =
               rw (eq-eqb (length message) (length message) refl, known message seen index below, repeated)
-              (ap (λ bytes. Some (settled id held (held ++ half_at seen ∷ []) bytes)) (sym (lacking message seen missing inside lacks))
-              ∙ ap (λ taken. Some (settled id held (held ++ record { id = id; size = length message; taken = taken } ∷ [])
+              (ap (λ bytes. Some (given_or_kept id held (held ++ half_at seen ∷ []) bytes)) (sym (lacking message seen missing inside lacks))
+              ∙ ap (λ taken. Some (given_or_kept id held (held ++ record { id = id; size = length message; taken = taken } ∷ [])
               (bytes_of taken))) (again message seen index repeated))
           of_index false new =
               rw (
@@ -127,11 +127,11 @@ module _ (id : MessageId) (message : List ℕ) where
                 new,
                 without-last (half_at seen) held room.unknown,
               )
-              (ap (λ kept. Some (settled id held kept (bytes_of (slice_set (taken_of message seen) index (Some (payload_of message index))))))
+              (ap (λ kept. Some (given_or_kept id held kept (bytes_of (slice_set (taken_of message seen) index (Some (payload_of message index))))))
               (changed-last (half_at seen)
               (record { id = id; size = length message; taken = slice_set (taken_of message seen) index (Some (payload_of message index)) })
               held room.unknown)
-              ∙ ap (λ taken. Some (settled id held (held ++ record { id = id; size = length message; taken = taken } ∷ [])
+              ∙ ap (λ taken. Some (given_or_kept id held (held ++ record { id = id; size = length message; taken = taken } ∷ [])
               (bytes_of taken))) (more message seen index below))
 
       -- the joiner when these indices were taken: before the first it is as it was
@@ -155,7 +155,7 @@ module _ (id : MessageId) (message : List ℕ) where
           after_part (state seen) (part_of id message index) ≡ Some (record { held = state (seen ++ index ∷ []); whole = None })
       early_index seen index missing below inside lacks =
           any_index seen missing inside (lacks_front seen (index ∷ []) missing lacks) index below
-          ∙ ap (λ bytes. Some (settled id held (held ++ half_at (seen ++ index ∷ []) ∷ []) bytes))
+          ∙ ap (λ bytes. Some (given_or_kept id held (held ++ half_at (seen ++ index ∷ []) ∷ []) bytes))
           (lacking message (seen ++ index ∷ []) missing inside lacks)
           ∙ ap (λ kept. Some (record { held = kept; whole = None })) (sym (state-more seen index))
 
@@ -193,7 +193,7 @@ module _ (id : MessageId) (message : List ℕ) where
         last_index : after_part (state front) (part_of id message last) ≡ Some (record { held = held; whole = Some (whole_of id message) })
         last_index =
             any_index front last last_below order.new last last_below
-            ∙ ap (λ bytes. Some (settled id held (held ++ half_at (front ++ last ∷ []) ∷ []) bytes))
+            ∙ ap (λ bytes. Some (given_or_kept id held (held ++ half_at (front ++ last ∷ []) ∷ []) bytes))
             (complete message (front ++ last ∷ []) order.complete)
 
         -- the last index gives the message

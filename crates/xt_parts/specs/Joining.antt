@@ -52,9 +52,9 @@ has_payload (Some (Some payload)) = true
 has_payload _ = false
 
 -- With these payloads the message is given and forgotten, if no index is missing, and else it stays half joined.
-abbrev pub settled : MessageId → List HalfJoined → List HalfJoined → Option (List ℕ) → Taken
-settled id forgotten kept None = record { held = kept; whole = None }
-settled id forgotten kept (Some bytes) =
+abbrev pub given_or_kept : MessageId → List HalfJoined → List HalfJoined → Option (List ℕ) → Taken
+given_or_kept id forgotten kept None = record { held = kept; whole = None }
+given_or_kept id forgotten kept (Some bytes) =
     record { held = forgotten; whole = Some (record { sender = id.sender; boot = id.boot; bytes = bytes }) }
 
 -- no index of a message of this length is taken
@@ -65,14 +65,14 @@ none_taken size = replicate (parts_in size) None
 abbrev pub begun : List HalfJoined → Header → List ℕ → Taken
 begun held header payload =
     let taken = slice_set (none_taken header.size) header.index (Some payload) in
-    settled header.id held
+    given_or_kept header.id held
     (newest (held ++ record { id = header.id; size = header.size; taken = taken } ∷ [])) (bytes_of taken)
 
 -- A new index of a half joined message adds its payload.
 abbrev pub added : List HalfJoined → HalfJoined → Header → List ℕ → Taken
 added held half header payload =
     let taken = slice_set half.taken header.index (Some payload) in
-    settled header.id (without held header.id) (changed held header.id (record half { taken = taken }))
+    given_or_kept header.id (without held header.id) (changed held header.id (record half { taken = taken }))
     (bytes_of taken)
 
 -- A repeated index changes nothing, and a part that gives the message another length is refused.

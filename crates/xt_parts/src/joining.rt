@@ -1,12 +1,13 @@
-ghost use Rattle.std.specs.Prelude.{◌≡◌, ◌↔◌, ◌++◌, ◌∷◌, ◌<◌, ◌≤◌, ℕ, None, Some, List, [], length, take, drop, ◌&&◌, is_some, position, slice_get, slice_set, slice_index_or, remove, IfOk, OnErr, OnOk, IfSome, MatchOption, IsErrOf, unwrap_or};
-ghost use Rattle.std.specs.List.{flat_map, list_all};
+ghost use Rattle.std.specs.Prelude.{◌≡◌, ◌↔◌, ◌+◌, ◌++◌, ◌∷◌, ◌<◌, ◌≤◌, true, None, Some, [], length, is_some, position, slice_get, slice_set, IfOk, OnErr, OnOk, MatchOption, IsErrOf};
+ghost use Rattle.std.specs.List.{list_all};
 ghost use Rattle.xt_parts.specs.declared.joining.JoinErr.TheVariants.{BadPart, OutOfMemory};
-ghost use Rattle.xt_parts.specs.Part.{parts_in};
+ghost use Rattle.xt_parts.specs.Part.{parts_in, bytes_in};
+ghost use Rattle.xt_parts.specs.Buffers.{overwritten};
 ghost use Rattle.xt_parts.specs.Places.{StandsAt};
 ghost use Rattle.xt_parts.specs.Joining.{HalfJoined, is_same, bytes_of, has_payload, none_taken, half_of, newest, begun, joined_to, after_part};
 
-use crate::HALF_JOINED;
 use crate::part::{Header, MessageId, part_count, read};
+use crate::{HALF_JOINED, PAYLOAD};
 use std::alloc::{AllocError, AllocFailed, Global};
 use std::marker::Model;
 use thiserror::Error;
@@ -58,101 +59,70 @@ impl Whole {
     }
 }
 
-/// A message of which parts are missing.
+/// A message of which parts are missing: its bytes, each payload in its place, and which indices are taken. It has
+/// room for the whole message from its first part on, so that each payload is copied once.
 #[derive(Drop)]
 struct Half {
     id: MessageId,
-    size: u32,
-    taken: Vec<Option<Octets>>,
+    taken: Vec<bool>,
+    bytes: Vec<u8>,
 }
 
 impl Model for Half {
     ghost use Rattle.std.specs.Prelude.{◌≡◌, length};
+    ghost use Rattle.xt_parts.specs.declared.TheConstants.{PAYLOAD};
     ghost use Rattle.xt_parts.specs.Part.{parts_in};
     ghost use Rattle.xt_parts.specs.Joining.{HalfJoined};
+    ghost use Rattle.xt_parts.specs.Buffers.{payloads_in};
 
     ghost Value = { HalfJoined };
 
-    ghost view = { λ h. record { id = h.id; size = h.size; taken = h.taken.items } };
+    ghost view = { λ h. record {
+      id = h.id;
+      size = length h.bytes.items;
+      taken = payloads_in PAYLOAD h.taken.items h.bytes.items;
+    } };
 
-    ghost invariant = { λ h. length h.taken.items ≡ parts_in h.size };
+    ghost invariant = { λ h. length h.taken.items ≡ parts_in (length h.bytes.items) };
 }
 
-/// Appends the payloads in order.
-fn append_payloads(bytes: &mut Vec<u8>, payloads: &[Option<Octets>]) -> Result<(), AllocError>
-    ensures { OnOk result (bytes.new.items ≡ bytes.old.items ++ flat_map (λ payload. unwrap_or payload []) payloads.now) }
+/// Writes these bytes over those from this place on.
+fn overwrite(bytes: &mut Vec<u8>, start: usize, payload: &[u8])
+    requires { start + length payload.now ≤ length bytes.old.items }
+    ensures written { bytes.new.items ≡ overwritten start payload.now bytes.old.items }
+    ensures long { length bytes.new.items ≡ length bytes.old.items }
 {
-    for payload in payloads {
-        if let Some(payload) = payload {
-            bytes.extend_from_slice(payload.as_slice())?;
-        }
-    }
-    Ok(())
+    bytes.as_mut_slice()[start..start + payload.len()].copy_from_slice(payload);
 }
 
-/// Whether each index has a payload.
-fn are_all_taken(taken: &[Option<Octets>]) -> bool
-    ensures { result ≡ list_all is_some taken.now }
+/// Whether each of them is true.
+fn are_all(flags: &[bool]) -> bool
+    ensures { result ≡ list_all (λ flag. flag) flags.now }
 {
-    taken.iter().all(|payload| payload.is_some())
-}
-
-/// Whether each index but this one has a payload.
-fn lacks_no_other(taken: &[Option<Octets>], index: usize) -> bool
-    requires { index < length taken.now }
-    ensures { result ≡
-        (list_all is_some (take index taken.now) && list_all is_some (drop 1 (drop index taken.now))) }
-{
-    let (before, rest) = taken.split_at(index);
-    let (_, after) = rest.split_at(1);
-    are_all_taken(before) && are_all_taken(after)
-}
-
-/// The payloads in order, with this one at its index.
-fn joined(
-    alloc: Global,
-    size: usize,
-    taken: &[Option<Octets>],
-    index: usize,
-    payload: &[u8],
-) -> Result<Octets, AllocError>
-    requires { index < length taken.now }
-    ensures { IfOk result (λ bytes. bytes ≡ flat_map (λ payload. unwrap_or payload []) (take index taken.now)
-        ++ payload.now ++ flat_map (λ payload. unwrap_or payload []) (drop 1 (drop index taken.now))) }
-{
-    let (before, rest) = taken.split_at(index);
-    let (_, after) = rest.split_at(1);
-    let mut bytes = Vec::with_capacity(alloc, size)?;
-    append_payloads(&mut bytes, before)?;
-    bytes.extend_from_slice(payload)?;
-    append_payloads(&mut bytes, after)?;
-    Ok(Octets::from(bytes))
+    flags.iter().all(|flag| *flag)
 }
 
 impl Half {
-    /// A message that this part begins.
+    /// A message that this part begins, with no index taken.
+    #[tactic(auto, using(crate::proofs::Payloads::none_in))]
     fn new(alloc: Global, header: &Header) -> Result<Half, AllocError>
         requires { header.now.size ≤ FRAME }
         ensures { IfOk result (λ half. half ≡
             record { id = header.now.id; size = header.now.size; taken = none_taken header.now.size }) }
     {
-        let total = part_count(header.size as usize);
-        let mut taken = Vec::with_capacity(alloc, total)?;
-        for _ in 0..total {
-            taken.push(None)?;
-        }
+        let size = header.size as usize;
         Ok(Half {
             id: header.id,
-            size: header.size,
-            taken,
+            taken: vec![in alloc; false; part_count(size)]?,
+            bytes: vec![in alloc; 0u8; size]?,
         })
     }
 
     /// The length of the whole message, in bytes.
-    fn size(&self) -> u32
+    fn size(&self) -> usize
         ensures { result ≡ self.now.size }
     {
-        self.size
+        self.bytes.len()
     }
 
     /// Whether it is this message.
@@ -163,37 +133,40 @@ impl Half {
     }
 
     /// Whether the payload of this index was taken.
+    #[tactic(auto, using(crate::proofs::Payloads::taken_at))]
     fn has(&self, index: usize) -> bool
+        requires { index < parts_in self.now.size }
         ensures { result ≡ has_payload (slice_get self.now.taken index) }
     {
-        matches!(self.taken.get(index), Some(Some(_)))
+        self.taken[index]
     }
 
-    /// The bytes of the message, if this payload is the only one that it lacks.
-    #[tactic(auto, using(crate::proofs::Payloads::bytes_of_more))]
-    fn joined_with(
-        &self,
-        alloc: Global,
-        index: usize,
-        payload: &[u8],
-    ) -> Result<Option<Octets>, AllocError>
-        requires { index < parts_in self.now.size }
-        ensures { IfOk result (λ bytes. bytes ≡ bytes_of (slice_set self.now.taken index (Some payload.now))) }
+    /// Adds a payload, in its place.
+    #[tactic(auto, using(crate::proofs::Payloads::one_more))]
+    fn add(&mut self, index: usize, payload: &[u8])
+        requires index { index < parts_in self.old.size }
+        requires long { length payload.now ≡ bytes_in self.old.size index }
+        ensures { self.new ≡ record self.old { taken = slice_set self.old.taken index (Some payload.now) } }
     {
-        if !lacks_no_other(&self.taken, index) {
-            return Ok(None);
-        }
-        joined(alloc, self.size as usize, &self.taken, index, payload).map(Some)
+        overwrite(&mut self.bytes, index * PAYLOAD, payload);
+        self.taken[index] = true;
     }
 
-    /// Adds a payload.
-    fn add(&mut self, alloc: Global, index: usize, payload: &[u8]) -> Result<(), AllocError>
-        requires { index < parts_in self.old.size }
-        ensures ok { OnOk result (self.new ≡ record self.old { taken = slice_set self.old.taken index (Some payload.now) }) }
-        ensures err { OnErr result (self.new ≡ self.old) }
+    /// Whether each index is taken.
+    #[tactic(auto, using(crate::proofs::Payloads::all_in))]
+    fn is_whole(&self) -> bool
+        ensures { result ≡ list_all is_some self.now.taken }
     {
-        self.taken[index] = Some(Octets::of(alloc, payload)?);
-        Ok(())
+        are_all(&self.taken)
+    }
+
+    /// The bytes of the message, as they stand.
+    #[tactic(auto, using(crate::proofs::Payloads::bytes_in_place))]
+    fn into_bytes(self) -> Octets
+        requires { list_all is_some self.taken ≡ true }
+        ensures { Some result ≡ bytes_of self.taken }
+    {
+        Octets::from(self.bytes)
     }
 }
 
@@ -275,16 +248,16 @@ impl Joiner {
     fn begin(&mut self, header: &Header, payload: &[u8]) -> Result<Option<Whole>, AllocError>
         requires size { header.now.size ≤ FRAME }
         requires index { header.now.index < parts_in header.now.size }
+        requires long { length payload.now ≡ bytes_in header.now.size header.now.index }
         ensures ok { IfOk result (λ whole.
             begun self.old header.now payload.now ≡ record { held = self.new; whole = whole }) }
         ensures err { OnErr result (self.new ≡ self.old) }
     {
         let mut half = Half::new(self.alloc, header)?;
-        let index = header.index as usize;
-        if let Some(bytes) = half.joined_with(self.alloc, index, payload)? {
-            return Ok(Some(Whole::of(&header.id, bytes)));
+        half.add(header.index as usize, payload);
+        if half.is_whole() {
+            return Ok(Some(Whole::of(&header.id, half.into_bytes())));
         }
-        half.add(self.alloc, index, payload)?;
         keep(&mut self.halves, half)?;
         Ok(None)
     }
@@ -298,6 +271,7 @@ impl Joiner {
     ) -> Result<Option<Whole>, JoinErr>
         requires found { StandsAt self.old header.now.id place }
         requires index { header.now.index < parts_in header.now.size }
+        requires long { length payload.now ≡ bytes_in header.now.size header.now.index }
         ensures ok { IfOk result (λ whole.
             joined_to self.old (half_of self.old header.now.id) header.now payload.now
             ≡ Some (record { held = self.new; whole = whole })) }
@@ -305,19 +279,19 @@ impl Joiner {
             ↔ (joined_to self.old (half_of self.old header.now.id) header.now payload.now ≡ None) }
         ensures err { OnErr result (self.new ≡ self.old) }
     {
-        let half = &self.halves[place];
-        if half.size() != header.size {
+        let half = &mut self.halves[place];
+        if half.size() != header.size as usize {
             return Err(JoinErr::BadPart);
         }
         let index = header.index as usize;
         if half.has(index) {
             return Ok(None);
         }
-        if let Some(bytes) = half.joined_with(self.alloc, index, payload)? {
-            let _ = self.halves.remove(place);
-            return Ok(Some(Whole::of(&header.id, bytes)));
+        half.add(index, payload);
+        if !half.is_whole() {
+            return Ok(None);
         }
-        self.halves[place].add(self.alloc, index, payload)?;
-        Ok(None)
+        let half = self.halves.remove(place);
+        Ok(Some(Whole::of(&header.id, half.into_bytes())))
     }
 }

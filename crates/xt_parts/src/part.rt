@@ -1,4 +1,4 @@
-ghost use Rattle.std.specs.Prelude.{◌≡◌, ◌+◌, ◌<◌, ◌≤◌, length, take, drop, slice_index, option_map, IfOk, IfSome};
+ghost use Rattle.std.specs.Prelude.{◌≡◌, ◌+◌, ◌-◌, ◌<◌, ◌≤◌, length, take, drop, slice_index, option_map, IfOk, IfSome};
 ghost use Rattle.std.specs.Bool.{OnTrue};
 ghost use Rattle.xt_parts.specs.Part.{parts_in, bytes_in, part_bytes, word_at, long_at, header_of, is_cut, is_part, read_part};
 
@@ -96,7 +96,8 @@ impl Header {
 fn is_cut(bytes: &[u8], size: usize) -> bool
     requires { HEADER ≤ length bytes.now }
     ensures exact { result ≡ is_cut bytes.now size }
-    ensures limits { OnTrue result ((size ≤ FRAME) × (slice_index bytes.now 21 < parts_in size)) }
+    ensures limits { OnTrue result ((size ≤ FRAME) × (slice_index bytes.now 21 < parts_in size)
+        × (length bytes.now - HEADER ≡ bytes_in size (slice_index bytes.now 21))) }
 {
     if size == 0 || size > FRAME {
         return false;
@@ -110,7 +111,8 @@ fn is_cut(bytes: &[u8], size: usize) -> bool
 #[tactic(auto, unfolding(crate::specs::Part::is_part, crate::specs::Part::header_of))]
 pub(crate) fn read(bytes: &[u8]) -> Option<(Header, &[u8])>
     ensures exact { option_map (λ part. (part.0, part.1.now)) result ≡ read_part bytes.now }
-    ensures limits { IfSome result (λ part. (part.0.size ≤ FRAME) × (part.0.index < parts_in part.0.size)) }
+    ensures limits { IfSome result (λ part. (part.0.size ≤ FRAME) × (part.0.index < parts_in part.0.size)
+        × (length part.1.now ≡ bytes_in part.0.size part.0.index)) }
 {
     if bytes.len() < HEADER || bytes[0] != VERSION || !is_cut(bytes, word(bytes, 23) as usize) {
         return None;

@@ -4,7 +4,7 @@ ghost use Rattle.xt_parts.specs.declared.joining.JoinErr.TheVariants.{OutOfMemor
 use crate::{JoinErr, Joiner, cut, joins_in_order};
 use std::alloc::Global;
 use std::test::Fail;
-use xt_base::{Boot, FRAME, NodeId, Octets};
+use xt_base::{Boot, Copies, FRAME, NodeId, Octets};
 
 /// `abc` as message 3 of boot 2 of node 1, in its one part.
 const ABC: [u8; 30] = [
@@ -118,55 +118,64 @@ fn drops_the_oldest_of_65(rt: HostRuntime) -> Result<(), Fail> {
     Ok(())
 }
 
-#[test]
-fn refuses_what_is_no_part(rt: HostRuntime) -> Result<(), Fail> {
-    let mut joiner = Joiner::new(rt.alloc());
-    // Each byte changed by itself: version, index, total, and the length up to its limit, to zero and by one.
-    for (place, byte) in [
-        (0usize, 0u8),
-        (0, 2),
-        (21, 1),
-        (22, 0),
-        (22, 2),
-        (23, 1),
-        (24, 4),
-        (26, 0),
-        (26, 2),
-        (26, 4),
-    ] {
-        let mut part = ABC;
-        if place < part.len() {
-            part[place] = byte;
-        }
-        assert_eq!(rt;
-            joiner.take(&part).err(),
-            Some(JoinErr::BadPart),
-            "{byte} at {place}"
-        );
+/// Places in the part of `abc`, and a byte for each that makes it no part.
+const CHANGED: [(usize, u8); 11] = [
+    // the version
+    (0, 0),
+    (0, 2),
+    // the index
+    (21, 1),
+    // how many parts there are
+    (22, 0),
+    (22, 2),
+    // the length of the message: past its limit, of two parts, 0, and not that of the payload
+    (23, 1),
+    (24, 4),
+    (25, 0x80),
+    (26, 0),
+    (26, 2),
+    (26, 4),
+];
+
+/// A part with another byte at this place.
+fn changed(alloc: Global, part: &[u8], place: usize, byte: u8) -> Result<Octets, Fail> {
+    let mut bytes = Vec::from_slice(alloc, part)?;
+    if let Some(here) = bytes.get_mut(place) {
+        *here = byte;
     }
-    for length in 0..30 {
-        assert_eq!(rt;
-            joiner.take(&ABC[..length]).err(),
-            Some(JoinErr::BadPart),
-            "{length} bytes"
-        );
+    Ok(Octets::from(bytes))
+}
+
+/// Bytes that are taken one after the other, and what each of them gives.
+fn rows(alloc: Global) -> Result<Vec<(Octets, Result<Option<usize>, JoinErr>)>, Fail> {
+    let mut rows = Vec::new(alloc);
+    let (first, second) = two_parts(alloc, 2, 4)?;
+    // a message of 32,770 bytes under the same number
+    let longer = changed(alloc, first.as_slice(), 26, 2)?;
+    rows.push((first, Ok(None)))?;
+    for length in 0..ABC.len() {
+        rows.push((Octets::of(alloc, &ABC[..length])?, Err(JoinErr::BadPart)))?;
     }
-    Ok(())
+    for (place, byte) in CHANGED {
+        rows.push((changed(alloc, &ABC, place, byte)?, Err(JoinErr::BadPart)))?;
+    }
+    let mut more = Vec::from_slice(alloc, &ABC)?;
+    more.push(b'd')?;
+    rows.push((Octets::from(more), Err(JoinErr::BadPart)))?;
+    rows.push((longer.copy(alloc)?, Err(JoinErr::BadPart)))?;
+    // the message that began is as it was, and forgotten once it was given
+    rows.push((second, Ok(Some(32_769))))?;
+    rows.push((longer, Ok(None)))?;
+    rows.push((Octets::of(alloc, &ABC)?, Ok(Some(3))))?;
+    Ok(rows)
 }
 
 #[test]
-fn refuses_another_length(rt: HostRuntime) -> Result<(), Fail> {
-    let (first, second) = two_parts(rt.alloc(), 2, 3)?;
+fn a_part_is_taken_or_refused(rt: HostRuntime) -> Result<(), Fail> {
     let mut joiner = Joiner::new(rt.alloc());
-    assert_eq!(rt; given(&mut joiner, &first)?, None);
-
-    let mut longer = Vec::from_slice(rt.alloc(), first.as_slice())?;
-    if let Some(last_of_length) = longer.get_mut(26) {
-        *last_of_length = 2;
+    for (part, wanted) in &rows(rt.alloc())? {
+        let given = given(&mut joiner, part);
+        assert_eq!(rt; given, *wanted, "{} bytes", part.as_slice().len());
     }
-    assert_eq!(rt; joiner.take(&longer).err(), Some(JoinErr::BadPart));
-
-    // It is as it was.
-    assert_eq!(rt; given(&mut joiner, &second)?, Some(32_769));
     Ok(())
 }
