@@ -1,4 +1,4 @@
-use crate::{AppendErr, Journal, LoadErr};
+use crate::{AppendErr, Journal};
 use disk_model::{MemoryDisk, Stop};
 use std::alloc::Global;
 use std::test::Fail;
@@ -8,10 +8,6 @@ use xt_base::{CallList, Octets};
 const ONE: [u8; 27] = [
     0x58, 0x54, 0x46, 0x53, 0x4a, 0x52, 0x4e, 0x4c, 0, 0, 0, 1, 0xa5, 0, 0, 0, 9, 1, 0, 0, 0, 0, 0,
     0, 0, 1, 0,
-];
-
-const NONE: [u8; 13] = [
-    0x58, 0x54, 0x46, 0x53, 0x4a, 0x52, 0x4e, 0x4c, 0, 0, 0, 1, 0,
 ];
 
 const FIRST: [u8; 9] = [1, 0, 0, 0, 0, 0, 0, 0, 1];
@@ -122,67 +118,5 @@ fn a_journal_is_full_past_its_limit(rt: HostRuntime) -> Result<(), Fail> {
     // 26, where the journal ends, and 6 and 9 bytes
     assert_eq!(rt; appended(alloc, 41)?, (40, 0, 0));
     assert_eq!(rt; appended(alloc, 40)?, (26, 41, 40));
-    Ok(())
-}
-
-/// The number of what loading answers, what it tells, and the disk that it leaves.
-fn outcome(alloc: Global, bytes: &[u8]) -> Result<(u8, u64, MemoryDisk), Fail> {
-    Ok(
-        match Journal::load(alloc, disk(alloc, bytes, None)?, LIMIT) {
-            Ok((journal, placed)) => (0, placed.len() as u64, journal.close()),
-            Err(LoadErr::DiskFault { count, disk }) => (1, count, disk),
-            Err(LoadErr::NotOurs { first, disk }) => (2, u64::from(first[0]), disk),
-            Err(LoadErr::Layout { version, disk }) => (3, u64::from(version), disk),
-            Err(LoadErr::Damaged { place, disk }) => (4, place, disk),
-            Err(LoadErr::OutOfMemory { disk }) => (5, 0, disk),
-        },
-    )
-}
-
-#[test]
-fn a_front_is_written_anew_or_damaged(rt: HostRuntime) -> Result<(), Fail> {
-    let alloc = rt.alloc();
-    for len in 0..=ONE.len() {
-        let front = &ONE[..len];
-        let (number, told, disk) = outcome(alloc, front)?;
-        let tells = match len {
-            0..=13 => (0, 0),
-            14..=26 => (4, 12),
-            _ => (0, 1),
-        };
-        assert_eq!(rt; (number, told), tells);
-        let left = if len <= 13 { NONE.as_slice() } else { front };
-        assert_eq!(rt; disk.image()?.as_slice(), left);
-    }
-    Ok(())
-}
-
-#[test]
-fn a_changed_byte_is_refused_by_name(rt: HostRuntime) -> Result<(), Fail> {
-    let alloc = rt.alloc();
-    // a place, the byte that stands there instead, and what loading answers and tells
-    let changes: [(usize, u8, u8, u64); 12] = [
-        (0, 0x59, 2, 0x59),
-        (1, 0, 2, 0x58),
-        (7, 0, 2, 0x58),
-        (8, 1, 3, 0x0100_0001),
-        (11, 7, 3, 7),
-        (12, 0x37, 0, 0),
-        (13, 1, 4, 12),
-        (16, 0, 4, 12),
-        (16, 10, 4, 12),
-        (16, 8, 0, 1),
-        (26, 0x37, 0, 1),
-        (26, 0xa5, 4, 26),
-    ];
-    for (place, byte, number, tells) in changes {
-        let mut bytes = ONE;
-        if let Some(here) = bytes.get_mut(place) {
-            *here = byte;
-        }
-        let (answer, told, disk) = outcome(alloc, &bytes)?;
-        assert_eq!(rt; (answer, told), (number, tells));
-        assert_eq!(rt; disk.image()?.as_slice(), bytes.as_slice());
-    }
     Ok(())
 }
