@@ -1,24 +1,11 @@
--- facts from what a call answered
-use Rattle.std.proofs.Common.{◌≡◌, ◌++◌, ◌∷◌, [], ℕ, List, true, false, Option, Some, None, is_some, Result, Ok, Err, OnOk, OnErr, refl, sym, ◌∙◌, ap, subst}
-use Rattle.std.specs.Result.{IsOk}
+-- a record more in what is kept
+use Rattle.std.proofs.Common.{◌≡◌, ◌++◌, ◌∷◌, [], ℕ, List, sym, ◌∙◌, ap, subst}
 use Rattle.disk_model.specs.Disk.{Kept}
 use Rattle.xt_base.specs.declared.record.Record.{Record}
 use Rattle.replica_records.specs.RecordText.{record_text}
 use Rattle.xt_journal.specs.Format.{KeepsJournal, StandsFor}
 use Rattle.object_store.specs.Texts.{texts_of}
 use Rattle.object_store.proofs.Reading.{texts-push}
-
-pub none_of : {A : Type 0} (o : Option A) → is_some o ≡ false → o ≡ None
-none_of None is = refl
-none_of (Some x) is = absurd (let no_way : true ≡ false = is in cc)
-
-pub ok_of : {T E P : Type 0} (r : Result T E) → OnErr r P → (P → ⊥) → IsOk r
-ok_of (Ok x) absent present = refl
-ok_of (Err e) absent present = absurd (present absent)
-
-pub at_ok : {T E Q : Type 0} (r : Result T E) → IsOk r → OnOk r Q → Q
-at_ok (Ok x) is q = q
-at_ok (Err e) is q = absurd (let no_way : false ≡ true = is in cc)
 
 texts : (old : List Record) (rec : Record) (bytes : List ℕ) → bytes ≡ record_text rec → texts_of old ++ bytes ∷ [] ≡ texts_of (old ++ rec ∷ [])
 texts old rec bytes is = ap (λ b. texts_of old ++ b ∷ []) is ∙ sym (texts-push old rec)

@@ -4,6 +4,7 @@ use Rattle.disk_model.specs.declared.disk.Disk.{Ghosts}
 use Rattle.xt_base.specs.declared.record.Record.{Record}
 use Rattle.xt_journal.specs.declared.journal.Journal.{Journal}
 use Rattle.xt_journal.specs.Access as journal
+use Rattle.replica_records.specs.Logs.{records_in}
 use Rattle.object_store.specs.declared.store.Store.{Store}
 
 module _ {D : Type 0} {g : Ghosts D} where
@@ -15,4 +16,4 @@ module _ {D : Type 0} {g : Ghosts D} where
 
   -- the records that it keeps, in order
   abbrev pub records_of : Store D g → List Record
-  records_of store = store.records.items
+  records_of store = records_in store.log

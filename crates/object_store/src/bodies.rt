@@ -1,26 +1,11 @@
-ghost use Rattle.std.specs.Prelude.{◌≡◌};
-ghost use Rattle.object_store.specs.Places.{body_in};
-
-use crate::places::BodyKey;
 use crate::store::Store;
 use disk_model::Disk;
 use replica_records::{Bodies, BodyErr};
 use std::alloc::Global;
-use xt_base::{Copies, FileId, Octets, Record, Stamp};
-
-/// The body that a record puts; empty where it puts none.
-fn body_in(rec: &Record) -> &[u8]
-    ensures { result.now ≡ body_in rec.now }
-{
-    match rec {
-        Record::Update { update, .. } => update.body.as_slice(),
-        Record::Stage { bytes, .. } => bytes.as_slice(),
-        _ => &[],
-    }
-}
+use xt_base::{FileId, Octets, Stamp};
 
 impl<D: Disk> Store<D> {
-    ghost use Rattle.std.specs.Prelude.{◌↔◌, List, Some, None, Err, IfOk};
+    ghost use Rattle.std.specs.Prelude.{◌≡◌, ◌↔◌, List, Some, None, Err, IfOk};
     ghost use Rattle.xt_protocol.specs.Folds.{body_kept};
     ghost use Rattle.replica_records.specs.declared.errors.BodyErr.TheVariants.{NoSuchVersion};
     ghost use Rattle.replica_records.specs.KeptBodies.{fault_in};
@@ -41,18 +26,7 @@ impl<D: Disk> Store<D> {
             (body_kept (records_of self.now) file.now object version.now ≡ None) }
         ensures sound { fault_in result ≡ None }
     {
-        let key = BodyKey {
-            file: *file,
-            object,
-            version: *version,
-        };
-        let Some(place) = self.places.place(&key) else {
-            return Err(BodyErr::NoSuchVersion);
-        };
-        match Octets::of(alloc, body_in(&self.records[place])) {
-            Ok(body) => Ok(body),
-            Err(_) => Err(BodyErr::OutOfMemory),
-        }
+        self.log.body(alloc, file, object, version)
     }
 }
 

@@ -7,10 +7,9 @@
 
 mod bodies;
 mod errors;
-mod keeping;
 mod laws;
 mod loading;
-mod places;
+mod preparing;
 mod store;
 
 pub use errors::{AppendErr, StoreErr};

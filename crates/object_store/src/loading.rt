@@ -8,9 +8,7 @@ ghost use Rattle.xt_journal.specs.Reading.{payloads_of};
 ghost use Rattle.object_store.specs.Refused.{IsReadOf};
 ghost use Rattle.object_store.specs.declared.loading.Trouble.TheVariants.{OutOfMemory};
 
-use crate::keeping::{keep, make_room};
-use crate::places::Places;
-use replica_records::{Folding, RecordErr, read_record};
+use replica_records::{Folding, RecordErr, RecordLog, read_record};
 use std::alloc::{AllocError, Global};
 use xt_base::{OutOfMemory, Record};
 use xt_journal::Placed;
@@ -53,20 +51,18 @@ fn record_in_place(
     }
 }
 
-/// The records that the payloads are, and where their bodies stand.
-pub fn read_all(alloc: Global, payloads: &[Placed]) -> Result<(Vec<Record>, Places), Trouble>
+/// The records that the payloads are.
+pub fn read_all(alloc: Global, payloads: &[Placed]) -> Result<RecordLog, Trouble>
     ensures { IsReadOf (payloads_of payloads.now) result }
 {
-    let mut records = Vec::new(alloc);
-    let mut places = Places::new(alloc);
+    let mut log = RecordLog::new(alloc);
     let mut folding = Folding::new(alloc);
     for placed in payloads {
         let Some(rec) = record_in_place(alloc, &folding, placed.bytes.as_slice())? else {
-            return Err(Trouble::BadRecord(records.len()));
+            return Err(Trouble::BadRecord(log.len()));
         };
         folding.take(alloc, &rec)?;
-        make_room(&mut records, &mut places, &rec)?;
-        keep(&mut records, &mut places, rec);
+        log.push(rec)?;
     }
-    Ok((records, places))
+    Ok(log)
 }

@@ -1,15 +1,15 @@
 ghost use Rattle.std.specs.Prelude.{IsTrue};
 ghost use Rattle.xt_journal.specs.Format.{KeepsJournal};
 ghost use Rattle.xt_journal.specs.Access.{disk_of};
+ghost use Rattle.replica_records.specs.Logs.{records_in};
 ghost use Rattle.object_store.specs.Texts.{texts_of, AreRecords};
-ghost use Rattle.object_store.specs.Places.{ArePlacesIn, are_places_prop};
 ghost use Rattle.object_store.specs.KeptJournals.{told_keeps_prop};
 
 use crate::errors::{AppendErr, StoreErr};
-use crate::keeping::{keep, prepared};
 use crate::loading::{Trouble, read_all};
-use crate::places::Places;
+use crate::preparing::prepared;
 use disk_model::Disk;
+use replica_records::RecordLog;
 use std::alloc::Global;
 use xt_base::Record;
 use xt_journal::{Journal, Placed};
@@ -18,14 +18,11 @@ use xt_journal::{Journal, Placed};
 #[derive(Debug, Drop)]
 pub struct Store<D: Disk> {
     pub(crate) journal: Journal<D>,
-    pub(crate) records: Vec<Record>,
-    pub(crate) places: Places,
+    pub(crate) log: RecordLog,
     /// The disk keeps the records' bytes.
-    pub ghost keeps: { IsTrue D.is_told → KeepsJournal (D.kept (disk_of journal)) (texts_of records.items) } by { told_keeps_prop D.is_told (D.kept (disk_of journal)) (texts_of records.items) },
+    pub ghost keeps: { IsTrue D.is_told → KeepsJournal (D.kept (disk_of journal)) (texts_of (records_in log)) } by { told_keeps_prop D.is_told (D.kept (disk_of journal)) (texts_of (records_in log)) },
     /// Each record is within its limits, and in its place.
-    pub ghost sound: { ∥ AreRecords records.items ∥₁ },
-    /// The bodies are found.
-    pub ghost found: { ArePlacesIn places records.items } by { are_places_prop places records.items },
+    pub ghost sound: { ∥ AreRecords (records_in log) ∥₁ },
 }
 
 impl<D: Disk> Store<D> {
@@ -55,11 +52,7 @@ impl<D: Disk> Store<D> {
         ensures { IsLoadOf journal (payloads_of payloads.now) result }
     {
         match read_all(alloc, payloads) {
-            Ok((records, places)) => Ok(Store {
-                journal,
-                records,
-                places,
-            }),
+            Ok(log) => Ok(Store { journal, log }),
             Err(Trouble::BadRecord(index)) => Err(StoreErr::BadRecord { index, journal }),
             Err(Trouble::OutOfMemory) => Err(StoreErr::OutOfMemory { journal }),
         }
@@ -107,27 +100,15 @@ impl<D: Disk> Store<D> {
         ensures no_call { IsTrue D.is_told → IfSome (without_memory result) (λ same.
             GoesOn 0 0 (D.fails (store.disk_of self)) (D.fails (store.disk_of same))) }
     {
-        let Store {
-            journal,
-            mut records,
-            mut places,
-        } = self;
-        let Ok((bytes, kept)) = prepared(alloc, &mut records, &mut places, rec) else {
-            let store = Store {
-                journal,
-                records,
-                places,
-            };
+        let Store { journal, mut log } = self;
+        let Ok((bytes, kept)) = prepared(alloc, &mut log, rec) else {
+            let store = Store { journal, log };
             return Err(AppendErr::OutOfMemory { store });
         };
         match journal.append(alloc, bytes.as_slice()) {
             Ok(journal) => {
-                keep(&mut records, &mut places, kept);
-                Ok(Store {
-                    journal,
-                    records,
-                    places,
-                })
+                log.put(kept);
+                Ok(Store { journal, log })
             }
             Err(xt_journal::AppendErr::Broken { count, disk }) => Err(AppendErr::Broken {
                 count,
@@ -140,19 +121,11 @@ impl<D: Disk> Store<D> {
                     limit,
                 },
             ) => {
-                let store = Store {
-                    journal,
-                    records,
-                    places,
-                };
+                let store = Store { journal, log };
                 Err(AppendErr::Full { store, need, limit })
             }
             Err(xt_journal::AppendErr::OutOfMemory { journal }) => {
-                let store = Store {
-                    journal,
-                    records,
-                    places,
-                };
+                let store = Store { journal, log };
                 Err(AppendErr::OutOfMemory { store })
             }
         }
@@ -162,7 +135,7 @@ impl<D: Disk> Store<D> {
     pub fn records(&self) -> &[Record]
         ensures { result.now ≡ store.records_of self.now }
     {
-        self.records.as_slice()
+        self.log.as_slice()
     }
 
     /// The disk, to be looked at.

@@ -10,7 +10,7 @@ use std::alloc::Global;
 use std::test::Fail;
 use uuid::Uuid;
 use xt_base::{Boot, CallList, Epoch, FileId, NodeId, Octets, OutOfMemory, Record, Stamp};
-use xt_journal::Journal;
+use xt_journal::{Journal, LoadErr};
 
 /// What a call answered that was to answer otherwise.
 #[derive(Debug, Drop)]
@@ -24,51 +24,19 @@ const STARTS: [u8; 41] = [
     0, 0, 1, 0xa5, 0, 0, 0, 9, 1, 0, 0, 0, 0, 0, 0, 0, 2, 0,
 ];
 
-/// A promise of file 0 in the nil volume, with the epoch (2, 0).
-const PROMISE: [u8; 37] = [
-    2, 0, 0, 0, 0, 0, 0, 0, 0, 0, 0, 0, 0, 0, 0, 0, 0, 0, 0, 0, 0, 0, 0, 0, 0, 0, 0, 0, 0, 0, 0, 0,
-    2, 0, 0, 0, 0,
-];
-
 fn disk(alloc: Global, bytes: &[u8]) -> Result<MemoryDisk, Fail> {
     let calls = CallList::new(alloc);
     Ok(MemoryDisk::new(alloc, Octets::of(alloc, bytes)?, calls, None))
 }
 
-/// What loading comes to.
-#[derive(Debug, Drop)]
-enum Loaded {
-    Store(Store<MemoryDisk>),
-    Bad(usize),
-    NoJournal,
-}
-
-/// What loading a disk with these bytes comes to.
-fn load(alloc: Global, bytes: &[u8], limit: u64) -> Result<Loaded, Fail> {
-    let Ok((journal, payloads)) = Journal::load(alloc, disk(alloc, bytes)?, limit) else {
-        return Ok(Loaded::NoJournal);
-    };
-    match Store::load(alloc, journal, payloads.as_slice()) {
-        Ok(store) => Ok(Loaded::Store(store)),
-        Err(StoreErr::BadRecord { index, journal: _ }) => Ok(Loaded::Bad(index)),
-        Err(StoreErr::OutOfMemory { journal: _ }) => Err(Otherwise)?,
-    }
-}
-
-/// The number of what loading comes to, and how many records the store has, or the index that is told.
-fn outcome(alloc: Global, bytes: &[u8]) -> Result<(u8, usize), Fail> {
-    Ok(match load(alloc, bytes, LIMIT)? {
-        Loaded::Store(store) => (0, store.records().len()),
-        Loaded::Bad(index) => (1, index),
-        Loaded::NoJournal => (2, 0),
-    })
-}
-
 /// The store on a disk with these bytes.
 fn store_on(alloc: Global, bytes: &[u8], limit: u64) -> Result<Store<MemoryDisk>, Fail> {
-    match load(alloc, bytes, limit)? {
-        Loaded::Store(store) => Ok(store),
-        Loaded::Bad(_) | Loaded::NoJournal => Err(Otherwise)?,
+    let Ok((journal, payloads)) = Journal::load(alloc, disk(alloc, bytes)?, limit) else {
+        return Err(Otherwise)?;
+    };
+    match Store::load(alloc, journal, payloads.as_slice()) {
+        Ok(store) => Ok(store),
+        Err(_) => Err(Otherwise)?,
     }
 }
 
@@ -137,68 +105,243 @@ fn body_on(alloc: Global, bytes: &[u8]) -> Result<Octets, Fail> {
 }
 
 #[test]
-fn what_is_put_is_loaded_again(rt: HostRuntime) -> Result<(), Fail> {
-    let alloc = rt.alloc();
-    let image = two_bodies(alloc)?;
-    assert_eq!(rt; outcome(alloc, image.as_slice())?, (0, 4));
-    Ok(())
-}
-
-#[test]
 fn the_last_body_is_kept(rt: HostRuntime) -> Result<(), Fail> {
     let alloc = rt.alloc();
     let none = body_on(alloc, &STARTS)?;
     assert_eq!(rt; none.as_slice(), b"".as_slice());
     let image = two_bodies(alloc)?;
+    let store = store_on(alloc, image.as_slice(), LIMIT)?;
+    assert_eq!(rt; store.records().len(), 4);
     let body = body_on(alloc, image.as_slice())?;
     assert_eq!(rt; body.as_slice(), b"new".as_slice());
     Ok(())
 }
 
-#[test]
-fn a_front_is_loaded_or_refused(rt: HostRuntime) -> Result<(), Fail> {
-    let alloc = rt.alloc();
-    for len in 0..=STARTS.len() {
-        let told = match len {
-            0..=13 => (0, 0),
-            14..=40 => (2, 0),
-            _ => (0, 2),
-        };
-        assert_eq!(rt; outcome(alloc, &STARTS[..len])?, told);
+/// What comes of a disk.
+#[derive(Clone, Copy, Debug, PartialEq, Eq)]
+enum Comes {
+    /// A store of so many records.
+    Loaded(usize),
+    /// An empty store, on a disk that is written anew.
+    Anew,
+    NotOurs([u8; 8]),
+    Layout(u32),
+    /// The place of the gate with no whole record behind it.
+    Damaged(u64),
+    /// The index of the payload, and the place of its gate.
+    BadRecord(usize, u64),
+}
+
+/// A header and a closed gate.
+const FRESH: [u8; 13] = [
+    0x58, 0x54, 0x46, 0x53, 0x4a, 0x52, 0x4e, 0x4c, 0, 0, 0, 1, 0,
+];
+
+/// What comes of the journal of two starts with another byte at a place.
+const CHANGED: [(usize, u8, Comes); 33] = [
+    // the sign
+    (0, b'Y', Comes::NotOurs(*b"YTFSJRNL")),
+    (1, b'U', Comes::NotOurs(*b"XUFSJRNL")),
+    (2, b'f', Comes::NotOurs(*b"XTfSJRNL")),
+    (3, b's', Comes::NotOurs(*b"XTFsJRNL")),
+    (4, b'I', Comes::NotOurs(*b"XTFSIRNL")),
+    (5, b'S', Comes::NotOurs(*b"XTFSJSNL")),
+    (6, b'M', Comes::NotOurs(*b"XTFSJRML")),
+    (7, b'K', Comes::NotOurs(*b"XTFSJRNK")),
+    // the layout
+    (8, 1, Comes::Layout(0x0100_0001)),
+    (9, 1, Comes::Layout(0x0001_0001)),
+    (10, 1, Comes::Layout(0x0000_0101)),
+    (11, 0, Comes::Layout(0)),
+    (11, 2, Comes::Layout(2)),
+    // the first gate
+    (12, 0, Comes::Loaded(0)),
+    (12, 0x37, Comes::Loaded(0)),
+    // the length of 9: behind it stand 24 bytes, the last of them a closed gate
+    (13, 1, Comes::Damaged(12)),
+    (14, 1, Comes::Damaged(12)),
+    (15, 1, Comes::Damaged(12)),
+    (16, 0, Comes::Damaged(12)),
+    (16, 24, Comes::Damaged(12)),
+    (16, 23, Comes::BadRecord(0, 12)),
+    (16, 10, Comes::BadRecord(0, 12)),
+    (16, 8, Comes::BadRecord(0, 12)),
+    // the kind, and a boot that isn't below 2^62
+    (17, 9, Comes::BadRecord(0, 12)),
+    (18, 0x40, Comes::BadRecord(0, 12)),
+    // the second gate, length and payload
+    (26, 0x37, Comes::Loaded(1)),
+    (30, 0, Comes::Damaged(26)),
+    (30, 10, Comes::Damaged(26)),
+    (30, 8, Comes::BadRecord(1, 26)),
+    (31, 0, Comes::BadRecord(1, 26)),
+    (32, 0x40, Comes::BadRecord(1, 26)),
+    // the gate behind both
+    (40, 0x37, Comes::Loaded(2)),
+    (40, 0xa5, Comes::Damaged(40)),
+];
+
+/// What comes of a disk with these bytes.
+const DISKS: [(&[u8], Comes); 9] = [
+    (&FRESH, Comes::Loaded(0)),
+    // at most 13 bytes
+    (b"another file", Comes::Anew),
+    (b"XTFSJRNL\0\0\0\x02\0", Comes::Anew),
+    (b"XTFSJRNL\0\0\0\x01\x37", Comes::Anew),
+    (b"XTFSJRNL\0\0\0\x01\xa5", Comes::Anew),
+    // more than 13
+    (b"another file's", Comes::NotOurs(*b"another ")),
+    (b"XTFSJRNL\0\0\0\x02\0\0", Comes::Layout(2)),
+    (b"XTFSJRNL\0\0\0\x01\0\xa5", Comes::Loaded(0)),
+    (b"XTFSJRNL\0\0\0\x01\xa5\0", Comes::Damaged(12)),
+];
+
+/// The promise of (1, 0), and that of (2, 0). The file of all records here is number 1 of the nil volume.
+const PROMISE_1: [u8; 37] = [
+    2, 0, 0, 0, 0, 0, 0, 0, 0, 0, 0, 0, 0, 0, 0, 0, 0, 0, 0, 0, 0, 0, 0, 0, 1, 0, 0, 0, 0, 0, 0, 0,
+    1, 0, 0, 0, 0,
+];
+
+const PROMISE_2: [u8; 37] = [
+    2, 0, 0, 0, 0, 0, 0, 0, 0, 0, 0, 0, 0, 0, 0, 0, 0, 0, 0, 0, 0, 0, 0, 0, 1, 0, 0, 0, 0, 0, 0, 0,
+    2, 0, 0, 0, 0,
+];
+
+/// `abc` into object 0 with the stamp ((0, 0), 1), by client 10 as its operation 1.
+const UPDATE: [u8; 88] = [
+    3, 0, 0, 0, 0, 0, 0, 0, 0, 0, 0, 0, 0, 0, 0, 0, 0, 0, 0, 0, 0, 0, 0, 0, 1, 0, 0, 0, 0, 0, 0, 0,
+    0, 0, 0, 0, 0, 0, 0, 0, 0, 0, 0, 0, 1, 0, 0, 0, 10, 0, 0, 0, 0, 0, 0, 0, 1, 0, 0, 0, 0, 0, 0,
+    0, 0, 0, 0, 0, 0, 0, 0, 0, 3, 255, 255, 255, 255, 0, 0, 0, 0, 0, 0, 0, 3, b'a', b'b', b'c',
+];
+
+/// `abc` as object 0 in the version ((1, 1), 1).
+const STAGE: [u8; 56] = [
+    4, 0, 0, 0, 0, 0, 0, 0, 0, 0, 0, 0, 0, 0, 0, 0, 0, 0, 0, 0, 0, 0, 0, 0, 1, 0, 0, 0, 0, 0, 0, 0,
+    0, 0, 0, 0, 1, 0, 0, 0, 1, 0, 0, 0, 0, 0, 0, 0, 1, 0, 0, 0, 3, b'a', b'b', b'c',
+];
+
+/// A head with this version alone.
+const HEAD: [u8; 137] = [
+    5, 0, 0, 0, 0, 0, 0, 0, 0, 0, 0, 0, 0, 0, 0, 0, 0, 0, 0, 0, 0, 0, 0, 0, 1, 0, 0, 0, 0, 0, 0, 0,
+    2, 0, 0, 0, 1, 0, 0, 0, 0, 0, 0, 0, 2, 0, 0, 0, 1, 0, 0, 0, 0, 0, 0, 0, 1, 0, 0, 0, 10, 0, 0,
+    0, 0, 0, 0, 0, 1, 0, 0, 0, 0, 0, 0, 0, 0, 0, 0, 0, 0, 0, 0, 0, 3, 0, 0, 0, 1, 0, 0, 0, 0, 0, 0,
+    0, 0, 0, 0, 0, 1, 0, 0, 0, 1, 0, 0, 0, 0, 0, 0, 0, 1, 0, 0, 0, 1, 0, 0, 0, 10, 0, 0, 0, 0, 0,
+    0, 0, 1, 0, 0, 0, 0, 0, 0, 0, 1,
+];
+
+/// What comes of the journal of these payloads. One of n bytes takes n + 5 from its gate at 12 on.
+const PAYLOADS: [(&[&[u8]], Comes); 11] = [
+    (&[&PROMISE_1, &PROMISE_2, &UPDATE], Comes::Loaded(3)),
+    (&[&STAGE, &HEAD], Comes::Loaded(2)),
+    // no record
+    (&[&[9], &PROMISE_1], Comes::BadRecord(0, 12)),
+    (&[&PROMISE_1, &[9]], Comes::BadRecord(1, 54)),
+    (
+        &[&PROMISE_1, &[1, 0, 0, 0, 0, 0, 0, 0, 1]],
+        Comes::Loaded(2),
+    ),
+    (
+        &[&PROMISE_1, &[1, 0, 0, 0, 0, 0, 0, 0, 1, 0]],
+        Comes::BadRecord(1, 54),
+    ),
+    // out of its place: an epoch below the promised one, a count again, a version that isn't held
+    (&[&PROMISE_2, &PROMISE_1], Comes::BadRecord(1, 54)),
+    (&[&PROMISE_2, &PROMISE_1, &[9]], Comes::BadRecord(1, 54)),
+    (&[&UPDATE, &UPDATE], Comes::BadRecord(1, 105)),
+    (&[&HEAD], Comes::BadRecord(0, 12)),
+    (
+        &[&STAGE, &PROMISE_2, &UPDATE, &UPDATE, &HEAD],
+        Comes::BadRecord(3, 208),
+    ),
+];
+
+/// The journal of these payloads, by its layout.
+fn journal_of(alloc: Global, payloads: &[&[u8]]) -> Result<Octets, Fail> {
+    let mut bytes = Vec::from_slice(alloc, &FRESH[..12])?;
+    for payload in payloads {
+        let len = u32::try_from(payload.len())?;
+        bytes.push(0xa5)?;
+        bytes.extend_from_slice(&len.to_be_bytes())?;
+        bytes.extend_from_slice(payload)?;
     }
-    Ok(())
+    bytes.push(0)?;
+    Ok(Octets::from(bytes))
 }
 
-/// A disk with the journal of these two payloads.
-fn journal_of(alloc: Global, first: &[u8], second: &[u8]) -> Result<Octets, Fail>
-    requires first { 1 ≤ length first.now }
-    requires second { 1 ≤ length second.now }
-    requires first_fits { length first.now ≤ 99 }
-    requires second_fits { length second.now ≤ 99 }
-{
-    let Ok((journal, _)) = Journal::load(alloc, disk(alloc, &[])?, LIMIT) else {
-        return Err(Otherwise)?;
+/// What comes of the front of this length of the journal of two starts.
+fn comes_of_front(len: usize) -> Comes {
+    match len {
+        0..=13 => Comes::Anew,
+        14..=26 => Comes::Damaged(12),
+        27..=40 => Comes::Damaged(26),
+        _ => Comes::Loaded(2),
+    }
+}
+
+/// The bytes of disks, and what comes of each.
+fn rows(alloc: Global) -> Result<Vec<(Octets, Comes)>, Fail> {
+    let mut rows = Vec::new(alloc);
+    for len in 0..=STARTS.len() {
+        rows.push((Octets::of(alloc, &STARTS[..len])?, comes_of_front(len)))?;
+    }
+    for (place, byte, comes) in CHANGED {
+        let mut bytes = STARTS;
+        if let Some(here) = bytes.get_mut(place) {
+            *here = byte;
+        }
+        rows.push((Octets::of(alloc, &bytes)?, comes))?;
+    }
+    for (bytes, comes) in DISKS {
+        rows.push((Octets::of(alloc, bytes)?, comes))?;
+    }
+    for (payloads, comes) in PAYLOADS {
+        rows.push((journal_of(alloc, payloads)?, comes))?;
+    }
+    Ok(rows)
+}
+
+/// What comes of a disk with these bytes, and the disk.
+fn loaded(alloc: Global, bytes: &[u8]) -> Result<(Comes, MemoryDisk), Fail> {
+    let (journal, payloads) = match Journal::load(alloc, disk(alloc, bytes)?, LIMIT) {
+        Ok(found) => found,
+        Err(LoadErr::NotOurs { first, disk }) => return Ok((Comes::NotOurs(first), disk)),
+        Err(LoadErr::Layout { version, disk }) => return Ok((Comes::Layout(version), disk)),
+        Err(LoadErr::Damaged { place, disk }) => return Ok((Comes::Damaged(place), disk)),
+        Err(_) => return Err(Otherwise)?,
     };
-    let Ok(journal) = journal.append(alloc, first) else {
-        return Err(Otherwise)?;
-    };
-    let Ok(journal) = journal.append(alloc, second) else {
-        return Err(Otherwise)?;
-    };
-    Ok(journal.close().image()?)
+    match Store::load(alloc, journal, payloads.as_slice()) {
+        Ok(store) => {
+            let count = store.records().len();
+            let disk = store.close();
+            let image = disk.image()?;
+            let comes = if image.as_slice() == bytes {
+                Comes::Loaded(count)
+            } else {
+                Comes::Anew
+            };
+            Ok((comes, disk))
+        }
+        Err(StoreErr::BadRecord { index, journal }) => {
+            let placed = payloads.get(index).ok_or(Otherwise)?;
+            Ok((Comes::BadRecord(index, placed.gate), journal.close()))
+        }
+        Err(StoreErr::OutOfMemory { journal: _ }) => Err(Otherwise)?,
+    }
 }
 
 #[test]
-fn the_first_bad_payload_is_told(rt: HostRuntime) -> Result<(), Fail> {
+fn each_disk_is_loaded_or_refused(rt: HostRuntime) -> Result<(), Fail> {
     let alloc = rt.alloc();
-    let mut lower = PROMISE;
-    lower[32] = 1;
-    let in_order = journal_of(alloc, &lower, &PROMISE)?;
-    assert_eq!(rt; outcome(alloc, in_order.as_slice())?, (0, 2));
-    let out_of_place = journal_of(alloc, &PROMISE, &lower)?;
-    assert_eq!(rt; outcome(alloc, out_of_place.as_slice())?, (1, 1));
-    let no_record = journal_of(alloc, &[9], &PROMISE)?;
-    assert_eq!(rt; outcome(alloc, no_record.as_slice())?, (1, 0));
+    for (bytes, wanted) in &rows(alloc)? {
+        let (comes, disk) = loaded(alloc, bytes.as_slice())?;
+        assert_eq!(rt; comes, *wanted, "of {} bytes", bytes.as_slice().len());
+        let reads = if comes == Comes::Anew {
+            FRESH.as_slice()
+        } else {
+            bytes.as_slice()
+        };
+        assert_eq!(rt; disk.image()?.as_slice(), reads);
+    }
     Ok(())
 }
 

@@ -3,3 +3,4 @@ pub mod FileRows
 pub mod RecordLaws
 pub mod PayloadLength
 pub mod Held
+pub mod Placing

@@ -1,6 +1,7 @@
 -- the fields of each kind of record, read from the front of bytes
 use Rattle.std.specs.Prelude.{◌≡◌, ℕ, List, length, Option, Some, None, Result, Ok, Err, ◌==◌, nat_lt, if◌then◌else◌}
 use Rattle.xt_base.specs.MemberList.{are_members}
+use Rattle.xt_base.specs.declared.TheConstants.{BODY}
 use Rattle.xt_base.specs.declared.ids.NodeId.{NodeId}
 use Rattle.xt_base.specs.declared.record.Logged.{Logged}
 use Rattle.xt_base.specs.declared.record.Logged.TheVariants as logged
@@ -52,7 +53,7 @@ unfoldable pub update_record_at : Field Record
 update_record_at = made (λ f. kept.Update f.0 f.1) (file_at & update_at)
 
 unfoldable pub stage_record_at : Field Record
-stage_record_at = made (λ f. kept.Stage f.0.0.0 f.0.0.1 f.0.1 f.1) (file_at & word_at & stamp_at & octets_at 131072)
+stage_record_at = made (λ f. kept.Stage f.0.0.0 f.0.0.1 f.0.1 f.1) (file_at & word_at & stamp_at & octets_at BODY)
 
 unfoldable pub head_record_at : Field Record
 head_record_at = made (λ f. kept.Head f.0 f.1) (file_at & head_at)

@@ -5,13 +5,14 @@ ghost use Rattle.xt_protocol.specs.Folds.{row_in, with_row, new_row, row_after, 
 ghost use Rattle.replica_records.specs.RowPlaces.{FilesRise, IsFilePlace};
 
 use crate::head::{new_head, take_update};
-use crate::order::{are_held, follows_head, is_at_most};
+use crate::order::{are_held, follows_head};
 use std::alloc::Global;
 use std::marker::Model;
 use xt_base::{
     Boot, Copies, Epoch, FileHead, FileId, FileRow, FileTable, Folded, HeldPairs, NO_OBJECT,
     ObjectVersion, OutOfMemory, Record, Seq, Update,
 };
+use xt_wire::is_at_most;
 
 /// What records say, taken one by one. Contracts see what those so far say.
 #[derive(Debug, Drop)]

@@ -7,20 +7,10 @@ ghost use Rattle.xt_protocol.specs.Folds.{FollowsHead};
 use crate::head::{head_after, plain_stamp};
 use std::alloc::Global;
 use xt_base::{
-    COUNTS, Epoch, FileHead, ObjectVersion, OpId, OutOfMemory, Session, SizeMark, Stamp, Update,
+    CLIENTS, COUNTS, Epoch, FileHead, OBJECTS, ObjectVersion, OpId, OutOfMemory, Session, SizeMark,
+    Stamp, Update,
 };
-
-/// How many versions, and how many sessions, a head may have.
-const OBJECTS_LIMIT: usize = 4_096;
-
-const CLIENTS_LIMIT: usize = 256;
-
-/// Whether the first epoch is the second or before it.
-pub(crate) fn is_at_most(first: Epoch, second: Epoch) -> bool
-    ensures { result ≡ is_at_most first second }
-{
-    first.number < second.number || (first.number == second.number && first.node.0 <= second.node.0)
-}
+use xt_wire::{clients_rise, is_at_most, objects_rise};
 
 /// Whether an epoch is within its limits.
 fn fits_epoch(epoch: Epoch) -> bool
@@ -96,50 +86,18 @@ fn each_session_fits(sessions: &[Session]) -> bool
     true
 }
 
-/// Whether each object's number is above the one before it.
-fn objects_rise(versions: &[ObjectVersion]) -> bool
-    ensures { result ≡ rise (map (λ v. v.object) versions.now) }
-{
-    let mut rest = versions;
-    while let [first, others @ ..] = rest {
-        if let [second, ..] = others {
-            if second.object <= first.object {
-                return false;
-            }
-        }
-        rest = others;
-    }
-    true
-}
-
-/// Whether each client's number is above the one before it.
-fn clients_rise(sessions: &[Session]) -> bool
-    ensures { result ≡ rise (map (λ s. s.client.0) sessions.now) }
-{
-    let mut rest = sessions;
-    while let [first, others @ ..] = rest {
-        if let [second, ..] = others {
-            if second.client.0 <= first.client.0 {
-                return false;
-            }
-        }
-        rest = others;
-    }
-    true
-}
-
 /// Whether versions are within the limits of a head's.
 fn fits_versions(versions: &[ObjectVersion]) -> bool
     ensures { IsTrue result ↔ FitsVersions versions.now }
 {
-    versions.len() <= OBJECTS_LIMIT && each_version_fits(versions) && objects_rise(versions)
+    versions.len() <= OBJECTS as usize && each_version_fits(versions) && objects_rise(versions)
 }
 
 /// Whether sessions are within the limits of a head's.
 fn fits_sessions(sessions: &[Session]) -> bool
     ensures { IsTrue result ↔ FitsSessions sessions.now }
 {
-    sessions.len() <= CLIENTS_LIMIT && each_session_fits(sessions) && clients_rise(sessions)
+    sessions.len() <= CLIENTS && each_session_fits(sessions) && clients_rise(sessions)
 }
 
 /// Whether the parts of a head without its lists are within their limits.

@@ -1,6 +1,7 @@
 use super::*;
 use std::test::*;
-use xt_base::{Boot, Record};
+use uuid::Uuid;
+use xt_base::{Boot, Epoch, FileId, NodeId, Octets, Record, Stamp};
 
 /// One of each kind, with file 3 of the nil volume; the last with a node and without.
 const SPELLINGS: [&[u8]; 8] = [
@@ -100,5 +101,51 @@ fn promises(rt: HostRuntime) -> Result<(), Fail> {
     take(&rt, &mut folding, SPELLINGS[1])?;
     assert!(rt; may_come(&rt, &folding, SPELLINGS[1])?);
     assert!(rt; !may_come(&rt, &folding, LOWER)?);
+    Ok(())
+}
+
+fn file() -> FileId {
+    FileId {
+        volume: Uuid::nil(),
+        number: 1,
+    }
+}
+
+fn version(count: u64) -> Stamp {
+    let epoch = Epoch {
+        number: 0,
+        node: NodeId(0),
+    };
+    Stamp { epoch, count }
+}
+
+#[test]
+fn the_last_body_is_found(rt: HostRuntime) -> Result<(), Fail> {
+    let alloc = rt.alloc();
+    let mut log = RecordLog::new(alloc);
+    for (count, byte) in [(1, 10), (1, 11), (2, 12)] {
+        log.push(Record::Stage {
+            file: file(),
+            object: 4,
+            version: version(count),
+            bytes: Octets::of(alloc, &[byte])?,
+        })?;
+    }
+    assert_eq!(rt;
+        log.body(alloc, &file(), 4, &version(1))?.as_slice(),
+        [11].as_slice()
+    );
+    assert_eq!(rt;
+        log.body(alloc, &file(), 4, &version(2))?.as_slice(),
+        [12].as_slice()
+    );
+    assert!(rt;
+        matches!(
+            log.body(alloc, &file(), 5, &version(1)),
+            Err(BodyErr::NoSuchVersion)
+        )
+    );
+    assert_eq!(rt; log.copies(alloc)?.len(), 3);
+    assert_eq!(rt; log.len(), log.as_slice().len());
     Ok(())
 }

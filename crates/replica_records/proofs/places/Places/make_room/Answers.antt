@@ -1,7 +1,7 @@
 use Rattle.std.proofs.Common.{sym, ◌∙◌}
-use Rattle.object_store.proofs.Outcomes.{none_of}
-use Rattle.object_store.proofs.Placing.{with_room}
-use Rattle.object_store.proofs.places.Places.make_room.Goals as goal
+use Rattle.replica_records.proofs.Placing.{none_of}
+use Rattle.replica_records.proofs.Placing.{with_room}
+use Rattle.replica_records.proofs.places.Places.make_room.Goals as goal
 
 pub returns-in_ok-insert-clause-same : goal.returns-in_ok-insert-clause-same
 returns-in_ok-insert-clause-same c =

@@ -1,5 +1,8 @@
 //! Where the bodies stand among the records.
 
+ghost use Rattle.std.specs.Prelude.{◌≡◌};
+ghost use Rattle.replica_records.specs.Places.{body_in};
+
 use std::alloc::Global;
 use std::collections::BTreeMap;
 use xt_base::{FileId, OutOfMemory, Record, Stamp};
@@ -18,9 +21,20 @@ pub struct Places {
     places: BTreeMap<BodyKey, Option<usize>>,
 }
 
+/// The body that a record puts; empty where it puts none.
+pub fn body_in(rec: &Record) -> &[u8]
+    ensures { result.now ≡ body_in rec.now }
+{
+    match rec {
+        Record::Update { update, .. } => update.body.as_slice(),
+        Record::Stage { bytes, .. } => bytes.as_slice(),
+        _ => &[],
+    }
+}
+
 impl BodyKey {
     ghost use Rattle.std.specs.Prelude.{◌≡◌};
-    ghost use Rattle.object_store.specs.Places.{key_put};
+    ghost use Rattle.replica_records.specs.Places.{key_put};
 
     /// Which body the record puts, if it puts one.
     pub fn of(rec: &Record) -> Option<BodyKey>
@@ -50,7 +64,7 @@ impl BodyKey {
 impl Places {
     ghost use Rattle.std.specs.Prelude.{◌≡◌, ◌++◌, ◌∷◌, [], List, OnOk, OnErr, length};
     ghost use Rattle.xt_base.specs.declared.record.Record.{Record};
-    ghost use Rattle.object_store.specs.Places.{ArePlacesIn, HasRoomFor, place_in};
+    ghost use Rattle.replica_records.specs.Places.{ArePlacesIn, HasRoomFor, place_in};
 
     /// The places in no records.
     pub fn new(alloc: Global) -> Places

@@ -10,8 +10,8 @@ use Rattle.xt_base.specs.declared.record.Record.{Record}
 use Rattle.xt_base.specs.declared.record.Record.TheVariants as kept
 use Rattle.xt_protocol.specs.FileIds.{file_cmp}
 use Rattle.xt_protocol.specs.Folds.{body_kept}
-use Rattle.object_store.specs.declared.places.BodyKey.{BodyKey}
-use Rattle.object_store.specs.declared.places.Places.{Places}
+use Rattle.replica_records.specs.declared.places.BodyKey.{BodyKey}
+use Rattle.replica_records.specs.declared.places.Places.{Places}
 
 -- by the places as they stand
 abbrev pub stamp_cmp : Stamp → Stamp → Ordering

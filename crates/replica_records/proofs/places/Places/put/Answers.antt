@@ -1,9 +1,9 @@
 use Rattle.std.proofs.Common.{sym, ◌∙◌, subst, ℕ, Some}
 use Rattle.std.specs.BTreeMap.{Updates}
-use Rattle.object_store.specs.Places.{body_cmp}
-use Rattle.object_store.proofs.Outcomes.{ok_of, at_ok}
-use Rattle.object_store.proofs.Placing.{with_place, with_none}
-use Rattle.object_store.proofs.places.Places.put.Goals as goal
+use Rattle.replica_records.specs.Places.{body_cmp}
+use Rattle.replica_records.proofs.Placing.{ok_of, at_ok}
+use Rattle.replica_records.proofs.Placing.{with_place, with_none}
+use Rattle.replica_records.proofs.places.Places.put.Goals as goal
 
 pub unwrap-before-requires : goal.unwrap-before-requires
 unwrap-before-requires c =

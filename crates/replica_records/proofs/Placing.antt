@@ -1,10 +1,11 @@
 -- a record more, and where its body stands
-use Rattle.std.proofs.Common.{◌≡◌, ◌==◌, ◌&&◌, ℕ, ◌<◌, List, [], ◌∷◌, ◌++◌, length, refl, ap, ◌∙◌, sym, Bool, true, false, cond, if◌then◌else◌, Option, Some, None, unwrap_or, arith}
+use Rattle.std.proofs.Common.{◌≡◌, ◌==◌, ◌&&◌, ℕ, ◌<◌, List, [], ◌∷◌, ◌++◌, length, refl, ap, ◌∙◌, sym, Bool, true, false, cond, if◌then◌else◌, Option, Some, None, unwrap_or, is_some, Result, Ok, Err, OnOk, OnErr, arith}
 use Rattle.std.specs.Option.{option_map}
 use Rattle.std.specs.declared.cmp.Ordering.{Ordering}
 use Rattle.std.specs.Ordering.{ordering_then, is_eq}
 use Rattle.std.specs.BTreeMap.{get, Updates, IsEmpty}
 use Rattle.std.specs.Map.{lookup}
+use Rattle.std.specs.Result.{IsOk}
 use Rattle.std.specs.Cmp.{tied_then, unsigned_tied}
 use Rattle.std.proofs.lemmas.Bool.{and_parts, eqb-true}
 use Rattle.std.proofs.lemmas.List.{get_or_append_left, length_push}
@@ -16,9 +17,9 @@ use Rattle.xt_base.specs.declared.record.Record.TheVariants as kept
 use Rattle.xt_protocol.specs.FileIds.{is_file}
 use Rattle.xt_protocol.specs.Folds.{is_stamp, body_put, body_kept, newer}
 use Rattle.xt_protocol.proofs.Folds.{is_file-file_cmp, file-equal, body_kept-nothing, body_kept-push}
-use Rattle.object_store.specs.declared.places.BodyKey.{BodyKey}
-use Rattle.object_store.specs.declared.places.Places.{Places}
-use Rattle.object_store.specs.Places.{stamp_cmp, body_cmp, key_put, body_in, body_at, place_in, ArePlacesIn}
+use Rattle.replica_records.specs.declared.places.BodyKey.{BodyKey}
+use Rattle.replica_records.specs.declared.places.Places.{Places}
+use Rattle.replica_records.specs.Places.{stamp_cmp, body_cmp, key_put, body_in, body_at, place_in, ArePlacesIn}
 
 -- ---- keys
 
@@ -170,3 +171,17 @@ places_of_none places empty = record {
   where
     nowhere : (q : BodyKey) → place_in places q ≡ None
     nowhere q = ap (λ entries. unwrap_or (lookup (λ k. is_eq (body_cmp q k)) entries) None) empty
+
+-- ---- facts from what a call answered
+
+pub none_of : {A : Type 0} (o : Option A) → is_some o ≡ false → o ≡ None
+none_of None is = refl
+none_of (Some x) is = absurd (let no_way : true ≡ false = is in cc)
+
+pub ok_of : {T E P : Type 0} (r : Result T E) → OnErr r P → (P → ⊥) → IsOk r
+ok_of (Ok x) absent present = refl
+ok_of (Err e) absent present = absurd (present absent)
+
+pub at_ok : {T E Q : Type 0} (r : Result T E) → IsOk r → OnOk r Q → Q
+at_ok (Ok x) is q = q
+at_ok (Err e) is q = absurd (let no_way : false ≡ true = is in cc)
