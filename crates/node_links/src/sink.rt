@@ -1,5 +1,6 @@
-ghost use Rattle.std.specs.Prelude.{◌≡◌, ◌≤◌, ℕ, List, [], Option, Some, None, length, take, IfOk, OnOk, OnErr};
-ghost use Rattle.node_links.specs.Streams.{Puts, Rose};
+ghost use Rattle.std.specs.Prelude.{◌≡◌, ◌≤◌, ◌+◌, ◌||◌, ℕ, Bool, false, List, [], Option, Some, None, length, take, is_err, IfOk, OnOk, OnErr, IfSome, OnSome};
+ghost use Rattle.std.specs.Vec.{vec_capacity};
+ghost use Rattle.node_links.specs.Streams.{Puts, Rose, fault_count_after, is_named, fitting, is_full};
 
 use std::alloc::Global;
 use std::io::Write;
@@ -9,6 +10,12 @@ use xt_base::{CallList, Failed, Octets, OutOfMemory};
 pub trait Sink {
     /// The bytes that it holds, where they are told.
     ghost held: { Self → Option (List ℕ) };
+
+    /// How many bytes it has room for in all, where they are told.
+    ghost room: { Self → ℕ };
+
+    /// Whether a coming call is to fail, the next one being 1, where the bytes are told.
+    ghost fails: { Self → ℕ → Bool };
 
     /// How often the sink has failed.
     ghost fault_count: { Self → ℕ };
@@ -25,10 +32,17 @@ pub trait Sink {
         ensures some { IfOk result (λ n. n ≡ 0 → length piece.now ≡ 0) }
         ensures sound { OnOk result (fault_count self.new ≡ fault_count self.old) }
         ensures failed { OnErr result (Rose (fault_count self.old) (fault_count self.new)) }
-        ensures kept { OnErr result (held self.new ≡ held self.old) };
+        ensures kept { OnErr result (held self.new ≡ held self.old) }
+        ensures faults { fault_count self.new ≡ fault_count_after (is_err result) (fault_count self.old) }
+        // Where the bytes are told, it takes as many as fit, and fails as planned or where there is no room.
+        ensures most { IfOk result (λ n. IfSome (held self.old) (λ bytes. n ≡ fitting (room self.old) bytes piece.now)) }
+        ensures plan { IfSome (held self.old) (λ bytes. is_err result ≡ (fails self.old 1 || is_full (room self.old) bytes piece.now)) }
+        ensures later { OnSome (held self.old) ((k : ℕ) → fails self.new k ≡ fails self.old (k + 1)) }
+        ensures room { room self.new ≡ room self.old };
 }
 
-/// Room for bytes in memory. The calls that are named, counted from 1, fail.
+/// Room for bytes in memory. The calls that are named, counted from 1, fail, and so does a call that could take
+/// nothing of a piece that isn't empty.
 #[derive(Debug, Drop)]
 pub struct MemorySink {
     bytes: Vec<u8>,
@@ -36,12 +50,15 @@ pub struct MemorySink {
     failing: CallList,
     calls: u64,
     faults: u64,
+    ghost reserved: { room ≤ vec_capacity bytes },
 }
 
 impl MemorySink {
     /// A sink that takes `room` bytes in all, for which it takes the memory now.
     pub fn new(alloc: Global, room: u64, failing: CallList) -> Result<MemorySink, OutOfMemory>
-        ensures { IfOk result (λ sink. (sink.bytes.items ≡ []) × (sink.faults ≡ 0)) }
+        ensures bytes { IfOk result (λ sink. (sink.bytes.items ≡ []) × (sink.room ≡ room)) }
+        ensures plan { IfOk result (λ sink. (sink.failing ≡ failing) × (sink.calls ≡ 0)) }
+        ensures sound { IfOk result (λ sink. sink.faults ≡ 0) }
     {
         let room = room as usize;
         Ok(MemorySink {
@@ -64,6 +81,10 @@ impl MemorySink {
 impl Sink for MemorySink {
     ghost held = { λ s. Some s.bytes.items };
 
+    ghost room = { λ s. s.room };
+
+    ghost fails = { λ s k. is_named s.failing s.calls k };
+
     ghost fault_count = { λ s. s.faults };
 
     fn faults(&self) -> u64 {
@@ -78,10 +99,7 @@ impl Sink for MemorySink {
             self.faults = self.faults.saturating_add(1);
             return Err(Failed);
         }
-        if self.bytes.extend_from_slice(&piece[..count]).is_err() {
-            self.faults = self.faults.saturating_add(1);
-            return Err(Failed);
-        }
+        let _ = self.bytes.extend_from_slice(&piece[..count]);
         Ok(count)
     }
 }
@@ -104,6 +122,10 @@ impl<W: Write + Drop> StdoutSink<W> {
 
 impl<W: Write + Drop> Sink for StdoutSink<W> {
     ghost held = { λ _. None };
+
+    ghost room = { λ _. 0 };
+
+    ghost fails = { λ _ _. false };
 
     ghost fault_count = { λ s. s.faults };
 

@@ -1,5 +1,5 @@
-ghost use Rattle.std.specs.Prelude.{◌≡◌, ◌≤◌, ◌⊎◌, ℕ, List, Option, Some, None, length, take, drop, IfOk, OnOk, OnErr};
-ghost use Rattle.node_links.specs.Streams.{Takes, IsAtEnd, Rose};
+ghost use Rattle.std.specs.Prelude.{◌≡◌, ◌≤◌, ◌+◌, ◌⊎◌, ℕ, Bool, false, List, Option, Some, None, length, take, drop, min, is_err, IfOk, OnOk, OnErr, IfSome, OnSome};
+ghost use Rattle.node_links.specs.Streams.{Takes, IsAtEnd, Rose, fault_count_after, is_named};
 
 use std::io::Read;
 use xt_base::{CallList, Failed, Octets};
@@ -8,6 +8,9 @@ use xt_base::{CallList, Failed, Octets};
 pub trait Source {
     /// The bytes that are left, where they are told.
     ghost left: { Self → Option (List ℕ) };
+
+    /// Whether a coming call fails, the next one being 1, where the bytes are told.
+    ghost fails: { Self → ℕ → Bool };
 
     /// How often the source has failed.
     ghost fault_count: { Self → ℕ };
@@ -24,10 +27,15 @@ pub trait Source {
         ensures end { IfOk result (λ n. n ≡ 0 → (length buf.old ≡ 0) ⊎ IsAtEnd (left self.old)) }
         ensures sound { OnOk result (fault_count self.new ≡ fault_count self.old) }
         ensures failed { OnErr result (Rose (fault_count self.old) (fault_count self.new)) }
-        ensures kept { OnErr result (left self.new ≡ left self.old) };
+        ensures kept { OnErr result (left self.new ≡ left self.old) }
+        ensures faults { fault_count self.new ≡ fault_count_after (is_err result) (fault_count self.old) }
+        // Where the bytes are told, it gives as many as it can, and fails as planned.
+        ensures most { IfOk result (λ n. IfSome (left self.old) (λ bytes. n ≡ min (length bytes) (length buf.old))) }
+        ensures plan { OnSome (left self.old) (is_err result ≡ fails self.old 1) }
+        ensures later { OnSome (left self.old) ((k : ℕ) → fails self.new k ≡ fails self.old (k + 1)) };
 }
 
-/// Bytes in memory. The calls that are named, counted from 1, fail.
+/// Bytes in memory. The calls that are named, counted from 1, fail, and no others.
 #[derive(Debug, Drop)]
 pub struct MemorySource {
     bytes: Octets,
@@ -44,6 +52,7 @@ impl MemorySource {
     /// A source of these bytes.
     pub fn new(bytes: Octets, failing: CallList) -> MemorySource
         ensures bytes { (result.bytes ≡ bytes) × (result.place ≡ 0) }
+        ensures plan { (result.failing ≡ failing) × (result.calls ≡ 0) }
         ensures sound { result.faults ≡ 0 }
     {
         MemorySource {
@@ -58,6 +67,8 @@ impl MemorySource {
 
 impl Source for MemorySource {
     ghost left = { λ s. Some (drop s.place s.bytes) };
+
+    ghost fails = { λ s k. is_named s.failing s.calls k };
 
     ghost fault_count = { λ s. s.faults };
 
@@ -97,6 +108,8 @@ impl<R: Read + Drop> StdinSource<R> {
 
 impl<R: Read + Drop> Source for StdinSource<R> {
     ghost left = { λ _. None };
+
+    ghost fails = { λ _ _. false };
 
     ghost fault_count = { λ s. s.faults };
 
