@@ -1,5 +1,5 @@
 -- what may stand in a line of a schedule: the limits of its values
-use Rattle.std.specs.Prelude.{ℕ, ◌<◌, ◌≤◌, ◌^◌, length}
+use Rattle.std.specs.Prelude.{◌<◌, ◌≤◌, ◌^◌, length}
 use Rattle.xt_base.specs.declared.event.Call.{Call}
 use Rattle.xt_base.specs.declared.event.Call.TheVariants as call
 use Rattle.xt_base.specs.Limits.{FitsNode, FitsLocation, FitsBytes, IsObject}

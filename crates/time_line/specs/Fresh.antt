@@ -1,5 +1,9 @@
--- when the ends of calls, as the callers see them, are fresh
-use Rattle.std.specs.Prelude.{ℕ, Bool, true, false, Option, Some, None, List, ◌∷◌, ◌++◌, ◌≡◌, ◌≤◌, ◌<◌, Contains}
+-- When the ends of the calls on a file, as the callers see them, are fresh: each that is well was answered before, a read
+-- counts what had ended before it began, and writes and truncations keep their order.
+--
+-- The first beginning of a call says which file it is on and what it does there, wherever in the trace it stands; so an
+-- end in front of its beginning is spoken of too. A call that never begins is on no file, and nothing is said of it.
+use Rattle.std.specs.Prelude.{ℕ, Bool, true, false, Option, Some, None, List, ◌∷◌, ◌++◌, ◌≡◌, ◌≢◌, ◌≤◌, ◌<◌, Contains}
 use Rattle.xt_base.specs.declared.ids.NodeId.{NodeId}
 use Rattle.xt_base.specs.declared.ids.OpId.{OpId}
 use Rattle.xt_base.specs.declared.file.Op.{Op}
@@ -36,55 +40,61 @@ ok_entry id count bytes = entry.Done id.client id.number (outcome.Ok count bytes
 abbrev pub HasBegunOn : ℕ → List Entry → OpId → Type 0
 HasBegunOn file entries id = (operation : Op) × (operation_begun file entries id ≡ Some operation)
 
--- A call on the file that ends well was answered so before, behind its beginning.
+-- the call is a write or truncation on the file
+abbrev pub IsChange : ℕ → List Entry → OpId → Type 0
+IsChange file entries id = is_change (operation_begun file entries id) ≡ true
+
+-- the call is a read on the file
+abbrev pub IsReading : ℕ → List Entry → OpId → Type 0
+IsReading file entries id = is_reading (operation_begun file entries id) ≡ true
+
+-- these entries stand before the call's first beginning
+abbrev pub BeginsBehind : List Entry → List Entry → OpId → Type 0
+BeginsBehind before entries id =
+    (call : Call) × (after : List Entry)
+    × (entries ≡ before ++ entry.Begin id.client id.number call ∷ after)
+    × (begun id before ≡ None)
+
+-- one of these entries ends the call well, with this count
+abbrev pub EndsWell : List Entry → OpId → ℕ → Type 0
+EndsWell entries id count = (bytes : List ℕ) × Contains entries (ok_entry id count bytes)
+
+-- A call on the file that ends well was answered so before, and began before that answer.
 abbrev pub EndsAreAnswered : ℕ → List Entry → Type 0
 EndsAreAnswered file entries =
     (before after : List Entry) (id : OpId) (count : ℕ) (bytes : List ℕ)
     → entries ≡ before ++ ok_entry id count bytes ∷ after
-    → HasBegunOn file before id
+    → HasBegunOn file entries id
     → (first : List Entry) × (rest : List Entry) × (node : NodeId)
     × (before ≡ first ++ entry.Answer node file id count bytes ∷ rest)
     × HasBegunOn file first id
 
--- a read that ends well, with its count, and what stands before it began
-abbrev pub IsReadOf : ℕ → List Entry → List Entry → OpId → ℕ → Type 0
-IsReadOf file entries before id count =
-    (call : Call) × (between : List Entry) × (after : List Entry) × (bytes : List ℕ)
-    × (entries ≡ before ++ entry.Begin id.client id.number call ∷ between ++ ok_entry id count bytes ∷ after)
-    × (begun id before ≡ None)
-    × (is_reading (operation_begun file entries id) ≡ true)
-
--- Each write or truncation that had ended well before a read began is among the writes that the read counts.
+-- Each write or truncation that had ended well before a read began has a position, at most the read's count.
 abbrev pub ReadsSeeWrites : ℕ → List Entry → Type 0
 ReadsSeeWrites file entries =
-    (before : List Entry) (reading : OpId) (count : ℕ) → IsReadOf file entries before reading count
-    → (writing : OpId) (position : ℕ) (bytes : List ℕ)
-    → Contains before (ok_entry writing position bytes)
-    → is_change (operation_begun file before writing) ≡ true
-    → HasPosition file entries writing position × (position ≤ count)
+    (before : List Entry) (reading writing : OpId) (count written : ℕ)
+    → IsReading file entries reading → EndsWell entries reading count
+    → IsChange file entries writing → EndsWell before writing written
+    → BeginsBehind before entries reading
+    → (position : ℕ) × HasPosition file entries writing position × (position ≤ count)
 
 -- A read counts no fewer writes than a read that had ended well before it began.
 abbrev pub ReadsDoNotGoBack : ℕ → List Entry → Type 0
 ReadsDoNotGoBack file entries =
-    (before : List Entry) (reading : OpId) (count : ℕ) → IsReadOf file entries before reading count
-    → (earlier : OpId) (earlier_count : ℕ) (bytes : List ℕ)
-    → Contains before (ok_entry earlier earlier_count bytes)
-    → is_reading (operation_begun file before earlier) ≡ true
+    (before : List Entry) (reading earlier : OpId) (count earlier_count : ℕ)
+    → IsReading file entries reading → EndsWell entries reading count
+    → IsReading file entries earlier → EndsWell before earlier earlier_count
+    → BeginsBehind before entries reading
     → earlier_count ≤ count
 
 -- A write or truncation that began after another had ended well has the greater position, where both have one.
 abbrev pub WritesKeepOrder : ℕ → List Entry → Type 0
 WritesKeepOrder file entries =
-    (before after : List Entry) (later : OpId) (call : Call)
-    → entries ≡ before ++ entry.Begin later.client later.number call ∷ after
-    → begun later before ≡ None
-    → is_change (operation_begun file entries later) ≡ true
-    → (earlier : OpId) (count : ℕ) (bytes : List ℕ)
-    → Contains before (ok_entry earlier count bytes)
-    → is_change (operation_begun file before earlier) ≡ true
-    → (earlier_position later_position : ℕ)
-    → HasPosition file entries earlier earlier_position
-    → HasPosition file entries later later_position
+    (before : List Entry) (later earlier : OpId) (count earlier_position later_position : ℕ)
+    → later ≢ earlier
+    → IsChange file entries later → IsChange file entries earlier
+    → EndsWell before earlier count → BeginsBehind before entries later
+    → HasPosition file entries earlier earlier_position → HasPosition file entries later later_position
     → earlier_position < later_position
 
 -- the acknowledgements on a file are fresh

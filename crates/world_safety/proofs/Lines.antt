@@ -33,7 +33,8 @@ use Rattle.world_runs.specs.Lines.{osd_handles, client_handles, role_handles, co
 use Rattle.world_runs.specs.Runs.{with_line, left_by}
 use Rattle.world_safety.proofs.Lists.{All-at, map-set_same}
 use Rattle.world_safety.proofs.Kept.{heads_of, bodies_of, heads-boot, bodies-boot}
-use Rattle.world_safety.proofs.Tables.{node_in-id, node_in-push}
+use Rattle.world_runs.proofs.Tables.{node_in-id}
+use Rattle.world_safety.proofs.Tables.{node_in-push}
 use Rattle.world_safety.proofs.Sound.{MessageStands, PayloadStands, Sound}
 use Rattle.world_runs.proofs.Agrees.{Agrees, delivered_agrees}
 use Rattle.world_safety.proofs.Turns.{role_next, next_of, nexts_of, messages_of, by_test, IsSound, noted, renoded, replaced, halted-sound}

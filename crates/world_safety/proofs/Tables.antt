@@ -47,15 +47,6 @@ version_of-above [] end object h = refl
 version_of-above (x ∷ xs) end object h = let rest = version_of-above xs end object h in grind (arith, nat_tests)
 
 -- nodes
-pub node_in-id : (nodes : List Node) (id : ℕ) (node : Node) → node_in nodes id ≡ Some node → node.id.0 ≡ id
-unfolding node_in
-node_in-id [] id node h = absurd cc
-node_in-id (x ∷ xs) id node h =
-    elim (cases_eq x.id.0 id) as (λ w. node.id.0 ≡ id) [
-      | inl e ↦ grind (arith, nat_tests)
-      | inr ne ↦ node_in-id xs id node (grind (arith, nat_tests))
-    ]
-
 pub node_in-new : (nodes : List Node) (node old : Node) → node_in nodes node.id.0 ≡ Some old → node_in (with_node nodes node) node.id.0 ≡ Some node
 unfolding node_in with_node
 node_in-new [] node old h = absurd cc
@@ -64,11 +55,6 @@ node_in-new (x ∷ xs) node old h =
       | inl e ↦ grind (arith, nat_tests)
       | inr ne ↦ (let rest : node_in (with_node xs node) node.id.0 ≡ Some node = node_in-new xs node old (grind (arith, nat_tests)) in grind (arith, nat_tests))
     ]
-
-pub node_in-other : (nodes : List Node) (node : Node) (id : ℕ) → id ≢ node.id.0 → node_in (with_node nodes node) id ≡ node_in nodes id
-unfolding node_in with_node
-node_in-other [] node id ne = refl
-node_in-other (x ∷ xs) node id ne = let rest : node_in (with_node xs node) id ≡ node_in xs id = node_in-other xs node id ne in grind (arith, nat_tests)
 
 pub node_in-push : (nodes : List Node) (node : Node) (id : ℕ) → node_in (nodes ++ node ∷ []) id ≡ option_or (node_in nodes id) (if node.id.0 == id then Some node else None)
 unfolding node_in

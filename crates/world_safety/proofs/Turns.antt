@@ -31,7 +31,8 @@ use Rattle.world_runs.specs.Lines.{entry_of, pending, numbered, after_turn, stop
 use Rattle.world_safety.proofs.Sound.{Said, MessageStands, Sound}
 use Rattle.world_safety.proofs.Kept.{heads_of, bodies_of}
 use Rattle.world_safety.proofs.Growth.{location-kept, sound-quiet, sound-sent}
-use Rattle.world_safety.proofs.Tables.{node_in-new, node_in-other}
+use Rattle.world_runs.proofs.Tables.{node_in-other}
+use Rattle.world_safety.proofs.Tables.{node_in-new}
 
 -- the number of the next call in a role
 abbrev pub role_next : Role → ℕ

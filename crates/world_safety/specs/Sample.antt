@@ -19,9 +19,9 @@ the_client = record { 0 = 2 }
 abbrev pub the_file : ℕ
 the_file = 7
 
--- objects of four bytes on the one OSD
+-- objects of 1,024 bytes on the one OSD
 abbrev pub the_location : Location
-the_location = record { version = 1; kind = kind.Replicated; stripe = 4; members = the_osd ∷ [] }
+the_location = record { version = 1; kind = kind.Replicated; stripe = 1024; members = the_osd ∷ [] }
 
 -- two bytes are written behind the first place of the file's first object
 abbrev pub writing : List Line

@@ -2,6 +2,7 @@
 use Rattle.std.proofs.Common.{◌≡◌, ◌==◌, ◌&&◌, ℕ, Bool, true, false, List, [], ◌∷◌, ◌++◌, None, refl, ap, sym, ◌∙◌, cond, eq-eqb, arith}
 use Rattle.std.proofs.lemmas.Bool.{and_parts, and_from, eqb-true}
 use Rattle.std.proofs.lemmas.Bool.Decides.{nat_tests}
+use Rattle.std.proofs.lemmas.List.Elements.{filter-append}
 use Rattle.std.proofs.lemmas.List.Sums.{fold-append}
 use Rattle.std.proofs.lemmas.Cmp.{nat_cmp_total, nat_list_cmp_total, then_total, on_total}
 use Rattle.std.proofs.lemmas.Slice.Eq.{bytes_eq-Decides}
@@ -19,7 +20,7 @@ use Rattle.xt_base.specs.declared.record.Record.{Record}
 use Rattle.xt_base.specs.declared.record.Record.TheVariants as kept
 use Rattle.xt_base.specs.declared.record.FileRow.{FileRow}
 use Rattle.xt_protocol.specs.FileIds.{is_file, is_before, file_cmp}
-use Rattle.xt_protocol.specs.Folds.{row_in, with_row, row_after, folded_after, nothing_kept, fold_of, body_after, body_kept}
+use Rattle.xt_protocol.specs.Folds.{row_in, with_row, row_after, folded_after, nothing_kept, fold_of, is_logged, logged_of, body_after, body_kept}
 
 -- ---- which files are one
 
@@ -160,3 +161,13 @@ pub body_kept-append : (records later : List Record) (file : FileId) (object : �
     → body_kept (records ++ later) file object version ≡ fold (body_after file object version) (body_kept records file object version) later
 unfolding body_kept
 body_kept-append records later file object version = fold-append (body_after file object version) None records later
+
+-- ---- recorded requests
+
+pub logged_of-nothing : logged_of [] ≡ []
+unfolding logged_of
+logged_of-nothing = refl
+
+pub logged_of-append : (records later : List Record) → logged_of (records ++ later) ≡ logged_of records ++ logged_of later
+unfolding logged_of
+logged_of-append records later = filter-append is_logged records later

@@ -1,5 +1,5 @@
--- What the records of a node say: its last start, and the row of each file.
-use Rattle.std.specs.Prelude.{ℕ, Bool, ◌&&◌, ◌==◌, ◌≡◌, ◌⊎◌, ◌+◌, true, if◌then◌else◌, Option, Some, None, List, [], ◌∷◌, ◌++◌, map, Contains}
+-- What the records of a node say: its last start, and the row of each file; and which of them are of requests.
+use Rattle.std.specs.Prelude.{ℕ, Bool, ◌&&◌, ◌==◌, ◌≡◌, ◌⊎◌, ◌+◌, true, false, if◌then◌else◌, Option, Some, None, List, [], ◌∷◌, ◌++◌, map, filter, Contains}
 use Rattle.std.specs.List.{fold, All}
 use Rattle.xt_base.specs.Limits.{FitsHead, is_at_most}
 use Rattle.xt_base.specs.declared.ids.FileId.{FileId}
@@ -84,6 +84,18 @@ nothing_kept = record { boot = record { 0 = 0 }; files = [] }
 -- What these records say, the first of them first.
 unfoldable pub fold_of : List Record → Folded
 fold_of records = fold folded_after nothing_kept records
+
+-- ---- recorded requests
+
+-- whether the record is of a request
+abbrev pub is_logged : Record → Bool
+is_logged (kept.Meta from number now nodes request) = true
+is_logged _ = false
+
+-- The records of requests among these, in their order. No fold tells of them: wherever folds are compared, the records of
+-- requests in their order belong to what is compared.
+unfoldable pub logged_of : List Record → List Record
+logged_of records = filter is_logged records
 
 -- ---- which records may come next
 
