@@ -14,13 +14,14 @@ use Rattle.xt_protocol.specs.Folds.{fold_of, IsInPlace}
 use Rattle.replica_records.specs.RecordText.{record_text}
 use Rattle.xt_journal.specs.Append.{IsStopped, payloads_after_stop}
 use Rattle.xt_journal.specs.Calls.{IsFirstFailure, AllSucceed}
-use Rattle.xt_journal.specs.Format.{StandsFor}
+use Rattle.xt_journal.specs.Format.{StandsFor, end_of}
 use Rattle.xt_journal.specs.Loaded.{FailedCall, MadeCalls, IsReady}
 use Rattle.object_store.specs.Texts.{texts_of, AreRecords}
 use Rattle.world_hull.specs.declared.hull.Kept.TheVariants.{StoppedKept, StoppedLost}
 use Rattle.world_hull.specs.Appends.{kept_by}
 use Rattle.disk_hull.specs.Disks.{AreOn, IsToStop}
 use Rattle.disk_hull.specs.Nodes.{own_after}
+use Rattle.disk_hull.specs.declared.TheConstants.{JOURNAL}
 use Rattle.disk_hull.proofs.StoredRecords.{are-push}
 
 -- a disk that was just made
@@ -41,33 +42,9 @@ never disk bytes failing is none looks changes =
 false_ne_true : false ≡ true → ⊥
 false_ne_true h = cc
 
-pub passes : (fails : ℕ → ℕ → Bool) (bytes : List ℕ) → ((looks changes : ℕ) → fails looks changes ≡ false) → FailedCall fails bytes → ⊥
-passes fails bytes never failed = false_ne_true (sym (never failed.looks failed.changes) ∙ failed.fails_there)
-
 pub calm_after : (old new : ℕ → ℕ → Bool) (bytes : List ℕ) → ((looks changes : ℕ) → old looks changes ≡ false) → MadeCalls old new bytes
     → (looks changes : ℕ) → new looks changes ≡ false
 calm_after old new bytes never calls looks changes = calls.goes_on looks changes ∙ never (2 + looks) (calls.changes + changes)
-
--- one sync, and then the append's calls
-counted_le : (call before changes : ℕ) → before ≡ 1 → changes ≤ 4 → nat_le (call + 1) (counted (0 + (before + changes))) ≡ nat_le call changes
-counted_le call before changes one few = grind (arith, nat_tests)
-
-module _ (disk : Memory) (bytes failing : List ℕ) (call fill : ℕ)
-    (is : disk ≡ made bytes failing (Some (record { call = call + 1; fill = fill }))) (none : failing ≡ []) where
-  as_planned : (looks changes : ℕ) → planned disk.plan looks changes ≡ nat_le (call + 1) (counted (0 + changes))
-  as_planned looks changes =
-      ap (λ (d : Memory). planned d.plan looks changes) is
-      ∙ ap (λ (f : List ℕ). planned (made bytes f (Some (record { call = call + 1; fill = fill }))).plan looks changes) none
-
-  pub to_stop : (new : ℕ → ℕ → Bool) → IsReady bytes → MadeCalls (planned disk.plan) new bytes → IsToStop call new
-  to_stop new ready calls changes few =
-      calls.goes_on 0 changes ∙ as_planned 2 (calls.changes + changes) ∙ counted_le call calls.changes changes (calls.one ready) few
-
-  pub passes_to_stop : 1 ≤ call → IsReady bytes → FailedCall (planned disk.plan) bytes → ⊥
-  passes_to_stop some ready failed =
-      let there : nat_le (call + 1) (counted (0 + failed.changes)) ≡ true = sym (as_planned failed.looks failed.changes) ∙ failed.fails_there in
-      let below : call + 1 ≤ counted (0 + failed.changes) = leb-true (call + 1) (counted (0 + failed.changes)) there in
-      omega (arith, below, failed.one ready)
 
 le_itself : (n : ℕ) → nat_le n n ≡ true
 le_itself n = le-leb n n (omega arith)
@@ -94,8 +71,9 @@ module _ (fails : ℕ → ℕ → Bool) (call : ℕ) (stops : IsToStop call fail
   pub left_on : (fill : ℕ) (records : List Record) (rec : Record) (kept : Kept) (bytes : List ℕ)
       → IsStopped fails kept (texts_of records) (record_text rec) → IsFilled fill kept bytes
       → ∥ AreRecords records ∥₁ → FitsRecord rec → IsInPlace (fold_of records) rec
+      → end_of (texts_of records) ≤ JOURNAL → end_of (texts_of (records ++ rec ∷ [])) ≤ JOURNAL
       → ∥ AreOn bytes (own_after records rec (kept_by (Some (record { call = call; fill = fill })))) ∥₁
-  left_on fill records rec kept bytes stopped filled sound fits place =
+  left_on fill records rec kept bytes stopped filled sound fits place short short_with =
       at (nat_le 3 call && (fill == 165))
       (subst (λ (c : ℕ). StandsFor bytes (payloads_after_stop c fill (texts_of records) (record_text rec)))
       (the_call stopped.call stopped.four stopped.first) (stopped.image fill bytes filled))
@@ -106,5 +84,6 @@ module _ (fails : ℕ → ℕ → Bool) (call : ℕ) (stops : IsToStop call fail
           ∥∥₁_map sound (λ are. record {
             stand = subst (λ (ps : List (List ℕ)). StandsFor bytes ps) (sym (map-append record_text records (rec ∷ []))) stands;
             sound = are-push records rec fits place are;
+            short = short_with;
           })
-      at false stands = ∥∥₁_map sound (λ are. record { stand = stands; sound = are })
+      at false stands = ∥∥₁_map sound (λ are. record { stand = stands; sound = are; short = short })

@@ -1,6 +1,7 @@
 -- bytes stand for one list of records
 use Rattle.std.proofs.Common.{◌≡◌, ℕ, ◌+◌, ◌<◌, ◌≤◌, List, [], ◌∷◌, ◌++◌, length, refl, sym, ◌∙◌, ap, subst, inl, inr, arith, length-append, Bool, true, false, nat_le}
 use Rattle.std.proofs.Math.Logic.{∥∥₁_elim, ∥∥₁_map}
+use Rattle.std.proofs.Props.{props}
 use Rattle.std.proofs.lemmas.List.Elements.{All-head, All-tail, All-push}
 use Rattle.std.proofs.lemmas.List.{map-append}
 use Rattle.std.proofs.lemmas.Bool.{leb-true, leb-false}
@@ -25,6 +26,7 @@ use Rattle.xt_journal.proofs.Steps.{each_stands}
 use Rattle.xt_journal.proofs.Unique.{stands_for_one}
 use Rattle.object_store.specs.Texts.{texts_of, AreRecords, IsFirstBad}
 use Rattle.disk_hull.specs.Disks.{AreOn, HasRecords}
+use Rattle.disk_hull.specs.declared.TheConstants.{JOURNAL}
 
 -- ---- records from their texts
 
@@ -91,10 +93,24 @@ none_bad bytes payloads index has stands bad =
     let same : payloads ≡ texts_of some.0 = stands_for_one bytes payloads (texts_of some.0) stands some.1.stand in
     not_bad some.0 index some.1.sound (subst (λ (ps : List (List ℕ)). IsFirstBad ps index) same bad))
 
+-- the same bytes end at the same place
+pub short_payloads : (bytes : List ℕ) (payloads : List (List ℕ)) → HasRecords bytes → StandsFor bytes payloads → end_of payloads ≤ JOURNAL
+short_payloads bytes payloads has stands =
+    ∥∥₁_elim has (hlevel props) (λ some.
+    let same : payloads ≡ texts_of some.0 = stands_for_one bytes payloads (texts_of some.0) stands some.1.stand in
+    subst (λ (ps : List (List ℕ)). end_of ps ≤ JOURNAL) (sym same) some.1.short)
+
+pub short_on : (bytes : List ℕ) (records : List Record) → ∥ AreOn bytes records ∥₁ → end_of (texts_of records) ≤ JOURNAL
+short_on bytes records on = ∥∥₁_elim on (hlevel props) (λ are. are.short)
+
 pub are_on : (bytes : List ℕ) (payloads : List (List ℕ)) (records : List Record) → StandsFor bytes payloads → texts_of records ≡ payloads → ∥ AreRecords records ∥₁
-    → ∥ AreOn bytes records ∥₁
-are_on bytes payloads records stands same sound =
-    ∥∥₁_map sound (λ are. record { stand = subst (λ (ps : List (List ℕ)). StandsFor bytes ps) (sym same) stands; sound = are })
+    → end_of payloads ≤ JOURNAL → ∥ AreOn bytes records ∥₁
+are_on bytes payloads records stands same sound short =
+    ∥∥₁_map sound (λ are. record {
+      stand = subst (λ (ps : List (List ℕ)). StandsFor bytes ps) (sym same) stands;
+      sound = are;
+      short = subst (λ (ps : List (List ℕ)). end_of ps ≤ JOURNAL) (sym same) short;
+    })
 
 pub has : (bytes : List ℕ) (records : List Record) → ∥ AreOn bytes records ∥₁ → HasRecords bytes
 has bytes records on = ∥∥₁_map on (λ are. (records, are))
@@ -114,7 +130,7 @@ are-push records rec fits is are = record {
 }
 
 pub none_stand : ∥ AreOn [] [] ∥₁
-none_stand = ∣ record { stand = inl (omega arith, refl); sound = record { fit = λ k d less. absurd (omega arith); placed = tt } } ∣₁
+none_stand = ∣ record { stand = inl (omega arith, refl); sound = record { fit = λ k d less. absurd (omega arith); placed = tt }; short = omega arith } ∣₁
 
 -- ---- ready
 
@@ -125,18 +141,10 @@ ready_with kept new rs rec more keeps =
     let texts : texts_of new ≡ texts_of rs ++ record_text rec ∷ [] = ap texts_of more ∙ map-append record_text rs (rec ∷ []) in
     inl (omega (arith, ap length is.are, length-append (records (texts_of new)) (is.gate ∷ is.rest), ap end_of texts, end_of-push (texts_of rs) (record_text rec)))
 
-pub ready_loaded : (before after : List ℕ) → (13 < length before → after ≡ before) → (length before ≤ 13 → after ≡ journal_of []) → IsReady after
-ready_loaded before after same fresh = at (nat_le (length before) 13) refl
-  where
-    at : (b : Bool) → nat_le (length before) 13 ≡ b → IsReady after
-    at true short = inr (fresh (leb-true (length before) 13 short))
-    at false is =
-        let long : 13 < length before = leb-false (length before) 13 is in
-        inl (omega (arith, long, ap length (same long)))
-
 -- what a crash leaves of a disk at rest
-pub image_on : (kept : Kept) (records : List Record) (image : List ℕ) → KeepsJournal kept (texts_of records) → ∥ AreRecords records ∥₁ → IsImage kept image → ∥ AreOn image records ∥₁
-image_on kept records image keeps sound is = are_on image (texts_of records) records (each_stands kept (texts_of records) image keeps is) refl sound
+pub image_on : (kept : Kept) (records : List Record) (image : List ℕ) → KeepsJournal kept (texts_of records) → ∥ AreRecords records ∥₁
+    → end_of (texts_of records) ≤ JOURNAL → IsImage kept image → ∥ AreOn image records ∥₁
+image_on kept records image keeps sound short is = are_on image (texts_of records) records (each_stands kept (texts_of records) image keeps is) refl sound short
 
 pub image_ready : (kept : Kept) (records : List Record) (image : List ℕ) → KeepsJournal kept (texts_of records) → IsReady kept.read → IsImage kept image → IsReady image
 image_ready kept records image keeps ready is =

@@ -2,10 +2,10 @@
 ghost use Rattle.std.specs.Prelude.{◌≡◌, ◌==◌, false, [], ℕ, IfOk, IfErr, OnOk, OnErr, if◌then◌else◌};
 ghost use Rattle.xt_base.specs.Limits.{FitsRecord};
 ghost use Rattle.xt_protocol.specs.Folds.{IsInPlace, fold_of};
-ghost use Rattle.world_hull.specs.Answers.{IsFullOrMemory};
+ghost use Rattle.world_hull.specs.Answers.{IsFullOrMemory, IsFullExactly};
 ghost use Rattle.world_hull.specs.Appends.{IsInAppend, kept_by};
-ghost use Rattle.disk_hull.specs.Disks.{IsWantOfRoom};
 ghost use Rattle.disk_hull.specs.Nodes.{records_of, own_after};
+ghost use Rattle.disk_hull.specs.Room.{journal_overflow};
 
 use crate::carrying::carried;
 use crate::node_store::NodeStore;
@@ -15,17 +15,10 @@ use std::collections::BTreeMap;
 use world_hull::{BodyErr, Hull, Kept, WorldErr};
 use xt_base::{FileId, Msg, NodeId, Octets, OutOfMemory, Record, Stamp};
 
-/// How long a journal may be, in bytes.
-const LIMIT: u64 = 1_073_741_824;
-
 /// Each node's records on a disk of its own. A node without one has no record.
 #[derive(Debug, Drop)]
 pub struct DiskHull {
     stores: BTreeMap<u32, NodeStore>,
-    /// How long each journal may be, in bytes.
-    limit: u64,
-    /// How often a record had no room.
-    fulls: u64,
     /// How many messages were carried.
     carried: u64,
 }
@@ -35,17 +28,8 @@ impl DiskHull {
     pub fn new(alloc: Global) -> DiskHull
         ensures { records_of result ≡ λ _. [] }
     {
-        DiskHull::with_limit(alloc, LIMIT)
-    }
-
-    /// No record is kept, and no journal grows past so many bytes.
-    pub fn with_limit(alloc: Global, limit: u64) -> DiskHull
-        ensures { records_of result ≡ λ _. [] }
-    {
         DiskHull {
             stores: BTreeMap::new(alloc),
-            limit,
-            fulls: 0,
             carried: 0,
         }
     }
@@ -54,11 +38,10 @@ impl DiskHull {
     fn take(&mut self, alloc: Global, node: NodeId) -> Result<NodeStore, OutOfMemory>
         ensures own { IfOk result (λ store. store ≡ records_of self.old node.0) }
         ensures others { (n : ℕ) → (n == node.0) ≡ false → records_of self.new n ≡ records_of self.old n }
-        ensures room { self.new.fulls ≡ self.old.fulls }
     {
         match self.stores.remove(&node.0) {
             Some(store) => Ok(store),
-            None => NodeStore::new(alloc, self.limit),
+            None => NodeStore::new(alloc),
         }
     }
 
@@ -66,7 +49,6 @@ impl DiskHull {
     fn put_in(&mut self, node: NodeId, store: NodeStore) -> Result<(), OutOfMemory>
         ensures ok { OnOk result (records_of self.new ≡ λ n. if n == node.0 then store else records_of self.old n) }
         ensures err { OnErr result (records_of self.new ≡ records_of self.old) }
-        ensures room { self.new.fulls ≡ self.old.fulls }
     {
         self.stores.insert(node.0, store)?;
         Ok(())
@@ -85,26 +67,13 @@ impl DiskHull {
         requires call { IsInAppend stop }
         ensures own { IfOk result (λ store. store ≡ own_after (records_of self.old node.0) rec.now (kept_by stop)) }
         ensures others { (n : ℕ) → (n == node.0) ≡ false → records_of self.new n ≡ records_of self.old n }
-        ensures error { IfErr result IsWantOfRoom }
-        ensures room { self.new.fulls ≡ self.old.fulls }
+        ensures room { IsFullExactly (journal_overflow (records_of self.old node.0) rec.now) result }
+        ensures error { IfErr result IsFullOrMemory }
     {
         let store = self.take(alloc, node)?;
         match stop {
             None => store.put(alloc, rec),
-            Some(stop) => store.stopped(alloc, rec, stop, self.limit),
-        }
-    }
-
-    /// Counts a record that had no room. Where that can't be counted, the answer is that there is no memory.
-    fn full(&mut self, need: u64, limit: u64) -> WorldErr
-        ensures { IsFullOrMemory self.old.fulls self.new.fulls result }
-    {
-        match self.fulls.checked_add(1) {
-            Some(fulls) => {
-                self.fulls = fulls;
-                WorldErr::Full { need, limit }
-            }
-            None => WorldErr::OutOfMemory,
+            Some(stop) => store.stopped(alloc, rec, stop),
         }
     }
 }
@@ -112,7 +81,7 @@ impl DiskHull {
 impl Hull for DiskHull {
     ghost kept = { records_of };
 
-    ghost fulls = { λ hull. hull.fulls };
+    ghost overflow = { journal_overflow };
 
     fn carry(&mut self, alloc: Global, msg: &Msg) -> Result<Msg, WorldErr> {
         self.carried = self.carried.saturating_add(1);
@@ -126,23 +95,18 @@ impl Hull for DiskHull {
         rec: &Record,
         stop: Option<Stop>,
     ) -> Result<Kept, WorldErr> {
-        match self.appended(alloc, node, rec, stop) {
-            Ok(store) => {
-                self.put_in(node, store)?;
-                Ok(Kept::by(stop))
-            }
-            Err(WorldErr::Full { need, limit }) => Err(self.full(need, limit)),
-            Err(error) => Err(error),
-        }
+        let store = self.appended(alloc, node, rec, stop)?;
+        self.put_in(node, store)?;
+        Ok(Kept::by(stop))
     }
 
     fn revive(&mut self, alloc: Global, node: NodeId) -> Result<Vec<Record>, WorldErr> {
         let Some(store) = self.stores.get(&node.0) else {
             return Ok(Vec::new(alloc));
         };
-        let found = store.copies(alloc)?;
-        // The record of the calls made begins anew with the disk.
-        let again = store.reloaded(alloc, self.limit)?;
+        // What stands on the disk is what is found. The record of the calls made begins anew with it.
+        let again = store.reloaded(alloc)?;
+        let found = again.copies(alloc)?;
         self.put_in(node, again)?;
         Ok(found)
     }

@@ -6,15 +6,18 @@ ghost use Rattle.xt_base.specs.Limits.{FitsRecord};
 ghost use Rattle.xt_base.specs.declared.record.Record.{Record};
 ghost use Rattle.xt_protocol.specs.Folds.{fold_of, IsInPlace, body_kept};
 ghost use Rattle.xt_journal.specs.Access as journal;
-ghost use Rattle.xt_journal.specs.Format.{StandsFor, KeepsJournal};
+ghost use Rattle.xt_journal.specs.Format.{StandsFor, KeepsJournal, end_of};
 ghost use Rattle.xt_journal.specs.Loaded.{FailedCall, MadeCalls, IsReady};
 ghost use Rattle.xt_journal.specs.Reading.{payloads_of};
-ghost use Rattle.object_store.specs.Access.{records_of, disk_of};
-ghost use Rattle.world_hull.specs.Answers.{GivesBody};
+ghost use Rattle.object_store.specs.Access.{records_of, disk_of, journal_of};
+ghost use Rattle.object_store.specs.Texts.{texts_of};
+ghost use Rattle.world_hull.specs.Answers.{IsFullOrMemory, IsFullExactly, GivesBody};
 ghost use Rattle.world_hull.specs.Appends.{kept_by};
-ghost use Rattle.disk_hull.specs.Disks.{AreOn, HasRecords, IsToStop, IsWantOfRoom};
+ghost use Rattle.disk_hull.specs.Disks.{AreOn, HasRecords, IsToStop};
 ghost use Rattle.disk_hull.specs.Nodes.{own_after};
+ghost use Rattle.disk_hull.specs.Room.{journal_overflow};
 
+use crate::JOURNAL;
 use disk_model::{MemoryDisk, Stop};
 use object_store::{AppendErr, Store, StoreErr};
 use std::alloc::{AllocError, Global};
@@ -32,21 +35,21 @@ pub struct NodeStore {
 impl Model for NodeStore {
     ghost use Rattle.std.specs.Prelude.{List};
     ghost use Rattle.xt_base.specs.declared.record.Record.{Record};
-    ghost use Rattle.object_store.specs.Access.{records_of, disk_of};
+    ghost use Rattle.xt_journal.specs.Access.{limit_of};
+    ghost use Rattle.object_store.specs.Access.{records_of, disk_of, journal_of};
     ghost use Rattle.disk_hull.specs.Disks.{IsCalm};
 
     ghost Value = { List Record };
 
     ghost view = { λ node. records_of node.store };
 
-    ghost invariant = { λ node. IsCalm (disk_of node.store) };
+    ghost invariant = { λ node. IsCalm (disk_of node.store) (records_of node.store) (limit_of (journal_of node.store)) };
 }
 
 /// The journal on a disk on which records stand, and its payloads. The disk doesn't fail while it is loaded.
 fn journal_on(
     alloc: Global,
     disk: MemoryDisk,
-    limit: u64,
 ) -> Result<(Journal<MemoryDisk>, Vec<Placed>), OutOfMemory>
     requires stands { HasRecords (memory_kept disk).read }
     requires passes { FailedCall (planned disk.plan) (memory_kept disk).read → ⊥ }
@@ -55,8 +58,9 @@ fn journal_on(
     ensures ready { IfOk result (λ found. IsReady (memory_kept (journal.disk_of found.0)).read) }
     ensures plan { IfOk result (λ found.
         MadeCalls (planned disk.plan) (planned (journal.disk_of found.0).plan) (memory_kept disk).read) }
+    ensures limit { IfOk result (λ found. journal.limit_of found.0 ≡ JOURNAL) }
 {
-    match Journal::load(alloc, disk, limit) {
+    match Journal::load(alloc, disk, JOURNAL) {
         Ok(found) => Ok(found),
         Err(LoadErr::OutOfMemory { .. }) => Err(AllocError),
         Err(LoadErr::DiskFault { .. }) => unreachable!(),
@@ -67,15 +71,16 @@ fn journal_on(
 }
 
 /// The store on a disk on which records stand. The disk doesn't fail while it is loaded.
-fn store_on(alloc: Global, disk: MemoryDisk, limit: u64) -> Result<Store<MemoryDisk>, OutOfMemory>
+fn store_on(alloc: Global, disk: MemoryDisk) -> Result<Store<MemoryDisk>, OutOfMemory>
     requires stands { HasRecords (memory_kept disk).read }
     requires passes { FailedCall (planned disk.plan) (memory_kept disk).read → ⊥ }
     ensures reads { IfOk result (λ store. ∥ AreOn (memory_kept disk).read (records_of store) ∥₁) }
     ensures ready { IfOk result (λ store. IsReady (memory_kept (disk_of store)).read) }
     ensures plan { IfOk result (λ store.
         MadeCalls (planned disk.plan) (planned (disk_of store).plan) (memory_kept disk).read) }
+    ensures limit { IfOk result (λ store. journal.limit_of (journal_of store) ≡ JOURNAL) }
 {
-    let (journal, payloads) = journal_on(alloc, disk, limit)?;
+    let (journal, payloads) = journal_on(alloc, disk)?;
     match Store::load(alloc, journal, payloads.as_slice()) {
         Ok(store) => Ok(store),
         Err(StoreErr::OutOfMemory { .. }) => Err(AllocError),
@@ -84,13 +89,13 @@ fn store_on(alloc: Global, disk: MemoryDisk, limit: u64) -> Result<Store<MemoryD
 }
 
 /// The records that stand in these bytes, on a new disk that never fails.
-fn restarted(alloc: Global, bytes: Octets, limit: u64) -> Result<NodeStore, OutOfMemory>
+fn restarted(alloc: Global, bytes: Octets) -> Result<NodeStore, OutOfMemory>
     requires { HasRecords bytes }
     ensures { IfOk result (λ node. ∥ AreOn bytes node ∥₁) }
 {
     let disk = MemoryDisk::new(alloc, bytes, CallList::new(alloc), None);
     Ok(NodeStore {
-        store: store_on(alloc, disk, limit)?,
+        store: store_on(alloc, disk)?,
     })
 }
 
@@ -107,9 +112,12 @@ fn left_by_stop(
     requires low { 1 ≤ stop.call }
     requires high { stop.call ≤ 4 }
     requires stops { IsToStop stop.call (planned (disk_of store).plan) }
+    requires short { end_of (texts_of (records_of store)) ≤ JOURNAL }
+    requires limit { journal.limit_of (journal_of store) ≡ JOURNAL }
     ensures left { IfOk result (λ bytes.
         ∥ AreOn bytes (own_after (records_of store) rec.now (kept_by (Some stop))) ∥₁) }
-    ensures error { IfErr result IsWantOfRoom }
+    ensures room { IsFullExactly (journal_overflow (records_of store) rec.now) result }
+    ensures error { IfErr result IsFullOrMemory }
 {
     match store.put(alloc, rec) {
         Err(AppendErr::Broken { disk, .. }) => Ok(disk.filled(stop.fill)?),
@@ -120,11 +128,11 @@ fn left_by_stop(
 }
 
 impl NodeStore {
-    /// No record, on a new disk whose journal is at most `limit` bytes.
-    pub fn new(alloc: Global, limit: u64) -> Result<NodeStore, OutOfMemory>
+    /// No record, on a new disk.
+    pub fn new(alloc: Global) -> Result<NodeStore, OutOfMemory>
         ensures { IfOk result (λ node. node ≡ []) }
     {
-        restarted(alloc, Octets::new(alloc), limit)
+        restarted(alloc, Octets::new(alloc))
     }
 
     /// The bytes on the disk.
@@ -136,10 +144,10 @@ impl NodeStore {
     }
 
     /// The same records on a new disk with these bytes.
-    pub fn reloaded(&self, alloc: Global, limit: u64) -> Result<NodeStore, OutOfMemory>
+    pub fn reloaded(&self, alloc: Global) -> Result<NodeStore, OutOfMemory>
         ensures { IfOk result (λ node. node ≡ self.now) }
     {
-        restarted(alloc, self.bytes()?, limit)
+        restarted(alloc, self.bytes()?)
     }
 
     /// Puts a record behind the others.
@@ -147,7 +155,8 @@ impl NodeStore {
         requires fits { FitsRecord rec.now }
         requires place { IsInPlace (fold_of self) rec.now }
         ensures done { IfOk result (λ node. node ≡ self ++ rec.now ∷ []) }
-        ensures error { IfErr result IsWantOfRoom }
+        ensures room { IsFullExactly (journal_overflow self rec.now) result }
+        ensures error { IfErr result IsFullOrMemory }
     {
         match self.store.put(alloc, rec) {
             Ok(store) => Ok(NodeStore { store }),
@@ -158,19 +167,14 @@ impl NodeStore {
     }
 
     /// What stands after an append of the record in one of whose four calls the node stopped.
-    pub fn stopped(
-        &self,
-        alloc: Global,
-        rec: &Record,
-        stop: Stop,
-        limit: u64,
-    ) -> Result<NodeStore, WorldErr>
+    pub fn stopped(&self, alloc: Global, rec: &Record, stop: Stop) -> Result<NodeStore, WorldErr>
         requires fits { FitsRecord rec.now }
         requires place { IsInPlace (fold_of self.now) rec.now }
         requires low { 1 ≤ stop.call }
         requires high { stop.call ≤ 4 }
         ensures left { IfOk result (λ node. node ≡ own_after self.now rec.now (kept_by (Some stop))) }
-        ensures error { IfErr result IsWantOfRoom }
+        ensures room { IsFullExactly (journal_overflow self.now rec.now) result }
+        ensures error { IfErr result IsFullOrMemory }
     {
         // Loading a journal that stands makes one sync before the append's calls.
         let counted = Stop {
@@ -178,9 +182,9 @@ impl NodeStore {
             fill: stop.fill,
         };
         let disk = MemoryDisk::new(alloc, self.bytes()?, CallList::new(alloc), Some(counted));
-        let store = store_on(alloc, disk, limit)?;
+        let store = store_on(alloc, disk)?;
         let left = left_by_stop(alloc, store, rec, stop)?;
-        Ok(restarted(alloc, left, limit)?)
+        Ok(restarted(alloc, left)?)
     }
 
     /// The records in order.

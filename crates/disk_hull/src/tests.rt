@@ -5,7 +5,7 @@ use disk_model::Stop;
 use std::alloc::Global;
 use std::test::Fail;
 use uuid::Uuid;
-use world_hull::{BodyErr, Hull, Kept, WorldErr};
+use world_hull::{BodyErr, Hull, Kept};
 use xt_base::{Boot, Epoch, FileId, Msg, NodeId, Payload, Record, RegistryReq, Stamp};
 
 const NODE: NodeId = NodeId(7);
@@ -45,21 +45,6 @@ fn a_stop_keeps_a_record_or_loses_it(rt: HostRuntime) -> Result<(), Fail> {
             assert_eq!(rt; three_starts(alloc, Some(Stop { call, fill }))?, want);
         }
     }
-    Ok(())
-}
-
-#[test]
-fn a_record_has_room_up_to_the_limit(rt: HostRuntime) -> Result<(), Fail> {
-    let alloc = rt.alloc();
-    // the header of 12 bytes, a gate, a length of 4, a start of 9, and the next gate
-    let mut hull = DiskHull::with_limit(alloc, 27);
-    let rec = Record::Boot { boot: Boot(1) };
-    assert_eq!(rt; hull.append(alloc, NODE, &rec, None)?, Kept::Done);
-    let full = WorldErr::Full {
-        need: 41,
-        limit: 27,
-    };
-    assert!(rt; matches!(hull.append(alloc, NODE, &rec, None), Err(error) if error == full));
     Ok(())
 }
 

@@ -1,16 +1,29 @@
 -- how the calls of a hull end early
-use Rattle.std.specs.Prelude.{ℕ, ◌≡◌, ◌<◌, List, Option, Some, None, Result, Ok, Err}
+use Rattle.std.specs.Prelude.{ℕ, ◌≡◌, List, Option, Some, None, Result, Ok, Err}
 use Rattle.replica_records.specs.declared.errors.BodyErr.{BodyErr}
 use Rattle.replica_records.specs.declared.errors.BodyErr.TheVariants as body
 use Rattle.world_hull.specs.declared.errors.WorldErr.{WorldErr}
 use Rattle.world_hull.specs.declared.errors.WorldErr.TheVariants as error
 
--- an append found no room, and the count of such answers has risen; or memory ran out
-abbrev pub IsFullOrMemory : ℕ → ℕ → WorldErr → Type 0
-IsFullOrMemory before later (error.Illegal rule) = ⊥
-IsFullOrMemory before later (error.Limit what limit) = ⊥
-IsFullOrMemory before later (error.Full need limit) = before < later
-IsFullOrMemory before later error.OutOfMemory = later ≡ before
+-- a record that has no room: how long its node's journal would have to be, and how long it may be, in bytes
+pub record Overflow : Type 0 where
+  pub need : ℕ
+  pub limit : ℕ
+
+-- an append found no room, or memory ran out
+abbrev pub IsFullOrMemory : WorldErr → Type 0
+IsFullOrMemory (error.Illegal rule) = ⊥
+IsFullOrMemory (error.Limit what limit) = ⊥
+IsFullOrMemory (error.Full need limit) = Unit {0}
+IsFullOrMemory error.OutOfMemory = Unit {0}
+
+-- A record is told to have no room exactly where it has none, with what it needs. Memory may run out before.
+abbrev pub IsFullExactly : {T : Type 0} → Option Overflow → Result T WorldErr → Type 0
+IsFullExactly overflow (Ok value) = overflow ≡ None
+IsFullExactly overflow (Err (error.Illegal rule)) = overflow ≡ None
+IsFullExactly overflow (Err (error.Limit what limit)) = overflow ≡ None
+IsFullExactly overflow (Err (error.Full need limit)) = overflow ≡ Some (record { need = need; limit = limit })
+IsFullExactly overflow (Err error.OutOfMemory) = Unit {0}
 
 -- the body that is kept, or that none is; or memory ran out
 abbrev pub GivesBody : Option (List ℕ) → Result (List ℕ) BodyErr → Type 0

@@ -1,4 +1,3 @@
 pub mod Answers
 pub mod Appends
-pub mod BodyPlaces
 pub mod Logs

@@ -1,8 +1,8 @@
-ghost use Rattle.std.specs.Prelude.{◌≡◌, ℕ, List, IfOk, IfErr};
+ghost use Rattle.std.specs.Prelude.{◌≡◌, ℕ, List, Option, IfOk, IfErr};
 ghost use Rattle.xt_base.specs.declared.record.Record.{Record};
 ghost use Rattle.xt_base.specs.Limits.{FitsMessage, FitsRecord};
-ghost use Rattle.xt_protocol.specs.Folds.{IsInPlace, fold_of, body_kept};
-ghost use Rattle.world_hull.specs.Answers.{IsFullOrMemory, GivesBody};
+ghost use Rattle.xt_protocol.specs.Folds.{IsInPlace, fold_of, logged_of, body_kept};
+ghost use Rattle.world_hull.specs.Answers.{Overflow, IsFullOrMemory, IsFullExactly, GivesBody};
 ghost use Rattle.world_hull.specs.Appends.{IsInAppend, IsAppended, kept_by};
 
 use crate::errors::WorldErr;
@@ -48,19 +48,19 @@ pub trait Hull: Drop {
     /// The records of each node, by its number, in the order in which they were kept.
     ghost kept: { Self → ℕ → List Record };
 
-    /// How often a record had no room.
-    ghost fulls: { Self → ℕ };
+    /// Whether a record has no room behind these of its node, and what it would need.
+    ghost overflow: { List Record → Record → Option Overflow };
 
     /// The very message, or `OutOfMemory`.
     fn carry(&mut self, alloc: Global, msg: &Msg) -> Result<Msg, WorldErr>
         requires { FitsMessage msg.now }
         ensures message { IfOk result (λ carried. carried ≡ msg.now) }
         ensures error { IfErr result (λ error. error ≡ WorldErr.OutOfMemory) }
-        ensures records { kept self.new ≡ kept self.old }
-        ensures room { fulls self.new ≡ fulls self.old };
+        ensures records { kept self.new ≡ kept self.old };
 
-    /// Appends the node's record, or stops in one of the four device calls of that. `Full` comes only where the
-    /// record has no room. After an error the hull isn't to be used for its records again.
+    /// Appends the node's record, or stops in one of the four device calls of that. `Full` comes exactly where the
+    /// record has no room, whether there is a stop or not. After an error the hull isn't to be used for its records
+    /// again.
     fn append(
         &mut self,
         alloc: Global,
@@ -72,15 +72,16 @@ pub trait Hull: Drop {
         requires place { IsInPlace (fold_of (kept self.old node.0)) rec.now }
         requires call { IsInAppend stop }
         ensures records { IfOk result (λ end. IsAppended (kept self.old) (kept self.new) node rec.now stop end) }
-        ensures room { IfOk result (λ _. fulls self.new ≡ fulls self.old) }
-        ensures error { IfErr result (IsFullOrMemory (fulls self.old) (fulls self.new)) };
+        ensures room { IsFullExactly (overflow (kept self.old node.0) rec.now) result }
+        ensures error { IfErr result IsFullOrMemory };
 
-    /// What the node that starts again finds: records that say what its records say. Only memory may run out.
+    /// What the node that starts again finds: records that say what its records say, with its requests in their order.
+    /// Only memory may run out.
     fn revive(&mut self, alloc: Global, node: NodeId) -> Result<Vec<Record>, WorldErr>
         ensures found { IfOk result (λ found. fold_of found.items ≡ fold_of (kept self.old node.0)) }
+        ensures logged { IfOk result (λ found. logged_of found.items ≡ logged_of (kept self.old node.0)) }
         ensures error { IfErr result (λ error. error ≡ WorldErr.OutOfMemory) }
-        ensures records { kept self.new ≡ kept self.old }
-        ensures room { fulls self.new ≡ fulls self.old };
+        ensures records { kept self.new ≡ kept self.old };
 
     /// What the node keeps as this version of this object of the file. `NoSuchVersion` comes exactly where it keeps
     /// none; it is never `Failed`.
@@ -93,6 +94,5 @@ pub trait Hull: Drop {
         version: &Stamp,
     ) -> Result<Octets, BodyErr>
         ensures body { GivesBody (body_kept (kept self.old node.0) file.now object version.now) result }
-        ensures records { kept self.new ≡ kept self.old }
-        ensures room { fulls self.new ≡ fulls self.old };
+        ensures records { kept self.new ≡ kept self.old };
 }

@@ -8,7 +8,6 @@
 mod errors;
 mod hull;
 mod list_hull;
-mod log;
 #[cfg(test)]
 mod tests;
 

@@ -1,13 +1,12 @@
 //! A hull that keeps the records in memory.
-ghost use Rattle.std.specs.Prelude.{◌≡◌, [], OnOk};
+ghost use Rattle.std.specs.Prelude.{◌≡◌, [], None, OnOk};
 ghost use Rattle.world_runs.specs.Records.{with_record};
 ghost use Rattle.world_hull.specs.Logs.{records_of};
 
 use crate::errors::WorldErr;
 use crate::hull::{Hull, Kept};
-use crate::log::RecordLog;
 use disk_model::Stop;
-use replica_records::BodyErr;
+use replica_records::{BodyErr, RecordLog};
 use std::alloc::Global;
 use std::collections::BTreeMap;
 use xt_base::{Copies, FileId, Msg, NodeId, Octets, OutOfMemory, Record, Stamp};
@@ -47,7 +46,7 @@ impl ListHull {
 impl Hull for ListHull {
     ghost kept = { records_of };
 
-    ghost fulls = { λ _. 0 };
+    ghost overflow = { λ _ _. None };
 
     fn carry(&mut self, alloc: Global, msg: &Msg) -> Result<Msg, WorldErr> {
         Ok(msg.copy(alloc)?)

@@ -14,7 +14,7 @@ returns-clause-same c =
     (IfOk-weaker _ _ _
     (λ image is. image_on (memory_kept c.disk.result.now) (records_of c.self.inside.store) image
     (subst (λ (d : Memory). KeepsJournal (memory_kept d) (texts_of (records_of c.self.inside.store))) (sym c.disk.ensures) (c.self.inside.store.keeps refl))
-    c.self.inside.store.sound is) c.image.ensures.image)
+    c.self.inside.store.sound c.self.invariant.short is) c.image.ensures.image)
 
 pub returns-clause-ready : goal.returns-clause-ready
 returns-clause-ready c =
