@@ -19,6 +19,7 @@ use Rattle.world_runs.specs.Lines.{Whole, Stopped, line_applied}
 use Rattle.world_runs.specs.Runs.{after, after_refusal, run_of}
 use Rattle.world_runs.proofs.Grows.{line_grows}
 use Rattle.world_runs.specs.declared.TheConstants.{LINES, LINE_BYTES}
+use Rattle.world_core.specs.Room.{Room, LineOverflow, line_overflow}
 use Rattle.schedule_replay.specs.RawLine.{line_feed, IsInLine}
 use Rattle.schedule_replay.specs.NextLine.{ended, IsNoLine, StopsReading}
 use Rattle.schedule_replay.specs.Replay.{AreLines, IsDoneFrom, AreDoneFrom, AreRun, EndsWith, EndsAt, IsReplay, HasCause, IsWhole, Completes}
@@ -82,13 +83,13 @@ are_lines-rest before [] rest all = subst (λ (n : ℕ). AreLines n rest) (let e
 are_lines-rest before (l ∷ ls) rest all =
     subst (λ (n : ℕ). AreLines n rest) (let e : before + 1 + length ls ≡ before + suc (length ls) = omega arith in e) (are_lines-rest (before + 1) ls rest all.1)
 
-are_done-rest : (w : World) (lines rest : List Line) → AreDoneFrom w (lines ++ rest) → AreDoneFrom (fold after w lines) rest
-are_done-rest w [] rest all = all
-are_done-rest w (l ∷ ls) rest all = are_done-rest (after w l) ls rest all.1
+are_done-rest : (room : Room) (w : World) (lines rest : List Line) → AreDoneFrom room w (lines ++ rest) → AreDoneFrom room (fold after w lines) rest
+are_done-rest room w [] rest all = all
+are_done-rest room w (l ∷ ls) rest all = are_done-rest room (after w l) ls rest all.1
 
-run_done-rest : (lines rest : List Line) → AreDoneFrom start_world (lines ++ rest) → AreDoneFrom (run_of lines) rest
+run_done-rest : (room : Room) (lines rest : List Line) → AreDoneFrom room start_world (lines ++ rest) → AreDoneFrom room (run_of lines) rest
 unfolding run_of
-run_done-rest lines rest all = are_done-rest start_world lines rest all
+run_done-rest room lines rest all = are_done-rest room start_world lines rest all
 
 line_after : (w : World) (l : Line) → refusal w l ≡ None → (after w l).lines ≡ w.lines ++ l ∷ []
 unfolding after
@@ -96,14 +97,14 @@ line_after w l legal =
     let grows = line_grows w l in
     ap (λ (r : Option Rule). (after_refusal w l r).lines) legal ∙ ap (λ (ls : List Line). ls ++ l ∷ []) grows.same
 
-lines_after : (w : World) (lines : List Line) → AreDoneFrom w lines → (fold after w lines).lines ≡ w.lines ++ lines
-lines_after w [] all = sym (append-nil w.lines)
-lines_after w (l ∷ ls) all =
-    lines_after (after w l) ls all.1 ∙ ap (λ (ms : List Line). ms ++ ls) (line_after w l all.0.0) ∙ append_assoc w.lines (l ∷ []) ls
+lines_after : (room : Room) (w : World) (lines : List Line) → AreDoneFrom room w lines → (fold after w lines).lines ≡ w.lines ++ lines
+lines_after room w [] all = sym (append-nil w.lines)
+lines_after room w (l ∷ ls) all =
+    lines_after room (after w l) ls all.1 ∙ ap (λ (ms : List Line). ms ++ ls) (line_after w l all.0.0) ∙ append_assoc w.lines (l ∷ []) ls
 
-pub run_lines : (lines : List Line) → AreRun lines → (run_of lines).lines ≡ lines
+pub run_lines : (room : Room) (lines : List Line) → AreRun room lines → (run_of lines).lines ≡ lines
 unfolding run_of
-run_lines lines run = lines_after start_world lines run.done
+run_lines room lines run = lines_after room start_world lines run.done
 
 -- The line that is taken is the first of those that are left.
 first_taken : (before : ℕ) (rest : List Line) (line : Line) (taken behind : List ℕ) → AreLines before rest → schedule_text rest ≡ taken ++ behind → IsLine (before == 0) line → taken ≡ ended (line_text line) → (others : List Line) × (rest ≡ line ∷ others)
@@ -116,10 +117,10 @@ first_taken before (l ∷ ls) line taken behind p e formed text =
     let same = same_line (line_text l) (line_text line) (schedule_text ls) behind fits.in_line other.in_line bytes in
     (ls, ap (λ (m : Line). m ∷ ls) (one_line (before == 0) (before == 0) l line p.0 formed same.0))
 
-taken_done : (w : World) (rest : List Line) (line : Line) (taken behind : List ℕ) → AreLines (length w.lines) rest → AreDoneFrom w rest → schedule_text rest ≡ taken ++ behind → IsLine (length w.lines == 0) line → taken ≡ ended (line_text line) → IsDoneFrom w line
-taken_done w rest line taken behind p done e formed text =
+taken_done : (room : Room) (w : World) (rest : List Line) (line : Line) (taken behind : List ℕ) → AreLines (length w.lines) rest → AreDoneFrom room w rest → schedule_text rest ≡ taken ++ behind → IsLine (length w.lines == 0) line → taken ≡ ended (line_text line) → IsDoneFrom room w line
+taken_done room w rest line taken behind p done e formed text =
     let first = first_taken (length w.lines) rest line taken behind p e formed text in
-    let all : AreDoneFrom w (line ∷ first.0) = subst (AreDoneFrom w) first.1 done in
+    let all : AreDoneFrom room w (line ∷ first.0) = subst (AreDoneFrom room w) first.1 done in
     all.0
 
 -- none is malformed
@@ -168,38 +169,41 @@ IsExcused status.Done = Unit {0}
 IsExcused status.OutOfMemory = Unit {0}
 IsExcused (status.SourceFault count) = Unit {0}
 IsExcused (status.SinkFault count) = Unit {0}
-IsExcused (status.JournalFull need limit) = Unit {0}
 IsExcused _ = ⊥
 
-good_limit : (w : World) (rest : List Line) (taken behind : List ℕ) (new : List Entry) (what : Limited) (limit : ℕ)
-    → AreLines (length w.lines) rest → AreDoneFrom w rest → length w.lines + length rest ≤ LINES → schedule_text rest ≡ taken ++ behind
-    → EndsWith w taken (Some behind) new (status.Limit what limit)
+good_limit : (room : Room) (w : World) (rest : List Line) (taken behind : List ℕ) (new : List Entry) (what : Limited) (limit : ℕ)
+    → AreLines (length w.lines) rest → AreDoneFrom room w rest → length w.lines + length rest ≤ LINES → schedule_text rest ≡ taken ++ behind
+    → EndsWith room w taken (Some behind) new (status.Limit what limit)
     → ⊥
-good_limit w rest taken behind new what limit p done few e (inl lines) = no_more (length w.lines) rest taken behind lines.1 few e lines.2
-good_limit w rest taken behind new what limit p done few e (inr (inl unread)) = unread_long (length w.lines) rest taken behind what limit p e unread.0.1
-good_limit w rest taken behind new what limit p done few e (inr (inr (line, begun, stopped))) =
-    let whole = taken_done w rest line taken behind p done e begun.0.1 begun.0.2 in
-    let is_whole : line_applied w line ≡ Whole whole.1.0 = whole.1.1 in
+good_limit room w rest taken behind new what limit p done few e (inl lines) = no_more (length w.lines) rest taken behind lines.1 few e lines.2
+good_limit room w rest taken behind new what limit p done few e (inr (inl unread)) = unread_long (length w.lines) rest taken behind what limit p e unread.0.1
+good_limit room w rest taken behind new what limit p done few e (inr (inr (line, begun, fits, stopped))) =
+    let whole = taken_done room w rest line taken behind p done e begun.0.1 begun.0.2 in
+    let is_whole : line_applied w line ≡ Whole whole.2.0 = whole.2.1 in
     let is_stopped : line_applied w line ≡ Stopped what stopped.0 = stopped.1 in
     cc
 
-good_end : (w : World) (rest : List Line) (taken behind : List ℕ) (new : List Entry) (s : Status)
-    → AreLines (length w.lines) rest → AreDoneFrom w rest → length w.lines + length rest ≤ LINES → schedule_text rest ≡ taken ++ behind
-    → EndsWith w taken (Some behind) new s
+good_end : (room : Room) (w : World) (rest : List Line) (taken behind : List ℕ) (new : List Entry) (s : Status)
+    → AreLines (length w.lines) rest → AreDoneFrom room w rest → length w.lines + length rest ≤ LINES → schedule_text rest ≡ taken ++ behind
+    → EndsWith room w taken (Some behind) new s
     → IsExcused s
-good_end w rest taken behind new status.Done p done few e ends = tt
-good_end w rest taken behind new status.OutOfMemory p done few e ends = tt
-good_end w rest taken behind new (status.SourceFault count) p done few e ends = tt
-good_end w rest taken behind new (status.JournalFull need limit) p done few e ends = tt
-good_end w rest taken behind new (status.Malformed number) p done few e ends =
+good_end room w rest taken behind new status.Done p done few e ends = tt
+good_end room w rest taken behind new status.OutOfMemory p done few e ends = tt
+good_end room w rest taken behind new (status.SourceFault count) p done few e ends = tt
+good_end room w rest taken behind new (status.JournalFull need limit) p done few e (line, begun, found) =
+    let whole = taken_done room w rest line taken behind p done e begun.0.1 begun.0.2 in
+    let fits : line_overflow room w line ≡ None = whole.1 in
+    let full : line_overflow room w line ≡ Some (record { world = found.0; overflow = record { need = need; limit = limit } }) = found.1 in
+    cc
+good_end room w rest taken behind new (status.Malformed number) p done few e ends =
     let stops = ends.0.1 in no_malformed (length w.lines) rest taken behind stops.0 p e stops.1 stops.3
-good_end w rest taken behind new (status.Illegal number rule) p done few e (line, is_taken, broken, counted, none) =
-    let whole = taken_done w rest line taken behind p done e is_taken.1 is_taken.2 in
+good_end room w rest taken behind new (status.Illegal number rule) p done few e (line, is_taken, broken, counted, none) =
+    let whole = taken_done room w rest line taken behind p done e is_taken.1 is_taken.2 in
     let legal : refusal w line ≡ None = whole.0 in
     let refused : refusal w line ≡ Some rule = broken in
     cc
-good_end w rest taken behind new (status.Limit what limit) p done few e ends = good_limit w rest taken behind new what limit p done few e ends
-good_end w rest taken behind new _ p done few e ends = absurd ends
+good_end room w rest taken behind new (status.Limit what limit) p done few e ends = good_limit room w rest taken behind new what limit p done few e ends
+good_end room w rest taken behind new _ p done few e ends = absurd ends
 
 -- nothing is left of a schedule that was taken whole
 none_left : (rest : List Line) → schedule_text rest ≡ [] → rest ≡ []
@@ -207,42 +211,41 @@ none_left [] e = refl
 none_left (l ∷ ls) e = absurd (omega (arith, ap length e, ap length (first_line l ls), length-append (line_text l) (line_feed ∷ schedule_text ls)))
 
 -- the replay ended behind the lines that it did, of a good schedule
-ended_whole : (lines done rest : List Line) (taken behind : List ℕ) (new : List Entry) (put : List ℕ) (sink_before sink_after : Option (List ℕ)) (sb sa kb ka fb fa : ℕ) (s : Status)
+ended_whole : (room : Room) (lines done rest : List Line) (taken behind : List ℕ) (new : List Entry) (put : List ℕ) (sink_before sink_after : Option (List ℕ)) (sb sa kb ka : ℕ) (s : Status)
     → lines ≡ done ++ rest
-    → AreLines (length (run_of done).lines) rest → AreDoneFrom (run_of done) rest → length (run_of done).lines + length rest ≤ LINES → schedule_text rest ≡ taken ++ behind
+    → AreLines (length (run_of done).lines) rest → AreDoneFrom room (run_of done) rest → length (run_of done).lines + length rest ≤ LINES → schedule_text rest ≡ taken ++ behind
     → Puts sink_before sink_after (trace_text (run_of done).entries ++ put)
-    → HasCause sb sa kb ka fb fa s → (Rose sb sa → ⊥) → (Rose kb ka → ⊥)
-    → EndsAt (run_of done) taken (Some behind) new put s
+    → HasCause sb sa kb ka s → (Rose sb sa → ⊥) → (Rose kb ka → ⊥)
+    → EndsAt room (run_of done) taken (Some behind) new put s
     → IsWhole lines sink_before sink_after s
 unfolding trace_text last_line
-ended_whole lines done rest taken behind new put before later sb sa kb ka fb fa status.Done split p legal few e sink cause no_source no_sink ((untaken, end, none), is_put) =
+ended_whole room lines done rest taken behind new put before later sb sa kb ka status.Done split p legal few e sink cause no_source no_sink ((untaken, end, none), is_put) =
     let nothing = none_left rest (e ∙ ap (λ (front : List ℕ). front ++ behind) untaken ∙ end) in
     let all : lines ≡ done = split ∙ ap (λ (ls : List Line). done ++ ls) nothing ∙ append-nil done in
     let no_put : put ≡ [] = is_put ∙ ap (λ (es : List Entry). trace_text es ++ last_line status.Done) none in
     let trace = trace_text (run_of done).entries in
     let shown = subst (Puts before later) (ap (λ (bytes : List ℕ). trace ++ bytes) no_put ∙ append-nil trace) sink in
     subst (λ (ls : List Line). Puts before later (trace_text (run_of ls).entries)) (sym all) shown
-ended_whole lines done rest taken behind new put before later sb sa kb ka fb fa status.OutOfMemory split p legal few e sink cause no_source no_sink at = tt
-ended_whole lines done rest taken behind new put before later sb sa kb ka fb fa (status.SourceFault count) split p legal few e sink cause no_source no_sink at = absurd (no_source cause.0)
-ended_whole lines done rest taken behind new put before later sb sa kb ka fb fa (status.SinkFault count) split p legal few e sink cause no_source no_sink at = absurd (no_sink cause.0)
-ended_whole lines done rest taken behind new put before later sb sa kb ka fb fa (status.JournalFull need limit) split p legal few e sink cause no_source no_sink at = tt
-ended_whole lines done rest taken behind new put before later sb sa kb ka fb fa s split p legal few e sink cause no_source no_sink at =
-    absurd (good_end (run_of done) rest taken behind new s p legal few e at.0)
+ended_whole room lines done rest taken behind new put before later sb sa kb ka status.OutOfMemory split p legal few e sink cause no_source no_sink at = tt
+ended_whole room lines done rest taken behind new put before later sb sa kb ka (status.SourceFault count) split p legal few e sink cause no_source no_sink at = absurd (no_source cause.0)
+ended_whole room lines done rest taken behind new put before later sb sa kb ka (status.SinkFault count) split p legal few e sink cause no_source no_sink at = absurd (no_sink cause.0)
+ended_whole room lines done rest taken behind new put before later sb sa kb ka s split p legal few e sink cause no_source no_sink at =
+    absurd (good_end room (run_of done) rest taken behind new s p legal few e at.0)
 
--- A replay of a good schedule, whose source and sink don't fail, is done, unless memory or a journal runs out.
-pub complete : (source_before source_after sink_before sink_after : Option (List ℕ)) (sb sa kb ka fb fa : ℕ) (s : Status)
-    → IsReplay source_before source_after sink_before sink_after s
-    → HasCause sb sa kb ka fb fa s
+-- A replay of a good schedule, whose source and sink don't fail, is done, unless memory runs out.
+pub complete : (room : Room) (source_before source_after sink_before sink_after : Option (List ℕ)) (sb sa kb ka : ℕ) (s : Status)
+    → IsReplay room source_before source_after sink_before sink_after s
+    → HasCause sb sa kb ka s
     → (Rose sb sa → ⊥)
     → (Rose kb ka → ⊥)
-    → Completes source_before sink_before sink_after s
-complete source_before source_after sink_before sink_after sb sa kb ka fb fa s r cause no_source no_sink = λ lines text run few.
+    → Completes room source_before sink_before sink_after s
+complete room source_before source_after sink_before sink_after sb sa kb ka s r cause no_source no_sink = λ lines text run few.
     let took = subst (λ (left : Option (List ℕ)). Takes left source_after (schedule_text r.lines ++ r.taken)) text r.source in
     let split = lines_behind 0 lines r.lines (r.taken ++ took.0) run.formed r.run.formed (took.1 ∙ append_assoc (schedule_text r.lines) r.taken took.0) in
-    let count : length (run_of r.lines).lines ≡ length r.lines = ap length (run_lines r.lines r.run) in
+    let count : length (run_of r.lines).lines ≡ length r.lines = ap length (run_lines room r.lines r.run) in
     let counted : 0 + length r.lines ≡ length (run_of r.lines).lines = omega (arith, count) in
     let formed = subst (λ (n : ℕ). AreLines n split.0) counted (are_lines-rest 0 r.lines split.0 (subst (AreLines 0) split.1 run.formed)) in
-    let done : AreDoneFrom (run_of r.lines) split.0 = run_done-rest r.lines split.0 (subst (AreDoneFrom start_world) split.1 run.done) in
+    let done : AreDoneFrom room (run_of r.lines) split.0 = run_done-rest room r.lines split.0 (subst (AreDoneFrom room start_world) split.1 run.done) in
     let within : length (run_of r.lines).lines + length split.0 ≤ LINES = omega (arith, count, few, ap length split.1, length-append r.lines split.0) in
-    ended_whole lines r.lines split.0 r.taken took.0 r.more r.put sink_before sink_after sb sa kb ka fb fa s split.1 formed done within split.2 r.sink cause no_source no_sink
-    (subst (λ (left : Option (List ℕ)). EndsAt (run_of r.lines) r.taken left r.more r.put s) took.2 r.ending)
+    ended_whole room lines r.lines split.0 r.taken took.0 r.more r.put sink_before sink_after sb sa kb ka s split.1 formed done within split.2 r.sink cause no_source no_sink
+    (subst (λ (left : Option (List ℕ)). EndsAt room (run_of r.lines) r.taken left r.more r.put s) took.2 r.ending)

@@ -1,5 +1,5 @@
 -- why a replay ends, from what its steps did
-use Rattle.std.proofs.Common.{◌≡◌, ◌∙◌, ℕ, ◌+◌, ◌<◌, ◌==◌, ◌⊎◌, Option, Some, Result, Ok, Err, OnOk, IfErr, List, [], ◌∷◌, ◌++◌, length, refl, sym, ap, subst, inl, inr, append_assoc, append-nil}
+use Rattle.std.proofs.Common.{◌≡◌, ◌∙◌, ℕ, ◌+◌, ◌<◌, ◌==◌, ◌⊎◌, Option, None, Some, Result, Ok, Err, OnOk, IfErr, List, [], ◌∷◌, ◌++◌, length, refl, sym, ap, subst, inl, inr, append_assoc, append-nil}
 use Rattle.xt_base.specs.declared.status.Status.{Status}
 use Rattle.xt_base.specs.declared.status.Status.TheVariants as status
 use Rattle.node_links.specs.Streams.{Puts}
@@ -16,6 +16,7 @@ use Rattle.world_runs.proofs.Grows.{line_grows}
 use Rattle.world_hull.specs.declared.errors.WorldErr.{WorldErr}
 use Rattle.world_hull.specs.declared.errors.WorldErr.TheVariants as error
 use Rattle.world_core.specs.Standing.{Standing, IsDone, IsRefused, IsLeft}
+use Rattle.world_core.specs.Room.{Room, line_overflow, IsRoomToldBy}
 use Rattle.world_runs.specs.declared.TheConstants.{LINES}
 use Rattle.schedule_replay.specs.Fronts.{IsFrontOf}
 use Rattle.schedule_replay.specs.NextLine.{ended, StopsReading}
@@ -48,22 +49,22 @@ IsTold status.Done = ⊥
 IsTold _ = Unit {0}
 
 -- the reading stopped
-pub stop_ends : (w : World) (taken : List ℕ) (left : Option (List ℕ)) (s : Status) → length w.lines < LINES → StopsReading (length w.lines) taken left s → EndsWith w taken left [] s
-stop_ends w taken left (status.Malformed number) few stops = ((few, stops), refl)
-stop_ends w taken left (status.SourceFault count) few stops = (inl (few, stops), refl)
-stop_ends w taken left (status.Limit what limit) few stops = inr (inl ((few, stops), refl))
-stop_ends w taken left status.OutOfMemory few stops = inl ((few, stops), refl)
-stop_ends w taken left _ few stops = absurd stops
+pub stop_ends : (room : Room) (w : World) (taken : List ℕ) (left : Option (List ℕ)) (s : Status) → length w.lines < LINES → StopsReading (length w.lines) taken left s → EndsWith room w taken left [] s
+stop_ends room w taken left (status.Malformed number) few stops = ((few, stops), refl)
+stop_ends room w taken left (status.SourceFault count) few stops = (inl (few, stops), refl)
+stop_ends room w taken left (status.Limit what limit) few stops = inr (inl ((few, stops), refl))
+stop_ends room w taken left status.OutOfMemory few stops = inl ((few, stops), refl)
+stop_ends room w taken left _ few stops = absurd stops
 
 pub stop_told : (before : ℕ) (taken : List ℕ) (left : Option (List ℕ)) (s : Status) → StopsReading before taken left s → IsTold s
 stop_told before taken left status.Done stops = absurd stops
 stop_told before taken left _ stops = tt
 
 -- all was put
-all_put : (w : World) (taken : List ℕ) (left : Option (List ℕ)) (new : List Entry) (s : Status) → EndsWith w taken left new s → EndsAt w taken left new (trace_text new ++ last_line s) s
-all_put w taken left new (status.SinkFault count) ends = absurd ends
-all_put w taken left new status.OutOfMemory ends = inr (status.OutOfMemory, ends, inr refl)
-all_put w taken left new _ ends = (ends, refl)
+all_put : (room : Room) (w : World) (taken : List ℕ) (left : Option (List ℕ)) (new : List Entry) (s : Status) → EndsWith room w taken left new s → EndsAt room w taken left new (trace_text new ++ last_line s) s
+all_put room w taken left new (status.SinkFault count) ends = absurd ends
+all_put room w taken left new status.OutOfMemory ends = inr (status.OutOfMemory, ends, inr refl)
+all_put room w taken left new _ ends = (ends, refl)
 
 -- there was no memory for some text
 text_missing : (put : List ℕ) (new : List Entry) (s : Status) → IsTold s → (put ≡ []) ⊎ (put ≡ trace_text new) → IsCutShort put new s
@@ -72,55 +73,56 @@ text_missing put new status.OutOfMemory told part = inl part
 text_missing put new _ told part = part
 
 -- the last line was put behind the entries, or as much of it as could be
-pub finished_ends : (w : World) (taken : List ℕ) (left : Option (List ℕ)) (more : List Entry) (s given : Status) (before mid after : Option (List ℕ))
+pub finished_ends : (room : Room) (w : World) (taken : List ℕ) (left : Option (List ℕ)) (more : List Entry) (s given : Status) (before mid after : Option (List ℕ))
     → Puts before mid (trace_text more)
     → IsFinished mid after s given
     → IsTold s
-    → EndsWith w taken left more s
-    → (put : List ℕ) × Puts before after put × EndsAt w taken left more put given
-finished_ends w taken left more s given before mid after shown (inl (same, put)) told ends = (
+    → EndsWith room w taken left more s
+    → (put : List ℕ) × Puts before after put × EndsAt room w taken left more put given
+finished_ends room w taken left more s given before mid after shown (inl (same, put)) told ends = (
   trace_text more ++ last_line s,
   Puts-append before mid after (trace_text more) (last_line s) shown put,
-  subst (EndsAt w taken left more (trace_text more ++ last_line s)) (sym same) (all_put w taken left more s ends),
+  subst (EndsAt room w taken left more (trace_text more ++ last_line s)) (sym same) (all_put room w taken left more s ends),
 )
-finished_ends w taken left more s given before mid after shown (inr (inl (count, same, (front, put, is_front)))) told ends = (
+finished_ends room w taken left more s given before mid after shown (inr (inl (count, same, (front, put, is_front)))) told ends = (
   trace_text more ++ front,
   Puts-append before mid after (trace_text more) front shown put,
-  subst (EndsAt w taken left more (trace_text more ++ front)) (sym same) (inr (s, ends, front_behind (trace_text more) front (last_line s) is_front)),
+  subst (EndsAt room w taken left more (trace_text more ++ front)) (sym same) (inr (s, ends, front_behind (trace_text more) front (last_line s) is_front)),
 )
-finished_ends w taken left more s given before mid after shown (inr (inr (same, put))) told ends = (
+finished_ends room w taken left more s given before mid after shown (inr (inr (same, put))) told ends = (
   trace_text more ++ [],
   Puts-append before mid after (trace_text more) [] shown put,
-  subst (EndsAt w taken left more (trace_text more ++ [])) (sym same) (inr (s, ends, text_missing (trace_text more ++ []) more s told (inr (append-nil (trace_text more))))),
+  subst (EndsAt room w taken left more (trace_text more ++ [])) (sym same) (inr (s, ends, text_missing (trace_text more ++ []) more s told (inr (append-nil (trace_text more))))),
 )
 
 -- what a line comes to whose entries couldn't be put
-abbrev pub Comes : World → List ℕ → Option (List ℕ) → List Entry → Type 0
-Comes w taken left more = AddsAll w taken more ⊎ ((said : Status) × IsTold said × EndsWith w taken left more said)
+abbrev pub Comes : Room → World → List ℕ → Option (List ℕ) → List Entry → Type 0
+Comes room w taken left more = AddsAll room w taken more ⊎ ((said : Status) × IsTold said × EndsWith room w taken left more said)
 
 -- the entries couldn't be put
-pub put_ends : (w : World) (taken : List ℕ) (left : Option (List ℕ)) (more : List Entry) (s : Status) (before after : Option (List ℕ))
+pub put_ends : (room : Room) (w : World) (taken : List ℕ) (left : Option (List ℕ)) (more : List Entry) (s : Status) (before after : Option (List ℕ))
     → IsPut before after (trace_text more) (Some s)
-    → Comes w taken left more
-    → (put : List ℕ) × Puts before after put × EndsAt w taken left more put s
-put_ends w taken left more (status.SinkFault count) before after (front, put, is_front) (inl done) =
+    → Comes room w taken left more
+    → (put : List ℕ) × Puts before after put × EndsAt room w taken left more put s
+put_ends room w taken left more (status.SinkFault count) before after (front, put, is_front) (inl done) =
     (front, put, inl (done, is_front))
-put_ends w taken left more (status.SinkFault count) before after (front, put, is_front) (inr (said, told, ends)) =
+put_ends room w taken left more (status.SinkFault count) before after (front, put, is_front) (inr (said, told, ends)) =
     (front, put, inr (said, ends, front_of_first front (trace_text more) (last_line said) is_front))
-put_ends w taken left more status.OutOfMemory before after put (inl done) = ([], put, inl (done, refl))
-put_ends w taken left more status.OutOfMemory before after put (inr (said, told, ends)) =
+put_ends room w taken left more status.OutOfMemory before after put (inl done) = ([], put, inl (done, refl))
+put_ends room w taken left more status.OutOfMemory before after put (inr (said, told, ends)) =
     ([], put, inr (said, ends, text_missing [] more said told (inl refl)))
-put_ends w taken left more _ before after put comes = absurd put
+put_ends room w taken left more _ before after put comes = absurd put
 
 -- a line that is done adds what all its steps add
-pub done_adds : (old new : Standing) (l : Line) (more : List Entry)
+pub done_adds : (room : Room) (old new : Standing) (l : Line) (more : List Entry)
     → length old.world.lines < LINES
     → IsLine (length old.world.lines == 0) l
     → IsDone old l new
+    → line_overflow room old.world l ≡ None
     → new.world.entries ≡ old.world.entries ++ more
-    → AddsAll old.world (ended (line_text l)) more
-done_adds old new l more few formed done same =
-    (l, ((few, formed, refl), done.0), (done.1.0, done.1.1, sym (ap (λ (s : Standing). s.world.entries) done.1.2) ∙ same))
+    → AddsAll room old.world (ended (line_text l)) more
+done_adds room old new l more few formed done fits same =
+    (l, ((few, formed, refl), done.0), fits, (done.1.0, done.1.1, sym (ap (λ (s : Standing). s.world.entries) done.1.2) ∙ same))
 
 -- and one that ended early what its finished steps add
 left_adds : (old new : World) (l : Line) (more : List Entry) → IsLeft old l new → new.entries ≡ old.entries ++ more → AddsPart old l more
@@ -128,20 +130,21 @@ left_adds old new l more (inl kept) same = inl (nothing_added old.entries more (
 left_adds old new l more (inr part) same = inr (part.0, part.1, sym part.2 ∙ same)
 
 -- a line that isn't done ends the replay behind what its finished steps add
-pub refused_ends : (old new : Standing) (l : Line) (e : WorldErr) (more : List Entry) (left : Option (List ℕ))
+pub refused_ends : (room : Room) (old new : Standing) (l : Line) (e : WorldErr) (more : List Entry) (left : Option (List ℕ))
     → length old.world.lines < LINES
     → IsLine (length old.world.lines == 0) l
     → IsRefused old l new e
+    → IsRoomToldBy (line_overflow room old.world l) new.world.entries e
     → new.world.entries ≡ old.world.entries ++ more
-    → EndsWith old.world (ended (line_text l)) left more (status_for (length old.world.lines + 1) e)
-refused_ends old new l (error.Illegal rule) more left few formed r same =
+    → EndsWith room old.world (ended (line_text l)) left more (status_for (length old.world.lines + 1) e)
+refused_ends room old new l (error.Illegal rule) more left few formed r told same =
     (l, (few, formed, refl), r.0, refl, nothing_added old.world.entries more (sym (ap (λ (s : Standing). s.world.entries) r.1) ∙ same))
-refused_ends old new l (error.Limit what limit) more left few formed r same =
-    inr (inr (l, ((few, formed, refl), r.0.0), (r.1.0, r.1.1, r.2, sym r.1.2 ∙ same)))
-refused_ends old new l (error.Full need limit) more left few formed r same =
-    (l, ((few, formed, refl), r.0.0), left_adds old.world new.world l more r.0.2 same)
-refused_ends old new l error.OutOfMemory more left few formed r same =
-    inr (l, ((few, formed, refl), r.0.0), left_adds old.world new.world l more r.0.2 same)
+refused_ends room old new l (error.Limit what limit) more left few formed r told same =
+    inr (inr (l, ((few, formed, refl), r.0.0), told, (r.1.0, r.1.1, r.2, sym r.1.2 ∙ same)))
+refused_ends room old new l (error.Full need limit) more left few formed r told same =
+    (l, ((few, formed, refl), r.0), (told.0, told.1, sym told.2 ∙ same))
+refused_ends room old new l error.OutOfMemory more left few formed r told same =
+    inr (l, ((few, formed, refl), r.0), left_adds old.world new.world l more r.2 same)
 
 pub refused_told : (number : ℕ) (e : WorldErr) → IsTold (status_for number e)
 refused_told number (error.Illegal rule) = tt
@@ -163,5 +166,5 @@ applied_grown old new l (Ok u) done refused =
 applied_grown old new l (Err (error.Illegal rule)) done r =
     ([], ap (λ (s : Standing). s.world.entries) r.1 ∙ sym (append-nil old.world.entries))
 applied_grown old new l (Err (error.Limit what limit)) done r = left_grown old.world new.world l r.0.2
-applied_grown old new l (Err (error.Full need limit)) done r = left_grown old.world new.world l r.0.2
-applied_grown old new l (Err error.OutOfMemory) done r = left_grown old.world new.world l r.0.2
+applied_grown old new l (Err (error.Full need limit)) done r = left_grown old.world new.world l r.2
+applied_grown old new l (Err error.OutOfMemory) done r = left_grown old.world new.world l r.2

@@ -1,5 +1,5 @@
 -- how a replay goes on or ends with its next line
-use Rattle.std.proofs.Common.{◌≡◌, ◌∙◌, ℕ, ◌+◌, ◌-◌, ◌<◌, ◌==◌, Option, Some, Result, Ok, Err, OnOk, IfErr, List, [], ◌++◌, length, length-append, take, drop, refl, sym, ap, subst, inl, inr, arith}
+use Rattle.std.proofs.Common.{◌≡◌, ◌∙◌, ℕ, ◌+◌, ◌-◌, ◌<◌, ◌==◌, Option, None, Some, Result, Ok, Err, OnOk, IfErr, List, [], ◌++◌, length, length-append, take, drop, refl, sym, ap, subst, inl, inr, arith}
 use Rattle.std.proofs.Math.Seq.{drop-append_seam, take-length}
 use Rattle.xt_base.specs.declared.status.Status.{Status}
 use Rattle.node_links.specs.Streams.{Takes, Puts}
@@ -8,6 +8,7 @@ use Rattle.time_line.specs.declared.entry.Entry.{Entry}
 use Rattle.schedule_text.specs.LineText.{line_text, IsLine}
 use Rattle.schedule_text.specs.EntryText.{trace_text}
 use Rattle.world_hull.specs.declared.errors.WorldErr.{WorldErr}
+use Rattle.world_core.specs.Room.{Room, line_overflow, IsRoomToldBy, IsRoomTold}
 use Rattle.world_core.specs.Standing.{Standing, IsDone, IsRefused}
 use Rattle.world_runs.specs.declared.TheConstants.{LINES}
 use Rattle.schedule_replay.specs.NextLine.{ended, StopsReading}
@@ -30,48 +31,50 @@ shown_more old_entries new_entries printed entries grown before after =
     shown_is printed entries grown.0 (after ∙ grown.1 ∙ ap (λ (es : List Entry). es ++ grown.0) (sym before))
 
 -- no line was read
-pub stopped_end : (source_before source_after sink_before sink_after : Option (List ℕ)) (w : Standing) (lines : List Line) (s given : Status)
+pub stopped_end : (room : Room) (source_before source_after sink_before sink_after : Option (List ℕ)) (w : Standing) (lines : List Line) (s given : Status)
     → length w.world.lines < LINES
     → lines ≡ w.world.lines
     → (taken : List ℕ) × Takes source_before source_after taken × StopsReading (length lines) taken source_after s
     → IsFinished sink_before sink_after s given
-    → IsEnd source_before source_after sink_before sink_after w given
+    → IsEnd room source_before source_after sink_before sink_after w given
 unfolding trace_text
-stopped_end source_before source_after sink_before sink_after w lines s given few same (taken, source, stops) finished =
+stopped_end room source_before source_after sink_before sink_after w lines s given few same (taken, source, stops) finished =
     let stop = subst (λ (ls : List Line). StopsReading (length ls) taken source_after s) same stops in
-    let ends = finished_ends w.world taken source_after [] s given sink_before sink_before sink_after (Puts-nothing sink_before) finished (stop_told (length w.world.lines) taken source_after s stop) (stop_ends w.world taken source_after s few stop) in
+    let ends = finished_ends room w.world taken source_after [] s given sink_before sink_before sink_after (Puts-nothing sink_before) finished (stop_told (length w.world.lines) taken source_after s stop) (stop_ends room w.world taken source_after s few stop) in
     record { more = []; taken = taken; put = ends.0; source = source; sink = ends.1; ending = ends.2; shows = inl refl }
 
 -- what a line comes to, done or not
-come_to : (old new : Standing) (l : Line) (r : Result (Unit {0}) WorldErr) (more : List Entry) (left : Option (List ℕ))
+come_to : (room : Room) (old new : Standing) (l : Line) (r : Result (Unit {0}) WorldErr) (more : List Entry) (left : Option (List ℕ))
     → length old.world.lines < LINES
     → IsLine (length old.world.lines == 0) l
     → OnOk r (IsDone old l new) → IfErr r (λ e. IsRefused old l new e)
+    → IsRoomTold (line_overflow room old.world l) new.world.entries r
     → new.world.entries ≡ old.world.entries ++ more
-    → Comes old.world (ended (line_text l)) left more
-come_to old new l (Ok u) more left few formed done refused same = inl (done_adds old new l more few formed done same)
-come_to old new l (Err e) more left few formed done refused same =
-    inr (status_for (length old.world.lines + 1) e, refused_told (length old.world.lines + 1) e, refused_ends old new l e more left few formed refused same)
+    → Comes room old.world (ended (line_text l)) left more
+come_to room old new l (Ok u) more left few formed done refused told same = inl (done_adds room old new l more few formed done told same)
+come_to room old new l (Err e) more left few formed done refused told same =
+    inr (status_for (length old.world.lines + 1) e, refused_told (length old.world.lines + 1) e, refused_ends room old new l e more left few formed refused told same)
 
 -- the line, as one behind those of the world
 formed_behind : (w : Standing) (lines : List Line) (l : Line) → lines ≡ w.world.lines → IsLine (length lines == 0) l → IsLine (length w.world.lines == 0) l
 formed_behind w lines l same formed = subst (λ (ls : List Line). IsLine (length ls == 0) l) same formed
 
 -- what a line added couldn't be put
-pub unshown_end : (source_before source_after sink_before sink_after : Option (List ℕ)) (old new : Standing) (l : Line) (lines : List Line) (r : Result (Unit {0}) WorldErr) (grown : Grown old.world.entries new.world.entries) (shown : List Entry) (s : Status)
+pub unshown_end : (room : Room) (source_before source_after sink_before sink_after : Option (List ℕ)) (old new : Standing) (l : Line) (lines : List Line) (r : Result (Unit {0}) WorldErr) (grown : Grown old.world.entries new.world.entries) (shown : List Entry) (s : Status)
     → length old.world.lines < LINES
     → lines ≡ old.world.lines
     → IsLine (length lines == 0) l
     → Takes source_before source_after (ended (line_text l))
     → OnOk r (IsDone old l new) → IfErr r (λ e. IsRefused old l new e)
+    → IsRoomTold (line_overflow room old.world l) new.world.entries r
     → ShowsFiles new.world.entries
     → shown ≡ grown.0
     → IsPut sink_before sink_after (trace_text shown) (Some s)
-    → IsEnd source_before source_after sink_before sink_after old s
-unshown_end source_before source_after sink_before sink_after old new l lines r grown shown s few counted formed source done refused shows same put =
+    → IsEnd room source_before source_after sink_before sink_after old s
+unshown_end room source_before source_after sink_before sink_after old new l lines r grown shown s few counted formed source done refused told shows same put =
     let tried = subst (λ (es : List Entry). IsPut sink_before sink_after (trace_text es) (Some s)) same put in
-    let comes = come_to old new l r grown.0 source_after few (formed_behind old lines l counted formed) done refused grown.1 in
-    let ends = put_ends old.world (ended (line_text l)) source_after grown.0 s sink_before sink_after tried comes in
+    let comes = come_to room old new l r grown.0 source_after few (formed_behind old lines l counted formed) done refused told grown.1 in
+    let ends = put_ends room old.world (ended (line_text l)) source_after grown.0 s sink_before sink_after tried comes in
     record {
       more = grown.0;
       taken = ended (line_text l);
@@ -83,19 +86,21 @@ unshown_end source_before source_after sink_before sink_after old new l lines r 
     }
 
 -- the line is done and shown
-pub line_next : (source_before source_after sink_before sink_after : Option (List ℕ)) (old new : Standing) (l : Line) (lines : List Line) (grown : Grown old.world.entries new.world.entries) (shown : List Entry)
+pub line_next : (room : Room) (source_before source_after sink_before sink_after : Option (List ℕ)) (old new : Standing) (l : Line) (lines : List Line) (grown : Grown old.world.entries new.world.entries) (shown : List Entry)
     → lines ≡ old.world.lines
     → IsLine (length lines == 0) l
     → Takes source_before source_after (ended (line_text l))
     → IsDone old l new
+    → line_overflow room old.world l ≡ None
     → shown ≡ grown.0
     → Puts sink_before sink_after (trace_text shown)
-    → IsNext source_before source_after sink_before sink_after old new
-line_next source_before source_after sink_before sink_after old new l lines grown shown same formed source done is_more put =
+    → IsNext room source_before source_after sink_before sink_after old new
+line_next room source_before source_after sink_before sink_after old new l lines grown shown same formed source done fits is_more put =
     record {
       line = l;
       formed = subst (λ (ls : List Line). IsLine (length ls == 0) l) same formed;
       done = done;
+      fits = fits;
       source = source;
       more = grown.0;
       added = grown.1;
@@ -103,25 +108,26 @@ line_next source_before source_after sink_before sink_after old new l lines grow
     }
 
 -- the line isn't done, and what its finished steps added is shown
-pub refused_end : (source_before source_after sink_before sink_mid sink_after : Option (List ℕ)) (old new : Standing) (l : Line) (e : WorldErr) (lines : List Line) (grown : Grown old.world.entries new.world.entries) (shown : List Entry) (s given : Status)
+pub refused_end : (room : Room) (source_before source_after sink_before sink_mid sink_after : Option (List ℕ)) (old new : Standing) (l : Line) (e : WorldErr) (lines : List Line) (grown : Grown old.world.entries new.world.entries) (shown : List Entry) (s given : Status)
     → length old.world.lines < LINES
     → lines ≡ old.world.lines
     → IsLine (length lines == 0) l
     → Takes source_before source_after (ended (line_text l))
     → IsRefused old l new e
+    → IsRoomToldBy (line_overflow room old.world l) new.world.entries e
     → ShowsFiles new.world.entries
     → shown ≡ grown.0
     → Puts sink_before sink_mid (trace_text shown)
     → s ≡ status_for (length lines + 1) e
     → IsFinished sink_mid sink_after s given
-    → IsEnd source_before source_after sink_before sink_after old given
-refused_end source_before source_after sink_before sink_mid sink_after old new l e lines grown shown s given few same formed source refused shows is_more put is_status finished =
+    → IsEnd room source_before source_after sink_before sink_after old given
+refused_end room source_before source_after sink_before sink_mid sink_after old new l e lines grown shown s given few same formed source refused told shows is_more put is_status finished =
     let shown_put = subst (λ (es : List Entry). Puts sink_before sink_mid (trace_text es)) is_more put in
     let said : Status = status_for (length old.world.lines + 1) e in
     let status_is : s ≡ said = is_status ∙ ap (λ (ls : List Line). status_for (length ls + 1) e) same in
     let given_said = subst (λ (t : Status). IsFinished sink_mid sink_after t given) status_is finished in
-    let ending = refused_ends old new l e grown.0 source_after few (formed_behind old lines l same formed) refused grown.1 in
-    let ends = finished_ends old.world (ended (line_text l)) source_after grown.0 said given sink_before sink_mid sink_after shown_put given_said (refused_told (length old.world.lines + 1) e) ending in
+    let ending = refused_ends room old new l e grown.0 source_after few (formed_behind old lines l same formed) refused told grown.1 in
+    let ends = finished_ends room old.world (ended (line_text l)) source_after grown.0 said given sink_before sink_mid sink_after shown_put given_said (refused_told (length old.world.lines + 1) e) ending in
     record {
       more = grown.0;
       taken = ended (line_text l);

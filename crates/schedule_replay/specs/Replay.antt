@@ -17,6 +17,7 @@ use Rattle.world_runs.specs.Rules.{refusal}
 use Rattle.world_runs.specs.Lines.{Whole, Stopped, line_applied}
 use Rattle.world_runs.specs.Runs.{after, run_of, IsPartOf}
 use Rattle.world_core.specs.Standing.{limit_of}
+use Rattle.world_core.specs.Room.{Room, line_overflow}
 use Rattle.schedule_replay.specs.Fronts.{IsFrontOf}
 use Rattle.schedule_replay.specs.NextLine.{ended, StopsReading}
 
@@ -25,19 +26,20 @@ abbrev pub AreLines : ℕ → List Line → Type 0
 AreLines before [] = Unit {0}
 AreLines before (line ∷ lines) = IsLine (before == 0) line × AreLines (before + 1) lines
 
--- the line is done from this world on: it breaks no rule and comes to no limit
-abbrev pub IsDoneFrom : World → Line → Type 0
-IsDoneFrom w line = (refusal w line ≡ None) × ((whole : World) × (line_applied w line ≡ Whole whole))
+-- the line is done from this world on: it breaks no rule, each record of its steps has room, and it comes to no limit
+abbrev pub IsDoneFrom : Room → World → Line → Type 0
+IsDoneFrom room w line =
+    (refusal w line ≡ None) × (line_overflow room w line ≡ None) × ((whole : World) × (line_applied w line ≡ Whole whole))
 
 -- each line is done, one after the other
-abbrev pub AreDoneFrom : World → List Line → Type 0
-AreDoneFrom w [] = Unit {0}
-AreDoneFrom w (line ∷ lines) = IsDoneFrom w line × AreDoneFrom (after w line) lines
+abbrev pub AreDoneFrom : Room → World → List Line → Type 0
+AreDoneFrom room w [] = Unit {0}
+AreDoneFrom room w (line ∷ lines) = IsDoneFrom room w line × AreDoneFrom room (after w line) lines
 
--- lines of a schedule, each well formed, legal and within the limits
-pub record AreRun (lines : List Line) : Type 0 where
+-- lines of a schedule, each well formed, legal and within the limits, over journals with this room
+pub record AreRun (room : Room) (lines : List Line) : Type 0 where
   pub formed : AreLines 0 lines
-  pub done : AreDoneFrom start_world lines
+  pub done : AreDoneFrom room start_world lines
 
 -- the line is taken whole, behind those that made the world, of which there are fewer than a schedule may have
 abbrev pub IsTaken : World → List ℕ → Line → Type 0
@@ -57,40 +59,42 @@ abbrev pub AddsPart : World → Line → List Entry → Type 0
 AddsPart w line new = (new ≡ []) ⊎ ((part : World) × IsPartOf w line part × (part.entries ≡ w.entries ++ new))
 
 -- the line that is taken is done, and adds these entries
-abbrev pub AddsAll : World → List ℕ → List Entry → Type 0
-AddsAll w taken new =
-    (line : Line) × IsBegun w taken line
+abbrev pub AddsAll : Room → World → List ℕ → List Entry → Type 0
+AddsAll room w taken new =
+    (line : Line) × IsBegun w taken line × (line_overflow room w line ≡ None)
     × ((whole : World) × (line_applied w line ≡ Whole whole) × (whole.entries ≡ w.entries ++ new))
 
 -- Why a replay ends with a status behind the lines that made this world, by the bytes that it takes from there on and what
 -- is left of the source, and by the entries that come before the status.
-abbrev pub EndsWith : World → List ℕ → Option (List ℕ) → List Entry → Status → Type 0
+abbrev pub EndsWith : Room → World → List ℕ → Option (List ℕ) → List Entry → Status → Type 0
 -- the source is at its end
-EndsWith w taken left new status.Done = (taken ≡ []) × IsAtEnd left × (new ≡ [])
+EndsWith room w taken left new status.Done = (taken ≡ []) × IsAtEnd left × (new ≡ [])
 -- the next line isn't one of a schedule, or the source ended within it
-EndsWith w taken left new (status.Malformed number) = IsUnread w taken left (status.Malformed number) × (new ≡ [])
+EndsWith room w taken left new (status.Malformed number) = IsUnread w taken left (status.Malformed number) × (new ≡ [])
 -- the source failed within the next line, or behind as many lines as a schedule may have
-EndsWith w taken left new (status.SourceFault count) =
+EndsWith room w taken left new (status.SourceFault count) =
     (IsUnread w taken left (status.SourceFault count) ⊎ ((length w.lines ≡ LINES) × (taken ≡ []))) × (new ≡ [])
 -- the next line breaks this rule, the first that it breaks
-EndsWith w taken left new (status.Illegal number rule) =
+EndsWith room w taken left new (status.Illegal number rule) =
     (line : Line) × IsTaken w taken line × (refusal w line ≡ Some rule) × (number ≡ length w.lines + 1) × (new ≡ [])
 -- there is a line more than a schedule may have, or the next one is longer than a line may be, or it came to another limit
--- behind the steps that added these entries
-EndsWith w taken left new (status.Limit what limit) =
+-- behind the steps that added these entries, and each of its records had room
+EndsWith room w taken left new (status.Limit what limit) =
     ((what ≡ limited.Lines) × (length w.lines ≡ LINES) × (length taken ≡ 1) × (limit ≡ LINES) × (new ≡ []))
     ⊎ (IsUnread w taken left (status.Limit what limit) × (new ≡ []))
-    ⊎ ((line : Line) × IsBegun w taken line
+    ⊎ ((line : Line) × IsBegun w taken line × (line_overflow room w line ≡ None)
     × ((stopped : World) × (line_applied w line ≡ Stopped what stopped) × (limit ≡ limit_of what) × (stopped.entries ≡ w.entries ++ new)))
--- a record of the next line had no room
-EndsWith w taken left new (status.JournalFull need limit) =
-    (line : Line) × IsBegun w taken line × AddsPart w line new
+-- a record of the next line had no room, behind the steps that added these entries
+EndsWith room w taken left new (status.JournalFull need limit) =
+    (line : Line) × IsBegun w taken line
+    × ((behind : World) × (line_overflow room w line ≡ Some (record { world = behind; overflow = record { need = need; limit = limit } }))
+    × (behind.entries ≡ w.entries ++ new))
 -- memory ran out as the next line was read or done
-EndsWith w taken left new status.OutOfMemory =
+EndsWith room w taken left new status.OutOfMemory =
     (IsUnread w taken left status.OutOfMemory × (new ≡ []))
     ⊎ ((line : Line) × IsBegun w taken line × AddsPart w line new)
 -- no other status ends a replay
-EndsWith w taken left new _ = ⊥
+EndsWith room w taken left new _ = ⊥
 
 -- Memory ran out for the text of the entries, or for that of the last line, or before. A replay that is done has no more text.
 abbrev pub IsCutShort : List ℕ → List Entry → Status → Type 0
@@ -101,17 +105,17 @@ IsCutShort put new said = (put ≡ []) ⊎ (put ≡ trace_text new)
 
 -- Why a replay ends behind the lines that made this world, by the entries that the line behind them adds, and by the bytes that
 -- are put from there on.
-abbrev pub EndsAt : World → List ℕ → Option (List ℕ) → List Entry → List ℕ → Status → Type 0
+abbrev pub EndsAt : Room → World → List ℕ → Option (List ℕ) → List Entry → List ℕ → Status → Type 0
 -- the sink failed within the entries of a line that is done, or within what the end was to put
-EndsAt w taken left new put (status.SinkFault count) =
-    (AddsAll w taken new × IsFrontOf put (trace_text new))
-    ⊎ ((said : Status) × EndsWith w taken left new said × IsFrontOf put (trace_text new ++ last_line said))
+EndsAt room w taken left new put (status.SinkFault count) =
+    (AddsAll room w taken new × IsFrontOf put (trace_text new))
+    ⊎ ((said : Status) × EndsWith room w taken left new said × IsFrontOf put (trace_text new ++ last_line said))
 -- memory ran out for the entries of a line that is done, or in the end
-EndsAt w taken left new put status.OutOfMemory =
-    (AddsAll w taken new × (put ≡ []))
-    ⊎ ((said : Status) × EndsWith w taken left new said × IsCutShort put new said)
+EndsAt room w taken left new put status.OutOfMemory =
+    (AddsAll room w taken new × (put ≡ []))
+    ⊎ ((said : Status) × EndsWith room w taken left new said × IsCutShort put new said)
 -- all was put
-EndsAt w taken left new put s = EndsWith w taken left new s × (put ≡ trace_text new ++ last_line s)
+EndsAt room w taken left new put s = EndsWith room w taken left new s × (put ≡ trace_text new ++ last_line s)
 
 -- What a trace shows of each file that it tells whole: each answer shows the file as it stands, and the ends of its calls are
 -- fresh.
@@ -119,41 +123,37 @@ pub record ShowsFiles (entries : List Entry) : Type 0 where
   pub answers : (file : ℕ) → IsToldWhole file entries → AnswersShow file entries
   pub acknowledgements : (file : ℕ) → IsToldWhole file entries → IsFresh file entries
 
--- A replay: the lines that it did, the entries of the steps that a line behind them finished, what it took and put behind the
--- text of these lines, and why it ended.
-pub record IsReplay (source_before source_after sink_before sink_after : Option (List ℕ)) (s : Status) : Type 0 where
+-- A replay over journals with this room: the lines that it did, the entries of the steps that a line behind them finished, what
+-- it took and put behind the text of these lines, and why it ended.
+pub record IsReplay (room : Room) (source_before source_after sink_before sink_after : Option (List ℕ)) (s : Status) : Type 0 where
   pub lines : List Line
   pub few : length lines ≤ LINES
-  pub run : AreRun lines
+  pub run : AreRun room lines
   pub more : List Entry
   pub taken : List ℕ
   pub put : List ℕ
   pub source : Takes source_before source_after (schedule_text lines ++ taken)
   pub sink : Puts sink_before sink_after (trace_text (run_of lines).entries ++ put)
-  pub ending : EndsAt (run_of lines) taken source_after more put s
+  pub ending : EndsAt room (run_of lines) taken source_after more put s
   pub shows : ShowsFiles ((run_of lines).entries ++ more)
 
 -- how a good schedule's replay may end
 abbrev pub IsWhole : List Line → Option (List ℕ) → Option (List ℕ) → Status → Type 0
 IsWhole lines sink_before sink_after status.Done = Puts sink_before sink_after (trace_text (run_of lines).entries)
 IsWhole lines sink_before sink_after status.OutOfMemory = Unit {0}
-IsWhole lines sink_before sink_after (status.JournalFull need limit) = Unit {0}
 IsWhole lines sink_before sink_after _ = ⊥
 
--- A fault is told only where that object's count rose, with the count; and a full journal only where the count of such
--- answers did.
-abbrev pub HasCause : ℕ → ℕ → ℕ → ℕ → ℕ → ℕ → Status → Type 0
-HasCause source_before source_after sink_before sink_after fulls_before fulls_after (status.SourceFault count) =
+-- A fault is told only where that object's count rose, with the count.
+abbrev pub HasCause : ℕ → ℕ → ℕ → ℕ → Status → Type 0
+HasCause source_before source_after sink_before sink_after (status.SourceFault count) =
     Rose source_before source_after × (count ≡ source_after)
-HasCause source_before source_after sink_before sink_after fulls_before fulls_after (status.SinkFault count) =
+HasCause source_before source_after sink_before sink_after (status.SinkFault count) =
     Rose sink_before sink_after × (count ≡ sink_after)
-HasCause source_before source_after sink_before sink_after fulls_before fulls_after (status.JournalFull need limit) =
-    fulls_before < fulls_after
-HasCause source_before source_after sink_before sink_after fulls_before fulls_after _ = Unit {0}
+HasCause source_before source_after sink_before sink_after _ = Unit {0}
 
 -- Where the source has a schedule whose lines are all well formed, legal and within the limits, the replay is done and its
--- trace is whole, unless memory runs out or a journal is full.
-abbrev pub Completes : Option (List ℕ) → Option (List ℕ) → Option (List ℕ) → Status → Type 0
-Completes source_before sink_before sink_after s =
-    (lines : List Line) → source_before ≡ Some (schedule_text lines) → AreRun lines → length lines ≤ LINES
+-- trace is whole, unless memory runs out.
+abbrev pub Completes : Room → Option (List ℕ) → Option (List ℕ) → Option (List ℕ) → Status → Type 0
+Completes room source_before sink_before sink_after s =
+    (lines : List Line) → source_before ≡ Some (schedule_text lines) → AreRun room lines → length lines ≤ LINES
     → IsWhole lines sink_before sink_after s

@@ -11,6 +11,7 @@ use Rattle.schedule_text.specs.StatusText.{last_line}
 use Rattle.world_hull.specs.declared.errors.WorldErr.{WorldErr}
 use Rattle.world_hull.specs.declared.errors.WorldErr.TheVariants as error
 use Rattle.world_core.specs.Standing.{Standing, IsDone}
+use Rattle.world_core.specs.Room.{Room, line_overflow}
 use Rattle.schedule_replay.specs.Fronts.{PutsFront}
 use Rattle.schedule_replay.specs.NextLine.{ended}
 use Rattle.schedule_replay.specs.Replay.{EndsAt, ShowsFiles, HasCause}
@@ -30,30 +31,31 @@ IsFinished old new s given =
     ⊎ ((given ≡ status.OutOfMemory) × Puts old new [])
 
 -- The line is done: it was taken and applied, and what it adds to the trace was put.
-pub record IsNext (source_before source_after sink_before sink_after : Option (List ℕ)) (old new : Standing) : Type 0 where
+pub record IsNext (room : Room) (source_before source_after sink_before sink_after : Option (List ℕ)) (old new : Standing) : Type 0 where
   pub line : Line
   pub formed : IsLine (length old.world.lines == 0) line
   pub done : IsDone old line new
+  pub fits : line_overflow room old.world line ≡ None
   pub source : Takes source_before source_after (ended (line_text line))
   pub more : List Entry
   pub added : new.world.entries ≡ old.world.entries ++ more
   pub sink : Puts sink_before sink_after (trace_text more)
 
 -- The replay ends here.
-pub record IsEnd (source_before source_after sink_before sink_after : Option (List ℕ)) (old : Standing) (s : Status) : Type 0 where
+pub record IsEnd (room : Room) (source_before source_after sink_before sink_after : Option (List ℕ)) (old : Standing) (s : Status) : Type 0 where
   pub more : List Entry
   pub taken : List ℕ
   pub put : List ℕ
   pub source : Takes source_before source_after taken
   pub sink : Puts sink_before sink_after put
-  pub ending : EndsAt old.world taken source_after more put s
+  pub ending : EndsAt room old.world taken source_after more put s
   -- a trace that has more shows its files
   pub shows : (more ≡ []) ⊎ ShowsFiles (old.world.entries ++ more)
 
 -- one line of a replay: it goes on, or it ends with a status
-abbrev pub IsStep : Option (List ℕ) → Option (List ℕ) → Option (List ℕ) → Option (List ℕ) → Standing → Standing → Option Status → Type 0
-IsStep source_before source_after sink_before sink_after old new None = IsNext source_before source_after sink_before sink_after old new
-IsStep source_before source_after sink_before sink_after old new (Some s) = IsEnd source_before source_after sink_before sink_after old s
+abbrev pub IsStep : Room → Option (List ℕ) → Option (List ℕ) → Option (List ℕ) → Option (List ℕ) → Standing → Standing → Option Status → Type 0
+IsStep room source_before source_after sink_before sink_after old new None = IsNext room source_before source_after sink_before sink_after old new
+IsStep room source_before source_after sink_before sink_after old new (Some s) = IsEnd room source_before source_after sink_before sink_after old s
 
 -- the sink's count of faults rose exactly where it is told to have failed, with that count
 abbrev pub CausesPut : ℕ → ℕ → Option Status → Type 0
@@ -72,11 +74,9 @@ IsNoSinkFault (status.SinkFault count) = ⊥
 IsNoSinkFault _ = Unit {0}
 
 -- no count rose where the replay goes on, and the status where it ends has its cause
-abbrev pub CausesStep : ℕ → ℕ → ℕ → ℕ → ℕ → ℕ → Option Status → Type 0
-CausesStep source_before source_later sink_before sink_later fulls_before fulls_later None =
-    (source_later ≡ source_before) × (sink_later ≡ sink_before) × (fulls_later ≡ fulls_before)
-CausesStep source_before source_later sink_before sink_later fulls_before fulls_later (Some s) =
-    HasCause source_before source_later sink_before sink_later fulls_before fulls_later s
+abbrev pub CausesStep : ℕ → ℕ → ℕ → ℕ → Option Status → Type 0
+CausesStep source_before source_later sink_before sink_later None = (source_later ≡ source_before) × (sink_later ≡ sink_before)
+CausesStep source_before source_later sink_before sink_later (Some s) = HasCause source_before source_later sink_before sink_later s
 
 -- more entries stand behind the old ones
 abbrev pub Grown : List Entry → List Entry → Type 0

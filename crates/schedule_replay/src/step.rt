@@ -1,5 +1,6 @@
 ghost use Rattle.std.specs.Prelude.{◌≡◌, ◌<◌, false, length, OnOk, IfErr};
 ghost use Rattle.time_line.specs.Bounds.{FitsLine};
+ghost use Rattle.world_core.specs.Room.{line_overflow, IsRoomTold};
 ghost use Rattle.world_core.specs.Standing.{standing, IsDone, IsRefused};
 ghost use Rattle.schedule_replay.specs.Replay.{ShowsFiles};
 ghost use Rattle.schedule_replay.specs.Steps.{IsStep, CausesStep, Grown, status_for};
@@ -30,8 +31,9 @@ fn status_of(number: u64, error: WorldErr) -> Status
 fn apply<H: Hull>(world: &mut World<H>, line: Line) -> Result<(), WorldErr>
     requires going { world.old.ended ≡ false }
     requires values { FitsLine line }
-    ensures done { OnOk result (IsDone (standing H.kept H.fulls world.old) line (standing H.kept H.fulls world.new)) }
-    ensures refused { IfErr result (IsRefused (standing H.kept H.fulls world.old) line (standing H.kept H.fulls world.new)) }
+    ensures done { OnOk result (IsDone (standing H.kept world.old) line (standing H.kept world.new)) }
+    ensures refused { IfErr result (IsRefused (standing H.kept world.old) line (standing H.kept world.new)) }
+    ensures room { IsRoomTold (line_overflow H.overflow (standing H.kept world.old).world line) world.new.world.entries result }
     ensures grown { Grown world.old.world.entries world.new.world.entries }
     ensures shows { ShowsFiles world.new.world.entries }
 {
@@ -49,8 +51,8 @@ pub fn replay_line<H: Hull, S: Source, K: Sink>(
 ) -> Option<Status>
     requires going { world.old.ended ≡ false }
     requires few { length world.old.world.lines < LINES }
-    ensures step { IsStep (S.left src.old) (S.left src.new) (K.held out.old) (K.held out.new) (standing H.kept H.fulls world.old) (standing H.kept H.fulls world.new) result }
-    ensures cause { CausesStep (S.fault_count src.old) (S.fault_count src.new) (K.fault_count out.old) (K.fault_count out.new) (H.fulls world.old.world.hull) (H.fulls world.new.world.hull) result }
+    ensures step { IsStep H.overflow (S.left src.old) (S.left src.new) (K.held out.old) (K.held out.new) (standing H.kept world.old) (standing H.kept world.new) result }
+    ensures cause { CausesStep (S.fault_count src.old) (S.fault_count src.new) (K.fault_count out.old) (K.fault_count out.new) result }
 {
     let before = world.lines().len() as u64;
     let line = match next_line(alloc, src, raw, before) {

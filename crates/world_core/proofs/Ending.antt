@@ -10,7 +10,7 @@ use Rattle.world_runs.specs.Runs.{with_line, after, after_refusal, left_by}
 use Rattle.world_hull.specs.declared.errors.WorldErr.{WorldErr}
 use Rattle.world_hull.specs.declared.errors.WorldErr.TheVariants as error
 use Rattle.world_core.specs.Standing.{Standing, IsLeft, IsRefused, IsDone}
-use Rattle.world_core.specs.Steps.{IsFinished, IsUntold, IsUnfinished, IsKept, IsWhole, IsStoppedFirst, IsStopped}
+use Rattle.world_core.specs.Steps.{IsFinished, IsUntold, IsUnfinished, IsWhole, IsStoppedFirst, IsStopped}
 use Rattle.world_core.proofs.Settling.{settled_limit, settled_more, settled_zero, whole_is}
 
 -- a line of one step that is finished
@@ -22,7 +22,7 @@ finished_whole old next new h = (next, ap (one_step old.world) h.0, h.1)
 pub unfinished_first : (old : Standing) (next : World) (new : Standing) (e : WorldErr) → IsUnfinished old next new e
     → IsStoppedFirst old (one_step old.world (within_limits next)) new e
 unfinished_first old next new (error.Illegal rule) h = h
-unfinished_first old next new (error.Limit what limit) h = ((h.0, h.3), ap (one_step old.world) h.1, h.2)
+unfinished_first old next new (error.Limit what limit) h = (h.0, ap (one_step old.world) h.1, h.2)
 unfinished_first old next new (error.Full need limit) h = h
 unfinished_first old next new error.OutOfMemory h = h
 
@@ -30,14 +30,13 @@ unfinished_first old next new error.OutOfMemory h = h
 pub first_stopped : (old : Standing) (l : Line) (new : Standing) (e : WorldErr)
     → IsStoppedFirst old (line_applied old.world l) new e → IsStopped old l new e
 first_stopped old l new (error.Illegal rule) h = h
-first_stopped old l new (error.Limit what limit) h =
-    (inl (h.0.0.0, h.0.0.1), (old.world, h.1, h.0.0.0), h.2, h.0.1, h.0.0.3)
-first_stopped old l new (error.Full need limit) h = (inl (h.0.0, h.0.1), h.1, h.0.3)
-first_stopped old l new error.OutOfMemory h = (inl (h.0.0, h.0.1), h.1, h.0.3)
+first_stopped old l new (error.Limit what limit) h = (inl (h.0.0, h.0.1), (old.world, h.1, h.0.0), h.2, h.0.3)
+first_stopped old l new (error.Full need limit) h = (inl (h.0, h.1), h.3)
+first_stopped old l new error.OutOfMemory h = (inl (h.0, h.1), h.3)
 
 -- only memory ran out
-pub memory_stopped : (old : Standing) (l : Line) (new : Standing) → IsKept old new → IsStopped old l new error.OutOfMemory
-memory_stopped old l new h = (inl (h.0.0, h.0.1), h.1, h.0.3)
+pub memory_stopped : (old : Standing) (l : Line) (new : Standing) → IsUntold old new → IsStopped old l new error.OutOfMemory
+memory_stopped old l new h = (inl (h.0, h.1), h.3)
 
 -- a settling ends early before its first delivery was finished
 pub settle_first : (old : Standing) (count place : ℕ) (mid new : Standing) (e : WorldErr) → 0 < count
@@ -53,17 +52,16 @@ settle_first old count place mid new (error.Limit what limit) some same least h 
       inl (g.0.0, g.0.1),
       (old.world, settled_limit count 0 (place + 1) old.world old.world what some (settled_zero old.world) l g.1, g.0.0),
       g.2,
-      g.3,
       g.0.3,
     )
 settle_first old count place mid new (error.Full need limit) some same least h =
     let g : IsUnfinished old (delivered old.world (place + 1)) new (error.Full need limit) =
     subst (λ (x : Standing). IsUnfinished x (delivered x.world (place + 1)) new (error.Full need limit)) same h in
-    (inl (g.0.0, g.0.1), g.1, g.0.3)
+    (inl (g.0, g.1), g.3)
 settle_first old count place mid new error.OutOfMemory some same least h =
     let g : IsUnfinished old (delivered old.world (place + 1)) new error.OutOfMemory =
     subst (λ (x : Standing). IsUnfinished x (delivered x.world (place + 1)) new error.OutOfMemory) same h in
-    (inl (g.0.0, g.0.1), g.1, g.0.3)
+    (inl (g.0, g.1), g.3)
 
 is_left : (old : Standing) (count done : ℕ) (mid new : Standing) → 1 ≤ done → done < count
     → mid ≡ record old { world = mid.world } → mid.world.lines ≡ old.world.lines
@@ -92,19 +90,12 @@ part_ended old count done place mid new (error.Limit what limit) some fewer same
   is_left old count done mid new some fewer same lines begun before h.0,
   (mid.world, settled_limit count done (place + 1) old.world mid.world what fewer before least h.1, h.0.0),
   h.2,
-  h.3 ∙ ap (λ (x : Standing). x.fulls) same,
   h.0.3 ∙ ap (λ (x : Standing). x.ended) same,
 )
-part_ended old count done place mid new (error.Full need limit) some fewer same lines begun before least h = (
-  is_left old count done mid new some fewer same lines begun before h.0,
-  subst (λ (f : ℕ). f < new.fulls) (ap (λ (x : Standing). x.fulls) same) h.1,
-  h.0.3 ∙ ap (λ (x : Standing). x.ended) same,
-)
-part_ended old count done place mid new error.OutOfMemory some fewer same lines begun before least h = (
-  is_left old count done mid new some fewer same lines begun before h.0,
-  h.1 ∙ ap (λ (x : Standing). x.fulls) same,
-  h.0.3 ∙ ap (λ (x : Standing). x.ended) same,
-)
+part_ended old count done place mid new (error.Full need limit) some fewer same lines begun before least h =
+    (is_left old count done mid new some fewer same lines begun before h, h.3 ∙ ap (λ (x : Standing). x.ended) same)
+part_ended old count done place mid new error.OutOfMemory some fewer same lines begun before least h =
+    (is_left old count done mid new some fewer same lines begun before h, h.3 ∙ ap (λ (x : Standing). x.ended) same)
 
 -- A settling ends early behind some deliveries, and its line is shown.
 pub settle_part : (old : Standing) (count done place : ℕ) (mid new shown : Standing) (e : WorldErr)
@@ -122,9 +113,9 @@ settle_part old count done place mid new shown e some fewer same lines begun bef
 refused_at : (old : Standing) (l : Line) (new : Standing) (e : WorldErr) → refusal old.world l ≡ None
     → IsStopped (record old { begun = l ∷ []; ended = true }) l new e → IsRefused old l new e
 refused_at old l new (error.Illegal rule) legal h = absurd h
-refused_at old l new (error.Limit what limit) legal h = ((legal, h.4, h.0), h.1, h.2, h.3)
-refused_at old l new (error.Full need limit) legal h = ((legal, h.2, h.0), h.1)
-refused_at old l new error.OutOfMemory legal h = ((legal, h.2, h.0), h.1)
+refused_at old l new (error.Limit what limit) legal h = ((legal, h.3, h.0), h.1, h.2)
+refused_at old l new (error.Full need limit) legal h = (legal, h.1, h.0)
+refused_at old l new error.OutOfMemory legal h = (legal, h.1, h.0)
 
 -- a line that ended early, from the world in which it began
 pub refused_is : (old mid : Standing) (l : Line) (new : Standing) (e : WorldErr)
@@ -178,7 +169,7 @@ settle_more old mid new done place before least h =
 pub unbegun : (old new : Standing) (l : Line) → refusal old.world l ≡ None → new ≡ record old { ended = true }
     → IsRefused old l new error.OutOfMemory
 unbegun old new l legal is =
-    subst (λ (x : Standing). IsRefused old l x error.OutOfMemory) (sym is) ((legal, refl, inl (refl, refl)), refl)
+    subst (λ (x : Standing). IsRefused old l x error.OutOfMemory) (sym is) (legal, refl, inl (refl, refl))
 
 pub none_behind : {A : Type 0} (xs : List A) (n : ℕ) → n ≡ length xs → drop n xs ≡ []
 none_behind xs n is = grind (arith, common_steps)
@@ -204,31 +195,26 @@ shown_is old began taken shown new l whole none going b t s n =
 
 -- ---- a step that goes on from where another left
 
-pub finished_from : (old mid : Standing) (a b : World) (new : Standing) → IsKept old mid → a ≡ b → IsFinished mid a new → IsFinished old b new
+pub finished_from : (old mid : Standing) (a b : World) (new : Standing) → IsUntold old mid → a ≡ b → IsFinished mid a new → IsFinished old b new
 finished_from old mid a b new left same h = (
   subst (λ (w : World). within_limits w ≡ Ok w) same h.0,
   h.1
       ∙ ap (λ (w : World). record mid { world = w }) same
-      ∙ ap (λ ls. record mid { world = b; begun = ls }) left.0.2
-      ∙ ap (λ n. record mid { world = b; begun = old.begun; fulls = n }) left.1
-      ∙ ap (λ e. record mid { world = b; begun = old.begun; fulls = old.fulls; ended = e }) left.0.3,
-  h.2 ∙ left.0.1,
+      ∙ ap (λ ls. record mid { world = b; begun = ls }) left.2
+      ∙ ap (λ e. record mid { world = b; begun = old.begun; ended = e }) left.3,
+  h.2 ∙ left.1,
 )
 
 untold_from : (old mid new : Standing) → IsUntold old mid → IsUntold mid new → IsUntold old new
 untold_from old mid new first second = (second.0 ∙ first.0, second.1 ∙ first.1, second.2 ∙ first.2, second.3 ∙ first.3)
 
-pub unfinished_from : (old mid : Standing) (a b : World) (new : Standing) (e : WorldErr) → IsKept old mid → a ≡ b
+pub unfinished_from : (old mid : Standing) (a b : World) (new : Standing) (e : WorldErr) → IsUntold old mid → a ≡ b
     → IsUnfinished mid a new e → IsUnfinished old b new e
 unfinished_from old mid a b new (error.Illegal rule) left same h = h
-unfinished_from old mid a b new (error.Limit what limit) left same h = (
-  untold_from old mid new left.0 h.0,
-  subst (λ (w : World). within_limits w ≡ Err what) same h.1,
-  h.2,
-  h.3 ∙ left.1,
-)
-unfinished_from old mid a b new (error.Full need limit) left same h = (untold_from old mid new left.0 h.0, subst (λ n. n < new.fulls) left.1 h.1)
-unfinished_from old mid a b new error.OutOfMemory left same h = (untold_from old mid new left.0 h.0, h.1 ∙ left.1)
+unfinished_from old mid a b new (error.Limit what limit) left same h =
+    (untold_from old mid new left h.0, subst (λ (w : World). within_limits w ≡ Err what) same h.1, h.2)
+unfinished_from old mid a b new (error.Full need limit) left same h = untold_from old mid new left h
+unfinished_from old mid a b new error.OutOfMemory left same h = untold_from old mid new left h
 
 -- the same step in other words
 pub finished_as : {A : Type 0} (r : Result A WorldErr) (old : Standing) (a b : World) (new : Standing) → a ≡ b
@@ -239,12 +225,12 @@ pub unfinished_as : {A : Type 0} (r : Result A WorldErr) (old : Standing) (a b :
     → IfErr r (IsUnfinished old a new) → IfErr r (IsUnfinished old b new)
 unfinished_as r old a b new same h = subst (λ (w : World). IfErr r (IsUnfinished old w new)) same h
 
-pub done_from : {A : Type 0} (r : Result A WorldErr) (old mid : Standing) (a b : World) (new : Standing) → IsKept old mid → a ≡ b
+pub done_from : {A : Type 0} (r : Result A WorldErr) (old mid : Standing) (a b : World) (new : Standing) → IsUntold old mid → a ≡ b
     → OnOk r (IsFinished mid a new) → OnOk r (IsFinished old b new)
 done_from (Ok done) old mid a b new left same h = finished_from old mid a b new left same h
 done_from (Err e) old mid a b new left same h = tt
 
-pub ended_from : {A : Type 0} (r : Result A WorldErr) (old mid : Standing) (a b : World) (new : Standing) → IsKept old mid → a ≡ b
+pub ended_from : {A : Type 0} (r : Result A WorldErr) (old mid : Standing) (a b : World) (new : Standing) → IsUntold old mid → a ≡ b
     → IfErr r (IsUnfinished mid a new) → IfErr r (IsUnfinished old b new)
 ended_from (Ok done) old mid a b new left same h = tt
 ended_from (Err e) old mid a b new left same h = unfinished_from old mid a b new e left same h

@@ -10,3 +10,4 @@ pub mod Legal
 pub mod Stops
 pub mod Carried
 pub mod Told
+pub mod Overflows

@@ -17,28 +17,28 @@ pub counts_sent : (sent : List Sent) (first bytes : ℕ) (m : Msg) (more : ℕ) 
 counts_sent sent first bytes m more counts is =
     record {
       inside = omega (arith, length-append sent (pending m ∷ []), counts.inside);
-      settled = λ place d lt. rw (get_or-append sent (pending m ∷ []) d place (omega (arith, counts.inside))) (counts.settled place d lt);
+      retired = λ place d lt. rw (get_or-append sent (pending m ∷ []) d place (omega (arith, counts.inside))) (counts.retired place d lt);
       sum =
           let s = sum_by_push (λ (x : Sent). frame_length x.message) sent (pending m) in
           omega (arith, s, counts.sum, is);
     }
 
-settled_still : (sent : List Sent) (first bytes place : ℕ) (m : Msg) → AreCounts sent first bytes → place < length sent
+retired_still : (sent : List Sent) (first bytes place : ℕ) (m : Msg) → AreCounts sent first bytes → place < length sent
     → (k : ℕ) (e : Sent) → k < first → (k ≡ place) ⊎ (k ≢ place)
     → (get_or (set sent place (record { message = m; pending = false })) k e).pending ≡ false
-settled_still sent first bytes place m counts lt k e below (inl same) =
+retired_still sent first bytes place m counts lt k e below (inl same) =
     rw (same, get_or-set_same sent place (record { message = m; pending = false }) e lt) refl
-settled_still sent first bytes place m counts lt k e below (inr other) =
-    rw (get_or-set_other sent place k (record { message = m; pending = false }) e other) (counts.settled k e below)
+retired_still sent first bytes place m counts lt k e below (inr other) =
+    rw (get_or-set_other sent place k (record { message = m; pending = false }) e other) (counts.retired k e below)
 
-pub counts_settled : (sent : List Sent) (first bytes place : ℕ) (m : Msg) (d : Sent) → place < length sent
+pub counts_retired : (sent : List Sent) (first bytes place : ℕ) (m : Msg) (d : Sent) → place < length sent
     → (get_or sent place d).message ≡ m
     → AreCounts sent first bytes
     → AreCounts (set sent place (record { message = m; pending = false })) first bytes
-counts_settled sent first bytes place m d lt same counts =
+counts_retired sent first bytes place m d lt same counts =
     record {
       inside = rw length-set counts.inside;
-      settled = λ k e below. settled_still sent first bytes place m counts lt k e below (cases_eq k place);
+      retired = λ k e below. retired_still sent first bytes place m counts lt k e below (cases_eq k place);
       sum =
           let s = sum_by-set (λ (x : Sent). frame_length x.message) sent place (record { message = m; pending = false }) d lt in
           let l : frame_length (get_or sent place d).message ≡ frame_length m = ap frame_length same in
@@ -49,24 +49,24 @@ pub none_pending : (sent : List Sent) (number : ℕ)
     → ((place : ℕ) (d : Sent) → place < length sent → (get_or sent place d).pending ≡ false)
     → least_pending number sent ≡ None
 unfolding least_pending
-none_pending [] number settled = refl
-none_pending (s ∷ sent) number settled =
-    let here : s.pending ≡ false = settled 0 s (omega arith) in
-    rw here (none_pending sent (number + 1) (λ place d lt. settled (suc place) d (omega arith)))
+none_pending [] number retired = refl
+none_pending (s ∷ sent) number retired =
+    let here : s.pending ≡ false = retired 0 s (omega arith) in
+    rw here (none_pending sent (number + 1) (λ place d lt. retired (suc place) d (omega arith)))
 
 pub first_pending : (sent : List Sent) (first number : ℕ) → first < length sent
     → ((place : ℕ) (d : Sent) → place < first → (get_or sent place d).pending ≡ false)
     → ((d : Sent) → (get_or sent first d).pending ≡ true)
     → least_pending number sent ≡ Some (number + first)
 unfolding least_pending
-first_pending [] first number lt settled here = absurd (omega arith)
-first_pending (s ∷ sent) zero number lt settled here =
+first_pending [] first number lt retired here = absurd (omega arith)
+first_pending (s ∷ sent) zero number lt retired here =
     let now : s.pending ≡ true = here s in
     rw now (ap Some (omega arith))
-first_pending (s ∷ sent) (suc first) number lt settled here =
-    let passed : s.pending ≡ false = settled 0 s (omega arith) in
+first_pending (s ∷ sent) (suc first) number lt retired here =
+    let passed : s.pending ≡ false = retired 0 s (omega arith) in
     rw passed
-    (first_pending sent first (number + 1) (omega arith) (λ place e below. settled (suc place) e (omega arith)) here
+    (first_pending sent first (number + 1) (omega arith) (λ place e below. retired (suc place) e (omega arith)) here
     ∙ ap Some (omega arith))
 
 without : Option Sent → List Sent → ℕ → List Sent
@@ -79,10 +79,10 @@ unfolding without
 without_is None sent number = refl
 without_is (Some s) sent number = refl
 
-pub settled_is : (sent : List Sent) (place : ℕ) (s : Sent) → place < length sent → s ≡ get_or sent place s
+pub retired_is : (sent : List Sent) (place : ℕ) (s : Sent) → place < length sent → s ≡ get_or sent place s
     → set sent place (record { message = s.message; pending = false }) ≡ no_longer_pending sent (place + 1)
 unfolding without
-settled_is sent place s lt is =
+retired_is sent place s lt is =
     let e : place + 1 - 1 ≡ place = omega arith in
     let g : slice_get sent place ≡ Some s = slice_get-get_or sent place s lt ∙ ap Some (sym is) in
     ap (λ o. without o sent place) (sym g)
@@ -91,7 +91,7 @@ settled_is sent place s lt is =
 
 moved_in : (sent : List Sent) (first bytes later : ℕ) → AreCounts sent first bytes → IsFirstPending sent first later
     → (place : ℕ) (d : Sent) → place < later → (place < first) ⊎ (first ≤ place) → (get_or sent place d).pending ≡ false
-moved_in sent first bytes later counts moved place d below (inl before) = counts.settled place d before
+moved_in sent first bytes later counts moved place d below (inl before) = counts.retired place d before
 moved_in sent first bytes later counts moved place d below (inr behind) = moved.passed place d behind below
 
 pub counts_moved : (sent : List Sent) (first bytes later : ℕ) → AreCounts sent first bytes → IsFirstPending sent first later
@@ -99,7 +99,7 @@ pub counts_moved : (sent : List Sent) (first bytes later : ℕ) → AreCounts se
 counts_moved sent first bytes later counts moved =
     record {
       inside = moved.inside;
-      settled = λ place d below. moved_in sent first bytes later counts moved place d below (cases_lt place first);
+      retired = λ place d below. moved_in sent first bytes later counts moved place d below (cases_lt place first);
       sum = counts.sum;
     }
 
@@ -107,9 +107,9 @@ pub least_is : (sent : List Sent) (first bytes : ℕ) → AreCounts sent first b
     → ((d : Sent) → (get_or sent first d).pending ≡ true)
     → least_pending 1 sent ≡ Some (first + 1)
 least_is sent first bytes counts lt here =
-    first_pending sent first 1 lt counts.settled here ∙ ap Some (omega arith)
+    first_pending sent first 1 lt counts.retired here ∙ ap Some (omega arith)
 
 pub least_is_none : (sent : List Sent) (first bytes : ℕ) → AreCounts sent first bytes → length sent ≤ first
     → least_pending 1 sent ≡ None
 least_is_none sent first bytes counts past =
-    none_pending sent 1 (λ place d below. counts.settled place d (omega arith))
+    none_pending sent 1 (λ place d below. counts.retired place d (omega arith))

@@ -296,7 +296,7 @@ cut_finished old mid new id clock count turned made h tells is =
 
 pub unfinished_along : (old new : Standing) (a b : World) (e : WorldErr) → b.sent ≡ a.sent → IsUnfinished old a new e → IsUnfinished old b new e
 unfinished_along old new a b (error.Illegal rule) same h = h
-unfinished_along old new a b (error.Limit what limit) same h = (h.0, err_along a b what same h.1, h.2, h.3)
+unfinished_along old new a b (error.Limit what limit) same h = (h.0, err_along a b what same h.1, h.2)
 unfinished_along old new a b (error.Full need limit) same h = h
 unfinished_along old new a b error.OutOfMemory same h = h
 

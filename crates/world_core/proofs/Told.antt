@@ -1,8 +1,7 @@
 -- a world that is the run of its lines, and what its trace is behind each outcome of a line
 use Rattle.std.proofs.Common.{◌≡◌, ℕ, List, [], ◌∷◌, ◌++◌, refl, ap, ◌∙◌, sym, subst, false, true, inl, inr, Result, Ok, Err, OnOk, IfErr}
-use Rattle.std.specs.List.{All, AllByRecursion}
+use Rattle.std.specs.List.{AllByRecursion}
 use Rattle.std.proofs.lemmas.List.Sums.{fold-append}
-use Rattle.std.proofs.lemmas.List.Elements.{All-nil, All-cons}
 use Rattle.xt_base.specs.declared.record.Record.{Record}
 use Rattle.time_line.specs.declared.line.Line.{Line}
 use Rattle.time_line.specs.declared.line.Line.TheVariants as line
@@ -17,8 +16,7 @@ use Rattle.world_runs.proofs.Grows.{line_grows}
 use Rattle.world_runs.proofs.Kept.{all-append}
 use Rattle.world_runs.specs.Fits.{FitsWorld}
 use Rattle.world_runs.proofs.FitsRuns.{run_fits}
-use Rattle.world_safety.proofs.Runs.{fitting-member, run-answers, run-fresh}
-use Rattle.world_safety.specs.Members.{HasMember}
+use Rattle.world_safety.proofs.Runs.{run-answers, run-fresh}
 use Rattle.world_hull.specs.declared.errors.WorldErr.{WorldErr}
 use Rattle.world_hull.specs.declared.errors.WorldErr.TheVariants as error
 use Rattle.world_core.specs.Standing.{Standing, Held, standing, starting, IsRun, IsLeft, IsRefused, IsDone}
@@ -32,11 +30,11 @@ run_more : (lines : List Line) (l : Line) → run_of (lines ++ l ∷ []) ≡ aft
 unfolding run_of
 run_more lines l = fold-append after start_world lines (l ∷ [])
 
-pub start_run : {H : Type 0} (kept : H → ℕ → List Record) (fulls : H → ℕ) (held : Held H) (hull : H) → held ≡ starting hull
-    → kept hull ≡ start_world.records → IsRun (standing kept fulls held)
+pub start_run : {H : Type 0} (kept : H → ℕ → List Record) (held : Held H) (hull : H) → held ≡ starting hull
+    → kept hull ≡ start_world.records → IsRun (standing kept held)
 unfolding run_of
-start_run kept fulls held hull is none =
-    subst (λ h. IsRun (standing kept fulls h)) (sym is) (λ going. (ap (λ r. record start_world { records = r }) none, tt))
+start_run kept held hull is none =
+    subst (λ h. IsRun (standing kept h)) (sym is) (λ going. (ap (λ r. record start_world { records = r }) none, tt))
 
 -- what a run reaches is within its limits
 pub run_fitting : (s : Standing) → s.ended ≡ false → IsRun s → FitsWorld s.world
@@ -66,8 +64,8 @@ over s ended going = absurd cc
 refused_run : (old : Standing) (l : Line) (new : Standing) (e : WorldErr) → IsRun old → IsRefused old l new e → IsRun new
 refused_run old l new (error.Illegal rule) run h = subst IsRun (sym h.1) run
 refused_run old l new (error.Limit what limit) run h = over new h.0.1
-refused_run old l new (error.Full need limit) run h = over new h.0.1
-refused_run old l new error.OutOfMemory run h = over new h.0.1
+refused_run old l new (error.Full need limit) run h = over new h.1
+refused_run old l new error.OutOfMemory run h = over new h.1
 
 -- the world is the run of its lines, whatever came of the line
 pub run_behind : {A : Type 0} (r : Result A WorldErr) (old : Standing) (l : Line) (new : Standing) → old.ended ≡ false → FitsLine l → IsRun old
@@ -91,8 +89,8 @@ told_refused : (old : Standing) (l : Line) (new : Standing) (e : WorldErr) → o
 told_refused old l new (error.Illegal rule) run fit h =
     (old.world.lines, ap (λ (s : Standing). s.world.entries) h.1 ∙ ap (λ (w : World). w.entries) run, fit)
 told_refused old l new (error.Limit what limit) run fit h = told_left old.world l new.world run fit h.0.2
-told_refused old l new (error.Full need limit) run fit h = told_left old.world l new.world run fit h.0.2
-told_refused old l new error.OutOfMemory run fit h = told_left old.world l new.world run fit h.0.2
+told_refused old l new (error.Full need limit) run fit h = told_left old.world l new.world run fit h.2
+told_refused old l new error.OutOfMemory run fit h = told_left old.world l new.world run fit h.2
 
 told_done : (old : Standing) (l : Line) (new : Standing) → old.world ≡ run_of old.world.lines → AllByRecursion FitsLine old.world.lines → FitsLine l
     → IsDone old l new → IsTold new.world.entries
@@ -108,20 +106,16 @@ told_behind : {A : Type 0} (r : Result A WorldErr) (old : Standing) (l : Line) (
 told_behind (Ok done) old l new going own run ok err = told_done old l new (run going).0 (run going).1 own ok
 told_behind (Err e) old l new going own run ok err = told_refused old l new e (run going).0 (run going).1 err
 
-each_member : (lines : List Line) → AllByRecursion FitsLine lines → All HasMember lines
-each_member [] all = All-nil HasMember
-each_member (l ∷ lines) all = All-cons HasMember l lines (fitting-member l all.0) (each_member lines all.1)
-
 pub shows_behind : {A : Type 0} (r : Result A WorldErr) (old : Standing) (l : Line) (new : Standing) → old.ended ≡ false → FitsLine l → IsRun old
     → OnOk r (IsDone old l new) → IfErr r (IsRefused old l new)
     → (file : ℕ) → IsToldWhole file new.world.entries → AnswersShow file new.world.entries
 shows_behind r old l new going own run ok err file whole =
     let told = told_behind r old l new going own run ok err in
-    subst (AnswersShow file) (sym told.1) (run-answers told.0 (each_member told.0 told.2) file (subst (IsToldWhole file) told.1 whole))
+    subst (AnswersShow file) (sym told.1) (run-answers told.0 told.2 file (subst (IsToldWhole file) told.1 whole))
 
 pub fresh_behind : {A : Type 0} (r : Result A WorldErr) (old : Standing) (l : Line) (new : Standing) → old.ended ≡ false → FitsLine l → IsRun old
     → OnOk r (IsDone old l new) → IfErr r (IsRefused old l new)
     → (file : ℕ) → IsToldWhole file new.world.entries → IsFresh file new.world.entries
 fresh_behind r old l new going own run ok err file whole =
     let told = told_behind r old l new going own run ok err in
-    subst (IsFresh file) (sym told.1) (run-fresh told.0 (each_member told.0 told.2) file (subst (IsToldWhole file) told.1 whole))
+    subst (IsFresh file) (sym told.1) (run-fresh told.0 told.2 file (subst (IsToldWhole file) told.1 whole))

@@ -13,7 +13,7 @@ within_64 n = min n 18446744073709551615
 -- no message before the first place is pending, and the bytes are those of all frames
 pub record AreCounts (sent : List Sent) (first bytes : ℕ) : Type 0 where
   pub inside : first ≤ length sent
-  pub settled : (place : ℕ) (d : Sent) → place < first → (slice_index_or sent place d).pending ≡ false
+  pub retired : (place : ℕ) (d : Sent) → place < first → (slice_index_or sent place d).pending ≡ false
   pub sum : bytes ≡ within_64 (frame_bytes sent)
 
 -- the first pending message from a place on, or the end

@@ -5,3 +5,4 @@ pub mod Places
 pub mod Handling
 pub mod NodePlaces
 pub mod Steps
+pub mod Room

@@ -20,12 +20,10 @@ use Rattle.world_runs.specs.Runs.{with_line, after, run_of, IsPartOf}
 use Rattle.world_hull.specs.declared.errors.WorldErr.{WorldErr}
 use Rattle.world_hull.specs.declared.errors.WorldErr.TheVariants as error
 
--- the world that is run, the line that has begun and isn't among its lines yet, how often its hull had no room, and
--- whether a line ended early
+-- the world that is run, the line that has begun and isn't among its lines yet, and whether a line ended early
 pub record Standing : Type 0 where
   pub world : World
   pub begun : List Line
-  pub fulls : ℕ
   pub ended : Bool
 
 -- a world whose records a hull keeps
@@ -57,10 +55,9 @@ seen kept w =
       lines = w.lines;
     }
 
--- what is held, by what its hull keeps and how often it had no room
-abbrev pub standing : {H : Type 0} → (H → ℕ → List Record) → (H → ℕ) → Held H → Standing
-standing kept fulls held =
-    record { world = seen kept held.world; begun = held.begun; fulls = fulls held.world.hull; ended = held.ended }
+-- what is held, by what its hull keeps
+abbrev pub standing : {H : Type 0} → (H → ℕ → List Record) → Held H → Standing
+standing kept held = record { world = seen kept held.world; begun = held.begun; ended = held.ended }
 
 -- before the first line, over a hull
 abbrev pub starting : {H : Type 0} → H → Held H
@@ -103,10 +100,9 @@ CameTo old l what new = (stopped : World) × (line_applied old l ≡ Stopped wha
 -- or memory ran out
 abbrev pub IsRefused : Standing → Line → Standing → WorldErr → Type 0
 IsRefused old l new (error.Illegal rule) = (refusal old.world l ≡ Some rule) × (new ≡ old)
-IsRefused old l new (error.Limit what limit) =
-    EndedEarly old l new × CameTo old.world l what new.world × (limit ≡ limit_of what) × (new.fulls ≡ old.fulls)
-IsRefused old l new (error.Full need limit) = EndedEarly old l new × (old.fulls < new.fulls)
-IsRefused old l new error.OutOfMemory = EndedEarly old l new × (new.fulls ≡ old.fulls)
+IsRefused old l new (error.Limit what limit) = EndedEarly old l new × CameTo old.world l what new.world × (limit ≡ limit_of what)
+IsRefused old l new (error.Full need limit) = EndedEarly old l new
+IsRefused old l new error.OutOfMemory = EndedEarly old l new
 
 -- the line is done: it broke no rule and came to no limit, and the world is the one after it
 abbrev pub IsDone : Standing → Line → Standing → Type 0

@@ -100,18 +100,14 @@ IsUntold old new =
 abbrev pub IsUnfinished : Standing → World → Standing → WorldErr → Type 0
 IsUnfinished old next new (error.Illegal rule) = ⊥
 IsUnfinished old next new (error.Limit what limit) =
-    IsUntold old new × (within_limits next ≡ Err what) × (limit ≡ limit_of what) × (new.fulls ≡ old.fulls)
-IsUnfinished old next new (error.Full need limit) = IsUntold old new × (old.fulls < new.fulls)
-IsUnfinished old next new error.OutOfMemory = IsUntold old new × (new.fulls ≡ old.fulls)
-
--- the entries and the lines are as before, and no record lacked room
-abbrev pub IsKept : Standing → Standing → Type 0
-IsKept old new = IsUntold old new × (new.fulls ≡ old.fulls)
+    IsUntold old new × (within_limits next ≡ Err what) × (limit ≡ limit_of what)
+IsUnfinished old next new (error.Full need limit) = IsUntold old new
+IsUnfinished old next new error.OutOfMemory = IsUntold old new
 
 -- what a node's step gives is still to be kept, told and sent: then the world is this one
 abbrev pub IsHanded : Standing → World → Standing → NodeId → Turned → Type 0
 IsHanded old next new id turned =
-    (step_ended new.world id (node_in new.world.nodes id.0) turned ≡ next) × IsKept old new
+    (step_ended new.world id (node_in new.world.nodes id.0) turned ≡ next) × IsUntold old new
 
 -- the line is done
 abbrev pub IsWhole : Standing → Applied → Standing → Type 0
@@ -120,15 +116,14 @@ IsWhole old applied new = (whole : World) × (applied ≡ Whole whole) × (new �
 -- the line ended early, before a step of it was finished
 abbrev pub IsStoppedFirst : Standing → Applied → Standing → WorldErr → Type 0
 IsStoppedFirst old applied new (error.Illegal rule) = ⊥
-IsStoppedFirst old applied new (error.Limit what limit) = IsKept old new × (applied ≡ Stopped what old.world) × (limit ≡ limit_of what)
-IsStoppedFirst old applied new (error.Full need limit) = IsUntold old new × (old.fulls < new.fulls)
-IsStoppedFirst old applied new error.OutOfMemory = IsKept old new
+IsStoppedFirst old applied new (error.Limit what limit) = IsUntold old new × (applied ≡ Stopped what old.world) × (limit ≡ limit_of what)
+IsStoppedFirst old applied new (error.Full need limit) = IsUntold old new
+IsStoppedFirst old applied new error.OutOfMemory = IsUntold old new
 
 -- the line ended early behind the steps that it had finished, if any
 abbrev pub IsStopped : Standing → Line → Standing → WorldErr → Type 0
 IsStopped old l new (error.Illegal rule) = ⊥
 IsStopped old l new (error.Limit what limit) =
-    IsLeft old.world l new.world × CameTo old.world l what new.world × (limit ≡ limit_of what) × (new.fulls ≡ old.fulls)
-    × (new.ended ≡ old.ended)
-IsStopped old l new (error.Full need limit) = IsLeft old.world l new.world × (old.fulls < new.fulls) × (new.ended ≡ old.ended)
-IsStopped old l new error.OutOfMemory = IsLeft old.world l new.world × (new.fulls ≡ old.fulls) × (new.ended ≡ old.ended)
+    IsLeft old.world l new.world × CameTo old.world l what new.world × (limit ≡ limit_of what) × (new.ended ≡ old.ended)
+IsStopped old l new (error.Full need limit) = IsLeft old.world l new.world × (new.ended ≡ old.ended)
+IsStopped old l new error.OutOfMemory = IsLeft old.world l new.world × (new.ended ≡ old.ended)

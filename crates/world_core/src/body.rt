@@ -75,7 +75,6 @@ pub fn present_body<H: Hull>(
 ) -> Result<Octets, OutOfMemory>
     ensures body { IfOk result (λ body. body ≡ present_body (body_in (H.kept hull.old node.0) file.now) version object) }
     ensures records { H.kept hull.new ≡ H.kept hull.old }
-    ensures room { H.fulls hull.new ≡ H.fulls hull.old }
 {
     let Some(version) = version else {
         return Ok(Octets::new(alloc));

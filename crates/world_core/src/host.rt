@@ -130,7 +130,6 @@ fn ask_at<H: Hull>(
     ensures places { (file : FileId) → place_in files.new file ≡ place_in files.old file }
     ensures step { IfOk result (λ turned. let step = ask_step node (body_in (H.kept hull.old node.0) asker.now.file) (head_in files.old asker.now.file) (with_op asker.now operation.now) operation.now in (files.new ≡ with_head files.old asker.now.file step.head) × (turned ≡ step.turned)) }
     ensures records { H.kept hull.new ≡ H.kept hull.old }
-    ensures room { H.fulls hull.new ≡ H.fulls hull.old }
 {
     let row = &mut files.items[place];
     row.file = asker.file;
@@ -153,7 +152,6 @@ fn osd_asked<H: Hull>(
     ensures places { AreRowPlaces files.new places.new }
     ensures step { IfOk result (λ turned. let after = osd_handled (H.kept hull.old node.0) node (record { files = files.old }) from (Payload.Ask number capability.now operation.now) in (Role.Osd (record { files = files.new }) ≡ after.role) × (turned ≡ after.turned)) }
     ensures records { H.kept hull.new ≡ H.kept hull.old }
-    ensures room { H.fulls hull.new ≡ H.fulls hull.old }
 {
     let place = meet(alloc, files, places, capability.file)?;
     let asker = Asker {
@@ -303,7 +301,6 @@ impl Host {
     ) -> Result<Turned, OutOfMemory>
         ensures step { IfOk result (λ turned. let after = handled (H.kept hull.old) self.old message.now in (self.new ≡ record self.old { role = after.role }) × (turned ≡ after.turned)) }
         ensures records { H.kept hull.new ≡ H.kept hull.old }
-        ensures room { H.fulls hull.new ≡ H.fulls hull.old }
     {
         let node = self.node.id;
         match &mut self.node.role {

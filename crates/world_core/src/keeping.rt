@@ -4,7 +4,8 @@ ghost use Rattle.xt_base.specs.Limits.{FitsRecord};
 ghost use Rattle.xt_protocol.specs.Folds.{fold_of, IsInPlace};
 ghost use Rattle.world_runs.specs.Records.{with_record, with_kept};
 ghost use Rattle.world_runs.specs.Fits.{FitsStop, FitsNext};
-ghost use Rattle.world_hull.specs.Answers.{IsFullOrMemory};
+ghost use Rattle.world_hull.specs.Answers.{IsFullOrMemory, IsFullExactly};
+ghost use Rattle.world_core.specs.Room.{overflow_of};
 ghost use Rattle.world_core.specs.Steps.{halt_in_append, kept_by_stop};
 
 use disk_model::Stop;
@@ -23,8 +24,8 @@ fn keep_record<H: Hull>(
     requires limits { FitsRecord rec.now }
     requires place { IsInPlace (fold_of (H.kept hull.old node.0)) rec.now }
     ensures records { OnOk result (H.kept hull.new ≡ with_record (H.kept hull.old) node rec.now) }
-    ensures room { OnOk result (H.fulls hull.new ≡ H.fulls hull.old) }
-    ensures error { IfErr result (IsFullOrMemory (H.fulls hull.old) (H.fulls hull.new)) }
+    ensures room { IsFullExactly (H.overflow (H.kept hull.old node.0) rec.now) result }
+    ensures error { IfErr result IsFullOrMemory }
 {
     hull.append(alloc, node, rec, None)?;
     Ok(())
@@ -39,8 +40,8 @@ pub fn keep_boot<H: Hull>(
 ) -> Result<(), WorldErr>
     requires { boot.0 < COUNTS }
     ensures records { OnOk result (H.kept hull.new ≡ with_record (H.kept hull.old) node (Record.Boot boot)) }
-    ensures room { OnOk result (H.fulls hull.new ≡ H.fulls hull.old) }
-    ensures error { IfErr result (IsFullOrMemory (H.fulls hull.old) (H.fulls hull.new)) }
+    ensures room { IsFullExactly (H.overflow (H.kept hull.old node.0) (Record.Boot boot)) result }
+    ensures error { IfErr result IsFullOrMemory }
 {
     keep_record(alloc, hull, node, &Record::Boot { boot })
 }
@@ -54,8 +55,8 @@ pub fn keep<H: Hull>(
 ) -> Result<(), WorldErr>
     requires { FitsNext (H.kept hull.old node.0) rec.now }
     ensures records { OnOk result (H.kept hull.new ≡ with_kept (H.kept hull.old) node rec.now) }
-    ensures room { OnOk result (H.fulls hull.new ≡ H.fulls hull.old) }
-    ensures error { IfErr result (IsFullOrMemory (H.fulls hull.old) (H.fulls hull.new)) }
+    ensures room { IsFullExactly (overflow_of H.overflow (H.kept hull.old) node rec.now) result }
+    ensures error { IfErr result IsFullOrMemory }
 {
     match rec {
         None => Ok(()),
@@ -76,8 +77,8 @@ pub fn stop_append<H: Hull>(
     requires call { FitsStop stop }
     ensures halt { IfOk result (λ how. how ≡ halt_in_append stop) }
     ensures records { OnOk result (H.kept hull.new ≡ kept_by_stop (H.kept hull.old) node rec.now stop) }
-    ensures room { OnOk result (H.fulls hull.new ≡ H.fulls hull.old) }
-    ensures error { IfErr result (IsFullOrMemory (H.fulls hull.old) (H.fulls hull.new)) }
+    ensures room { IsFullExactly (H.overflow (H.kept hull.old node.0) rec.now) result }
+    ensures error { IfErr result IsFullOrMemory }
 {
     let kept = hull.append(alloc, node, rec, Some(stop))?;
     match kept {

@@ -104,7 +104,6 @@ fn read_served<H: Hull>(
 ) -> Result<Turned, OutOfMemory>
     ensures turned { IfOk result (λ turned. turned ≡ (read_served node (body_in (H.kept hull.old node.0) asker.now.file) head.now (with_op asker.now (op.Read object at len)) object at len).turned) }
     ensures records { H.kept hull.new ≡ H.kept hull.old }
-    ensures room { H.fulls hull.new ≡ H.fulls hull.old }
 {
     let version = version_of(head.versions.as_slice(), object);
     let body = present_body(alloc, hull, node, &asker.file, object, version)?;
@@ -144,7 +143,6 @@ fn update_of_write<H: Hull>(
     requires inside { at + length bytes.now ≤ asker.now.stripe }
     ensures update { IfOk result (λ update. update ≡ update_of_write (body_in (H.kept hull.old node.0) asker.now.file) head.now (with_op asker.now (op.Write object at bytes.now)) object at bytes.now) }
     ensures records { H.kept hull.new ≡ H.kept hull.old }
-    ensures room { H.fulls hull.new ≡ H.fulls hull.old }
 {
     let version = version_of(head.versions.as_slice(), object);
     let old = present_body(alloc, hull, node, &asker.file, object, version)?;
@@ -208,7 +206,6 @@ fn fresh_write<H: Hull>(
     requires { at + length bytes.now ≤ asker.now.stripe }
     ensures step { IfOk result (λ turned. let step = fresh_write node (body_in (H.kept hull.old node.0) asker.now.file) head.old (with_op asker.now (op.Write object at bytes.now)) object at bytes.now in (head.new ≡ step.head) × (turned ≡ step.turned)) }
     ensures records { H.kept hull.new ≡ H.kept hull.old }
-    ensures room { H.fulls hull.new ≡ H.fulls hull.old }
 {
     if object >= OBJECTS {
         return refused(alloc, node, asker, Reply::TooFar { object });
@@ -236,7 +233,6 @@ fn write_served<H: Hull>(
     requires { at + length bytes.now ≤ asker.now.stripe }
     ensures step { IfOk result (λ turned. let step = write_served node (body_in (H.kept hull.old node.0) asker.now.file) head.old (with_op asker.now (op.Write object at bytes.now)) object at bytes.now (session_of head.old.sessions asker.now.id.client.0) in (head.new ≡ step.head) × (turned ≡ step.turned)) }
     ensures records { H.kept hull.new ≡ H.kept hull.old }
-    ensures room { H.fulls hull.new ≡ H.fulls hull.old }
 {
     let Some(session) = session_of(head.sessions.as_slice(), asker.id.client) else {
         return fresh_write(alloc, hull, node, head, asker, object, at, bytes);
@@ -268,7 +264,6 @@ pub fn ask_step<H: Hull>(
 ) -> Result<Turned, OutOfMemory>
     ensures step { IfOk result (λ turned. let step = ask_step node (body_in (H.kept hull.old node.0) asker.now.file) head.old (with_op asker.now operation.now) operation.now in (head.new ≡ step.head) × (turned ≡ step.turned)) }
     ensures records { H.kept hull.new ≡ H.kept hull.old }
-    ensures room { H.fulls hull.new ≡ H.fulls hull.old }
 {
     let denied = Reply::Denied {
         rule: Denial::Range,

@@ -14,7 +14,6 @@ pub fn revive<H: Hull>(alloc: Global, hull: &mut H, node: NodeId) -> Result<Fold
     ensures said { IfOk result (λ folded. folded ≡ fold_of (H.kept hull.old node.0)) }
     ensures error { IfErr result (λ error. error ≡ WorldErr.OutOfMemory) }
     ensures records { H.kept hull.new ≡ H.kept hull.old }
-    ensures room { H.fulls hull.new ≡ H.fulls hull.old }
 {
     let records = hull.revive(alloc, node)?;
     Ok(fold(alloc, records.as_slice())?)

@@ -97,7 +97,7 @@ impl Messages {
     }
 
     /// The message at a place is no longer pending.
-    pub fn settle(&mut self, place: usize)
+    pub fn retire(&mut self, place: usize)
         requires { place < length self.old }
         ensures { self.new ≡ no_longer_pending self.old (place + 1) }
     {

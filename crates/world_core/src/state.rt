@@ -9,10 +9,11 @@ ghost use Rattle.world_runs.specs.Records.{with_record, with_kept, keeps_record}
 ghost use Rattle.world_runs.specs.Rules.{refusal, called_file, least_ending, message_refusal};
 ghost use Rattle.world_runs.specs.Lines.{after_turn, stopped, numbered, delivered, call_made, line_applied, declared, settled, least_pending};
 ghost use Rattle.world_runs.specs.Fits.{FitsStop, FitsRunning, FitsWorld, FitsNext, FitsTurned};
-ghost use Rattle.world_hull.specs.Answers.{IsFullOrMemory};
+ghost use Rattle.world_hull.specs.Answers.{IsFullExactly};
 ghost use Rattle.world_core.specs.NodePlaces.{up_in};
+ghost use Rattle.world_core.specs.Room.{overflow_of, delivery_overflow, start_overflow, settling_overflow, line_overflow, IsRoomTold};
 ghost use Rattle.world_core.specs.Standing.{standing, starting, limit_of, IsRefused, IsDone};
-ghost use Rattle.world_core.specs.Steps.{with_given, changed_in, runs_on, went_down, went_down_in_append, went_down_sending, halt_in_append, kept_by_stop, step_sends, step_ended, next_boot, IsReady, IsFinished, IsUnfinished, IsHanded, IsKept, IsWhole, IsStoppedFirst, IsStopped};
+ghost use Rattle.world_core.specs.Steps.{with_given, changed_in, runs_on, went_down, went_down_in_append, went_down_sending, halt_in_append, kept_by_stop, step_sends, step_ended, next_boot, IsReady, IsFinished, IsUnfinished, IsHanded, IsUntold, IsWhole, IsStoppedFirst, IsStopped};
 
 use crate::client::called_file;
 use crate::entries::entries_of;
@@ -34,6 +35,7 @@ use world_hull::{Hull, WorldErr};
 use world_runs::{LINE_BYTES, LINES, MESSAGE_BYTES, MESSAGES, NODES, Running};
 use xt_base::{
     Boot, COUNTS, Call, Copies, Folded, Limited, Location, Msg, NodeId, OutOfMemory, Record, Rule,
+    Times,
 };
 use xt_protocol::Turned;
 
@@ -122,7 +124,6 @@ fn send<H: Hull>(
     ensures sent { OnOk result (sent.new ≡ sent.old ++ numbered nodes.now outs.now) }
     ensures error { IfErr result (λ error. error ≡ WorldErr.OutOfMemory) }
     ensures records { H.kept hull.new ≡ H.kept hull.old }
-    ensures room { H.fulls hull.new ≡ H.fulls hull.old }
 {
     for message in outs {
         if is_declared(nodes, message.to) {
@@ -141,8 +142,8 @@ impl<H: Hull> State<H> {
     {
         State {
             alloc,
-            lease: 14_000,
-            drift: 1_000,
+            lease: Times::DEFAULT_LEASE,
+            drift: Times::DEFAULT_DRIFT,
             nodes: Vec::new(alloc),
             files: Files::new(alloc),
             sent: Messages::new(alloc),
@@ -170,7 +171,7 @@ impl<H: Hull> State<H> {
 
     /// The rule that the line breaks.
     fn refusal(&self, line: &Line) -> Option<Rule>
-        ensures { result ≡ refusal (standing H.kept H.fulls self.now).world line.now }
+        ensures { result ≡ refusal (standing H.kept self.now).world line.now }
     {
         let nodes = self.nodes.as_slice();
         match line {
@@ -199,8 +200,9 @@ impl<H: Hull> State<H> {
     ) -> Result<(), WorldErr>
         requires record { FitsNext (H.kept self.old.world.hull node.0) rec.now }
         requires messages { AllByRecursion FitsMessage outs.now }
-        ensures done { OnOk result (IsFinished (standing H.kept H.fulls self.old) (with_given (standing H.kept H.fulls self.old).world node rec.now outs.now made.old.items) (standing H.kept H.fulls self.new)) }
-        ensures unfinished { IfErr result (IsUnfinished (standing H.kept H.fulls self.old) (with_given (standing H.kept H.fulls self.old).world node rec.now outs.now made.old.items) (standing H.kept H.fulls self.new)) }
+        ensures done { OnOk result (IsFinished (standing H.kept self.old) (with_given (standing H.kept self.old).world node rec.now outs.now made.old.items) (standing H.kept self.new)) }
+        ensures unfinished { IfErr result (IsUnfinished (standing H.kept self.old) (with_given (standing H.kept self.old).world node rec.now outs.now made.old.items) (standing H.kept self.new)) }
+        ensures room { IsFullExactly (overflow_of H.overflow (H.kept self.old.world.hull) node rec.now) result }
     {
         self.entries.reserve(made.len())?;
         keep(self.alloc, &mut self.hull, node, rec)?;
@@ -221,8 +223,9 @@ impl<H: Hull> State<H> {
     /// Ends a step: its record is kept, its messages are numbered, its marks become entries.
     fn end_whole(&mut self, node: NodeId, turned: Turned) -> Result<(), WorldErr>
         requires { FitsTurned (H.kept self.old.world.hull node.0) turned }
-        ensures done { OnOk result (IsFinished (standing H.kept H.fulls self.old) (after_turn (standing H.kept H.fulls self.old).world node turned) (standing H.kept H.fulls self.new)) }
-        ensures unfinished { IfErr result (IsUnfinished (standing H.kept H.fulls self.old) (after_turn (standing H.kept H.fulls self.old).world node turned) (standing H.kept H.fulls self.new)) }
+        ensures done { OnOk result (IsFinished (standing H.kept self.old) (after_turn (standing H.kept self.old).world node turned) (standing H.kept self.new)) }
+        ensures unfinished { IfErr result (IsUnfinished (standing H.kept self.old) (after_turn (standing H.kept self.old).world node turned) (standing H.kept self.new)) }
+        ensures room { IsFullExactly (overflow_of H.overflow (H.kept self.old.world.hull) node turned.rec) result }
     {
         let Turned { rec, outs, marks } = turned;
         let mut made = entries_of(self.alloc, node, marks)?;
@@ -251,8 +254,9 @@ impl<H: Hull> State<H> {
 
     /// Tells that a node has stopped in a step that is within the limits.
     fn tell_down(&mut self, node: NodeId, clock: u64, how: Halt) -> Result<(), WorldErr>
-        ensures done { OnOk result (IsFinished (standing H.kept H.fulls self.old) (went_down (standing H.kept H.fulls self.old).world node clock how) (standing H.kept H.fulls self.new)) }
-        ensures unfinished { IfErr result (IsUnfinished (standing H.kept H.fulls self.old) (went_down (standing H.kept H.fulls self.old).world node clock how) (standing H.kept H.fulls self.new)) }
+        ensures done { OnOk result (IsFinished (standing H.kept self.old) (went_down (standing H.kept self.old).world node clock how) (standing H.kept self.new)) }
+        ensures unfinished { IfErr result (IsUnfinished (standing H.kept self.old) (went_down (standing H.kept self.old).world node clock how) (standing H.kept self.new)) }
+        ensures room { IsFullExactly None result }
     {
         if let Some(what) = self.sent.passed() {
             return Err(limit(what));
@@ -273,9 +277,11 @@ impl<H: Hull> State<H> {
         requires limits { FitsRecord rec.now }
         requires place { IsInPlace (fold_of (H.kept self.old.world.hull node.0)) rec.now }
         requires call { FitsStop stop }
-        ensures done { OnOk result (IsFinished (standing H.kept H.fulls self.old) (went_down_in_append (standing H.kept H.fulls self.old).world node clock stop rec.now) (standing H.kept H.fulls self.new)) }
-        ensures unfinished { IfErr result (IsUnfinished (standing H.kept H.fulls self.old) (went_down_in_append (standing H.kept H.fulls self.old).world node clock stop rec.now) (standing H.kept H.fulls self.new)) }
+        ensures done { OnOk result (IsFinished (standing H.kept self.old) (went_down_in_append (standing H.kept self.old).world node clock stop rec.now) (standing H.kept self.new)) }
+        ensures unfinished { IfErr result (IsUnfinished (standing H.kept self.old) (went_down_in_append (standing H.kept self.old).world node clock stop rec.now) (standing H.kept self.new)) }
+        ensures room { IsFullExactly (H.overflow (H.kept self.old.world.hull node.0) rec.now) result }
     {
+        self.entries.reserve(1)?;
         let how = stop_append(self.alloc, &mut self.hull, node, rec, stop)?;
         self.tell_down(node, clock, how)
     }
@@ -289,8 +295,9 @@ impl<H: Hull> State<H> {
         turned: Turned,
     ) -> Result<(), WorldErr>
         requires { FitsTurned (H.kept self.old.world.hull node.0) turned }
-        ensures done { OnOk result (IsFinished (standing H.kept H.fulls self.old) (went_down_sending (standing H.kept H.fulls self.old).world node clock count turned) (standing H.kept H.fulls self.new)) }
-        ensures unfinished { IfErr result (IsUnfinished (standing H.kept H.fulls self.old) (went_down_sending (standing H.kept H.fulls self.old).world node clock count turned) (standing H.kept H.fulls self.new)) }
+        ensures done { OnOk result (IsFinished (standing H.kept self.old) (went_down_sending (standing H.kept self.old).world node clock count turned) (standing H.kept self.new)) }
+        ensures unfinished { IfErr result (IsUnfinished (standing H.kept self.old) (went_down_sending (standing H.kept self.old).world node clock count turned) (standing H.kept self.new)) }
+        ensures room { IsFullExactly (overflow_of H.overflow (H.kept self.old.world.hull) node turned.rec) result }
     {
         let Turned { rec, outs, marks } = turned;
         let how = Halt::Cut;
@@ -310,8 +317,9 @@ impl<H: Hull> State<H> {
     ) -> Result<(), WorldErr>
         requires up { up_in (node_in self.old.world.nodes node.0) ≡ Some running }
         requires fits { FitsTurned (H.kept self.old.world.hull node.0) turned }
-        ensures done { OnOk result (IsFinished (standing H.kept H.fulls self.old) (step_sends (standing H.kept H.fulls self.old).world (node_in self.old.world.nodes node.0) running turned) (standing H.kept H.fulls self.new)) }
-        ensures unfinished { IfErr result (IsUnfinished (standing H.kept H.fulls self.old) (step_sends (standing H.kept H.fulls self.old).world (node_in self.old.world.nodes node.0) running turned) (standing H.kept H.fulls self.new)) }
+        ensures done { OnOk result (IsFinished (standing H.kept self.old) (step_sends (standing H.kept self.old).world (node_in self.old.world.nodes node.0) running turned) (standing H.kept self.new)) }
+        ensures unfinished { IfErr result (IsUnfinished (standing H.kept self.old) (step_sends (standing H.kept self.old).world (node_in self.old.world.nodes node.0) running turned) (standing H.kept self.new)) }
+        ensures room { IsFullExactly (overflow_of H.overflow (H.kept self.old.world.hull) node turned.rec) result }
     {
         let Some(count) = running.cut else {
             return self.end_whole(node, turned);
@@ -332,8 +340,9 @@ impl<H: Hull> State<H> {
         requires up { up_in (node_in self.old.world.nodes node.0) ≡ Some running }
         requires plan { FitsRunning running }
         requires fits { FitsTurned (H.kept self.old.world.hull node.0) turned }
-        ensures done { OnOk result (IsFinished (standing H.kept H.fulls self.old) (step_ended (standing H.kept H.fulls self.old).world node (node_in self.old.world.nodes node.0) turned) (standing H.kept H.fulls self.new)) }
-        ensures unfinished { IfErr result (IsUnfinished (standing H.kept H.fulls self.old) (step_ended (standing H.kept H.fulls self.old).world node (node_in self.old.world.nodes node.0) turned) (standing H.kept H.fulls self.new)) }
+        ensures done { OnOk result (IsFinished (standing H.kept self.old) (step_ended (standing H.kept self.old).world node (node_in self.old.world.nodes node.0) turned) (standing H.kept self.new)) }
+        ensures unfinished { IfErr result (IsUnfinished (standing H.kept self.old) (step_ended (standing H.kept self.old).world node (node_in self.old.world.nodes node.0) turned) (standing H.kept self.new)) }
+        ensures room { IsFullExactly (overflow_of H.overflow (H.kept self.old.world.hull) node turned.rec) result }
     {
         match running.crash {
             None => self.end_sending(node, running, turned),
@@ -346,9 +355,10 @@ impl<H: Hull> State<H> {
 
     /// Ends a step of a node.
     fn finish(&mut self, node: NodeId, turned: Turned) -> Result<(), WorldErr>
-        requires { IsReady (standing H.kept H.fulls self.old).world node turned }
-        ensures done { OnOk result (IsFinished (standing H.kept H.fulls self.old) (step_ended (standing H.kept H.fulls self.old).world node (node_in self.old.world.nodes node.0) turned) (standing H.kept H.fulls self.new)) }
-        ensures unfinished { IfErr result (IsUnfinished (standing H.kept H.fulls self.old) (step_ended (standing H.kept H.fulls self.old).world node (node_in self.old.world.nodes node.0) turned) (standing H.kept H.fulls self.new)) }
+        requires { IsReady (standing H.kept self.old).world node turned }
+        ensures done { OnOk result (IsFinished (standing H.kept self.old) (step_ended (standing H.kept self.old).world node (node_in self.old.world.nodes node.0) turned) (standing H.kept self.new)) }
+        ensures unfinished { IfErr result (IsUnfinished (standing H.kept self.old) (step_ended (standing H.kept self.old).world node (node_in self.old.world.nodes node.0) turned) (standing H.kept self.new)) }
+        ensures room { IsFullExactly (overflow_of H.overflow (H.kept self.old.world.hull) node turned.rec) result }
     {
         match run_of(self.nodes.as_slice(), node) {
             None => self.end_whole(node, turned),
@@ -359,29 +369,31 @@ impl<H: Hull> State<H> {
     /// A message comes to its receiver, and is no longer pending. Gives the node, and what its step gives.
     fn hand_over(&mut self, place: usize) -> Result<(NodeId, Turned), OutOfMemory>
         requires sent { place < length self.old.world.sent }
-        requires fits { FitsWorld (standing H.kept H.fulls self.old).world }
-        ensures ready { IfOk result (λ handed. IsReady (standing H.kept H.fulls self.new).world handed.0 handed.1) }
-        ensures handed { IfOk result (λ handed. IsHanded (standing H.kept H.fulls self.old) (delivered (standing H.kept H.fulls self.old).world (place + 1)) (standing H.kept H.fulls self.new) handed.0 handed.1) }
-        ensures failed { OnErr result (IsKept (standing H.kept H.fulls self.old) (standing H.kept H.fulls self.new)) }
+        requires fits { FitsWorld (standing H.kept self.old).world }
+        ensures ready { IfOk result (λ handed. IsReady (standing H.kept self.new).world handed.0 handed.1) }
+        ensures handed { IfOk result (λ handed. IsHanded (standing H.kept self.old) (delivered (standing H.kept self.old).world (place + 1)) (standing H.kept self.new) handed.0 handed.1) }
+        ensures due { IfOk result (λ handed. overflow_of H.overflow (H.kept self.new.world.hull) handed.0 handed.1.rec ≡ delivery_overflow H.overflow (standing H.kept self.old).world (place + 1)) }
+        ensures failed { OnErr result (IsUntold (standing H.kept self.old) (standing H.kept self.new)) }
     {
         let message = self.sent.at(place);
         let receiver = message.to;
         let Some(node) = running(self.nodes.as_slice(), receiver) else {
-            self.sent.settle(place);
+            self.sent.retire(place);
             return Ok((receiver, nothing(self.alloc)));
         };
         let turned = self.nodes[node].handle(self.alloc, &mut self.hull, message)?;
-        self.sent.settle(place);
+        self.sent.retire(place);
         Ok((self.nodes[node].id(), turned))
     }
 
     /// A client makes a call. Gives the client, and what its step gives.
     fn make_call(&mut self, client: NodeId, call: &Call) -> Result<(NodeId, Turned), OutOfMemory>
-        requires fits { FitsWorld (standing H.kept H.fulls self.old).world }
+        requires fits { FitsWorld (standing H.kept self.old).world }
         requires values { FitsCall call.now }
-        ensures ready { IfOk result (λ handed. IsReady (standing H.kept H.fulls self.new).world handed.0 handed.1) }
-        ensures handed { IfOk result (λ handed. IsHanded (standing H.kept H.fulls self.old) (call_made (standing H.kept H.fulls self.old).world (node_in self.old.world.nodes client.0) call.now (called_file call.now)) (standing H.kept H.fulls self.new) handed.0 handed.1) }
-        ensures failed { OnErr result (IsKept (standing H.kept H.fulls self.old) (standing H.kept H.fulls self.new)) }
+        ensures ready { IfOk result (λ handed. IsReady (standing H.kept self.new).world handed.0 handed.1) }
+        ensures handed { IfOk result (λ handed. IsHanded (standing H.kept self.old) (call_made (standing H.kept self.old).world (node_in self.old.world.nodes client.0) call.now (called_file call.now)) (standing H.kept self.new) handed.0 handed.1) }
+        ensures due { IfOk result (λ handed. handed.1.rec ≡ None) }
+        ensures failed { OnErr result (IsUntold (standing H.kept self.old) (standing H.kept self.new)) }
     {
         let Some(node) = place_of(self.nodes.as_slice(), client) else {
             return Ok((client, nothing(self.alloc)));
@@ -399,9 +411,10 @@ impl<H: Hull> State<H> {
     /// Delivers the message at a place.
     fn deliver(&mut self, place: usize) -> Result<(), WorldErr>
         requires sent { place < length self.old.world.sent }
-        requires fits { FitsWorld (standing H.kept H.fulls self.old).world }
-        ensures done { OnOk result (IsFinished (standing H.kept H.fulls self.old) (delivered (standing H.kept H.fulls self.old).world (place + 1)) (standing H.kept H.fulls self.new)) }
-        ensures unfinished { IfErr result (IsUnfinished (standing H.kept H.fulls self.old) (delivered (standing H.kept H.fulls self.old).world (place + 1)) (standing H.kept H.fulls self.new)) }
+        requires fits { FitsWorld (standing H.kept self.old).world }
+        ensures done { OnOk result (IsFinished (standing H.kept self.old) (delivered (standing H.kept self.old).world (place + 1)) (standing H.kept self.new)) }
+        ensures unfinished { IfErr result (IsUnfinished (standing H.kept self.old) (delivered (standing H.kept self.old).world (place + 1)) (standing H.kept self.new)) }
+        ensures room { IsFullExactly (delivery_overflow H.overflow (standing H.kept self.old).world (place + 1)) result }
     {
         let (node, turned) = self.hand_over(place)?;
         self.finish(node, turned)
@@ -409,10 +422,11 @@ impl<H: Hull> State<H> {
 
     /// A client's call.
     fn call(&mut self, client: NodeId, call: &Call) -> Result<(), WorldErr>
-        requires fits { FitsWorld (standing H.kept H.fulls self.old).world }
+        requires fits { FitsWorld (standing H.kept self.old).world }
         requires values { FitsCall call.now }
-        ensures done { OnOk result (IsFinished (standing H.kept H.fulls self.old) (call_made (standing H.kept H.fulls self.old).world (node_in self.old.world.nodes client.0) call.now (called_file call.now)) (standing H.kept H.fulls self.new)) }
-        ensures unfinished { IfErr result (IsUnfinished (standing H.kept H.fulls self.old) (call_made (standing H.kept H.fulls self.old).world (node_in self.old.world.nodes client.0) call.now (called_file call.now)) (standing H.kept H.fulls self.new)) }
+        ensures done { OnOk result (IsFinished (standing H.kept self.old) (call_made (standing H.kept self.old).world (node_in self.old.world.nodes client.0) call.now (called_file call.now)) (standing H.kept self.new)) }
+        ensures unfinished { IfErr result (IsUnfinished (standing H.kept self.old) (call_made (standing H.kept self.old).world (node_in self.old.world.nodes client.0) call.now (called_file call.now)) (standing H.kept self.new)) }
+        ensures room { IsFullExactly None result }
     {
         let (node, turned) = self.make_call(client, call)?;
         self.finish(node, turned)
@@ -420,8 +434,8 @@ impl<H: Hull> State<H> {
 
     /// Sets the lease length and the drift.
     fn set_times(&mut self, lease: u64, drift: u64) -> Result<(), OutOfMemory>
-        ensures done { OnOk result (IsWhole (standing H.kept H.fulls self.old) (line_applied (standing H.kept H.fulls self.old).world (Line.Times lease drift)) (standing H.kept H.fulls self.new)) }
-        ensures failed { OnErr result (IsKept (standing H.kept H.fulls self.old) (standing H.kept H.fulls self.new)) }
+        ensures done { OnOk result (IsWhole (standing H.kept self.old) (line_applied (standing H.kept self.old).world (Line.Times lease drift)) (standing H.kept self.new)) }
+        ensures failed { OnErr result (IsUntold (standing H.kept self.old) (standing H.kept self.new)) }
     {
         self.entries.push(Entry::Times { lease, drift })?;
         self.lease = lease;
@@ -431,8 +445,9 @@ impl<H: Hull> State<H> {
 
     /// Declares a node, where there is room for it.
     fn declare(&mut self, host: Host, entry: Option<Entry>) -> Result<(), WorldErr>
-        ensures done { OnOk result (IsWhole (standing H.kept H.fulls self.old) (declared (standing H.kept H.fulls self.old).world host (option_to_list entry)) (standing H.kept H.fulls self.new)) }
-        ensures stopped { IfErr result (IsStoppedFirst (standing H.kept H.fulls self.old) (declared (standing H.kept H.fulls self.old).world host (option_to_list entry)) (standing H.kept H.fulls self.new)) }
+        ensures done { OnOk result (IsWhole (standing H.kept self.old) (declared (standing H.kept self.old).world host (option_to_list entry)) (standing H.kept self.new)) }
+        ensures stopped { IfErr result (IsStoppedFirst (standing H.kept self.old) (declared (standing H.kept self.old).world host (option_to_list entry)) (standing H.kept self.new)) }
+        ensures room { IsFullExactly None result }
     {
         if self.nodes.len() as u64 >= NODES {
             return Err(limit(Limited::Nodes));
@@ -449,8 +464,9 @@ impl<H: Hull> State<H> {
 
     /// Declares a client, which runs from then on.
     fn declare_client(&mut self, node: NodeId, clock: u64) -> Result<(), WorldErr>
-        ensures done { OnOk result (IsWhole (standing H.kept H.fulls self.old) (line_applied (standing H.kept H.fulls self.old).world (Line.Client node clock)) (standing H.kept H.fulls self.new)) }
-        ensures stopped { IfErr result (IsStoppedFirst (standing H.kept H.fulls self.old) (line_applied (standing H.kept H.fulls self.old).world (Line.Client node clock)) (standing H.kept H.fulls self.new)) }
+        ensures done { OnOk result (IsWhole (standing H.kept self.old) (line_applied (standing H.kept self.old).world (Line.Client node clock)) (standing H.kept self.new)) }
+        ensures stopped { IfErr result (IsStoppedFirst (standing H.kept self.old) (line_applied (standing H.kept self.old).world (Line.Client node clock)) (standing H.kept self.new)) }
+        ensures room { IsFullExactly None result }
     {
         let boot = Boot(1);
         let host = Host::client(self.alloc, node, clock);
@@ -460,8 +476,8 @@ impl<H: Hull> State<H> {
     /// Declares a file.
     fn declare_file(&mut self, number: u64, location: &Location) -> Result<(), OutOfMemory>
         requires { file_in self.old.world.files number ≡ None }
-        ensures done { OnOk result (IsWhole (standing H.kept H.fulls self.old) (line_applied (standing H.kept H.fulls self.old).world (Line.File number location.now)) (standing H.kept H.fulls self.new)) }
-        ensures failed { OnErr result (IsKept (standing H.kept H.fulls self.old) (standing H.kept H.fulls self.new)) }
+        ensures done { OnOk result (IsWhole (standing H.kept self.old) (line_applied (standing H.kept self.old).world (Line.File number location.now)) (standing H.kept self.new)) }
+        ensures failed { OnErr result (IsUntold (standing H.kept self.old) (standing H.kept self.new)) }
     {
         self.files.declare(number, location)?;
         self.entries.push(Entry::File {
@@ -473,8 +489,9 @@ impl<H: Hull> State<H> {
 
     /// An OSD starts from what its records say, with the start behind its last one, and keeps that first.
     fn start(&mut self, node: NodeId, clock: u64) -> Result<(), WorldErr>
-        ensures done { OnOk result (IsWhole (standing H.kept H.fulls self.old) (line_applied (standing H.kept H.fulls self.old).world (Line.Start node clock)) (standing H.kept H.fulls self.new)) }
-        ensures stopped { IfErr result (IsStoppedFirst (standing H.kept H.fulls self.old) (line_applied (standing H.kept H.fulls self.old).world (Line.Start node clock)) (standing H.kept H.fulls self.new)) }
+        ensures done { OnOk result (IsWhole (standing H.kept self.old) (line_applied (standing H.kept self.old).world (Line.Start node clock)) (standing H.kept self.new)) }
+        ensures stopped { IfErr result (IsStoppedFirst (standing H.kept self.old) (line_applied (standing H.kept self.old).world (Line.Start node clock)) (standing H.kept self.new)) }
+        ensures room { IsFullExactly (start_overflow H.overflow (standing H.kept self.old).world node (node_in self.old.world.nodes node.0)) result }
     {
         let Some(place) = place_of(self.nodes.as_slice(), node) else {
             return Ok(());
@@ -485,6 +502,7 @@ impl<H: Hull> State<H> {
         };
         let files = files_from(self.alloc, files)?;
         self.nodes[place].start(self.alloc, boot, clock, files)?;
+        self.entries.reserve(1)?;
         keep_boot(self.alloc, &mut self.hull, node, boot)?;
         self.entries.push(Entry::Up { node, boot, clock })?;
         Ok(())
@@ -492,8 +510,8 @@ impl<H: Hull> State<H> {
 
     /// A running node stops between two steps.
     fn stop(&mut self, node: NodeId) -> Result<(), OutOfMemory>
-        ensures done { OnOk result (IsWhole (standing H.kept H.fulls self.old) (line_applied (standing H.kept H.fulls self.old).world (Line.Stop node)) (standing H.kept H.fulls self.new)) }
-        ensures failed { OnErr result (IsKept (standing H.kept H.fulls self.old) (standing H.kept H.fulls self.new)) }
+        ensures done { OnOk result (IsWhole (standing H.kept self.old) (line_applied (standing H.kept self.old).world (Line.Stop node)) (standing H.kept self.new)) }
+        ensures failed { OnErr result (IsUntold (standing H.kept self.old) (standing H.kept self.new)) }
     {
         let Some(running) = run_of(self.nodes.as_slice(), node) else {
             return Ok(());
@@ -509,7 +527,7 @@ impl<H: Hull> State<H> {
 
     /// The next append of a running node is to stop in this device call.
     fn plan_crash(&mut self, node: NodeId, call: u8, fill: u8)
-        ensures { IsWhole (standing H.kept H.fulls self.old) (line_applied (standing H.kept H.fulls self.old).world (Line.Crash node call fill)) (standing H.kept H.fulls self.new) }
+        ensures { IsWhole (standing H.kept self.old) (line_applied (standing H.kept self.old).world (Line.Crash node call fill)) (standing H.kept self.new) }
     {
         let Some(running) = run_of(self.nodes.as_slice(), node) else {
             return;
@@ -524,7 +542,7 @@ impl<H: Hull> State<H> {
 
     /// The next step of a running node that sends is to stop behind so many messages.
     fn plan_cut(&mut self, node: NodeId, count: u128)
-        ensures { IsWhole (standing H.kept H.fulls self.old) (line_applied (standing H.kept H.fulls self.old).world (Line.Cut node count)) (standing H.kept H.fulls self.new) }
+        ensures { IsWhole (standing H.kept self.old) (line_applied (standing H.kept self.old).world (Line.Cut node count)) (standing H.kept self.new) }
     {
         let Some(running) = run_of(self.nodes.as_slice(), node) else {
             return;
@@ -536,8 +554,8 @@ impl<H: Hull> State<H> {
     /// Every running clock advances.
     fn tick(&mut self, count: u64) -> Result<(), OutOfMemory>
         requires { least_ending count self.old.world.nodes ≡ None }
-        ensures done { OnOk result (IsWhole (standing H.kept H.fulls self.old) (line_applied (standing H.kept H.fulls self.old).world (Line.Tick count)) (standing H.kept H.fulls self.new)) }
-        ensures failed { OnErr result (IsKept (standing H.kept H.fulls self.old) (standing H.kept H.fulls self.new)) }
+        ensures done { OnOk result (IsWhole (standing H.kept self.old) (line_applied (standing H.kept self.old).world (Line.Tick count)) (standing H.kept self.new)) }
+        ensures failed { OnErr result (IsUntold (standing H.kept self.old) (standing H.kept self.new)) }
     {
         self.entries.push(Entry::Tick { count })?;
         tick(&mut self.nodes, count);
@@ -547,9 +565,9 @@ impl<H: Hull> State<H> {
     /// A message is no longer pending.
     fn drop_message(&mut self, place: usize)
         requires { place < length self.old.world.sent }
-        ensures { IsWhole (standing H.kept H.fulls self.old) (line_applied (standing H.kept H.fulls self.old).world (Line.Drop (place + 1))) (standing H.kept H.fulls self.new) }
+        ensures { IsWhole (standing H.kept self.old) (line_applied (standing H.kept self.old).world (Line.Drop (place + 1))) (standing H.kept self.new) }
     {
-        self.sent.settle(place);
+        self.sent.retire(place);
     }
 
     /// The line begins: it isn't shown yet.
@@ -583,9 +601,10 @@ impl<H: Hull> State<H> {
     #[tactic(none)]
     fn settle(&mut self, count: u128) -> Result<(), WorldErr>
         requires begun { self.old.begun ≡ Line.Settle count ∷ [] }
-        requires fits { FitsWorld (standing H.kept H.fulls self.old).world }
-        ensures done { OnOk result (IsWhole (standing H.kept H.fulls self.old) (settled count (standing H.kept H.fulls self.old).world) (standing H.kept H.fulls self.new)) }
-        ensures stopped { IfErr result (IsStopped (standing H.kept H.fulls self.old) (Line.Settle count) (standing H.kept H.fulls self.new)) }
+        requires fits { FitsWorld (standing H.kept self.old).world }
+        ensures done { OnOk result (IsWhole (standing H.kept self.old) (settled count (standing H.kept self.old).world) (standing H.kept self.new)) }
+        ensures stopped { IfErr result (IsStopped (standing H.kept self.old) (Line.Settle count) (standing H.kept self.new)) }
+        ensures room { IsRoomTold (settling_overflow H.overflow count (standing H.kept self.old).world) self.new.world.entries result }
     {
         for done in 0..count {
             match self.least_pending() {
@@ -617,12 +636,13 @@ impl<H: Hull> State<H> {
     /// Takes a line that breaks no rule and has begun.
     #[tactic(none)]
     fn take(&mut self, line: &Line) -> Result<(), WorldErr>
-        requires legal { refusal (standing H.kept H.fulls self.old).world line.now ≡ None }
+        requires legal { refusal (standing H.kept self.old).world line.now ≡ None }
         requires begun { self.old.begun ≡ line.now ∷ [] }
-        requires fits { FitsWorld (standing H.kept H.fulls self.old).world }
+        requires fits { FitsWorld (standing H.kept self.old).world }
         requires values { FitsLine line.now }
-        ensures done { OnOk result (IsWhole (standing H.kept H.fulls self.old) (line_applied (standing H.kept H.fulls self.old).world line.now) (standing H.kept H.fulls self.new)) }
-        ensures stopped { IfErr result (IsStopped (standing H.kept H.fulls self.old) line.now (standing H.kept H.fulls self.new)) }
+        ensures done { OnOk result (IsWhole (standing H.kept self.old) (line_applied (standing H.kept self.old).world line.now) (standing H.kept self.new)) }
+        ensures stopped { IfErr result (IsStopped (standing H.kept self.old) line.now (standing H.kept self.new)) }
+        ensures room { IsRoomTold (line_overflow H.overflow (standing H.kept self.old).world line.now) self.new.world.entries result }
     {
         match line {
             Line::Times { lease, drift } => Ok(self.set_times(*lease, *drift)?),
@@ -660,10 +680,11 @@ impl<H: Hull> State<H> {
     #[tactic(none)]
     pub fn apply(&mut self, line: &Line) -> Result<(), WorldErr>
         requires going { self.old.ended ≡ false }
-        requires fits { FitsWorld (standing H.kept H.fulls self.old).world }
+        requires fits { FitsWorld (standing H.kept self.old).world }
         requires values { FitsLine line.now }
-        ensures done { OnOk result (IsDone (standing H.kept H.fulls self.old) line.now (standing H.kept H.fulls self.new)) }
-        ensures refused { IfErr result (IsRefused (standing H.kept H.fulls self.old) line.now (standing H.kept H.fulls self.new)) }
+        ensures done { OnOk result (IsDone (standing H.kept self.old) line.now (standing H.kept self.new)) }
+        ensures refused { IfErr result (IsRefused (standing H.kept self.old) line.now (standing H.kept self.new)) }
+        ensures room { IsRoomTold (line_overflow H.overflow (standing H.kept self.old).world line.now) self.new.world.entries result }
     {
         if let Some(rule) = self.refusal(line) {
             return Err(WorldErr::Illegal { rule });

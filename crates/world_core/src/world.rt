@@ -4,6 +4,7 @@ ghost use Rattle.time_line.specs.Bounds.{FitsLine};
 ghost use Rattle.time_line.specs.TimeLine.{IsToldWhole, AnswersShow};
 ghost use Rattle.time_line.specs.Fresh.{IsFresh};
 ghost use Rattle.world_runs.specs.World.{start_world};
+ghost use Rattle.world_core.specs.Room.{line_overflow, IsRoomTold};
 ghost use Rattle.world_core.specs.Standing.{standing, starting, IsRefused, IsDone};
 
 use crate::state::State;
@@ -25,7 +26,7 @@ impl<H: Hull> Model for World<H> {
 
     ghost view = { λ w. w.state };
 
-    ghost invariant = { λ w. IsRun (standing H.kept H.fulls w.state) };
+    ghost invariant = { λ w. IsRun (standing H.kept w.state) };
 }
 
 impl<H: Hull> World<H> {
@@ -53,15 +54,17 @@ impl<H: Hull> World<H> {
         self.state.lines()
     }
 
-    /// Takes a line. `Illegal` comes exactly where it breaks a rule, and the world is unchanged. Behind each other
+    /// Takes a line. `Illegal` comes exactly where it breaks a rule, and the world is unchanged; `Full` exactly where the
+    /// record of one of its steps has no room; `Limit` where it has, and the step would pass a limit. Behind each other
     /// error the world takes no line again, and only its entries and lines are to be used: they are those of the
     /// steps that the line had finished. Whatever comes, in the trace so far every answer on a file that is told whole
     /// shows the file, and the ends of the calls on it are fresh.
     pub fn apply(&mut self, line: &Line) -> Result<(), WorldErr>
         requires going { self.old.ended ≡ false }
         requires values { FitsLine line.now }
-        ensures done { OnOk result (IsDone (standing H.kept H.fulls self.old) line.now (standing H.kept H.fulls self.new)) }
-        ensures refused { IfErr result (IsRefused (standing H.kept H.fulls self.old) line.now (standing H.kept H.fulls self.new)) }
+        ensures done { OnOk result (IsDone (standing H.kept self.old) line.now (standing H.kept self.new)) }
+        ensures refused { IfErr result (IsRefused (standing H.kept self.old) line.now (standing H.kept self.new)) }
+        ensures room { IsRoomTold (line_overflow H.overflow (standing H.kept self.old).world line.now) self.new.world.entries result }
         ensures answers { (file : ℕ) → IsToldWhole file self.new.world.entries → AnswersShow file self.new.world.entries }
         ensures acknowledgements { (file : ℕ) → IsToldWhole file self.new.world.entries → IsFresh file self.new.world.entries }
     {

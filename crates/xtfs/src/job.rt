@@ -1,6 +1,7 @@
-ghost use Rattle.std.specs.Prelude.{◌≡◌, ◌≢◌, ℕ, ◌↔◌, IsTrue, codes};
+ghost use Rattle.std.specs.Prelude.{◌≡◌, ◌≢◌, ◌↔◌, IsTrue, codes};
 ghost use Rattle.xt_base.specs.declared.status.Status.TheVariants as status;
 ghost use Rattle.node_links.specs.Streams.{Rose};
+ghost use Rattle.disk_hull.specs.Room.{journal_overflow};
 ghost use Rattle.schedule_replay.specs.Replay.{HasCause, IsReplay, Completes};
 ghost use Rattle.schedule_replay.specs.Steps.{IsFinished};
 ghost use Rattle.xtfs.specs.Job.{replay_words};
@@ -34,14 +35,15 @@ pub fn run<S: Source, K: Sink>(alloc: Global, words: &Words, src: &mut S, out: &
     ensures usage { words.now ≢ replay_words → IsFinished (K.held out.old) (K.held out.new) status.Usage result }
     ensures untouched { words.now ≢ replay_words → src.new ≡ src.old }
 
-    // The trace is the run of the lines that were taken; what it tells of whole files is as they stand, and fresh.
-    ensures replay { words.now ≡ replay_words → IsReplay (S.left src.old) (S.left src.new) (K.held out.old) (K.held out.new) result }
+    // The trace is the run of the lines that were taken, over journals of a limited length; what it tells of whole files is as
+    // they stand, and fresh.
+    ensures replay { words.now ≡ replay_words → IsReplay journal_overflow (S.left src.old) (S.left src.new) (K.held out.old) (K.held out.new) result }
 
-    // A fault is told only where its object's count rose. Of a full journal nothing is said: some `fulls` always serves.
-    ensures cause { (fulls : ℕ) × HasCause (S.fault_count src.old) (S.fault_count src.new) (K.fault_count out.old) (K.fault_count out.new) 0 fulls result }
+    // A fault is told only where its object's count rose.
+    ensures cause { HasCause (S.fault_count src.old) (S.fault_count src.new) (K.fault_count out.old) (K.fault_count out.new) result }
 
-    // A good schedule is done whole, where neither the source nor the sink fails, unless memory or a journal runs out.
-    ensures complete { words.now ≡ replay_words → (Rose (S.fault_count src.old) (S.fault_count src.new) → ⊥) → (Rose (K.fault_count out.old) (K.fault_count out.new) → ⊥) → Completes (S.left src.old) (K.held out.old) (K.held out.new) result }
+    // A good schedule is done whole, where neither the source nor the sink fails, unless memory runs out.
+    ensures complete { words.now ≡ replay_words → (Rose (S.fault_count src.old) (S.fault_count src.new) → ⊥) → (Rose (K.fault_count out.old) (K.fault_count out.new) → ⊥) → Completes journal_overflow (S.left src.old) (K.held out.old) (K.held out.new) result }
 {
     if is_replay(words.as_slice()) {
         replay(alloc, src, out)

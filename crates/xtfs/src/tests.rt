@@ -84,6 +84,42 @@ answer 1 1 10 2 1 616263
 done 10 2 ok 1 616263
 ";
 
+/// What is read of `ONE_REPLICA` behind its end.
+const READ_ON: &[u8] = b"read 10 1 0 2 5
+settle 10
+read 10 1 0 3 1
+settle 10
+";
+
+const READ_ON_TRACE: &[u8] = b"begin 10 3 read 1 0 2 5
+answer 1 1 10 3 1 63
+done 10 3 ok 1 63
+begin 10 4 read 1 0 3 1
+answer 1 1 10 4 1 -
+done 10 4 ok 1 -
+";
+
+const NOT_WRITTEN: &[u8] = b"times 1000 100
+osd 1
+client 10 0
+start 1 0
+file 1 rep 131072 1
+tick 1100
+read 10 1 0 0 3
+deliver 1
+deliver 2
+";
+
+const NOT_WRITTEN_TRACE: &[u8] = b"times 1000 100
+up 10 1 0
+up 1 1 0
+file 1 rep 131072 1
+tick 1100
+begin 10 1 read 1 0 0 3
+answer 1 1 10 1 0 -
+done 10 1 ok 0 -
+";
+
 const STOPS: &[u8] = b"times 1000 100
 osd 1
 client 10 0
@@ -145,6 +181,22 @@ fn an_empty_source_gives_an_empty_trace(rt: HostRuntime) -> Result<(), Fail> {
 #[test]
 fn one_replica_is_written_and_read(rt: HostRuntime) -> Result<(), Fail> {
     gives(&rt, rt.alloc(), ONE_REPLICA, 0, ONE_REPLICA_TRACE)
+}
+
+/// Both texts, one behind the other.
+fn joined(alloc: Global, first: &[u8], second: &[u8]) -> Result<Vec<u8>, Fail> {
+    let mut all = Vec::from_slice(alloc, first)?;
+    all.extend_from_slice(second)?;
+    Ok(all)
+}
+
+#[test]
+fn a_read_ends_with_the_file(rt: HostRuntime) -> Result<(), Fail> {
+    let alloc = rt.alloc();
+    let schedule = joined(alloc, ONE_REPLICA, READ_ON)?;
+    let trace = joined(alloc, ONE_REPLICA_TRACE, READ_ON_TRACE)?;
+    gives(&rt, alloc, schedule.as_slice(), 0, trace.as_slice())?;
+    gives(&rt, alloc, NOT_WRITTEN, 0, NOT_WRITTEN_TRACE)
 }
 
 #[test]

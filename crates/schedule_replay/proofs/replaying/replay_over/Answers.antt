@@ -9,35 +9,32 @@ use Rattle.schedule_replay.proofs.replaying.replay_over.Goals as goal
 pub loop-line-init : goal.loop-line-init
 loop-line-init g c =
     record {
-      so_far = begun _ _ (standing g.H.Hull.kept g.H.Hull.fulls c.args.world.now).world c.requires.start;
+      so_far = begun g.H.Hull.overflow _ _ (standing g.H.Hull.kept c.args.world.now).world c.requires.start;
       count = subst (λ (w : World). length w.lines ≡ 0) (sym c.requires.start) refl;
       going = c.requires.going;
       source = refl;
       sink = refl;
-      fulls = refl;
     }
 
 pub returns-in-Some-clause-replay : goal.returns-in-Some-clause-replay
-returns-in-Some-clause-replay g c = ends_so _ _ _ _ _ _ (standing g.H.Hull.kept g.H.Hull.fulls c.loop-line.world) c.in-Some.status c.loop-line.invariant.so_far (omega (arith, c.loop-line.invariant.count)) c.in-Some.ensures.step
+returns-in-Some-clause-replay g c = ends_so g.H.Hull.overflow _ _ _ _ _ _ (standing g.H.Hull.kept c.loop-line.world) c.in-Some.status c.loop-line.invariant.so_far (omega (arith, c.loop-line.invariant.count)) c.in-Some.ensures.step
 
 pub loop-line-preserved : goal.loop-line-preserved
 loop-line-preserved g c =
     let next = c.in-None.ensures.step in
     record {
-      so_far = goes_on _ _ _ _ _ _ (standing g.H.Hull.kept g.H.Hull.fulls c.loop-line.world) (standing g.H.Hull.kept g.H.Hull.fulls c.replay_line.new.world) c.loop-line.invariant.so_far next;
-      count = ap length (lines_after (standing g.H.Hull.kept g.H.Hull.fulls c.loop-line.world) (standing g.H.Hull.kept g.H.Hull.fulls c.replay_line.new.world) next.line next.done) ∙ omega (arith, length-append c.loop-line.world.world.lines (next.line ∷ []), c.loop-line.invariant.count);
-      going = still_going (standing g.H.Hull.kept g.H.Hull.fulls c.loop-line.world) (standing g.H.Hull.kept g.H.Hull.fulls c.replay_line.new.world) next.line next.done ∙ c.loop-line.invariant.going;
+      so_far = goes_on g.H.Hull.overflow _ _ _ _ _ _ (standing g.H.Hull.kept c.loop-line.world) (standing g.H.Hull.kept c.replay_line.new.world) c.loop-line.invariant.so_far next;
+      count = ap length (lines_after (standing g.H.Hull.kept c.loop-line.world) (standing g.H.Hull.kept c.replay_line.new.world) next.line next.done) ∙ omega (arith, length-append c.loop-line.world.world.lines (next.line ∷ []), c.loop-line.invariant.count);
+      going = still_going (standing g.H.Hull.kept c.loop-line.world) (standing g.H.Hull.kept c.replay_line.new.world) next.line next.done ∙ c.loop-line.invariant.going;
       source = c.in-None.ensures.cause.0 ∙ c.loop-line.invariant.source;
       sink = c.in-None.ensures.cause.1 ∙ c.loop-line.invariant.sink;
-      fulls = c.in-None.ensures.cause.2 ∙ c.loop-line.invariant.fulls;
     }
 
 pub returns-clause-replay : goal.returns-clause-replay
 returns-clause-replay g c =
     let full : length c.loop-line.world.world.lines ≡ LINES = omega (arith, c.loop-line.invariant.count) in
-    ends_so _ _ _ _ _ _ (standing g.H.Hull.kept g.H.Hull.fulls c.loop-line.world) c.past_last.result c.loop-line.invariant.so_far (omega (arith, full)) (c.past_last.ensures.end (standing g.H.Hull.kept g.H.Hull.fulls c.loop-line.world) full)
+    ends_so g.H.Hull.overflow _ _ _ _ _ _ (standing g.H.Hull.kept c.loop-line.world) c.past_last.result c.loop-line.invariant.so_far (omega (arith, full)) (c.past_last.ensures.end g.H.Hull.overflow (standing g.H.Hull.kept c.loop-line.world) full)
 
 pub returns-clause-cause : goal.returns-clause-cause
 returns-clause-cause g c =
-    moved_cause _ _ _ _ _ _ _ _ _ c.past_last.result c.loop-line.invariant.source c.loop-line.invariant.sink c.loop-line.invariant.fulls
-    (c.past_last.ensures.cause (g.H.Hull.fulls c.loop-line.world.world.hull) (g.H.Hull.fulls c.loop-line.world.world.hull))
+    moved_cause _ _ _ _ _ _ c.past_last.result c.loop-line.invariant.source c.loop-line.invariant.sink c.past_last.ensures.cause

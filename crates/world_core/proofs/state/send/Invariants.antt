@@ -7,5 +7,4 @@ invariant-loop-message g l =
     record {
       sent : l.sent ≡ l.initial.sent ++ numbered l.nodes (take l.message-index l.outs);
       records : g.H.Hull.kept l.hull ≡ g.H.Hull.kept l.initial.hull;
-      room : g.H.Hull.fulls l.hull ≡ g.H.Hull.fulls l.initial.hull;
     }

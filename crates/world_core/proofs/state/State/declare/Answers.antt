@@ -20,7 +20,7 @@ returns-in_ok-push-in-Some-clause-done g c =
       entries = c.self.inside.entries.items;
       lines = take c.self.inside.taken c.self.inside.lines.items;
     } in
-    let v : w ≡ (standing g.H.Hull.kept g.H.Hull.fulls c.args.self.now).world = ap (λ (x : Standing). x.world) (ap (standing g.H.Hull.kept g.H.Hull.fulls) c.self.view_is) in
+    let v : w ≡ (standing g.H.Hull.kept c.args.self.now).world = ap (λ (x : Standing). x.world) (ap (standing g.H.Hull.kept) c.self.view_is) in
     let whole : World = record w { nodes = c.push.new.self.items; entries = c.push-in-Some.new.self.items } in
     let room : nat_lt (length w.nodes) NODES ≡ true = grind (arith, c.len.ensures) in (
       whole,
@@ -28,7 +28,7 @@ returns-in_ok-push-in-Some-clause-done g c =
           ∙ ap (λ o. declared w c.args.host (option_to_list o)) c.in-Some.is
           ∙ declared_is w c.args.host (c.in-Some.entry ∷ []) c.push.new.self.items c.push-in-Some.new.self.items room
           c.in_ok-push.ensures.items c.in_ok-push-in-Some.ensures.items,
-      ap (λ (x : Standing). record x { world = whole }) (ap (standing g.H.Hull.kept g.H.Hull.fulls) c.self.view_is),
+      ap (λ (x : Standing). record x { world = whole }) (ap (standing g.H.Hull.kept) c.self.view_is),
     )
 
 pub returns-in-None-clause-done : goal.returns-in-None-clause-done
@@ -43,12 +43,12 @@ returns-in-None-clause-done g c =
       entries = c.self.inside.entries.items;
       lines = take c.self.inside.taken c.self.inside.lines.items;
     } in
-    let v : w ≡ (standing g.H.Hull.kept g.H.Hull.fulls c.args.self.now).world = ap (λ (x : Standing). x.world) (ap (standing g.H.Hull.kept g.H.Hull.fulls) c.self.view_is) in
+    let v : w ≡ (standing g.H.Hull.kept c.args.self.now).world = ap (λ (x : Standing). x.world) (ap (standing g.H.Hull.kept) c.self.view_is) in
     let whole : World = record w { nodes = c.push.new.self.items } in
     let room : nat_lt (length w.nodes) NODES ≡ true = grind (arith, c.len.ensures) in (
       whole,
       ap (λ (x : World). declared x c.args.host (option_to_list c.args.entry)) (sym v)
           ∙ ap (λ o. declared w c.args.host (option_to_list o)) c.in-None.is
           ∙ declared_is w c.args.host [] c.push.new.self.items w.entries room c.in_ok-push.ensures.items (sym (append-nil w.entries)),
-      ap (λ (x : Standing). record x { world = whole }) (ap (standing g.H.Hull.kept g.H.Hull.fulls) c.self.view_is),
+      ap (λ (x : Standing). record x { world = whole }) (ap (standing g.H.Hull.kept) c.self.view_is),
     )

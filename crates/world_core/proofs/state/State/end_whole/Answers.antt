@@ -9,9 +9,9 @@ use Rattle.world_core.proofs.state.State.end_whole.Goals as goal
 
 pub returns-clause-unfinished : goal.returns-clause-unfinished
 returns-clause-unfinished g c =
-    let s : Standing = standing g.H.Hull.kept g.H.Hull.fulls c.args.self.now in
+    let s : Standing = standing g.H.Hull.kept c.args.self.now in
     unfinished_as c.commit.result s (with_given s.world c.args.node c.args.turned.rec c.as_slice.result.now c.in_ok-made.made.items)
-    (after_turn s.world c.args.node c.args.turned) (standing g.H.Hull.kept g.H.Hull.fulls c.commit.new.self)
+    (after_turn s.world c.args.node c.args.turned) (standing g.H.Hull.kept c.commit.new.self)
     (ap (λ (outs : List Msg). with_given s.world c.args.node c.args.turned.rec outs c.in_ok-made.made.items) c.as_slice.ensures
     ∙ ap (λ (es : List Entry). with_given s.world c.args.node c.args.turned.rec c.args.turned.outs es) c.in_ok-made.ensures)
     c.commit.ensures.unfinished

@@ -28,7 +28,7 @@ returns-clause-handed g c =
       entries = c.self.inside.entries.items;
       lines = take c.self.inside.taken c.self.inside.lines.items;
     } in
-    let v : w ≡ (standing g.H.Hull.kept g.H.Hull.fulls c.args.self.now).world = ap (λ (x : Standing). x.world) (ap (standing g.H.Hull.kept g.H.Hull.fulls) c.self.view_is) in
+    let v : w ≡ (standing g.H.Hull.kept c.args.self.now).world = ap (λ (x : Standing). x.world) (ap (standing g.H.Hull.kept) c.self.view_is) in
     let at : IsNodeAt nodes c.args.client.0 p = rw (← c.as_slice.ensures.value) c.in-Some.ensures in
     let e : d ≡ get_or nodes p d = c.index_mut.ensures.value in
     let used : Some file ≡ called_file c.args.call.now = c.in-Some-called_file.ensures in (
@@ -41,13 +41,10 @@ returns-clause-handed g c =
           ∙ ap (λ o. call_made w (node_in w.nodes c.args.client.0) c.args.call.now o) used
           ∙ ap (λ (x : World). call_made x (node_in x.nodes c.args.client.0) c.args.call.now (called_file c.args.call.now)) v,
       (
-        (
-          ap (λ (x : Standing). x.world.entries) (ap (standing g.H.Hull.kept g.H.Hull.fulls) c.self.view_is),
-          ap (λ (x : Standing). x.world.lines) (ap (standing g.H.Hull.kept g.H.Hull.fulls) c.self.view_is),
-          ap (λ (x : Standing). x.begun) (ap (standing g.H.Hull.kept g.H.Hull.fulls) c.self.view_is),
-          ap (λ (x : Standing). x.ended) (ap (standing g.H.Hull.kept g.H.Hull.fulls) c.self.view_is),
-        ),
-        ap (λ (x : Standing). x.fulls) (ap (standing g.H.Hull.kept g.H.Hull.fulls) c.self.view_is),
+        ap (λ (x : Standing). x.world.entries) (ap (standing g.H.Hull.kept) c.self.view_is),
+        ap (λ (x : Standing). x.world.lines) (ap (standing g.H.Hull.kept) c.self.view_is),
+        ap (λ (x : Standing). x.begun) (ap (standing g.H.Hull.kept) c.self.view_is),
+        ap (λ (x : Standing). x.ended) (ap (standing g.H.Hull.kept) c.self.view_is),
       ),
     )
 
@@ -68,8 +65,8 @@ returns-clause-ready g c =
       entries = c.self.inside.entries.items;
       lines = take c.self.inside.taken c.self.inside.lines.items;
     } in
-    let v : w ≡ (standing g.H.Hull.kept g.H.Hull.fulls c.args.self.now).world =
-    ap (λ (x : Standing). x.world) (ap (standing g.H.Hull.kept g.H.Hull.fulls) c.self.view_is) in
+    let v : w ≡ (standing g.H.Hull.kept c.args.self.now).world =
+    ap (λ (x : Standing). x.world) (ap (standing g.H.Hull.kept) c.self.view_is) in
     let at : IsNodeAt nodes c.args.client.0 p = rw (← c.as_slice.ensures.value) c.in-Some.ensures in
     let e : d ≡ get_or nodes p d = c.index_mut.ensures.value in
     call_ready w p c.args.client d c.call.new.self c.args.call.now file location c.id.result c.in_ok-turned.turned
@@ -79,10 +76,10 @@ returns-clause-ready g c =
 
 pub returns-in_default-called_file-clause-ready : goal.returns-in_default-called_file-clause-ready
 returns-in_default-called_file-clause-ready g c =
-    nothing_ready (standing g.H.Hull.kept g.H.Hull.fulls c.args.self.now).world c.args.client c.nothing-in_default-called_file.result
+    nothing_ready (standing g.H.Hull.kept c.args.self.now).world c.args.client c.nothing-in_default-called_file.result
     c.nothing-in_default-called_file.ensures c.requires.fits
 
 pub returns-in_default-find-clause-ready : goal.returns-in_default-find-clause-ready
 returns-in_default-find-clause-ready g c =
-    nothing_ready (standing g.H.Hull.kept g.H.Hull.fulls c.args.self.now).world c.args.client c.nothing-in_default-find.result
+    nothing_ready (standing g.H.Hull.kept c.args.self.now).world c.args.client c.nothing-in_default-find.result
     c.nothing-in_default-find.ensures c.requires.fits

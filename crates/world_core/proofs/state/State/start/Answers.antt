@@ -1,4 +1,4 @@
-use Rattle.std.proofs.Common.{◌≡◌, ℕ, List, Some, ap, sym, ◌∙◌, map, take, drop, get_or}
+use Rattle.std.proofs.Common.{◌≡◌, ◌++◌, [], ◌∷◌, ℕ, List, Some, ap, sym, ◌∙◌, map, take, drop, get_or}
 use Rattle.std.proofs.Math.ListN.{set}
 use Rattle.xt_base.specs.declared.record.Record.{Record}
 use Rattle.xt_base.specs.declared.record.Record.TheVariants as kept
@@ -7,6 +7,8 @@ use Rattle.xt_base.specs.declared.ids.Boot.{Boot}
 use Rattle.xt_base.specs.declared.ids.NodeId.{NodeId}
 use Rattle.xt_protocol.specs.declared.FileState.{FileState}
 use Rattle.xt_protocol.specs.Folds.{fold_of, state_of, files_from}
+use Rattle.time_line.specs.declared.entry.Entry.{Entry}
+use Rattle.time_line.specs.declared.entry.Entry.TheVariants as entry
 use Rattle.world_runs.specs.declared.Role.TheVariants as role
 use Rattle.world_runs.specs.Records.{with_record}
 use Rattle.world_runs.specs.declared.Node.{Node}
@@ -34,8 +36,8 @@ returns-clause-done g c =
       lines = take c.self.inside.taken c.self.inside.lines.items;
     } in
     let s : Standing =
-    record { world = w; begun = drop c.self.inside.taken c.self.inside.lines.items; fulls = g.H.Hull.fulls c.self.inside.hull; ended = c.self.inside.ended } in
-    let v : s ≡ standing g.H.Hull.kept g.H.Hull.fulls c.args.self.now = ap (standing g.H.Hull.kept g.H.Hull.fulls) c.self.view_is in
+    record { world = w; begun = drop c.self.inside.taken c.self.inside.lines.items; ended = c.self.inside.ended } in
+    let v : s ≡ standing g.H.Hull.kept c.args.self.now = ap (standing g.H.Hull.kept) c.self.view_is in
     let p : ℕ = c.in-Some.place in
     let d : Node = c.index_mut.result.now in
     let id : NodeId = c.args.node in
@@ -57,9 +59,8 @@ returns-clause-done g c =
     ∙ ap (λ (fs : List FileState). record d { up = Some (runs boot clock); role = role.Osd (record { files = fs }) }) met
     ∙ ap (λ (n : Node). record n { up = Some (runs boot clock); role = role.Osd (record { files = files }) }) e)
     (c.in_ok-keep_boot.ensures.records ∙ ap (λ (r : ℕ → List Record). with_record r id (kept.Boot boot)) c.in_ok-boot.ensures.records)
-    c.in_ok-push.ensures.items in (
+    (c.in_ok-push.ensures.items ∙ ap (λ (es : List Entry). es ++ entry.Up id boot clock ∷ []) c.reserve.ensures.items) in (
       parts,
       ap (λ (x : Standing). started x.world id clock (node_in x.world.nodes id.0)) (sym v) ∙ is,
-      ap (λ (n : ℕ). record s { world = parts; fulls = n }) (c.in_ok-keep_boot.ensures.room ∙ c.in_ok-boot.ensures.room)
-          ∙ ap (λ (x : Standing). record x { world = parts }) v,
+      ap (λ (x : Standing). record x { world = parts }) v,
     )

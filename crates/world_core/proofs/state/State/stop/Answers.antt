@@ -21,13 +21,13 @@ returns-clause-done g c =
       lines = take c.self.inside.taken c.self.inside.lines.items;
     } in
     let s : Standing =
-    record { world = w; begun = drop c.self.inside.taken c.self.inside.lines.items; fulls = g.H.Hull.fulls c.self.inside.hull; ended = c.self.inside.ended } in
-    let v : s ≡ standing g.H.Hull.kept g.H.Hull.fulls c.args.self.now = ap (standing g.H.Hull.kept g.H.Hull.fulls) c.self.view_is in
+    record { world = w; begun = drop c.self.inside.taken c.self.inside.lines.items; ended = c.self.inside.ended } in
+    let v : s ≡ standing g.H.Hull.kept c.args.self.now = ap (standing g.H.Hull.kept) c.self.view_is in
     let up : up_in (node_in w.nodes c.args.node.0) ≡ Some c.in-Some.running = sym (rw (← c.as_slice.ensures.value) c.in-Some.ensures) in
     let down : World = went_down w c.args.node c.in-Some.running.clock halt.Idle in
-    subst (λ (x : Standing). IsWhole x (Whole (stops x.world (node_in x.world.nodes c.args.node.0))) (standing g.H.Hull.kept g.H.Hull.fulls c.halt.new.self)) v (
+    subst (λ (x : Standing). IsWhole x (Whole (stops x.world (node_in x.world.nodes c.args.node.0))) (standing g.H.Hull.kept c.halt.new.self)) v (
       down,
       ap Whole (sym (stops_is w c.args.node c.in-Some.running up)),
-      ap (standing g.H.Hull.kept g.H.Hull.fulls) c.halt.ensures
+      ap (standing g.H.Hull.kept) c.halt.ensures
           ∙ ap (λ es. record s { world = record w { nodes = changed_in w.nodes (node_in w.nodes c.args.node.0) stopped; entries = es } }) c.in_ok-push.ensures.items,
     )
