@@ -9,7 +9,7 @@
 # best of five loads counts, since other work on the machine takes time from each.
 set -eu
 here=$(cd "$(dirname "$0")" && pwd)
-program=${1:-$(bash "$here/build.sh")}
+program=${1:-$(bash "$here/../tests/build.sh" xt_bench)}
 folder=$(mktemp -d "${2:-${TMPDIR:-/tmp}}/journal.XXXXXX")
 trap 'rm -rf "$folder"' EXIT
 cat >"$folder/plain.c" <<'PLAIN'

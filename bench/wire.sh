@@ -6,7 +6,7 @@
 # processor time of the process.
 set -eu
 here=$(cd "$(dirname "$0")" && pwd)
-program=${1:-$(bash "$here/build.sh")}
+program=${1:-$(bash "$here/../tests/build.sh" xt_bench)}
 exec python3 - "$program" <<'PYTHON'
 import resource
 import subprocess
