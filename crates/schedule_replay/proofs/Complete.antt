@@ -19,7 +19,7 @@ use Rattle.world_runs.specs.Lines.{Whole, Stopped, line_applied}
 use Rattle.world_runs.specs.Runs.{after, after_refusal, run_of}
 use Rattle.world_runs.proofs.Grows.{line_grows}
 use Rattle.world_runs.specs.declared.TheConstants.{LINES, LINE_BYTES}
-use Rattle.world_core.specs.Room.{Room, LineOverflow, line_overflow}
+use Rattle.world_core.specs.Room.{Room, line_overflow}
 use Rattle.schedule_replay.specs.RawLine.{line_feed, IsInLine}
 use Rattle.schedule_replay.specs.NextLine.{ended, IsNoLine, StopsReading}
 use Rattle.schedule_replay.specs.Replay.{AreLines, IsDoneFrom, AreDoneFrom, AreRun, EndsWith, EndsAt, IsReplay, HasCause, IsWhole, Completes}

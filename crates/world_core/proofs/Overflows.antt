@@ -2,7 +2,6 @@
 use Rattle.std.proofs.Common.{◌≡◌, ℕ, ◌+◌, ◌-◌, ◌<◌, ◌≤◌, List, refl, ap, ◌∙◌, sym, arith, Bool, true, false, Option, Some, None, is_some, Result, Ok, Err, zero, suc, zero-add, cond, get_or, IfErr}
 use Rattle.std.specs.Prelude.{slice_get}
 use Rattle.xt_base.specs.declared.ids.NodeId.{NodeId}
-use Rattle.xt_base.specs.declared.message.Msg.{Msg}
 use Rattle.xt_base.specs.declared.record.Record.{Record}
 use Rattle.xt_base.specs.declared.status.Limited.{Limited}
 use Rattle.xt_protocol.specs.declared.Turned.{Turned}

@@ -1,5 +1,5 @@
 -- a world that is run by code, and what a line makes of it
-use Rattle.std.specs.Prelude.{ℕ, Bool, true, false, ◌-◌, ◌≡◌, ◌<◌, ◌++◌, ◌∷◌, [], List, ◌⊎◌, Some, None}
+use Rattle.std.specs.Prelude.{ℕ, Bool, true, false, ◌-◌, ◌≡◌, ◌++◌, ◌∷◌, [], List, ◌⊎◌, Some, None}
 use Rattle.std.specs.List.{AllByRecursion}
 use Rattle.xt_base.specs.declared.TheConstants.{COUNTS}
 use Rattle.xt_base.specs.declared.status.Limited.{Limited}
