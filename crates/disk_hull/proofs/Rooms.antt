@@ -4,7 +4,7 @@ use Rattle.std.proofs.lemmas.Bool.Decides.{nat_tests}
 use Rattle.std.proofs.lemmas.List.{map-append}
 use Rattle.std.proofs.lemmas.Result.{err_from_is_err_and}
 use Rattle.std.specs.Result.{IsErrAnd}
-use Rattle.disk_model.specs.Disk.{counted}
+use Rattle.xt_base.specs.Faults.{counted}
 use Rattle.disk_model.specs.declared.disk.Disk.{Ghosts}
 use Rattle.xt_base.specs.Limits.{FitsRecord}
 use Rattle.xt_base.specs.declared.record.Record.{Record}

@@ -6,7 +6,8 @@ use Rattle.std.proofs.Math.Logic.{∥∥₁_map}
 use Rattle.std.proofs.lemmas.List.{map-append}
 use Rattle.disk_model.specs.declared.plan.Stop.{Stop}
 use Rattle.disk_model.specs.Changes.{Memory}
-use Rattle.disk_model.specs.Disk.{Kept, IsFilled, counted}
+use Rattle.disk_model.specs.Disk.{Kept, IsFilled}
+use Rattle.xt_base.specs.Faults.{counted}
 use Rattle.disk_model.specs.Plan.{planned}
 use Rattle.xt_base.specs.Limits.{FitsRecord}
 use Rattle.xt_base.specs.declared.record.Record.{Record}

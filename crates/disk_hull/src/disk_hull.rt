@@ -16,7 +16,7 @@ use world_hull::{BodyErr, Hull, Kept, WorldErr};
 use xt_base::{FileId, Msg, NodeId, Octets, OutOfMemory, Record, Stamp};
 
 /// Each node's records on a disk of its own. A node without one has no record.
-#[derive(Debug, Drop)]
+#[derive(Drop)]
 pub struct DiskHull {
     stores: BTreeMap<u32, NodeStore>,
     /// How many messages were carried.

@@ -27,7 +27,7 @@ use xt_base::{CallList, Copies, FileId, Octets, OutOfMemory, Record, Stamp};
 use xt_journal::{Journal, LoadErr, Placed};
 
 /// The records of a node on a disk that doesn't fail. Contracts see their list.
-#[derive(Debug, Drop)]
+#[derive(Drop)]
 pub struct NodeStore {
     store: Store<MemoryDisk>,
 }

@@ -1,6 +1,7 @@
 -- A plan one call on.
 use Rattle.std.proofs.Common.{◌≡◌, ℕ, ◌+◌, Bool, ◌∙◌, ap, arith}
-use Rattle.disk_model.specs.Disk.{counted, GoesByPlan}
+use Rattle.disk_model.specs.Disk.{GoesByPlan}
+use Rattle.xt_base.specs.Faults.{counted}
 use Rattle.disk_model.specs.Plan.{planned, fails_at}
 use Rattle.disk_model.specs.declared.plan.Plan.{Plan}
 

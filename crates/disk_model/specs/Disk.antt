@@ -88,15 +88,6 @@ pub record LeavesOnly {D : Type 0} (moment : D → ℕ) (left_since : D → ℕ 
   -- for a run that began earlier
   pub before : (t : ℕ) (image : List ℕ) → t ≤ moment old → left_since new t image → left_since old t image ⊎ P image
 
--- a count that stays at the greatest 64-bit number
-abbrev pub counted : ℕ → ℕ
-counted n = min n (2 ^ 64 - 1)
-
--- each call that fails is counted, and no other
-abbrev pub fault_count_after : Bool → ℕ → ℕ
-fault_count_after true before = counted (before + 1)
-fault_count_after false before = before
-
 -- Of the coming calls this one came, after as many that look and as many that change: it failed as was planned.
 pub record GoesByPlan (looks changes : ℕ) (old new : ℕ → ℕ → Bool) (failed : Bool) : Type 0 where
   pub answer : failed ≡ old looks changes

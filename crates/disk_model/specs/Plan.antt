@@ -3,7 +3,7 @@ use Rattle.std.specs.Prelude.{ℕ, ◌+◌, Bool, false, ◌||◌, ◌==◌, nat
 use Rattle.std.specs.List.{list_any}
 use Rattle.disk_model.specs.declared.plan.Stop.{Stop}
 use Rattle.disk_model.specs.declared.plan.Plan.{Plan}
-use Rattle.disk_model.specs.Disk.{counted}
+use Rattle.xt_base.specs.Faults.{counted}
 
 -- whether the disk has stopped once as many writes and syncs were made
 abbrev pub has_stopped : Option Stop → ℕ → Bool

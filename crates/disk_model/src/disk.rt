@@ -1,5 +1,6 @@
 ghost use Rattle.std.specs.Prelude.{◌≡◌, ◌≤◌, ◌+◌, ◌*◌, ℕ, List, Bool, length, take, drop, IsTrue, IfOk, OnOk, OnErr, is_err};
-ghost use Rattle.disk_model.specs.Disk.{Kept, IsImage, Writes, Syncs, Elapses, fault_count_after, GoesByPlan};
+ghost use Rattle.disk_model.specs.Disk.{Kept, IsImage, Writes, Syncs, Elapses, GoesByPlan};
+ghost use Rattle.xt_base.specs.Faults.{fault_count_after};
 
 use xt_base::{Failed, OutOfMemory};
 

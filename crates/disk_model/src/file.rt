@@ -1,5 +1,5 @@
 ghost use Rattle.std.specs.Prelude.{◌≡◌, is_err, ℕ};
-ghost use Rattle.disk_model.specs.Disk.{fault_count_after};
+ghost use Rattle.xt_base.specs.Faults.{fault_count_after};
 
 use crate::Disk;
 use std::fs::{OpenFile, OpenOptions};
@@ -10,7 +10,7 @@ use xt_base::{Failed, OutOfMemory};
 
 /// A real file. Nothing is claimed of its contents, nor of when a call fails: that it keeps what it was given through
 /// a crash, as a `Disk` does, is trusted. Before an `attach` each device call fails.
-#[derive(Debug, Drop)]
+#[derive(Drop)]
 pub struct FileDisk<R: Files> {
     rt: R,
     file: Option<R::File>,

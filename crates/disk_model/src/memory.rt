@@ -13,7 +13,7 @@ use xt_base::{CallList, Failed, Octets, OutOfMemory};
 /// A disk in memory. Its calls fail as planned, and inside the reserved end and room not otherwise.
 ///
 /// It takes memory in `reserve` and `image` alone. A write that fails has put its piece, too.
-#[derive(Debug, Drop)]
+#[derive(Drop)]
 pub struct MemoryDisk {
     alloc: Global,
     first: Octets,

@@ -1,5 +1,5 @@
 /// A line of the record of calls. The pieces themselves lie behind one another.
-#[derive(Clone, Copy, Debug)]
+#[derive(Clone, Copy)]
 pub enum Note {
     Wrote { at: usize, len: usize },
     Synced,

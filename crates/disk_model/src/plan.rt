@@ -1,18 +1,19 @@
 ghost use Rattle.std.specs.Prelude.{◌≡◌, ◌+◌, is_err};
-ghost use Rattle.disk_model.specs.Disk.{counted, fault_count_after, GoesByPlan};
+ghost use Rattle.disk_model.specs.Disk.{GoesByPlan};
+ghost use Rattle.xt_base.specs.Faults.{counted, fault_count_after};
 
 use xt_base::{CallList, Failed};
 
 /// Where a disk in memory stops: in its write or sync of this number, counted from 1 at the making. Each later
 /// call fails. A crash then leaves the byte `fill` at each place that isn't synced.
-#[derive(Clone, Copy, Debug, PartialEq, Eq)]
+#[derive(Clone, Copy, PartialEq, Eq)]
 pub struct Stop {
     pub call: u64,
     pub fill: u8,
 }
 
 /// Which calls fail, and how many were made and failed. A count that stands at `u64::MAX` stays there.
-#[derive(Debug, Drop)]
+#[derive(Drop)]
 pub struct Plan {
     pub failing: CallList,
     pub stop: Option<Stop>,

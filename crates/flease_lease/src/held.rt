@@ -10,7 +10,7 @@ use std::marker::Model;
 use xt_base::{Ballot, Boot, Lease, Members, NodeId, Payload};
 
 /// A lease that this node holds until its end, and perhaps a round that renews it.
-#[derive(Clone, Copy, Debug, PartialEq, Eq)]
+#[derive(Clone, Copy, PartialEq, Eq)]
 pub struct Held {
     proposer: Proposer,
     end: u64,
@@ -28,7 +28,7 @@ impl Model for Held {
 }
 
 /// The right of the holder to act at one moment. Only [`Held::turn`] makes it. Contracts see the node and the moment.
-#[derive(Debug, Drop)]
+#[derive(Drop)]
 pub struct Turn<'a> {
     held: &'a Held,
     moment: u64,
@@ -46,7 +46,7 @@ impl<'a> Model for Turn<'a> {
 }
 
 /// What an answer to a renewal made.
-#[derive(Clone, Copy, Debug, PartialEq, Eq)]
+#[derive(Clone, Copy, PartialEq, Eq)]
 pub enum Renewal {
     Nothing,
     /// A Write goes to these.

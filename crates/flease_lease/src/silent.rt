@@ -5,7 +5,7 @@ use std::marker::Model;
 use xt_base::{Boot, NodeId, Times};
 
 /// An OSD that has just started and drops every message.
-#[derive(Clone, Copy, Debug, PartialEq, Eq)]
+#[derive(Clone, Copy, PartialEq, Eq)]
 pub struct Silent {
     times: Times,
     node: NodeId,
@@ -27,7 +27,7 @@ impl Model for Silent {
 }
 
 /// An OSD whose silence is over.
-#[derive(Clone, Copy, Debug, PartialEq, Eq)]
+#[derive(Clone, Copy, PartialEq, Eq)]
 pub struct Awake {
     times: Times,
     node: NodeId,

@@ -8,7 +8,7 @@ const FIRST: Boot = Boot(1);
 const SECOND: Boot = Boot(2);
 
 /// What a message of a round to an acceptor, and the answer to it, came to.
-#[derive(Clone, Copy, Debug, PartialEq, Eq)]
+#[derive(Clone, Copy, PartialEq, Eq)]
 enum Came {
     /// The promise was counted.
     Counted,

@@ -1,6 +1,7 @@
 -- what is left of a source, what a sink holds, which calls fail, and counts of faults
 use Rattle.std.specs.Prelude.{ℕ, ◌<◌, ◌^◌, ◌+◌, ◌-◌, ◌≡◌, ◌==◌, ◌⊎◌, Bool, true, false, not, ◌&&◌, min, Option, Some, None, List, [], ◌++◌, length}
 use Rattle.std.specs.List.{list_any}
+use Rattle.xt_base.specs.Faults.{counted}
 
 -- These bytes were taken from the front of what was left. What isn't told stays so.
 abbrev pub Takes : Option (List ℕ) → Option (List ℕ) → List ℕ → Type 0
@@ -16,19 +17,6 @@ IsAtEnd (Some left) = left ≡ []
 abbrev pub Puts : Option (List ℕ) → Option (List ℕ) → List ℕ → Type 0
 Puts None new bytes = new ≡ None
 Puts (Some held) new bytes = new ≡ Some (held ++ bytes)
-
--- A count of faults rose. One that stands at its greatest value stays there.
-abbrev pub Rose : ℕ → ℕ → Type 0
-Rose old new = (old < new) ⊎ (new ≡ 2 ^ 64 - 1)
-
--- a count that stays at the greatest 64-bit number
-abbrev pub counted : ℕ → ℕ
-counted n = min n (2 ^ 64 - 1)
-
--- each call that fails is counted, and no other
-abbrev pub fault_count_after : Bool → ℕ → ℕ
-fault_count_after true before = counted (before + 1)
-fault_count_after false before = before
 
 -- whether a coming call is one of those that are named, counted from 1, where the next one comes after as many calls
 abbrev pub is_named : List ℕ → ℕ → ℕ → Bool

@@ -1,6 +1,7 @@
 ghost use Rattle.std.specs.Prelude.{◌≡◌, ◌≤◌, ◌+◌, ◌||◌, ℕ, Bool, false, List, [], Option, Some, None, length, take, is_err, IfOk, OnOk, OnErr, IfSome, OnSome};
 ghost use Rattle.std.specs.Vec.{vec_capacity};
-ghost use Rattle.node_links.specs.Streams.{Puts, Rose, fault_count_after, is_named, fitting, is_full};
+ghost use Rattle.node_links.specs.Streams.{Puts, is_named, fitting, is_full};
+ghost use Rattle.xt_base.specs.Faults.{Rose, fault_count_after};
 
 use std::alloc::Global;
 use std::io::Write;
@@ -43,7 +44,7 @@ pub trait Sink {
 
 /// Room for bytes in memory. The calls that are named, counted from 1, fail, and so does a call that could take
 /// nothing of a piece that isn't empty.
-#[derive(Debug, Drop)]
+#[derive(Drop)]
 pub struct MemorySink {
     bytes: Vec<u8>,
     room: usize,

@@ -1,5 +1,6 @@
 ghost use Rattle.std.specs.Prelude.{◌≡◌, ◌≤◌, ◌+◌, ◌⊎◌, ℕ, Bool, false, List, Option, Some, None, length, take, drop, min, is_err, IfOk, OnOk, OnErr, IfSome, OnSome};
-ghost use Rattle.node_links.specs.Streams.{Takes, IsAtEnd, Rose, fault_count_after, is_named};
+ghost use Rattle.node_links.specs.Streams.{Takes, IsAtEnd, is_named};
+ghost use Rattle.xt_base.specs.Faults.{Rose, fault_count_after};
 
 use std::io::Read;
 use xt_base::{CallList, Failed, Octets};
@@ -36,7 +37,7 @@ pub trait Source {
 }
 
 /// Bytes in memory. The calls that are named, counted from 1, fail, and no others.
-#[derive(Debug, Drop)]
+#[derive(Drop)]
 pub struct MemorySource {
     bytes: Octets,
     place: usize,

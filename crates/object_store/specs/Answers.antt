@@ -1,7 +1,7 @@
 -- What putting answers.
 use Rattle.std.specs.Prelude.{ℕ, ◌<◌, ◌≤◌, ◌≡◌, Option, None, Some, Result, Ok, Err}
 use Rattle.disk_model.specs.declared.disk.Disk.{Ghosts}
-use Rattle.disk_model.specs.Disk.{counted}
+use Rattle.xt_base.specs.Faults.{counted}
 use Rattle.xt_journal.specs.Access.{limit_of}
 use Rattle.object_store.specs.declared.store.Store.{Store}
 use Rattle.object_store.specs.declared.errors.AppendErr.{AppendErr}

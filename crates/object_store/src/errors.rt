@@ -3,7 +3,7 @@ use disk_model::Disk;
 use xt_journal::Journal;
 
 /// Why a journal isn't loaded. It comes back as it was.
-#[derive(Debug, Drop)]
+#[derive(Drop)]
 pub enum StoreErr<D: Disk> {
     /// The payload at this index, from 0, isn't a record in its place, and those before it are.
     BadRecord { index: usize, journal: Journal<D> },
@@ -11,7 +11,7 @@ pub enum StoreErr<D: Disk> {
 }
 
 /// Why a record isn't put.
-#[derive(Debug, Drop)]
+#[derive(Drop)]
 pub enum AppendErr<D: Disk> {
     /// The disk has failed; this is its count of faults. The store is gone, and must be loaded again.
     Broken {

@@ -14,7 +14,7 @@ use xt_base::{OutOfMemory, Record};
 use xt_journal::Placed;
 
 /// Why payloads aren't read as records.
-#[derive(Clone, Copy, Debug, PartialEq, Eq)]
+#[derive(Clone, Copy, PartialEq, Eq)]
 pub enum Trouble {
     /// The payload at this index isn't a record in its place, and those before it are.
     BadRecord(usize),

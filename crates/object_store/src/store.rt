@@ -15,7 +15,7 @@ use xt_base::Record;
 use xt_journal::{Journal, Placed};
 
 /// The records of a node, each of them on a disk and in memory.
-#[derive(Debug, Drop)]
+#[derive(Drop)]
 pub struct Store<D: Disk> {
     pub(crate) journal: Journal<D>,
     pub(crate) log: RecordLog,
@@ -27,7 +27,8 @@ pub struct Store<D: Disk> {
 
 impl<D: Disk> Store<D> {
     ghost use Rattle.std.specs.Prelude.{◌≡◌, ◌≤◌, ◌<◌, ◌+◌, ◌++◌, ◌∷◌, [], ℕ, List, IfOk, IfSome, OnOk, IsSome, is_some, length};
-    ghost use Rattle.disk_model.specs.Disk.{IsImage, LeavesOnly, fault_count_after};
+    ghost use Rattle.disk_model.specs.Disk.{IsImage, LeavesOnly};
+    ghost use Rattle.xt_base.specs.Faults.{fault_count_after};
     ghost use Rattle.xt_base.specs.Limits.{FitsRecord};
     ghost use Rattle.xt_protocol.specs.Folds.{fold_of, IsInPlace};
     ghost use Rattle.replica_records.specs.RecordText.{record_text};

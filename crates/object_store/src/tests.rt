@@ -13,7 +13,7 @@ use xt_base::{Boot, CallList, Epoch, FileId, NodeId, Octets, OutOfMemory, Record
 use xt_journal::{Journal, LoadErr};
 
 /// What a call answered that was to answer otherwise.
-#[derive(Debug, Drop)]
+#[derive(Drop)]
 struct Otherwise;
 
 const LIMIT: u64 = 1 << 20;
@@ -118,7 +118,7 @@ fn the_last_body_is_kept(rt: HostRuntime) -> Result<(), Fail> {
 }
 
 /// What comes of a disk.
-#[derive(Clone, Copy, Debug, PartialEq, Eq)]
+#[derive(Clone, Copy, PartialEq, Eq)]
 enum Comes {
     /// A store of so many records.
     Loaded(usize),

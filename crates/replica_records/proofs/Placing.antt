@@ -15,7 +15,8 @@ use Rattle.xt_base.specs.declared.ids.Stamp.{Stamp}
 use Rattle.xt_base.specs.declared.record.Record.{Record}
 use Rattle.xt_base.specs.declared.record.Record.TheVariants as kept
 use Rattle.xt_protocol.specs.FileIds.{is_file}
-use Rattle.xt_protocol.specs.Folds.{is_stamp, body_put, body_kept, newer}
+use Rattle.xt_protocol.specs.Stamps.{is_stamp}
+use Rattle.xt_protocol.specs.Folds.{body_put, body_kept, newer}
 use Rattle.xt_protocol.proofs.Folds.{is_file-file_cmp, file-equal, body_kept-nothing, body_kept-push}
 use Rattle.replica_records.specs.declared.places.BodyKey.{BodyKey}
 use Rattle.replica_records.specs.declared.places.Places.{Places}

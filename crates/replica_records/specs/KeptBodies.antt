@@ -1,11 +1,7 @@
 -- what a call that reads a body answers
-use Rattle.std.specs.Prelude.{ℕ, ◌<◌, ◌≡◌, ◌⊎◌, ◌^◌, ◌-◌, List, Option, Some, None, Result, Ok, Err}
+use Rattle.std.specs.Prelude.{ℕ, List, Option, Some, None, Result, Ok, Err}
 use Rattle.replica_records.specs.declared.errors.BodyErr.{BodyErr}
 use Rattle.replica_records.specs.declared.errors.BodyErr.TheVariants as error
-
--- A count of faults rose. One that stands at its greatest value stays there.
-abbrev pub Rose : ℕ → ℕ → Type 0
-Rose old new = (old < new) ⊎ (new ≡ 2 ^ 64 - 1)
 
 -- how often reading had failed after a call that failed
 abbrev pub fault_in : Result (List ℕ) BodyErr → Option ℕ

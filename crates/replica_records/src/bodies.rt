@@ -2,7 +2,8 @@ ghost use Rattle.std.specs.Prelude.{◌≡◌, ◌↔◌, ℕ, List, Some, None,
 ghost use Rattle.xt_base.specs.declared.record.Record.{Record};
 ghost use Rattle.xt_protocol.specs.Folds.{body_kept};
 ghost use Rattle.replica_records.specs.declared.errors.BodyErr.TheVariants.{NoSuchVersion};
-ghost use Rattle.replica_records.specs.KeptBodies.{Rose, fault_in};
+ghost use Rattle.replica_records.specs.KeptBodies.{fault_in};
+ghost use Rattle.xt_base.specs.Faults.{Rose};
 
 use crate::errors::BodyErr;
 use std::alloc::Global;

@@ -15,7 +15,7 @@ use xt_base::{
 use xt_wire::is_at_most;
 
 /// What records say, taken one by one. Contracts see what those so far say.
-#[derive(Debug, Drop)]
+#[derive(Drop)]
 pub struct Folding {
     folded: Folded,
 }

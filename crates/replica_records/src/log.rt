@@ -6,7 +6,7 @@ use std::alloc::Global;
 use xt_base::{Copies, FileId, Octets, OutOfMemory, Record, Stamp};
 
 /// The records of one node in memory, and where the last record stands that put each body.
-#[derive(Debug, Drop)]
+#[derive(Drop)]
 pub struct RecordLog {
     records: Vec<Record>,
     places: Places,

@@ -8,7 +8,7 @@ use std::collections::BTreeMap;
 use xt_base::{FileId, OutOfMemory, Record, Stamp};
 
 /// Which version of which object of which file.
-#[derive(Clone, Copy, Debug, PartialEq, Eq, PartialOrd, Ord)]
+#[derive(Clone, Copy, PartialEq, Eq, PartialOrd, Ord)]
 pub struct BodyKey {
     pub file: FileId,
     pub object: u64,
@@ -16,7 +16,7 @@ pub struct BodyKey {
 }
 
 /// Where the last record stands that put each body. A key with no place is room for one.
-#[derive(Debug, Drop)]
+#[derive(Drop)]
 pub struct Places {
     places: BTreeMap<BodyKey, Option<usize>>,
 }

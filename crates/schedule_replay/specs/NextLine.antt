@@ -3,7 +3,8 @@ use Rattle.std.specs.Prelude.{ℕ, ◌==◌, ◌≡◌, ◌≢◌, ◌+◌, ◌�
 use Rattle.xt_base.specs.declared.status.Limited.TheVariants as limited
 use Rattle.xt_base.specs.declared.status.Status.{Status}
 use Rattle.xt_base.specs.declared.status.Status.TheVariants as status
-use Rattle.node_links.specs.Streams.{Takes, IsAtEnd, Rose}
+use Rattle.node_links.specs.Streams.{Takes, IsAtEnd}
+use Rattle.xt_base.specs.Faults.{Rose}
 use Rattle.time_line.specs.declared.line.Line.{Line}
 use Rattle.world_runs.specs.declared.TheConstants.{LINE_BYTES}
 use Rattle.schedule_text.specs.LineText.{line_text, IsLine}

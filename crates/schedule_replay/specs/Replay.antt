@@ -3,7 +3,8 @@ use Rattle.std.specs.Prelude.{ℕ, ◌==◌, ◌≡◌, ◌<◌, ◌≤◌, ◌+
 use Rattle.xt_base.specs.declared.status.Limited.TheVariants as limited
 use Rattle.xt_base.specs.declared.status.Status.{Status}
 use Rattle.xt_base.specs.declared.status.Status.TheVariants as status
-use Rattle.node_links.specs.Streams.{Takes, IsAtEnd, Puts, Rose}
+use Rattle.node_links.specs.Streams.{Takes, IsAtEnd, Puts}
+use Rattle.xt_base.specs.Faults.{Rose}
 use Rattle.time_line.specs.declared.line.Line.{Line}
 use Rattle.time_line.specs.declared.entry.Entry.{Entry}
 use Rattle.time_line.specs.TimeLine.{IsToldWhole, AnswersShow}

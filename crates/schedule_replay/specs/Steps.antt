@@ -2,7 +2,8 @@
 use Rattle.std.specs.Prelude.{ℕ, ◌==◌, ◌≡◌, ◌⊎◌, Option, Some, None, List, [], ◌++◌, length}
 use Rattle.xt_base.specs.declared.status.Status.{Status}
 use Rattle.xt_base.specs.declared.status.Status.TheVariants as status
-use Rattle.node_links.specs.Streams.{Takes, Puts, Rose}
+use Rattle.node_links.specs.Streams.{Takes, Puts}
+use Rattle.xt_base.specs.Faults.{Rose}
 use Rattle.time_line.specs.declared.line.Line.{Line}
 use Rattle.time_line.specs.declared.entry.Entry.{Entry}
 use Rattle.schedule_text.specs.LineText.{line_text, IsLine}

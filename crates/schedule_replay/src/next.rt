@@ -10,7 +10,7 @@ use world_runs::{LINE_BYTES, LINES};
 use xt_base::{Limited, Status};
 
 /// The next line of a schedule, or why there is none.
-#[derive(Debug, Drop)]
+#[derive(Drop)]
 pub enum NextLine {
     Line(Line),
     /// The source is at its end.

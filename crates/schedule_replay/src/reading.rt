@@ -1,5 +1,6 @@
 ghost use Rattle.std.specs.Prelude.{◌≡◌, ◌≢◌, ◌≤◌, ℕ, List, [], ◌∷◌, ◌++◌, length, IfOk, OnOk, OnErr, MatchOption};
-ghost use Rattle.node_links.specs.Streams.{Takes, IsAtEnd, Rose};
+ghost use Rattle.node_links.specs.Streams.{Takes, IsAtEnd};
+ghost use Rattle.xt_base.specs.Faults.{Rose};
 ghost use Rattle.schedule_replay.specs.RawLine.{IsRawLine};
 
 use node_links::Source;
@@ -7,7 +8,7 @@ use world_runs::LINE_BYTES;
 use xt_base::Failed;
 
 /// Why the reading of a line ended.
-#[derive(Clone, Copy, Debug, PartialEq, Eq)]
+#[derive(Clone, Copy, PartialEq, Eq)]
 pub enum RawLine {
     /// Nothing was left.
     End,

@@ -1,5 +1,5 @@
 ghost use Rattle.std.specs.Prelude.{◌≡◌, false, length};
-ghost use Rattle.node_links.specs.Streams.{Rose};
+ghost use Rattle.xt_base.specs.Faults.{Rose};
 ghost use Rattle.world_runs.specs.World.{start_world};
 ghost use Rattle.world_core.specs.Standing.{Standing, standing};
 ghost use Rattle.disk_hull.specs.Room.{journal_overflow};

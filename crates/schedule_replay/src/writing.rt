@@ -1,5 +1,6 @@
 ghost use Rattle.std.specs.Prelude.{◌≡◌, List, ℕ, OnOk, OnErr};
-ghost use Rattle.node_links.specs.Streams.{Puts, Rose};
+ghost use Rattle.node_links.specs.Streams.{Puts};
+ghost use Rattle.xt_base.specs.Faults.{Rose};
 ghost use Rattle.schedule_replay.specs.Fronts.{PutsFront};
 
 use node_links::Sink;

@@ -18,7 +18,7 @@ use time_line::Line;
 use xt_base::{Call, NodeId, Octets, OutOfMemory};
 
 /// Why a line isn't read.
-#[derive(Clone, Copy, Debug, PartialEq, Eq)]
+#[derive(Clone, Copy, PartialEq, Eq)]
 pub enum LineErr {
     /// No line is spelled so.
     Malformed,

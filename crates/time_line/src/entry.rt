@@ -2,7 +2,7 @@ use std::alloc::Global;
 use xt_base::{Boot, Call, Copies, Location, NodeId, Octets, OpId, OutOfMemory, Outcome};
 
 /// How a node stopped.
-#[derive(Clone, Copy, Debug, PartialEq, Eq)]
+#[derive(Clone, Copy, PartialEq, Eq)]
 pub enum Halt {
     /// Between two steps.
     Idle,
@@ -15,7 +15,7 @@ pub enum Halt {
 }
 
 /// A line of a trace.
-#[derive(Debug, Drop)]
+#[derive(Drop)]
 pub enum Entry {
     /// The lease length and the drift, in milliseconds.
     Times {

@@ -2,7 +2,7 @@ use std::alloc::Global;
 use xt_base::{Call, Copies, Location, NodeId, OutOfMemory};
 
 /// A line of a schedule.
-#[derive(Debug, Drop)]
+#[derive(Drop)]
 pub enum Line {
     /// The lease length and the drift, in milliseconds. It is the first line, if any.
     Times { lease: u64, drift: u64 },

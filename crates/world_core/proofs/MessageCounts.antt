@@ -5,7 +5,7 @@ use Rattle.std.proofs.lemmas.List.Sums.{sum_by_push, sum_by-set}
 use Rattle.std.proofs.lemmas.Option.{slice_get-get_or}
 use Rattle.std.proofs.lemmas.Bool.{cases_eq, cases_lt}
 use Rattle.std.specs.Prelude.{min, slice_get}
-use Rattle.xt_protocol.specs.FrameLength.{frame_length}
+use Rattle.xt_base.specs.FrameLength.{frame_length}
 use Rattle.xt_base.specs.declared.message.Msg.{Msg}
 use Rattle.world_runs.specs.declared.Sent.{Sent}
 use Rattle.world_runs.specs.Lines.{pending, least_pending, no_longer_pending}

@@ -1,6 +1,6 @@
 //! How long the frame of a message is, in bytes. One that passes 64 bits stays at the greatest number.
 ghost use Rattle.std.specs.Prelude.{◌≡◌, ◌≤◌, ◌+◌, ◌*◌, length, sum_by};
-ghost use Rattle.xt_protocol.specs.FrameLength.{octets_length, text_length, report_length, location_length, capability_length, head_length, update_length, op_length, reply_length, meta_req_length, meta_refusal_length, meta_answer_length, registry_req_length, row_length, registry_answer_length, payload_length, frame_length};
+ghost use Rattle.xt_base.specs.FrameLength.{octets_length, text_length, report_length, location_length, capability_length, head_length, update_length, op_length, reply_length, meta_req_length, meta_refusal_length, meta_answer_length, registry_req_length, row_length, registry_answer_length, payload_length, frame_length};
 ghost use Rattle.world_core.specs.Counts.{within_64};
 
 use xt_base::{

@@ -19,7 +19,7 @@ use xt_base::{
 use xt_protocol::Turned;
 
 /// Who asks, of which file, and the size of an object in bytes.
-#[derive(Clone, Copy, Debug, PartialEq, Eq)]
+#[derive(Clone, Copy, PartialEq, Eq)]
 pub struct Asker {
     pub file: FileId,
     pub id: OpId,

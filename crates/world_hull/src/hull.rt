@@ -12,7 +12,7 @@ use std::alloc::Global;
 use xt_base::{FileId, Msg, NodeId, Octets, Record, Stamp};
 
 /// How an append ended.
-#[derive(Clone, Copy, Debug, PartialEq, Eq)]
+#[derive(Clone, Copy, PartialEq, Eq)]
 pub enum Kept {
     /// The record is kept.
     Done,

@@ -12,7 +12,7 @@ use std::collections::BTreeMap;
 use xt_base::{Copies, FileId, Msg, NodeId, Octets, OutOfMemory, Record, Stamp};
 
 /// The records of each node in memory.
-#[derive(Debug, Drop)]
+#[derive(Drop)]
 pub struct ListHull {
     logs: BTreeMap<u32, RecordLog>,
 }

@@ -22,7 +22,7 @@ use Rattle.xt_base.specs.Overlay.{zeros}
 use Rattle.xt_protocol.specs.declared.OsdState.{OsdState}
 use Rattle.xt_protocol.specs.declared.ClientState.{ClientState}
 use Rattle.xt_protocol.specs.declared.Turned.{Turned}
-use Rattle.xt_protocol.specs.FrameLength.{frame_length}
+use Rattle.xt_base.specs.FrameLength.{frame_length}
 use Rattle.xt_protocol.specs.Folds.{fold_of, files_from}
 use Rattle.xt_protocol.specs.OsdRows.{Ask, ask_step, head_in, with_head}
 use Rattle.xt_protocol.specs.ClientRows.{called, answered}

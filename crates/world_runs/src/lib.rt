@@ -25,7 +25,7 @@ pub const MESSAGES: u64 = 1_048_576;
 pub const MESSAGE_BYTES: u64 = 1_073_741_824;
 
 /// A running node: its start, what its clock reads, in milliseconds, and how a schedule plans to stop it.
-#[derive(Clone, Copy, Debug, PartialEq, Eq)]
+#[derive(Clone, Copy, PartialEq, Eq)]
 pub struct Running {
     pub boot: Boot,
     pub clock: u64,
@@ -36,14 +36,14 @@ pub struct Running {
 }
 
 /// What a node is, with its state.
-#[derive(Debug, Drop)]
+#[derive(Drop)]
 pub enum Role {
     Osd(OsdState),
     Client(ClientState),
 }
 
 /// A declared node; it runs where `up` is there.
-#[derive(Debug, Drop)]
+#[derive(Drop)]
 pub struct Node {
     pub id: NodeId,
     pub up: Option<Running>,
@@ -51,14 +51,14 @@ pub struct Node {
 }
 
 /// A declared file.
-#[derive(Clone, Copy, Debug, PartialEq, Eq)]
+#[derive(Clone, Copy, PartialEq, Eq)]
 pub struct DeclaredFile {
     pub number: u64,
     pub location: Location,
 }
 
 /// A message that was sent; it is pending until it is delivered or dropped.
-#[derive(Debug, Drop)]
+#[derive(Drop)]
 pub struct Sent {
     pub message: Msg,
     pub pending: bool,

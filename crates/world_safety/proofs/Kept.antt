@@ -15,7 +15,8 @@ use Rattle.xt_base.specs.declared.record.FileRow.{FileRow}
 use Rattle.xt_base.specs.declared.record.Folded.{Folded}
 use Rattle.xt_protocol.specs.FileIds.{is_file}
 use Rattle.xt_protocol.specs.Heads.{head_after}
-use Rattle.xt_protocol.specs.Folds.{row_in, row_after, fold_of, is_stamp, body_put, newer, body_kept}
+use Rattle.xt_protocol.specs.Stamps.{is_stamp}
+use Rattle.xt_protocol.specs.Folds.{row_in, row_after, fold_of, body_put, newer, body_kept}
 use Rattle.xt_protocol.proofs.Folds.{file-equal, file-itself, row_in-with_row, row_in-file, fold_of-push, body_kept-push}
 use Rattle.world_runs.specs.Records.{with_record, body_in}
 use Rattle.world_safety.proofs.Sound.{declared_id}

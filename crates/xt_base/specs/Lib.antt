@@ -4,3 +4,5 @@ pub mod TimeSettings
 pub mod StatusCode
 pub mod Overlay
 pub mod Limits
+pub mod FrameLength
+pub mod Faults

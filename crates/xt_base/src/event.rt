@@ -9,7 +9,7 @@ use crate::status::AskRefusal;
 use std::alloc::Global;
 
 /// A call of a client, on a file by its number, on the MRC or on the DIR.
-#[derive(Debug, Drop)]
+#[derive(Drop)]
 pub enum Call {
     Read {
         file: u64,
@@ -97,7 +97,7 @@ impl Copies for Call {
 }
 
 /// What a node handles in one step.
-#[derive(Debug, Drop)]
+#[derive(Drop)]
 pub enum Event {
     Deliver(Msg),
     /// Some time has passed.
@@ -116,7 +116,7 @@ impl Copies for Event {
 }
 
 /// What the MRC answered, as a trace shows it.
-#[derive(Debug, Drop)]
+#[derive(Drop)]
 pub enum MetaOutcome {
     Done,
     Refused {
@@ -174,7 +174,7 @@ impl Copies for NodeId {
 }
 
 /// What the DIR answered, as a trace shows it: of rows, the nodes.
-#[derive(Debug, Drop)]
+#[derive(Drop)]
 pub enum RegistryOutcome {
     Done { version: u64 },
     Changed { version: u64 },
@@ -200,7 +200,7 @@ impl Copies for RegistryOutcome {
 }
 
 /// How a call ended.
-#[derive(Debug, Drop)]
+#[derive(Drop)]
 pub enum Outcome {
     Ok { count: u64, bytes: Octets },
     Retry { answers: Answers },
@@ -231,7 +231,7 @@ impl Copies for Outcome {
 }
 
 /// What a step tells of itself: a line of the trace without the node.
-#[derive(Debug, Drop)]
+#[derive(Drop)]
 pub enum Mark {
     /// The MRC made a file.
     File {

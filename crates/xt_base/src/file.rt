@@ -4,7 +4,7 @@ use crate::members::Members;
 use std::alloc::Global;
 
 /// How a file's objects lie on its OSDs.
-#[derive(Clone, Copy, Debug, PartialEq, Eq)]
+#[derive(Clone, Copy, PartialEq, Eq)]
 pub enum Kind {
     /// Each member keeps all objects, and one at a time acts as primary.
     Replicated,
@@ -13,7 +13,7 @@ pub enum Kind {
 }
 
 /// Where a file's content is kept. A change of the members raises the version.
-#[derive(Clone, Copy, Debug, PartialEq, Eq)]
+#[derive(Clone, Copy, PartialEq, Eq)]
 pub struct Location {
     pub version: u32,
     pub kind: Kind,
@@ -23,7 +23,7 @@ pub struct Location {
 }
 
 /// What lets a client use a file, from the MRC, under a secret that it shares with the OSDs.
-#[derive(Clone, Copy, Debug, PartialEq, Eq)]
+#[derive(Clone, Copy, PartialEq, Eq)]
 pub struct Capability {
     pub file: FileId,
     /// 1 to read, 2 to read and write.
@@ -37,7 +37,7 @@ pub struct Capability {
 }
 
 /// An operation on a file's content.
-#[derive(Debug, Drop)]
+#[derive(Drop)]
 pub enum Op {
     /// The bytes of an object from `at` on, up to `len` of them.
     Read { object: u64, at: u32, len: u32 },
@@ -66,7 +66,7 @@ impl Copies for Op {
 }
 
 /// One write or truncation, as a primary sends it and a replica keeps it.
-#[derive(Debug, Drop)]
+#[derive(Drop)]
 pub struct Update {
     pub stamp: Stamp,
     pub id: OpId,
@@ -92,7 +92,7 @@ impl Copies for Update {
 }
 
 /// An object and the stamp of the update that made its bytes.
-#[derive(Clone, Copy, Debug, PartialEq, Eq)]
+#[derive(Clone, Copy, PartialEq, Eq)]
 pub struct ObjectVersion {
     pub object: u64,
     pub version: Stamp,
@@ -108,7 +108,7 @@ impl Copies for ObjectVersion {
 pub type Versions = Seq<ObjectVersion>;
 
 /// The last write of a client: its number, and how many writes the file had with it.
-#[derive(Clone, Copy, Debug, PartialEq, Eq)]
+#[derive(Clone, Copy, PartialEq, Eq)]
 pub struct Session {
     pub client: NodeId,
     pub number: u64,
@@ -125,7 +125,7 @@ impl Copies for Session {
 pub type Sessions = Seq<Session>;
 
 /// The state of a replica.
-#[derive(Debug, Drop)]
+#[derive(Drop)]
 pub struct FileHead {
     pub promised: Epoch,
     pub stamp: Stamp,

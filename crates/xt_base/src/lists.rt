@@ -14,7 +14,7 @@ pub trait Copies: Drop {
 }
 
 /// A list, which contracts see as one. Code may change its items in place.
-#[derive(Debug, Drop)]
+#[derive(Drop)]
 pub struct Seq<T> {
     pub items: Vec<T>,
 }
@@ -72,7 +72,7 @@ impl<T: Copies> Copies for Seq<T> {
 }
 
 /// A list of bytes, which contracts see as one.
-#[derive(Debug, Drop)]
+#[derive(Drop)]
 pub struct Octets {
     bytes: Vec<u8>,
 }
@@ -134,7 +134,7 @@ impl Copies for Octets {
 }
 
 /// UTF-8 text, which contracts see as its bytes.
-#[derive(Debug, Drop)]
+#[derive(Drop)]
 pub struct Name {
     text: String,
 }
@@ -170,7 +170,7 @@ impl Copies for Name {
 }
 
 /// The words of a command.
-#[derive(Debug, Drop)]
+#[derive(Drop)]
 pub struct Words {
     words: Seq<Name>,
 }

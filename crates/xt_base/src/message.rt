@@ -7,7 +7,7 @@ use crate::reply::Reply;
 use std::alloc::Global;
 
 /// What a message says, in the order of the kinds' numbers, from 1.
-#[derive(Debug, Drop)]
+#[derive(Drop)]
 pub enum Payload {
     /// Asks an acceptor to promise a ballot.
     Read {
@@ -327,7 +327,7 @@ impl Copies for Payload {
 }
 
 /// A message from one node to another.
-#[derive(Debug, Drop)]
+#[derive(Drop)]
 pub struct Msg {
     pub from: NodeId,
     pub to: NodeId,

@@ -5,7 +5,7 @@ use crate::reply::Denial;
 use std::alloc::Global;
 
 /// A request to the MRC.
-#[derive(Debug, Drop)]
+#[derive(Drop)]
 pub enum MetaReq {
     Mkdir {
         path: Name,
@@ -107,7 +107,7 @@ impl Copies for MetaReq {
 }
 
 /// Why the MRC refuses a request.
-#[derive(Clone, Copy, Debug, PartialEq, Eq)]
+#[derive(Clone, Copy, PartialEq, Eq)]
 pub enum MetaRefusal {
     NotFound,
     Exists,
@@ -125,7 +125,7 @@ pub enum MetaRefusal {
 }
 
 /// What a row of a volume is.
-#[derive(Clone, Copy, Debug, PartialEq, Eq)]
+#[derive(Clone, Copy, PartialEq, Eq)]
 pub enum RowKind {
     Directory,
     File,
@@ -135,7 +135,7 @@ pub enum RowKind {
 pub type Names = Seq<Name>;
 
 /// What the MRC answers.
-#[derive(Debug, Drop)]
+#[derive(Drop)]
 pub enum MetaAnswer {
     Done,
     Refused {

@@ -7,7 +7,7 @@ use crate::registry::RegistryReq;
 use std::alloc::Global;
 
 /// A recorded request of the MRC or the DIR.
-#[derive(Debug, Drop)]
+#[derive(Drop)]
 pub enum Logged {
     Meta {
         user: u32,
@@ -39,7 +39,7 @@ impl Copies for Logged {
 }
 
 /// What a node keeps of a step, in the order of the kinds' numbers, from 1.
-#[derive(Debug, Drop)]
+#[derive(Drop)]
 pub enum Record {
     /// A start.
     Boot {
@@ -134,7 +134,7 @@ impl Copies for Record {
 pub type HeldPairs = Seq<ObjectVersion>;
 
 /// What a node's records say of one file.
-#[derive(Debug, Drop)]
+#[derive(Drop)]
 pub struct FileRow {
     pub file: FileId,
     pub head: FileHead,
@@ -157,7 +157,7 @@ impl Copies for FileRow {
 pub type FileTable = Seq<FileRow>;
 
 /// What a node's records say: its last start, 0 before the first, and its files.
-#[derive(Debug, Drop)]
+#[derive(Drop)]
 pub struct Folded {
     pub boot: Boot,
     pub files: FileTable,
@@ -173,7 +173,7 @@ impl Copies for Folded {
 }
 
 /// A body that is to be kept.
-#[derive(Clone, Copy, Debug, PartialEq, Eq)]
+#[derive(Clone, Copy, PartialEq, Eq)]
 pub struct KeepBody {
     pub file: FileId,
     pub object: u64,

@@ -3,7 +3,7 @@ use crate::lists::{Copies, Name, OutOfMemory, Seq};
 use std::alloc::Global;
 
 /// A request to the DIR. The kind of a node is 1 for an OSD and 2 for an MRC.
-#[derive(Debug, Drop)]
+#[derive(Drop)]
 pub enum RegistryReq {
     /// Registers a node, where its row has the expected version.
     Set {
@@ -55,7 +55,7 @@ impl Copies for RegistryReq {
 }
 
 /// A registered node. An absent one has version 0.
-#[derive(Debug, Drop)]
+#[derive(Drop)]
 pub struct RegistryRow {
     pub node: NodeId,
     pub kind: u8,
@@ -78,7 +78,7 @@ impl Copies for RegistryRow {
 pub type RegistryRows = Seq<RegistryRow>;
 
 /// What the DIR answers.
-#[derive(Debug, Drop)]
+#[derive(Drop)]
 pub enum RegistryAnswer {
     Done { version: u64 },
     /// The row's version isn't the expected one, but this.

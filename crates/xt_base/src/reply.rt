@@ -3,7 +3,7 @@ use crate::lists::{Copies, Octets, OutOfMemory, Seq};
 use std::alloc::Global;
 
 /// Why an OSD, or the MRC for a report, denies an ask. Its number is sent and printed.
-#[derive(Clone, Copy, Debug, PartialEq, Eq)]
+#[derive(Clone, Copy, PartialEq, Eq)]
 pub enum Denial {
     /// The capability's tag isn't the one under the shared secret.
     Tag = 1,
@@ -20,7 +20,7 @@ pub enum Denial {
 }
 
 /// What an OSD answers to an ask.
-#[derive(Debug, Drop)]
+#[derive(Drop)]
 pub enum Reply {
     /// The operation is done, or the bytes are read; `count` is how many writes the file has.
     Ok {
@@ -88,7 +88,7 @@ impl Copies for Reply {
 }
 
 /// The outcome of asking one node that doesn't end a call.
-#[derive(Clone, Copy, Debug, PartialEq, Eq)]
+#[derive(Clone, Copy, PartialEq, Eq)]
 pub enum Retry {
     NoLease { end: u64 },
     NoMajority { have: u8, need: u8 },
@@ -98,7 +98,7 @@ pub enum Retry {
 }
 
 /// What one member of a file's list gave to a call that may be made again.
-#[derive(Clone, Copy, Debug, PartialEq, Eq)]
+#[derive(Clone, Copy, PartialEq, Eq)]
 pub struct Answered {
     pub node: NodeId,
     pub outcome: Retry,

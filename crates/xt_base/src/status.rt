@@ -8,7 +8,7 @@ use crate::reply::{Answers, Denial};
 use std::alloc::Global;
 
 /// A rule that a line of a schedule breaks.
-#[derive(Clone, Copy, Debug, PartialEq, Eq)]
+#[derive(Clone, Copy, PartialEq, Eq)]
 pub enum Rule {
     /// Clock `a`, the new one, and clock `b` of a running node differ by more than the drift.
     Drift { a: u64, b: u64 },
@@ -28,7 +28,7 @@ pub enum Rule {
 }
 
 /// A count that has a limit.
-#[derive(Clone, Copy, Debug, PartialEq, Eq)]
+#[derive(Clone, Copy, PartialEq, Eq)]
 pub enum Limited {
     /// Lines of a schedule.
     Lines,
@@ -47,7 +47,7 @@ pub enum Limited {
 }
 
 /// Why an OSD refuses an ask for good.
-#[derive(Clone, Copy, Debug, PartialEq, Eq)]
+#[derive(Clone, Copy, PartialEq, Eq)]
 pub enum AskRefusal {
     Denied { rule: Denial },
     OldList { version: u32 },
@@ -57,7 +57,7 @@ pub enum AskRefusal {
 }
 
 /// The refusal that ended an operation, as it was sent.
-#[derive(Clone, Copy, Debug, PartialEq, Eq)]
+#[derive(Clone, Copy, PartialEq, Eq)]
 pub enum Refusal {
     Ask { refusal: AskRefusal },
     Meta { refusal: MetaRefusal },
@@ -67,7 +67,7 @@ pub enum Refusal {
 }
 
 /// How a job ended.
-#[derive(Debug, Drop)]
+#[derive(Drop)]
 pub enum Status {
     Done,
     Usage,

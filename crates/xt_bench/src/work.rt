@@ -8,7 +8,7 @@ use std::rt::Files;
 use xt_base::Name;
 
 /// What is done so many times.
-#[derive(Clone, Copy, Debug, PartialEq, Eq)]
+#[derive(Clone, Copy, PartialEq, Eq)]
 pub enum Task {
     /// Makes the frame of an object's message.
     Encode,
@@ -53,7 +53,7 @@ impl Task {
 }
 
 /// What is to be done, on so many bytes and so many times, or with the file at a path.
-#[derive(Clone, Copy, Debug)]
+#[derive(Clone, Copy)]
 pub enum Work<'a> {
     Inside {
         task: Task,

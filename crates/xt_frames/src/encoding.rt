@@ -1,7 +1,7 @@
 ghost use Rattle.std.specs.Prelude.{◌≡◌, ◌≤◌, ◌++◌, length, OnOk, IfOk};
 ghost use Rattle.xt_base.specs.declared.TheConstants.{FRAME};
 ghost use Rattle.xt_base.specs.Limits.{FitsMessage};
-ghost use Rattle.xt_protocol.specs.FrameLength.{frame_length};
+ghost use Rattle.xt_base.specs.FrameLength.{frame_length};
 ghost use Rattle.xt_wire.specs.BasicFields.{word_bytes};
 ghost use Rattle.xt_frames.specs.Frames.{content_of, frame_of};
 

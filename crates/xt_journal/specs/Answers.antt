@@ -2,7 +2,7 @@
 use Rattle.std.specs.Prelude.{ℕ, ◌<◌, ◌≤◌, ◌≡◌, List, Vec, Option, None, Some, Result, Ok, Err}
 use Rattle.std.specs.declared.alloc.Global.{Global}
 use Rattle.disk_model.specs.declared.disk.Disk.{Ghosts}
-use Rattle.disk_model.specs.Disk.{counted}
+use Rattle.xt_base.specs.Faults.{counted}
 use Rattle.xt_journal.specs.declared.placed.Placed.{Placed}
 use Rattle.xt_journal.specs.declared.journal.Journal.{Journal}
 use Rattle.xt_journal.specs.declared.errors.LoadErr.{LoadErr}

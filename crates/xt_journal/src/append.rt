@@ -1,5 +1,6 @@
 ghost use Rattle.std.specs.Prelude.{◌≡◌, ◌≤◌, ◌<◌, ◌+◌, ◌-◌, ◌^◌, ◌++◌, ◌∷◌, [], ℕ, List, IsTrue, IfOk, OnOk, OnErr, IsErrOf, MatchResult, is_err, length};
-ghost use Rattle.disk_model.specs.Disk.{IsImage, LeavesOnly, counted, fault_count_after};
+ghost use Rattle.disk_model.specs.Disk.{IsImage, LeavesOnly};
+ghost use Rattle.xt_base.specs.Faults.{counted, fault_count_after};
 ghost use Rattle.xt_journal.specs.Append.{IsTurn, IsWithOrWithout, IsStopped};
 ghost use Rattle.xt_journal.specs.Calls.{GoesOn, AllSucceed};
 ghost use Rattle.xt_journal.specs.Format.{record_of, EndsAt, KeepsJournal, StandsFor};
@@ -42,7 +43,7 @@ pub fn piece_of(alloc: Global, payload: &[u8]) -> Result<Vec<u8>, OutOfMemory>
 }
 
 /// Why a record isn't appended.
-#[derive(Clone, Copy, Debug, PartialEq, Eq)]
+#[derive(Clone, Copy, PartialEq, Eq)]
 pub enum Refusal {
     Broken,
     OutOfMemory,

@@ -1,5 +1,6 @@
 ghost use Rattle.std.specs.Prelude.{◌≡◌, ◌≤◌, ◌+◌, ℕ, IsTrue, OnOk, OnErr, is_err, length};
-ghost use Rattle.disk_model.specs.Disk.{at_rest, overwritten, LeavesOnly, fault_count_after};
+ghost use Rattle.disk_model.specs.Disk.{at_rest, overwritten, LeavesOnly};
+ghost use Rattle.xt_base.specs.Faults.{fault_count_after};
 ghost use Rattle.xt_journal.specs.Calls.{GoesOn, IsFirstFailure, AllSucceed, MayBeTorn, IsTornAt};
 
 use disk_model::Disk;

@@ -2,7 +2,7 @@ use crate::journal::Journal;
 use disk_model::Disk;
 
 /// Why a journal isn't loaded. The disk comes back.
-#[derive(Debug, Drop)]
+#[derive(Drop)]
 pub enum LoadErr<D> {
     /// The disk has failed; this is its count of faults.
     DiskFault { count: u64, disk: D },
@@ -16,7 +16,7 @@ pub enum LoadErr<D> {
 }
 
 /// Why a payload isn't appended.
-#[derive(Debug, Drop)]
+#[derive(Drop)]
 pub enum AppendErr<D: Disk> {
     /// The disk has failed; this is its count of faults. The journal is gone, and must be loaded again.
     Broken {

@@ -24,7 +24,7 @@ pub const FRESH: [u8; 13] = [
 ];
 
 /// Why bytes aren't read as a journal.
-#[derive(Debug, Drop)]
+#[derive(Drop)]
 pub enum Trouble {
     DiskFault,
     NotOurs { first: [u8; 8] },

@@ -10,7 +10,7 @@ use disk_model::Disk;
 use std::alloc::Global;
 
 /// A journal on a disk. Each crash leaves the payloads that were appended, in order.
-#[derive(Debug, Drop)]
+#[derive(Drop)]
 pub struct Journal<D: Disk> {
     pub(crate) disk: D,
     pub(crate) end: u64,
@@ -20,7 +20,8 @@ pub struct Journal<D: Disk> {
 
 impl<D: Disk> Journal<D> {
     ghost use Rattle.std.specs.Prelude.{◌≡◌, ◌≤◌, ◌<◌, ◌+◌, ◌^◌, ◌++◌, ◌∷◌, [], ℕ, List, IfOk, IfSome, OnOk, IsSome, is_some, length};
-    ghost use Rattle.disk_model.specs.Disk.{IsImage, LeavesOnly, at_rest, fault_count_after};
+    ghost use Rattle.disk_model.specs.Disk.{IsImage, LeavesOnly, at_rest};
+    ghost use Rattle.xt_base.specs.Faults.{fault_count_after};
     ghost use Rattle.xt_journal.specs.Access.{disk_of, place_of, limit_of};
     ghost use Rattle.xt_journal.specs.Answers.{IsFullExactly, append_fault, disk_after_append, disk_after_load, load_fault, reading_of, without_memory};
     ghost use Rattle.xt_journal.specs.Append.{IsStopped, IsWithOrWithout};

@@ -1,5 +1,6 @@
 ghost use Rattle.std.specs.Prelude.{◌≡◌, ◌≤◌, ◌<◌, ◌+◌, [], ℕ, true, IsTrue, IfOk, IfSome, OnOk, OnErr, IsErrOf, is_err, length};
-ghost use Rattle.disk_model.specs.Disk.{IsImage, LeavesOnly, at_rest, fault_count_after};
+ghost use Rattle.disk_model.specs.Disk.{IsImage, LeavesOnly, at_rest};
+ghost use Rattle.xt_base.specs.Faults.{fault_count_after};
 ghost use Rattle.xt_journal.specs.Calls.{GoesOn};
 ghost use Rattle.xt_journal.specs.Format.{end_of, journal_of, KeepsJournal};
 ghost use Rattle.xt_journal.specs.Loaded.{LeavesAsBefore, IsReady, FailedCall, MadeCalls};

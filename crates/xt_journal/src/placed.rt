@@ -1,7 +1,7 @@
 use xt_base::Octets;
 
 /// A payload, and the place of its gate on the disk.
-#[derive(Debug, Drop)]
+#[derive(Drop)]
 pub struct Placed {
     pub gate: u64,
     pub bytes: Octets,

@@ -15,7 +15,7 @@ const FIRST: [u8; 9] = [1, 0, 0, 0, 0, 0, 0, 0, 1];
 const LIMIT: u64 = 1 << 30;
 
 /// What a call answered that was to answer otherwise.
-#[derive(Debug, Drop)]
+#[derive(Drop)]
 struct Otherwise;
 
 fn disk(alloc: Global, bytes: &[u8], stop: Option<Stop>) -> Result<MemoryDisk, Fail> {

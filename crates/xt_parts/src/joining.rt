@@ -40,7 +40,7 @@ impl<T: Drop> From<AllocFailed<T>> for JoinErr {
 }
 
 /// A message that is whole, and who sent it in which boot.
-#[derive(Debug, Drop)]
+#[derive(Drop)]
 pub struct Whole {
     pub sender: NodeId,
     pub boot: Boot,

@@ -7,7 +7,7 @@ use std::alloc::Global;
 use xt_base::{Boot, FRAME, NodeId, Octets, OutOfMemory};
 
 /// Which message of which start of which node. A sender numbers its messages from 1 in each boot.
-#[derive(Clone, Copy, Debug, PartialEq, Eq)]
+#[derive(Clone, Copy, PartialEq, Eq)]
 pub struct MessageId {
     pub sender: NodeId,
     pub boot: Boot,
@@ -15,7 +15,7 @@ pub struct MessageId {
 }
 
 /// What a part says of itself: its message, its index in it from 0, and the length of the message in bytes.
-#[derive(Clone, Copy, Debug)]
+#[derive(Clone, Copy)]
 pub struct Header {
     pub id: MessageId,
     pub index: u8,

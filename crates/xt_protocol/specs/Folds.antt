@@ -1,5 +1,5 @@
 -- What the records of a node say: its last start, and the row of each file; and which of them are of requests.
-use Rattle.std.specs.Prelude.{ℕ, Bool, ◌&&◌, ◌==◌, ◌≡◌, ◌⊎◌, ◌+◌, true, false, if◌then◌else◌, Option, Some, None, List, [], ◌∷◌, ◌++◌, map, filter, Contains}
+use Rattle.std.specs.Prelude.{ℕ, Bool, not, ◌&&◌, ◌==◌, ◌≡◌, ◌⊎◌, ◌+◌, true, false, if◌then◌else◌, Option, Some, None, List, [], ◌∷◌, ◌++◌, map, filter, Contains}
 use Rattle.std.specs.List.{fold, All}
 use Rattle.xt_base.specs.Limits.{FitsHead, is_at_most}
 use Rattle.xt_base.specs.declared.ids.FileId.{FileId}
@@ -15,6 +15,7 @@ use Rattle.xt_base.specs.declared.TheConstants.{NO_OBJECT}
 use Rattle.xt_protocol.specs.declared.FileState.{FileState}
 use Rattle.xt_protocol.specs.FileIds.{is_file, is_before}
 use Rattle.xt_protocol.specs.Heads.{first_epoch, new_head, head_after}
+use Rattle.xt_protocol.specs.Stamps.{is_stamp, with_held}
 
 -- ---- one file
 
@@ -26,15 +27,15 @@ new_row file = record { file = file; head = new_head; held = []; location = None
 abbrev pub body_of : ℕ → Stamp → ObjectVersion
 body_of object version = record { object = object; version = version }
 
--- the body that an update makes, where it makes one
-abbrev pub body_made : Update → List ObjectVersion
-body_made update = if update.object == NO_OBJECT then [] else body_of update.object update.stamp ∷ []
+-- the held bodies after an update: the one that it makes is among them, where it makes one
+abbrev pub held_after : List ObjectVersion → Update → List ObjectVersion
+held_after held update = if update.object == NO_OBJECT then held else with_held held (body_of update.object update.stamp)
 
 -- the row of a file after a record of it
 abbrev pub row_after : FileRow → Record → FileRow
 row_after row (kept.Promise file epoch) = record row { head = record row.head { promised = epoch } }
-row_after row (kept.Update file update) = record row { head = head_after row.head update; held = row.held ++ body_made update }
-row_after row (kept.Stage file object version bytes) = record row { held = row.held ++ body_of object version ∷ [] }
+row_after row (kept.Update file update) = record row { head = head_after row.head update; held = held_after row.held update }
+row_after row (kept.Stage file object version bytes) = record row { held = with_held row.held (body_of object version) }
 row_after row (kept.Head file head) = record row { head = head }
 row_after row (kept.View file location) = record row { location = Some location }
 row_after row (kept.Boot boot) = row
@@ -125,15 +126,15 @@ AreInPlace folded (rec ∷ recs) = IsInPlace folded rec × AreInPlace (folded_af
 
 -- ---- bodies
 
--- whether two stamps are one
-abbrev pub is_stamp : Stamp → Stamp → Bool
-is_stamp a b =
-    (a.epoch.number == b.epoch.number) && (a.epoch.node.0 == b.epoch.node.0) && (a.count == b.count)
+-- whether an update makes this version of this object: one without an object makes no body
+abbrev pub makes_body : Update → ℕ → Stamp → Bool
+makes_body update object version =
+    not (update.object == NO_OBJECT) && (update.object == object) && is_stamp update.stamp version
 
 -- the body that a record puts for this version of this object of the file
 abbrev pub body_put : FileId → ℕ → Stamp → Record → Option (List ℕ)
 body_put file object version (kept.Update f update) =
-    if is_file f file && (update.object == object) && is_stamp update.stamp version then Some update.body else None
+    if is_file f file && makes_body update object version then Some update.body else None
 body_put file object version (kept.Stage f o v bytes) =
     if is_file f file && (o == object) && is_stamp v version then Some bytes else None
 body_put file object version _ = None

@@ -8,34 +8,34 @@
 use xt_base::{FileHead, FileId, Marks, Msgs, NodeId, Record, Seq};
 
 /// The state of one file at an OSD.
-#[derive(Debug, Drop)]
+#[derive(Drop)]
 pub struct FileState {
     pub file: FileId,
     pub head: FileHead,
 }
 
 /// The state of an OSD between two steps: the files that it has met, in the order in which it met them.
-#[derive(Debug, Drop)]
+#[derive(Drop)]
 pub struct OsdState {
     pub files: Seq<FileState>,
 }
 
 /// A client's call that runs, and whom it asked.
-#[derive(Clone, Copy, Debug, PartialEq, Eq)]
+#[derive(Clone, Copy, PartialEq, Eq)]
 pub struct RunningCall {
     pub number: u64,
     pub target: NodeId,
 }
 
 /// The state of a client between two steps: the number of its next call, and the call that runs.
-#[derive(Clone, Copy, Debug, PartialEq, Eq)]
+#[derive(Clone, Copy, PartialEq, Eq)]
 pub struct ClientState {
     pub next: u64,
     pub running: Option<RunningCall>,
 }
 
 /// What a step gives: at most one record, which is kept first; then its marks; then its messages, in order.
-#[derive(Debug, Drop)]
+#[derive(Drop)]
 pub struct Turned {
     pub rec: Option<Record>,
     pub outs: Msgs,

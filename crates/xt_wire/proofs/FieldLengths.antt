@@ -41,7 +41,7 @@ use Rattle.xt_base.specs.declared.meta.MetaAnswer.TheVariants as answer
 use Rattle.xt_base.specs.declared.registry.RegistryReq.TheVariants as wish
 use Rattle.xt_base.specs.declared.registry.RegistryAnswer.TheVariants as told
 use Rattle.xt_base.specs.Limits.{FitsFile, FitsCapability, FitsName, FitsRow, FitsOp, FitsReply, FitsMetaReq, FitsMetaAnswer, FitsRegistryReq, FitsRegistryAnswer}
-use Rattle.xt_protocol.specs.FrameLength.{text_length, report_length, location_length, capability_length, head_length, update_length, op_length, reply_length, meta_req_length, meta_refusal_length, meta_answer_length, registry_req_length, row_length, registry_answer_length}
+use Rattle.xt_base.specs.FrameLength.{text_length, report_length, location_length, capability_length, head_length, update_length, op_length, reply_length, meta_req_length, meta_refusal_length, meta_answer_length, registry_req_length, row_length, registry_answer_length}
 use Rattle.xt_wire.specs.BasicFields.{byte_bytes, half_bytes, word_bytes, long_bytes, octets_bytes, text_bytes}
 use Rattle.xt_wire.specs.IdFields.{node_bytes, boot_bytes, file_bytes, ballot_bytes, epoch_bytes, stamp_bytes, lease_bytes, report_bytes, op_id_bytes, mark_bytes}
 use Rattle.xt_wire.specs.FileFields.{kind_bytes, members_bytes, location_bytes, sealed_bytes, capability_bytes, op_bytes, slot_bytes, update_bytes, object_version_bytes, session_bytes, versions_bytes, sessions_bytes, head_bytes}

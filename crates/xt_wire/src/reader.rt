@@ -27,7 +27,7 @@ fn text_of(bytes: &[u8]) -> Option<&str>
 
 /// Reads fields from the front of bytes. A field that is refused leaves the reader as it was. Contracts see the bytes
 /// that are left.
-#[derive(Debug, Drop)]
+#[derive(Drop)]
 pub struct FieldReader<'a> {
     rest: &'a [u8],
 }

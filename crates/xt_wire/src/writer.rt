@@ -7,7 +7,7 @@ use std::marker::Model;
 use xt_base::{Octets, OutOfMemory};
 
 /// Writes fields one behind the other. Contracts see the bytes that are written.
-#[derive(Debug, Drop)]
+#[derive(Drop)]
 pub struct FieldWriter {
     bytes: Vec<u8>,
 }

@@ -1,6 +1,6 @@
 ghost use Rattle.std.specs.Prelude.{◌≡◌, ◌≢◌, ◌↔◌, IsTrue, codes};
 ghost use Rattle.xt_base.specs.declared.status.Status.TheVariants as status;
-ghost use Rattle.node_links.specs.Streams.{Rose};
+ghost use Rattle.xt_base.specs.Faults.{Rose};
 ghost use Rattle.disk_hull.specs.Room.{journal_overflow};
 ghost use Rattle.schedule_replay.specs.Replay.{HasCause, IsReplay, Completes};
 ghost use Rattle.schedule_replay.specs.Steps.{IsFinished};

@@ -6,7 +6,7 @@ use std::test::Fail;
 use xt_base::{CallList, Octets, Words};
 
 /// What a run over memory comes to.
-#[derive(Debug, Drop)]
+#[derive(Drop)]
 struct Ended {
     code: u8,
     output: Vec<u8>,

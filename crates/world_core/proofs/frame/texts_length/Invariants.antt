@@ -1,6 +1,6 @@
 use Rattle.std.proofs.Common.{◌≡◌, take}
 use Rattle.std.specs.Prelude.{sum_by}
-use Rattle.xt_protocol.specs.FrameLength.{text_length}
+use Rattle.xt_base.specs.FrameLength.{text_length}
 use Rattle.world_core.specs.Counts.{within_64}
 use Rattle.world_core.proofs.frame.texts_length.Given as goal
 

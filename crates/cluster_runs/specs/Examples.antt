@@ -1,0 +1,296 @@
+-- Examples of runs, with ample room.
+use Rattle.std.specs.Prelude.{ℕ, Option, None, List, [], ◌∷◌, ◌++◌, map, nat_lt, ◌+◌, if◌then◌else◌, length, Some}
+use Rattle.xt_base.specs.declared.ids.NodeId.{NodeId}
+use Rattle.xt_base.specs.declared.ids.OpId.{OpId}
+use Rattle.xt_base.specs.declared.file.Kind.TheVariants as kind
+use Rattle.xt_base.specs.declared.file.Location.{Location}
+use Rattle.xt_base.specs.declared.event.Call.TheVariants as call
+use Rattle.xt_base.specs.declared.event.Outcome.TheVariants as outcome
+use Rattle.xt_base.specs.declared.reply.Retry.TheVariants as retry
+use Rattle.xt_base.specs.declared.status.AskRefusal.TheVariants as ask_refusal
+use Rattle.xt_base.specs.declared.status.Rule.{Rule}
+use Rattle.time_line.specs.declared.entry.Halt.TheVariants as halt
+use Rattle.xt_protocol.specs.Stamps.{with_held}
+use Rattle.xt_protocol.specs.Folds.{body_kept, fold_of, row_in, with_row}
+use Rattle.osd_rows.specs.Choice.{chosen_of, difference}
+use Rattle.osd_rows.specs.Writes.{standing}
+use Rattle.osd_rows.specs.ReplicaRows.{gathered, fetched_from, staged, headed, updated}
+use Rattle.osd_rows.specs.Primaries.{peer_in, with_peer, fed}
+use Rattle.osd_rows.specs.PrimaryRows.{epoch_drawn, hears}
+use Rattle.osd_rows.specs.Serving.{reads, writes, wakes}
+use Rattle.osd_rows.specs.Asks.{serves_all}
+use Rattle.osd_rows.specs.Overdue.{expired}
+use Rattle.osd_rows.specs.AskRows.{refusal_of, ask_handled}
+use Rattle.osd_rows.specs.FileLeases.{read_comes, write_comes, answer_comes}
+use Rattle.osd_rows.specs.FileSteps.{step_of_file, wake_of_file}
+use Rattle.osd_rows.specs.OsdSteps.{file_at, with_file, each_file, step_of_osd}
+use Rattle.cluster_runs.specs.declared.Line.{Line}
+use Rattle.cluster_runs.specs.declared.Line.TheVariants as line
+use Rattle.cluster_runs.specs.declared.Entry.{Entry}
+use Rattle.cluster_runs.specs.declared.Entry.TheVariants as entry
+use Rattle.cluster_runs.specs.Clients.{known_in, with_known, outcome_in, call_of_client, step_of_client}
+use Rattle.cluster_runs.specs.World.{World, node_in, with_node, file_in}
+use Rattle.cluster_runs.specs.Rules.{refusal, first_stranger, least_where}
+use Rattle.cluster_runs.specs.NodeSteps.{Room, event_comes}
+use Rattle.cluster_runs.specs.Lines.{least_pending, first_step, next_step, steps, done}
+use Rattle.cluster_runs.specs.Runs.{after, run_of}
+
+-- there is always room
+abbrev pub ample : Room
+ample kept rec = None
+
+-- there is room for so many records
+abbrev pub room_for : ℕ → Room
+room_for count kept rec = if nat_lt (length kept) count then None else Some (record { need = length kept + 1; limit = count })
+
+-- the world after these lines
+unfoldable pub world_in : Room → List Line → World
+unfolding run_of after refusal first_stranger least_where done steps next_step first_step least_pending event_comes node_in with_node file_in known_in with_known outcome_in call_of_client step_of_client step_of_osd step_of_file wake_of_file expired ask_handled refusal_of read_comes write_comes answer_comes serves_all epoch_drawn hears reads writes wakes peer_in with_peer fed chosen_of difference gathered fetched_from staged headed updated standing file_at with_file each_file body_kept fold_of row_in with_row with_held
+world_in room lines = run_of room lines
+
+-- the trace of these lines
+unfoldable pub trace_in : Room → List Line → List Entry
+unfolding world_in
+trace_in room lines = (world_in room lines).entries
+
+unfoldable pub trace_of : List Line → List Entry
+unfolding trace_in
+trace_of lines = trace_in ample lines
+
+-- the rule that a line breaks behind these
+unfoldable pub rule_behind : List Line → Line → Option Rule
+unfolding world_in refusal first_stranger least_where node_in file_in
+rule_behind lines l = refusal (world_in ample lines) l
+
+-- Words.
+
+abbrev pub node : ℕ → NodeId
+node id = record { 0 = id }
+
+abbrev pub id_of : ℕ → ℕ → OpId
+id_of client number = record { client = node client; number = number }
+
+abbrev pub list_of : List ℕ → Location
+list_of ids = record { version = 1; kind = kind.Replicated; stripe = 131072; members = map node ids }
+
+abbrev pub trio : List ℕ
+trio = 1 ∷ 2 ∷ 3 ∷ []
+
+abbrev pub short_times : Line
+short_times = line.Times 1000 100
+
+abbrev pub osd_is : ℕ → Line
+osd_is id = line.Osd (node id)
+
+abbrev pub client_at : ℕ → ℕ → Line
+client_at id clock = line.Client (node id) clock
+
+abbrev pub start_at : ℕ → ℕ → Line
+start_at id clock = line.Start (node id) clock
+
+abbrev pub file_on : List ℕ → Line
+file_on ids = line.File 1 (list_of ids)
+
+abbrev pub read_byte : ℕ → Line
+read_byte id = line.Call (node id) (call.Read 1 0 0 1)
+
+abbrev pub write_at : ℕ → ℕ → List ℕ → Line
+write_at id at bytes = line.Call (node id) (call.Write 1 0 at bytes)
+
+abbrev pub is_up : ℕ → ℕ → ℕ → Entry
+is_up id boot clock = entry.Up (node id) (record { 0 = boot }) clock
+
+abbrev pub reads_byte : ℕ → ℕ → Entry
+reads_byte id number = entry.Begin (node id) number (call.Read 1 0 0 1)
+
+abbrev pub writes_at : ℕ → ℕ → ℕ → List ℕ → Entry
+writes_at id number at bytes = entry.Begin (node id) number (call.Write 1 0 at bytes)
+
+abbrev pub is_held : ℕ → ℕ → Entry
+is_held id end = entry.Held (node id) 1 end
+
+abbrev pub is_active : ℕ → ℕ → ℕ → ℕ → Entry
+is_active id count client number = entry.Active (node id) 1 count (id_of client number)
+
+abbrev pub is_issued : ℕ → ℕ → ℕ → ℕ → Entry
+is_issued id count client number = entry.Issue (node id) 1 count (id_of client number)
+
+abbrev pub is_committed : ℕ → ℕ → ℕ → ℕ → Entry
+is_committed id count client number = entry.Commit (node id) 1 count (id_of client number)
+
+abbrev pub is_answered : ℕ → ℕ → ℕ → ℕ → List ℕ → Entry
+is_answered id client number count bytes = entry.Answer (node id) 1 (id_of client number) count bytes
+
+abbrev pub is_done : ℕ → ℕ → ℕ → List ℕ → Entry
+is_done id number count bytes = entry.Done (node id) number (outcome.Ok count bytes)
+
+abbrev pub abc : List ℕ
+abc = 97 ∷ 98 ∷ 99 ∷ []
+
+-- One replica: a write takes the lease, gathers, becomes active, is issued and committed in one delivery; a read shows it.
+abbrev pub alone : List Line
+alone =
+    short_times ∷ osd_is 1 ∷ client_at 10 0 ∷ start_at 1 0 ∷ file_on (1 ∷ []) ∷ line.Tick 1100
+    ∷ write_at 10 0 abc ∷ line.Deliver 1 ∷ line.Deliver 2
+    ∷ line.Call (node 10) (call.Read 1 0 0 3) ∷ line.Deliver 3 ∷ line.Deliver 4 ∷ []
+
+abbrev pub alone_trace : List Entry
+alone_trace =
+    entry.Times 1000 100 ∷ is_up 10 1 0 ∷ is_up 1 1 0 ∷ entry.File 1 (list_of (1 ∷ [])) ∷ entry.Tick 1100
+    ∷ writes_at 10 1 0 abc ∷ is_held 1 2100 ∷ is_active 1 0 0 0 ∷ is_issued 1 1 10 1 ∷ is_committed 1 1 10 1
+    ∷ is_answered 1 10 1 1 [] ∷ is_done 10 1 1 []
+    ∷ entry.Begin (node 10) 2 (call.Read 1 0 0 3) ∷ is_answered 1 10 2 1 abc ∷ is_done 10 2 1 abc ∷ []
+
+-- There is no room for the promise: the round of the write is won, but the step that would tell so isn't finished.
+abbrev pub full : List Line
+full =
+    short_times ∷ osd_is 1 ∷ client_at 10 0 ∷ start_at 1 0 ∷ file_on (1 ∷ []) ∷ line.Tick 1100 ∷ write_at 10 0 abc ∷ line.Deliver 1 ∷ []
+
+abbrev pub full_trace : List Entry
+full_trace =
+    entry.Times 1000 100 ∷ is_up 10 1 0 ∷ is_up 1 1 0 ∷ entry.File 1 (list_of (1 ∷ [])) ∷ entry.Tick 1100 ∷ writes_at 10 1 0 abc ∷ []
+
+-- There is none for the update: the primary became active, and that is the last that is told.
+abbrev pub fuller_trace : List Entry
+fuller_trace = full_trace ++ is_held 1 2100 ∷ is_active 1 0 0 0 ∷ is_issued 1 1 10 1 ∷ []
+
+-- A client whose truncate epoch is old is told the present one, and uses it from then on.
+abbrev pub taught : List Line
+taught =
+    short_times ∷ osd_is 1 ∷ client_at 10 0 ∷ client_at 11 0 ∷ start_at 1 0 ∷ file_on (1 ∷ []) ∷ line.Tick 1100
+    ∷ line.Call (node 10) (call.Truncate 1 2 1) ∷ line.Settle 100 ∷ write_at 11 0 abc ∷ line.Settle 100 ∷ write_at 11 0 abc ∷ line.Settle 100 ∷ []
+
+abbrev pub taught_trace : List Entry
+taught_trace =
+    entry.Times 1000 100 ∷ is_up 10 1 0 ∷ is_up 11 1 0 ∷ is_up 1 1 0 ∷ entry.File 1 (list_of (1 ∷ [])) ∷ entry.Tick 1100
+    ∷ entry.Begin (node 10) 1 (call.Truncate 1 2 1) ∷ is_held 1 2100 ∷ is_active 1 0 0 0 ∷ is_issued 1 1 10 1 ∷ is_committed 1 1 10 1
+    ∷ is_answered 1 10 1 1 [] ∷ is_done 10 1 1 []
+    ∷ writes_at 11 1 0 abc ∷ entry.Done (node 11) 1 (outcome.Refused (ask_refusal.OldEpoch 1))
+    ∷ writes_at 11 2 0 abc ∷ is_issued 1 2 11 2 ∷ is_committed 1 2 11 2 ∷ is_answered 1 11 2 2 [] ∷ is_done 11 2 2 [] ∷ []
+
+-- three replicas and a client, at this clock
+abbrev pub trio_at : ℕ → List Line
+trio_at clock =
+    short_times ∷ osd_is 1 ∷ osd_is 2 ∷ osd_is 3 ∷ client_at 10 clock ∷ start_at 1 clock ∷ start_at 2 clock ∷ start_at 3 clock
+    ∷ file_on trio ∷ line.Tick 1100 ∷ []
+
+-- the entries of these lines
+abbrev pub trio_opens : ℕ → List Entry
+trio_opens clock =
+    entry.Times 1000 100 ∷ is_up 10 1 clock ∷ is_up 1 1 clock ∷ is_up 2 1 clock ∷ is_up 3 1 clock
+    ∷ entry.File 1 (list_of trio) ∷ entry.Tick 1100 ∷ []
+
+-- The edge of a turn: one millisecond before the drift before the end a read is answered, and then no longer.
+abbrev pub turns_edge : List Line
+turns_edge =
+    trio_at 3900
+    ++ read_byte 10 ∷ line.Settle 100 ∷ line.Tick 899 ∷ read_byte 10 ∷ line.Settle 100 ∷ line.Tick 1 ∷ read_byte 10 ∷ line.Deliver 21 ∷ []
+
+abbrev pub turns_edge_trace : List Entry
+turns_edge_trace =
+    trio_opens 3900
+    ++ reads_byte 10 1 ∷ is_held 1 6000 ∷ is_active 1 0 0 0 ∷ is_answered 1 10 1 0 [] ∷ is_done 10 1 0 []
+    ∷ entry.Tick 899 ∷ reads_byte 10 2 ∷ is_answered 1 10 2 0 [] ∷ is_done 10 2 0 [] ∷ entry.Tick 1 ∷ reads_byte 10 3 ∷ []
+
+-- A boot is silent for the lease length and the drift, whatever the boot before it was.
+abbrev pub silence : List Line
+silence =
+    short_times ∷ osd_is 1 ∷ client_at 10 3000 ∷ start_at 1 2950 ∷ line.Stop (node 1) ∷ start_at 1 3000 ∷ file_on (1 ∷ [])
+    ∷ line.Tick 1099 ∷ read_byte 10 ∷ line.Deliver 1 ∷ line.Tick 1 ∷ line.Deliver 1 ∷ []
+
+abbrev pub silence_trace : List Entry
+silence_trace =
+    entry.Times 1000 100 ∷ is_up 10 1 3000 ∷ is_up 1 1 2950 ∷ entry.Down (node 1) 2950 halt.Idle ∷ is_up 1 2 3000
+    ∷ entry.File 1 (list_of (1 ∷ [])) ∷ entry.Tick 1099 ∷ reads_byte 10 1 ∷ entry.Tick 1
+    ∷ is_held 1 5100 ∷ is_active 1 0 0 0 ∷ is_answered 1 10 1 0 [] ∷ []
+
+-- Clocks that would be too far apart are refused.
+abbrev pub drifting : List Line
+drifting = short_times ∷ client_at 10 0 ∷ client_at 11 100 ∷ []
+
+abbrev pub clock_set : Line
+clock_set = line.Clock (node 11) 101
+
+-- A write that comes again is answered again, also by a later boot.
+abbrev pub repeats : List Line
+repeats =
+    trio_at 0
+    ++ write_at 10 0 abc ∷ line.Settle 100 ∷ line.Deliver 1 ∷ line.Stop (node 1) ∷ start_at 1 1100 ∷ line.Tick 1100 ∷ line.Deliver 1 ∷ line.Settle 100 ∷ []
+
+abbrev pub repeats_trace : List Entry
+repeats_trace =
+    trio_opens 0
+    ++ writes_at 10 1 0 abc ∷ is_held 1 2100 ∷ is_active 1 0 0 0 ∷ is_issued 1 1 10 1 ∷ is_committed 1 1 10 1
+    ∷ is_answered 1 10 1 1 [] ∷ is_done 10 1 1 [] ∷ is_answered 1 10 1 1 []
+    ∷ entry.Down (node 1) 1100 halt.Idle ∷ is_up 1 2 1100 ∷ entry.Tick 1100
+    ∷ is_held 1 3200 ∷ is_active 1 1 10 1 ∷ is_answered 1 10 1 1 [] ∷ []
+
+-- a write is answered; another one is issued, and its primary stops
+abbrev pub two_writes : List Line
+two_writes =
+    short_times ∷ osd_is 1 ∷ osd_is 2 ∷ osd_is 3 ∷ client_at 10 0 ∷ client_at 11 0 ∷ start_at 1 0 ∷ start_at 2 0 ∷ start_at 3 0
+    ∷ file_on trio ∷ line.Tick 1100
+    ∷ write_at 10 0 (97 ∷ []) ∷ line.Settle 100 ∷ write_at 10 0 (98 ∷ []) ∷ line.Deliver 23 ∷ line.Stop (node 1) ∷ []
+
+abbrev pub two_writes_trace : List Entry
+two_writes_trace =
+    entry.Times 1000 100 ∷ is_up 10 1 0 ∷ is_up 11 1 0 ∷ is_up 1 1 0 ∷ is_up 2 1 0 ∷ is_up 3 1 0
+    ∷ entry.File 1 (list_of trio) ∷ entry.Tick 1100
+    ∷ writes_at 10 1 0 (97 ∷ []) ∷ is_held 1 2100 ∷ is_active 1 0 0 0 ∷ is_issued 1 1 10 1 ∷ is_committed 1 1 10 1
+    ∷ is_answered 1 10 1 1 [] ∷ is_done 10 1 1 [] ∷ writes_at 10 2 0 (98 ∷ []) ∷ is_issued 1 2 10 2
+    ∷ entry.Down (node 1) 1100 halt.Idle ∷ entry.Tick 1000 ∷ reads_byte 11 1 ∷ []
+
+abbrev pub aims_at : ℕ → ℕ → Line
+aims_at client id = line.Aim (node client) 1 (node id)
+
+-- A write that reached the primary alone vanishes with it, and its late copies do nothing.
+abbrev pub vanished : List Line
+vanished =
+    two_writes
+    ++ line.Drop 24 ∷ line.Drop 25 ∷ line.Tick 1000 ∷ aims_at 11 2 ∷ read_byte 11 ∷ line.Settle 100
+    ∷ line.Deliver 24 ∷ line.Deliver 25 ∷ read_byte 11 ∷ line.Settle 100 ∷ []
+
+abbrev pub vanished_trace : List Entry
+vanished_trace =
+    two_writes_trace
+    ++ is_held 2 3100 ∷ is_active 2 1 10 1 ∷ is_answered 2 11 1 1 (97 ∷ []) ∷ is_done 11 1 1 (97 ∷ [])
+    ∷ reads_byte 11 2 ∷ is_answered 2 11 2 1 (97 ∷ []) ∷ is_done 11 2 1 (97 ∷ []) ∷ []
+
+-- A write that another replica has is found by the next primary.
+abbrev pub found : List Line
+found =
+    two_writes ++ line.Drop 24 ∷ line.Deliver 25 ∷ line.Tick 1000 ∷ aims_at 11 2 ∷ read_byte 11 ∷ line.Settle 100 ∷ []
+
+abbrev pub found_trace : List Entry
+found_trace =
+    two_writes_trace
+    ++ is_held 2 3100 ∷ is_active 2 2 10 2 ∷ is_answered 2 11 1 2 (98 ∷ []) ∷ is_done 11 1 2 (98 ∷ []) ∷ []
+
+-- two members are silent, and the third is asked
+abbrev pub silent_members : List Line
+silent_members =
+    trio_at 0 ++ read_byte 10 ∷ line.Drop 1 ∷ line.Tick 1000 ∷ line.Wake (node 10) ∷ line.Drop 2 ∷ line.Tick 1000 ∷ line.Wake (node 10) ∷ []
+
+abbrev pub silent_members_trace : List Entry
+silent_members_trace = trio_opens 0 ++ reads_byte 10 1 ∷ entry.Tick 1000 ∷ entry.Tick 1000 ∷ []
+
+-- It answers; or it is silent too, and the call may be made again.
+abbrev pub third_answers : List Line
+third_answers = silent_members ++ line.Settle 100 ∷ []
+
+abbrev pub third_answers_trace : List Entry
+third_answers_trace =
+    silent_members_trace ++ is_held 3 4100 ∷ is_active 3 0 0 0 ∷ is_answered 3 10 1 0 [] ∷ is_done 10 1 0 [] ∷ []
+
+abbrev pub none_answers : List Line
+none_answers = silent_members ++ line.Drop 3 ∷ line.Tick 1000 ∷ line.Wake (node 10) ∷ []
+
+abbrev pub none_answers_trace : List Entry
+none_answers_trace =
+    silent_members_trace
+    ++ entry.Tick 1000
+    ∷ entry.Done (node 10) 1
+    (outcome.Retry
+    (record { node = node 1; outcome = retry.Silent } ∷ record { node = node 2; outcome = retry.Silent }
+    ∷ record { node = node 3; outcome = retry.Silent } ∷ []))
+    ∷ []

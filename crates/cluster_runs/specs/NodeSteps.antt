@@ -1,0 +1,190 @@
+-- the step of a node in a world, and how it ends
+use Rattle.std.specs.Prelude.{ℕ, Bool, true, not, ◌&&◌, ◌==◌, nat_le, nat_lt, if◌then◌else◌, is_some, Option, Some, None, Result, Ok, Err, List, [], ◌∷◌, ◌++◌, length, map, filter, sum_by, take, unwrap_or}
+use Rattle.disk_model.specs.declared.plan.Stop.{Stop}
+use Rattle.xt_base.specs.TimeSettings.{TimeSettings}
+use Rattle.xt_base.specs.declared.ids.NodeId.{NodeId}
+use Rattle.xt_base.specs.declared.ids.FileId.{FileId}
+use Rattle.xt_base.specs.declared.ids.Stamp.{Stamp}
+use Rattle.xt_base.specs.declared.event.Event.{Event}
+use Rattle.xt_base.specs.declared.event.Mark.{Mark}
+use Rattle.xt_base.specs.declared.event.Mark.TheVariants as mark
+use Rattle.xt_base.specs.declared.message.Msg.{Msg}
+use Rattle.xt_base.specs.declared.record.Record.{Record}
+use Rattle.xt_base.specs.declared.status.Limited.{Limited}
+use Rattle.xt_base.specs.declared.status.Limited.TheVariants as limited
+use Rattle.xt_protocol.specs.declared.Turned.{Turned}
+use Rattle.xt_base.specs.FrameLength.{frame_length}
+use Rattle.xt_protocol.specs.Folds.{body_kept}
+use Rattle.time_line.specs.declared.entry.Halt.{Halt}
+use Rattle.time_line.specs.declared.entry.Halt.TheVariants as halt
+use Rattle.osd_rows.specs.OsdSteps.{OsdStep, Outside, step_of_osd}
+use Rattle.cluster_runs.specs.declared.Entry.{Entry}
+use Rattle.cluster_runs.specs.declared.Entry.TheVariants as entry
+use Rattle.cluster_runs.specs.declared.Sent.{Sent}
+use Rattle.cluster_runs.specs.declared.ClientState.{ClientState}
+use Rattle.cluster_runs.specs.Steps.{Step}
+use Rattle.cluster_runs.specs.Clients.{step_of_client}
+use Rattle.cluster_runs.specs.World.{World, Node, Running, Core, osd, client, node_in, with_node}
+
+-- how many messages may be numbered, and how many bytes their frames may have in all
+abbrev pub MESSAGES : ℕ
+MESSAGES = 1048576
+
+abbrev pub MESSAGE_BYTES : ℕ
+MESSAGE_BYTES = 1073741824
+
+-- a record that has no room: how long its node's journal would have to be, and how long it may be, in bytes
+pub record Overflow : Type 0 where
+  pub need : ℕ
+  pub limit : ℕ
+
+-- whether a record has no room behind these of its node
+abbrev pub Room : Type 0
+Room = List Record → Record → Option Overflow
+
+-- why a line ends before its last step
+pub data Cause : Type 0 where
+  came_to : Limited → Cause
+  has_no_room : Overflow → Cause
+
+-- The events of a node.
+
+-- the body as a step sees it: empty where none is kept
+abbrev pub body_by : List Record → FileId → ℕ → Stamp → List ℕ
+body_by kept file object version = unwrap_or (body_kept kept file object version) []
+
+-- nobody tests tags yet
+abbrev pub outside_of : List Record → Outside
+outside_of kept = record { sealed = λ capability. true; body = body_by kept }
+
+abbrev pub osd_steps : OsdStep → Step Core
+osd_steps step = record { state = osd step.osd; turned = step.turned }
+
+abbrev pub client_steps : Step ClientState → Step Core
+client_steps step = record { state = client step.state; turned = step.turned }
+
+abbrev pub core_step : TimeSettings → Node → Core → ℕ → Event → Step Core
+core_step times node (osd state) clock happens = osd_steps (step_of_osd (outside_of node.kept) state clock happens)
+core_step times node (client state) clock happens = client_steps (step_of_client node.id times state clock happens)
+
+-- What comes of a step.
+
+-- the line of the trace for a mark of a node
+abbrev pub entry_of : NodeId → Mark → Entry
+entry_of node (mark.File file location) = entry.File file location
+entry_of node (mark.Begin number c) = entry.Begin node number c
+entry_of node (mark.Held file end) = entry.Held node file end
+entry_of node (mark.Active file count id) = entry.Active node file count id
+entry_of node (mark.Issue file count id) = entry.Issue node file count id
+entry_of node (mark.Commit file count id) = entry.Commit node file count id
+entry_of node (mark.Answer file id count bytes) = entry.Answer node file id count bytes
+entry_of node (mark.Done number outcome) = entry.Done node number outcome
+
+-- a message that has just been sent
+abbrev pub pending : Msg → Sent
+pending message = record { message = message; pending = true }
+
+-- the messages of a node that get numbers: those to other declared nodes
+abbrev pub numbered : List Node → NodeId → List Msg → List Sent
+numbered nodes node outs = map pending (filter (λ m. not (m.to.0 == node.0) && is_some (node_in nodes m.to.0)) outs)
+
+-- the messages of a node to itself
+abbrev pub to_itself : NodeId → List Msg → List Msg
+to_itself node outs = filter (λ m. m.to.0 == node.0) outs
+
+abbrev pub one_more : List Record → Option Record → List Record
+one_more kept None = kept
+one_more kept (Some rec) = kept ++ rec ∷ []
+
+-- the record of a step is kept, its marks become entries, its messages are numbered
+abbrev pub after_turn : World → Node → Running → Turned → World
+after_turn w node running turned =
+    record w {
+      nodes = with_node w.nodes (record node { kept = one_more node.kept turned.rec; up = Some running });
+      entries = w.entries ++ map (entry_of node.id) turned.marks;
+      sent = w.sent ++ numbered w.nodes node.id turned.outs;
+    }
+
+-- a running node has stopped; what it keeps is its records
+abbrev pub halted : World → Node → Running → Halt → World
+halted w node running how =
+    record w {
+      nodes = with_node w.nodes (record node { up = None });
+      entries = w.entries ++ entry.Down node.id running.clock how ∷ [];
+    }
+
+-- An append is four device calls: the record is written behind a closed gate, and synced; the gate is opened by a write, and
+-- synced. One that is stopped in a call leaves a byte at each place that isn't synced. So its record stands where its gate
+-- was being opened and the byte is an open gate's.
+abbrev pub keeps_record : Stop → Bool
+keeps_record stop = nat_le 3 stop.call && (stop.fill == 165)
+
+-- the append of a step is stopped: its record is kept or lost, and nothing else comes of it
+abbrev pub stopped_in_append : World → Node → Running → Stop → Record → World
+stopped_in_append w node running stop rec =
+    if keeps_record stop then halted w (record node { kept = node.kept ++ rec ∷ [] }) running halt.Kept
+    else halted w node running halt.Lost
+
+-- the sending of a step is cut: all comes of it but the later messages, and the node stops
+abbrev pub cut_in_sending : World → Node → Running → ℕ → Turned → World
+cut_in_sending w node running count turned =
+    halted (after_turn w node running (record turned { outs = take count turned.outs }))
+    (record node { kept = one_more node.kept turned.rec }) running halt.Cut
+
+-- A line at work: the world so far, the messages of the stepping node to itself that it hasn't handled, first in first out,
+-- and how many deliveries are left.
+pub record Doing : Type 0 where
+  pub world : World
+  pub own : List Msg
+  pub left : ℕ
+
+-- the node has stopped: the messages to itself are lost
+abbrev pub loses_own : Doing → World → Doing
+loses_own d w = record d { world = w; own = [] }
+
+-- a step that sends, where a cut is planned; one that doesn't leaves the plan
+abbrev pub sends : Doing → Node → Running → Option ℕ → List Msg → Turned → Doing
+sends d node running (Some count) (out ∷ outs) turned = loses_own d (cut_in_sending d.world node running count turned)
+sends d node running _ outs turned =
+    record d { world = after_turn d.world node running turned; own = d.own ++ to_itself node.id outs }
+
+-- a step that appends, where a crash is planned; one that doesn't leaves the plan
+abbrev pub appends : Doing → Node → Running → Option Stop → Option Record → Turned → Doing
+appends d node running (Some stop) (Some rec) turned = loses_own d (stopped_in_append d.world node running stop rec)
+appends d node running _ _ turned = sends d node running running.cut turned.outs turned
+
+-- a step that would pass the number of messages, or the bytes of their frames, isn't finished
+abbrev pub frame_bytes : List Sent → ℕ
+frame_bytes sent = sum_by (λ s. frame_length s.message) sent
+
+abbrev pub within_limits : Doing → Result Doing Cause
+within_limits d =
+    if nat_lt MESSAGES (length d.world.sent) then Err (came_to limited.Messages)
+    else if nat_lt MESSAGE_BYTES (frame_bytes d.world.sent) then Err (came_to limited.Bytes)
+    else Ok d
+
+-- a record that has no room
+abbrev pub overflow_of : Room → List Record → Option Record → Option Overflow
+overflow_of room kept None = None
+overflow_of room kept (Some rec) = room kept rec
+
+-- The end of a step of a running node: its record must have room, and then its messages must be within the limits.
+abbrev pub end_of_step : Room → Doing → Node → Running → Step Core → Result Doing Cause
+end_of_step room d node running step =
+    elim (overflow_of room node.kept step.turned.rec) [
+      | Some overflow ↦ Err (has_no_room overflow)
+      | None ↦ within_limits (appends d node (record running { core = step.state }) running.crash step.turned.rec step.turned)
+    ]
+
+-- an event comes to a node; at one that isn't running nothing comes of it
+abbrev pub event_at : Room → Doing → Event → Option Node → Result Doing Cause
+event_at room d happens None = Ok d
+event_at room d happens (Some node) =
+    elim node.up [
+      | None ↦ Ok d
+      | Some running ↦ end_of_step room d node running (core_step d.world.times node running.core running.clock happens)
+    ]
+
+-- An event comes to the node of this id.
+unfoldable pub event_comes : Room → Doing → NodeId → Event → Result Doing Cause
+event_comes room d id happens = event_at room d happens (node_in d.world.nodes id.0)

@@ -1,0 +1,15 @@
+pub mod Turns
+pub mod Writes
+pub mod ReplicaRows
+pub mod Choice
+pub mod Primaries
+pub mod PrimaryRows
+pub mod Serving
+pub mod Asks
+pub mod FileStates
+pub mod Overdue
+pub mod AskRows
+pub mod FileLeases
+pub mod FileSteps
+pub mod OsdSteps
+pub mod Examples
