@@ -1,0 +1,7 @@
+use Rattle.std.proofs.Common.{◌≡◌, ◌++◌, take, filter}
+use Rattle.osd_rows.specs.Asks.{tells_each}
+use Rattle.osd_rows.specs.Overdue.{is_due}
+use Rattle.osd_asks.proofs.open.tell_due_of.Given as goal
+
+abbrev pub invariant-loop-ask : goal.invariant-loop-ask
+invariant-loop-ask l = l.outs ≡ l.initial.outs ++ tells_each l.node l.file (filter (is_due l.now) (take l.ask-index l.asks)) l.reply
