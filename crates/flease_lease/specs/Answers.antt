@@ -1,4 +1,8 @@
 -- the answers of the definitions as the calls give them
+use Rattle.std.specs.Prelude.{Option, Some, None}
+use Rattle.xt_base.specs.declared.ids.Ballot.{Ballot}
+use Rattle.xt_base.specs.declared.ids.Lease.{Lease}
+use Rattle.xt_protocol.specs.Register.{Round, lease_of}
 use Rattle.xt_protocol.specs.LeaseRows as protocol
 use Rattle.flease_lease.specs.declared.asking.Asked.{Asked}
 use Rattle.flease_lease.specs.declared.asking.Asked.TheVariants as asked
@@ -21,3 +25,8 @@ abbrev pub shown_renewal : protocol.Renewal → Renewal
 shown_renewal protocol.no_news = renewal.Nothing
 shown_renewal (protocol.renewal_write targets) = renewal.WriteTo targets
 shown_renewal (protocol.renewed end) = renewal.Renewed end
+
+-- the ballot of the round that renews a lease, if one runs, and the lease that it writes
+abbrev pub renewal_round : Option Round → Option (Ballot × Lease)
+renewal_round None = None
+renewal_round (Some round) = Some (round.ballot, lease_of round)

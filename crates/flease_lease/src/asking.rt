@@ -4,7 +4,7 @@ ghost use Rattle.xt_protocol.specs.LeaseRows as protocol;
 ghost use Rattle.flease_lease.specs.Answers.{shown_asked};
 
 use crate::free::Free;
-use crate::proposer::Proposer;
+use crate::proposer::{Proposer, has_run_out};
 use crate::writing::Writing;
 use flease_register::{Round, Targets, Took};
 use std::marker::Model;
@@ -75,6 +75,13 @@ impl Asking {
         ensures { result ≡ protocol.round_over self }
     {
         Free::of(Proposer::after(&self.round))
+    }
+
+    /// Whether half the lease length has passed since the round's start.
+    pub fn has_run_out(&self, now: u64) -> bool
+        ensures { result ≡ protocol.has_run_out self.now now }
+    {
+        has_run_out(&self.round, now)
     }
 
     /// The round's number.

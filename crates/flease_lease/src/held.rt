@@ -1,10 +1,10 @@
 ghost use Rattle.std.specs.Prelude.{◌≡◌, ◌<◌, ◌≤◌, ◌+◌, ◌-◌, ◌^◌, ◌↔◌, IsTrue, IsNone, IsErr, None};
 ghost use Rattle.xt_protocol.specs.Register.{on_promise};
 ghost use Rattle.xt_protocol.specs.LeaseRows as protocol;
-ghost use Rattle.flease_lease.specs.Answers.{shown_renewal};
+ghost use Rattle.flease_lease.specs.Answers.{shown_renewal, renewal_round};
 
 use crate::free::Free;
-use crate::proposer::{Proposer, is_inside};
+use crate::proposer::{Proposer, has_run_out, is_inside};
 use flease_register::{Round, Targets, Took};
 use std::marker::Model;
 use xt_base::{Ballot, Boot, Lease, Members, NodeId, Payload};
@@ -222,6 +222,39 @@ impl Held {
         ensures exact { IsTrue result ↔ (self.now.proposer.known < 2 ^ 62 - 1) }
     {
         self.proposer.can_ask()
+    }
+
+    /// Whether a renewal is due at the clock `now`, for a file that was last asked for at the clock `used`, both below 2^62:
+    /// none runs, the end is at most half the lease length away, the file was used in the last lease length, and there is a
+    /// count left.
+    pub fn is_renewal_due(&self, now: u64, used: u64) -> bool
+        requires clock { now < 2 ^ 62 }
+        requires past { used < 2 ^ 62 }
+        ensures { result ≡ protocol.is_renewal_due self.now now used }
+    {
+        let times = self.proposer.times();
+        self.renewal.is_none()
+            && self.end <= now + times.wait()
+            && now < used + times.lease()
+            && self.can_renew()
+    }
+
+    /// The ballot of the running renewal, and the lease that it writes.
+    pub fn renewal_round(&self) -> Option<(Ballot, Lease)>
+        ensures { result ≡ renewal_round self.now.renewal }
+    {
+        self.renewal.map(|round| (round.ballot(), round.lease()))
+    }
+
+    /// Ends the renewal where half the lease length has passed since its start.
+    pub fn end_overdue_renewal(&mut self, now: u64)
+        ensures { self.new ≡ record self.old { renewal = protocol.renewal_left self.old.renewal now } }
+    {
+        if let Some(round) = self.renewal
+            && has_run_out(&round, now)
+        {
+            self.renewal = None;
+        }
     }
 
     /// The lease's end.

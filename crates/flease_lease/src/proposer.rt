@@ -119,3 +119,10 @@ pub fn is_inside(end: u64, times: &Times, now: u64) -> bool
 {
     now + times.drift() < end
 }
+
+/// Whether half the lease length has passed since a round's start.
+pub fn has_run_out(round: &Round, now: u64) -> bool
+    ensures { result ≡ protocol.has_run_out round.now now }
+{
+    round.began() + round.times().wait() <= now
+}

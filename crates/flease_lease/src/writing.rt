@@ -5,7 +5,7 @@ ghost use Rattle.flease_lease.specs.Answers.{shown_written};
 
 use crate::free::Free;
 use crate::held::Held;
-use crate::proposer::{Proposer, is_inside};
+use crate::proposer::{Proposer, has_run_out, is_inside};
 use flease_register::{Round, Targets, Took};
 use std::marker::Model;
 use xt_base::{Ballot, Boot, Lease, NodeId};
@@ -97,6 +97,13 @@ impl Writing {
         ensures { result ≡ protocol.round_over self }
     {
         Free::of(Proposer::after(&self.round))
+    }
+
+    /// Whether half the lease length has passed since the round's start.
+    pub fn has_run_out(&self, now: u64) -> bool
+        ensures { result ≡ protocol.has_run_out self.now now }
+    {
+        has_run_out(&self.round, now)
     }
 
     /// The round's number.

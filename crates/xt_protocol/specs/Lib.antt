@@ -2,6 +2,7 @@ pub mod FileIds
 pub mod Heads
 pub mod Stamps
 pub mod Folds
+pub mod SeenBodies
 pub mod OsdRows
 pub mod ClientRows
 pub mod Register
