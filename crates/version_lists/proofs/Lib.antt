@@ -1,0 +1,4 @@
+pub mod VersionOrder
+pub mod Puts
+pub mod HeldVersions
+pub mod HeadRows
