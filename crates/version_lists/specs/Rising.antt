@@ -1,8 +1,10 @@
 -- lists that rise, and where an item stands in one
-use Rattle.std.specs.Prelude.{ℕ, Bool, true, false, ◌&&◌, ◌≡◌, ◌<◌, ◌≤◌, nat_lt, Option, Some, None, Result, Ok, Err, List, [], ◌∷◌, length, slice_index_or, slice_set}
+use Rattle.std.specs.Prelude.{ℕ, Bool, true, false, ◌&&◌, ◌≡◌, ◌<◌, ◌≤◌, nat_lt, Option, Some, None, Result, Ok, Err, List, [], ◌∷◌, length, map, slice_index_or, slice_set, IsTrue}
 use Rattle.std.specs.List.{insert}
 use Rattle.xt_base.specs.declared.file.ObjectVersion.{ObjectVersion}
 use Rattle.xt_base.specs.declared.file.Session.{Session}
+use Rattle.xt_base.specs.declared.file.FileHead.{FileHead}
+use Rattle.xt_base.specs.Limits.{rise}
 use Rattle.xt_protocol.specs.Stamps.{comes_before, has_version, with_held}
 use Rattle.xt_protocol.specs.Heads.{version_of, with_version, session_of, with_session}
 
@@ -48,3 +50,8 @@ IsSessionPlace rows client (Err place) =
     (place ≤ length rows)
     × (session_of rows client ≡ None)
     × ((row : Session) → row.client.0 ≡ client → with_session rows row ≡ insert rows place row)
+
+-- the versions of a head rise by object, and its sessions by client
+pub record HeadRises (head : FileHead) : Type 0 where
+  pub versions : IsTrue (rise (map (λ v. v.object) head.versions))
+  pub sessions : IsTrue (rise (map (λ s. s.client.0) head.sessions))

@@ -4,12 +4,14 @@
 //! searched item by item. What changes a list in place takes no memory: the list has room for one more item before.
 #![tactic(auto)]
 
+mod heads;
 mod held;
 mod orders;
 mod sessions;
 mod versions;
 
+pub use heads::{sessions_after, take_update, versions_after};
 pub use held::{has_version, held_rise, is_held, put_held};
 pub use orders::{comes_before, is_below, is_earlier, is_epoch, is_stamp, is_version};
 pub use sessions::{put_session, session_of};
-pub use versions::{drop_versions, put_version, version_of};
+pub use versions::{drop_versions, objects_below, put_version, version_of};

@@ -1,4 +1,4 @@
-ghost use Rattle.std.specs.Prelude.{◌≡◌, ◌≤◌, ◌<◌, IsTrue, map, vec_len, vec_capacity};
+ghost use Rattle.std.specs.Prelude.{◌≡◌, ◌≤◌, ◌<◌, IsTrue, map, length, vec_len, vec_capacity};
 ghost use Rattle.xt_base.specs.Limits.{rise};
 ghost use Rattle.xt_protocol.specs.Heads.{session_of, with_session};
 ghost use Rattle.version_lists.specs.Rising.{IsSessionPlace};
@@ -28,6 +28,17 @@ pub fn session_of(sessions: &[Session], client: NodeId) -> Option<Session>
     match session_place(sessions, client) {
         Ok(place) => Some(sessions[place]),
         Err(_) => None,
+    }
+}
+
+/// How many sessions there are with this one.
+pub fn sessions_with(sessions: &[Session], row: Session) -> usize
+    requires { IsTrue (rise (map (λ s. s.client.0) sessions.now)) }
+    ensures { result ≡ length (with_session sessions.now row) }
+{
+    match session_place(sessions, row.client) {
+        Ok(_) => sessions.len(),
+        Err(_) => sessions.len() + 1,
     }
 }
 

@@ -1,4 +1,5 @@
-ghost use Rattle.std.specs.Prelude.{◌≡◌, ◌≤◌, ◌<◌, IsTrue, map, vec_len, vec_capacity};
+ghost use Rattle.std.specs.Prelude.{◌≡◌, ◌≤◌, ◌<◌, IsTrue, map, take, length, vec_len, vec_capacity};
+ghost use Rattle.xt_base.specs.declared.ids.Stamp.{Stamp};
 ghost use Rattle.xt_base.specs.Limits.{rise};
 ghost use Rattle.xt_protocol.specs.Heads.{version_of, with_version, versions_below};
 ghost use Rattle.version_lists.specs.Rising.{IsVersionPlace};
@@ -31,6 +32,17 @@ pub fn version_of(versions: &[ObjectVersion], object: u64) -> Option<Stamp>
     }
 }
 
+/// How many versions there are with one of this object.
+pub fn versions_with(versions: &[ObjectVersion], object: u64) -> usize
+    requires { IsTrue (rise (map (λ v. v.object) versions.now)) }
+    ensures { (version : Stamp) → result ≡ length (with_version versions.now object version) }
+{
+    match version_place(versions, object) {
+        Ok(_) => versions.len(),
+        Err(_) => versions.len() + 1,
+    }
+}
+
 /// Puts the version of an object into its place. It takes no memory.
 pub fn put_version(versions: &mut Vec<ObjectVersion>, row: ObjectVersion)
     requires rising { IsTrue (rise (map (λ v. v.object) versions.old.items)) }
@@ -43,15 +55,23 @@ pub fn put_version(versions: &mut Vec<ObjectVersion>, row: ObjectVersion)
     }
 }
 
+/// How many of the versions are of objects below this one.
+pub fn objects_below(versions: &[ObjectVersion], from: u64) -> usize
+    requires { IsTrue (rise (map (λ v. v.object) versions.now)) }
+    ensures few { result ≤ length versions.now }
+    ensures below { take result versions.now ≡ versions_below versions.now from }
+{
+    versions.partition_point(|other| other.object < from)
+}
+
 /// Drops the versions of the objects from this one on.
 pub fn drop_versions(versions: &mut Vec<ObjectVersion>, from: u64)
     requires { IsTrue (rise (map (λ v. v.object) versions.old.items)) }
     ensures items { versions.new.items ≡ versions_below versions.old.items from }
     ensures few { vec_len versions.new ≤ vec_len versions.old }
     ensures room { vec_capacity versions.new ≡ vec_capacity versions.old }
+    ensures rising { IsTrue (rise (map (λ v. v.object) versions.new.items)) }
 {
-    let place = versions
-        .as_slice()
-        .partition_point(|other| other.object < from);
+    let place = objects_below(versions.as_slice(), from);
     versions.truncate(place);
 }
