@@ -1,0 +1,5 @@
+pub mod Kept
+pub mod Leads
+pub mod Served
+pub mod SoundSteps
+pub mod Promised

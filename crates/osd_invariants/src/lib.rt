@@ -1,0 +1,25 @@
+//! What holds of the state of a file at an OSD at every moment, proved of the rows of `osd_rows`.
+//!
+//! A file is sound when its node starts, and expiry, every message and every Wake keep it so: it leads only while it holds
+//! the lease, an issued ask stands exactly where an update is issued, nothing waits while the lease is free, and a primary's
+//! peers are the members of the stored list. What is kept of a file changes by the records of its steps alone.
+#![tactic(auto)]
+
+ghost use Rattle.osd_invariants.specs.Sound.{StaysSound};
+ghost use Rattle.osd_invariants.specs.Keeping.{KeepsByRecord};
+ghost use Rattle.osd_invariants.specs.Promises.{PromisesAlone};
+
+/// A file is sound when its node starts, and every step keeps it so.
+pub fn files_stay_sound()
+    ensures { StaysSound }
+{}
+
+/// What is kept of a file follows the records of its steps.
+pub fn files_follow_records()
+    ensures { KeepsByRecord }
+{}
+
+/// A Gather of a later epoch changes the head of a replica and leaves its primary, also an active one.
+pub fn a_promise_moves_the_head()
+    ensures { PromisesAlone }
+{}

@@ -1,0 +1,73 @@
+-- nothing about leases in what rows of a primary give
+use Rattle.std.proofs.Common.{◌≡◌, refl, ap, ◌∙◌, List, [], ◌∷◌, ◌++◌, Bool, true, false}
+use Rattle.std.specs.Prelude.{Option, Some, None, cond, map, flat_map}
+use Rattle.std.proofs.lemmas.List.Elements.{filter-append, filter_map-append}
+use Rattle.xt_base.specs.declared.ids.NodeId.{NodeId}
+use Rattle.xt_base.specs.declared.ids.FileId.{FileId}
+use Rattle.xt_base.specs.declared.ids.Epoch.{Epoch}
+use Rattle.xt_base.specs.declared.message.Msg.{Msg}
+use Rattle.xt_base.specs.declared.reply.Reply.{Reply}
+use Rattle.xt_protocol.specs.declared.Turned.{Turned}
+use Rattle.osd_rows.specs.declared.Place.{Place}
+use Rattle.osd_rows.specs.declared.WaitingAsk.{WaitingAsk}
+use Rattle.osd_rows.specs.declared.IssuedAsk.{IssuedAsk}
+use Rattle.osd_rows.specs.declared.Peer.{Peer}
+use Rattle.osd_rows.specs.declared.PeerState.{PeerState}
+use Rattle.osd_rows.specs.declared.PeerState.TheVariants as peer
+use Rattle.osd_rows.specs.Turns.{joined, reply_to}
+use Rattle.osd_rows.specs.Primaries.{if_any, last_sent, last_to_each}
+use Rattle.osd_rows.specs.Asks.{tells_each, tells_untold}
+use Rattle.osd_lease_views.specs.LeaseView.{is_lease_msg, lease_msgs, held_end, held_ends, IsBare}
+
+-- a message that isn't about a lease, before others
+pub first_bare : (m : Msg) (ms : List Msg) → is_lease_msg m ≡ false → lease_msgs ms ≡ [] → lease_msgs (m ∷ ms) ≡ []
+first_bare m ms other rest = ap (λ b. cond b (m ∷ lease_msgs ms) (lease_msgs ms)) other ∙ rest
+
+-- messages none of which is about a lease
+pub map_bare : {X : Type 0} (f : X → Msg) (xs : List X) → ((x : X) → is_lease_msg (f x) ≡ false) → lease_msgs (map f xs) ≡ []
+map_bare f [] other = refl
+map_bare f (x ∷ xs) other = first_bare (f x) (map f xs) (other x) (map_bare f xs other)
+
+pub flat_bare : {X : Type 0} (f : X → List Msg) (xs : List X) → ((x : X) → lease_msgs (f x) ≡ []) → lease_msgs (flat_map f xs) ≡ []
+flat_bare f [] other = refl
+flat_bare f (x ∷ xs) other =
+    filter-append is_lease_msg (f x) (flat_map f xs) ∙ ap (λ ms. ms ++ lease_msgs (flat_map f xs)) (other x) ∙ flat_bare f xs other
+
+pub map_all : {X : Type 0} (f : X → Msg) (xs : List X) → ((x : X) → is_lease_msg (f x) ≡ true) → lease_msgs (map f xs) ≡ map f xs
+map_all f [] each = refl
+map_all f (x ∷ xs) each =
+    ap (λ b. cond b (f x ∷ lease_msgs (map f xs)) (lease_msgs (map f xs))) (each x) ∙ ap (λ ms. f x ∷ ms) (map_all f xs each)
+
+pub both_bare : (a b : List Msg) → lease_msgs a ≡ [] → lease_msgs b ≡ [] → lease_msgs (a ++ b) ≡ []
+both_bare a b p q = filter-append is_lease_msg a b ∙ ap (λ ms. ms ++ lease_msgs b) p ∙ q
+
+pub joined_bare : (a b : Turned) → IsBare a → IsBare b → IsBare (joined a b)
+joined_bare a b p q =
+    record {
+      outs = both_bare a.outs b.outs p.outs q.outs;
+      ends = filter_map-append held_end a.marks b.marks ∙ ap (λ ends. ends ++ held_ends b.marks) p.ends ∙ q.ends;
+    }
+
+-- replies
+pub each_told : (node : NodeId) (file : FileId) (asks : List WaitingAsk) (answer : Reply) → lease_msgs (tells_each node file asks answer) ≡ []
+each_told node file asks answer = map_bare (λ w. reply_to node file w.id answer) asks (λ w. refl)
+
+pub untold : (node : NodeId) (file : FileId) (ask : Option IssuedAsk) (answer : Reply) → lease_msgs (tells_untold node file ask answer) ≡ []
+untold node file None answer = refl
+untold node file (Some issued) answer = told_or issued.told
+  where
+    told_or : (b : Bool) → lease_msgs (cond b [] (reply_to node file issued.ask.id answer ∷ [])) ≡ []
+    told_or true = refl
+    told_or false = refl
+
+-- what is sent to a peer
+pub last_bare : (from to : NodeId) (file : FileId) (epoch : Epoch) (state : PeerState) → lease_msgs (if_any from to (last_sent file epoch state)) ≡ []
+last_bare from to file epoch peer.Unknown = refl
+last_bare from to file epoch (peer.Reported head) = refl
+last_bare from to file epoch (peer.Feeding known object version body) = refl
+last_bare from to file epoch (peer.Heading known head) = refl
+last_bare from to file epoch peer.Current = refl
+
+pub each_last_bare : (place : Place) (epoch : Epoch) (peers : List Peer) → lease_msgs (last_to_each place epoch peers) ≡ []
+each_last_bare place epoch peers =
+    flat_bare (λ p. if_any place.node p.node (last_sent place.file epoch p.state)) peers (λ p. last_bare place.node p.node place.file epoch p.state)

@@ -1,0 +1,5 @@
+pub mod Bare
+pub mod PrimaryBare
+pub mod LeaseSteps
+pub mod OsdLeases
+pub mod LeaseOuts

@@ -1,0 +1,3 @@
+pub mod LeaseView
+pub mod OsdView
+pub mod OutsView
