@@ -1,6 +1,6 @@
 -- what a step sends about leases is about the lease of its file
 use Rattle.std.proofs.Common.{◌≡◌, refl, ap, sym, ◌∙◌, inl, inr, List, [], ◌∷◌, false}
-use Rattle.std.specs.Prelude.{Option, Some, None, cond, is_some}
+use Rattle.std.specs.Prelude.{Option, Some, None, cond, is_some, ◌||◌, Bool, true}
 use Rattle.xt_base.specs.declared.ids.NodeId.{NodeId}
 use Rattle.xt_base.specs.declared.ids.FileId.{FileId}
 use Rattle.xt_base.specs.declared.message.Msg.{Msg}
@@ -12,7 +12,7 @@ use Rattle.lease_runs.specs.LeaseWorld.{LeaseSetting, LeaseRow, RowStep, lease_f
 use Rattle.lease_runs.proofs.Outs.{AreOf, handles_of, asks_of}
 use Rattle.osd_rows.specs.FileStates.{FileState, Site, FileStep}
 use Rattle.osd_rows.specs.FileSteps.{step_of_file}
-use Rattle.osd_lease_views.specs.LeaseView.{lease_setting, lease_msgs, lease_outs, is_about, ShowsRow, Follows, handles, asks, stays, Wakes, renewing, resting, settled_row}
+use Rattle.osd_lease_views.specs.LeaseView.{is_ask, lease_setting, lease_msgs, lease_outs, is_about, ShowsRow, Follows, handles, asks, stays, Wakes, renewing, resting, settled_row}
 use Rattle.osd_lease_views.specs.OsdView.{wake_step}
 use Rattle.osd_lease_views.specs.OutsView.{SendsOfFile}
 use Rattle.osd_lease_views.proofs.LeaseSteps.{step_follows}
@@ -24,12 +24,18 @@ outs_of_leases k [] = refl
 outs_of_leases k (m ∷ ms) = by_file (outs_of_leases k ms) (lease_file m.payload) refl
   where
     by_file : lease_outs k ms ≡ lease_outs k (lease_msgs ms) → (o : Option FileId) → lease_file m.payload ≡ o → lease_outs k (m ∷ ms) ≡ lease_outs k (lease_msgs (m ∷ ms))
-    by_file rest None is =
-        ap (λ o. cond (is_about k o) (m ∷ lease_outs k ms) (lease_outs k ms)) is ∙ rest
-        ∙ sym (ap (λ o. lease_outs k (cond (is_some o) (m ∷ lease_msgs ms) (lease_msgs ms))) is)
+    by_file rest None is = other (is_ask m.payload)
+      where
+        other : (b : Bool) → lease_outs k (m ∷ ms) ≡ lease_outs k (cond (is_some (lease_file m.payload) || b) (m ∷ lease_msgs ms) (lease_msgs ms))
+        other true =
+            ap (λ o. cond (is_about k o) (m ∷ lease_outs k ms) (lease_outs k ms)) is ∙ rest
+            ∙ sym (ap (λ o. lease_outs k (cond (is_some o || true) (m ∷ lease_msgs ms) (lease_msgs ms))) is ∙ ap (λ o. cond (is_about k o) (m ∷ lease_outs k (lease_msgs ms)) (lease_outs k (lease_msgs ms))) is)
+        other false =
+            ap (λ o. cond (is_about k o) (m ∷ lease_outs k ms) (lease_outs k ms)) is ∙ rest
+            ∙ sym (ap (λ o. lease_outs k (cond (is_some o || false) (m ∷ lease_msgs ms) (lease_msgs ms))) is)
     by_file rest (Some f) is =
         ap (λ others. cond (is_about k (lease_file m.payload)) (m ∷ others) others) rest
-        ∙ sym (ap (λ o. lease_outs k (cond (is_some o) (m ∷ lease_msgs ms) (lease_msgs ms))) is)
+        ∙ sym (ap (λ o. lease_outs k (cond (is_some o || is_ask m.payload) (m ∷ lease_msgs ms) (lease_msgs ms))) is)
 
 all_own : (g : LeaseSetting) (ms : List Msg) → AreOf g ms → lease_outs g.file ms ≡ ms
 all_own g [] are = refl
@@ -54,7 +60,7 @@ followed : (file : FileId) (site : Site) (x : LeaseRow) (l : LeaseState) (from :
     → Follows file site x l from content step → SendsOfFile file step
 followed file site x l from content step (handles p) =
     let g = lease_setting site file step.state.kept.location in sends_of g step _ p (handles_of g site.node site.now x from content)
-followed file site x l from content step (asks p) =
+followed file site x l from content step (asks is stored p) =
     let g = lease_setting site file step.state.kept.location in sends_of g step _ p (asks_of g site.node site.now x l)
 followed file site x l from content step (stays p) = sends_of (lease_setting site file step.state.kept.location) step _ p (λ m h. absurd h)
 

@@ -49,7 +49,8 @@ use Rattle.osd_rows.specs.Overdue.{expired, lease_became, deadlines_under, newly
 use Rattle.osd_rows.specs.AskRows.{ask_handled, ask_let_in, ask_rows, ask_under, ask_without_lease, round_for, refusal_of, elsewhere, view_record, waiting_ask}
 use Rattle.osd_rows.specs.FileLeases.{answer_to_read, read_comes, write_comes, answer_comes, answers_to_write, end_after_answer, lease_news, led_on, waiting_told}
 use Rattle.osd_rows.specs.FileSteps.{step_of_file, message_comes, ask_comes, primary_hears, renews, wakes_under_lease, wake_of_file}
-use Rattle.osd_lease_views.specs.LeaseView.{lease_row_of, lease_setting, is_lease_msg, lease_msgs, held_end, held_ends, IsBare, ShowsRow, stays_so, Follows, handles, asks, stays, Wakes, renewing, resting, settled_row}
+use Rattle.osd_lease_views.specs.LeaseView.{lease_row_of, is_ask, lease_setting, is_lease_msg, lease_msgs, held_end, held_ends, IsBare, ShowsRow, stays_so, Follows, handles, asks, stays, Wakes, renewing, resting, settled_row}
+use Rattle.osd_invariants.specs.Sound.{IsStored}
 use Rattle.osd_invariants.proofs.Kept.{wake_keeps}
 use Rattle.osd_lease_views.proofs.Bare.{both_bare, each_told, untold, map_all}
 use Rattle.osd_lease_views.proofs.PrimaryBare.{served_bare, drawn_bare, follow_bare, hears_bare, wakes_bare}
@@ -134,10 +135,10 @@ choice file site x l from content true p q = p
 choice file site x l from content false p q = q
 
 round_follows : (site : Site) (s : FileState) (p : Proposer) (ask : WaitingAsk) (from : NodeId) (content : Payload)
-    → AsksOf site s (free p) from content (round_for site s p ask)
-round_follows site s p ask from content =
+    → is_ask content ≡ true → IsStored s.kept.location → AsksOf site s (free p) from content (round_for site s p ask)
+round_follows site s p ask from content is stored =
     choice s.kept.file site (lease_row_of s) (free p) from content (can_ask p)
-    (asks (record {
+    (asks is stored (record {
       row = refl;
       outs = map_all (λ to. message site.node to (payload.Read s.kept.file (round_starts p site.now (members_of s.kept.location)).ballot)) (members_of s.kept.location) (λ to. refl);
       ends = refl;
@@ -145,29 +146,33 @@ round_follows site s p ask from content =
     (stays (record { row = refl; outs = refl; ends = refl }))
 
 without_follows : (site : Site) (s : FileState) (p : Proposer) (ask : WaitingAsk) (answer : Option Reply) (from : NodeId) (content : Payload)
-    → AsksOf site s (free p) from content (ask_without_lease site s p ask answer)
-without_follows site s p ask (Some answer) from content = stays (record { row = refl; outs = refl; ends = refl })
-without_follows site s p ask None from content = round_follows site s p ask from content
+    → is_ask content ≡ true → IsStored s.kept.location → AsksOf site s (free p) from content (ask_without_lease site s p ask answer)
+without_follows site s p ask (Some answer) from content is stored = stays (record { row = refl; outs = refl; ends = refl })
+without_follows site s p ask None from content is stored = round_follows site s p ask from content is stored
 
 under_follows : (site : Site) (s : FileState) (l : LeaseState) (ask : WaitingAsk) (from : NodeId) (content : Payload)
-    → AsksOf site s l from content (ask_under site s l ask)
-under_follows site s (held h) ask from content =
+    → is_ask content ≡ true → IsStored s.kept.location → AsksOf site s l from content (ask_under site s l ask)
+under_follows site s (held h) ask from content is stored =
     let q = served_bare (ground_of site s) (record { primary = s.primary; asks = s.asks; turned = quiet }) ask (waits s.asks ask) (record { outs = refl; ends = refl }) in
     choice s.kept.file site (lease_row_of s) (held h) from content (is_active s.primary.tenure)
     (stays (record { row = refl; outs = q.outs; ends = q.ends }))
     (stays (record { row = refl; outs = refl; ends = refl }))
-under_follows site s (asking r) ask from content = stays (record { row = refl; outs = refl; ends = refl })
-under_follows site s (writing r) ask from content = stays (record { row = refl; outs = refl; ends = refl })
-under_follows site s (free p) ask from content = without_follows site s p ask (elsewhere site s.acceptor.accepted) from content
+under_follows site s (asking r) ask from content is stored = stays (record { row = refl; outs = refl; ends = refl })
+under_follows site s (writing r) ask from content is stored = stays (record { row = refl; outs = refl; ends = refl })
+under_follows site s (free p) ask from content is stored = without_follows site s p ask (elsewhere site s.acceptor.accepted) from content is stored
 
-rows_follow : (site : Site) (s : FileState) (ask : WaitingAsk) (from : NodeId) (content : Payload) → AsksOf site s s.lease from content (ask_rows site s ask)
-rows_follow site s ask from content =
+rows_follow : (site : Site) (s : FileState) (ask : WaitingAsk) (from : NodeId) (content : Payload) → is_ask content ≡ true → IsStored s.kept.location → AsksOf site s s.lease from content (ask_rows site s ask)
+rows_follow site s ask from content is stored =
     choice s.kept.file site (lease_row_of s) s.lease from content (asked_already s.asks ask.id)
-    (stays (record { row = refl; outs = refl; ends = refl })) (under_follows site s s.lease ask from content)
+    (stays (record { row = refl; outs = refl; ends = refl })) (under_follows site s s.lease ask from content is stored)
 
 view_keeps : (s : FileState) (location : Location) (stored : Option Location) → (kept_after s.kept (view_record s location stored)).file ≡ s.kept.file
 view_keeps s location None = refl
 view_keeps s location (Some stored) = refl
+
+view_stores : (s : FileState) (location : Location) (stored : Option Location) → s.kept.location ≡ stored → IsStored (kept_after s.kept (view_record s location stored)).location
+view_stores s location None is = tt
+view_stores s location (Some stored) is = subst IsStored (sym is) tt
 
 -- a step after one that shows nothing
 shown_after : (first : FileStep) (rows : FileState → FileStep) (r : RowStep) → IsBare first.turned → ShowsRow (rows first.state) r → ShowsRow (and_then first rows) r
@@ -182,25 +187,25 @@ shown_after first rows r bare p =
 after_bare : (file : FileId) (site : Site) (x : LeaseRow) (l : LeaseState) (from : NodeId) (content : Payload) (first : FileStep) (rows : FileState → FileStep)
     → IsBare first.turned → Follows file site x l from content (rows first.state) → Follows file site x l from content (and_then first rows)
 after_bare file site x l from content first rows bare (handles p) = handles (shown_after first rows _ bare p)
-after_bare file site x l from content first rows bare (asks p) = asks (shown_after first rows _ bare p)
+after_bare file site x l from content first rows bare (asks is stored p) = asks is stored (shown_after first rows _ bare p)
 after_bare file site x l from content first rows bare (stays p) = stays (shown_after first rows _ bare p)
 
 let_in_follows : (site : Site) (s : FileState) (id : OpId) (capability : Capability) (asked : Op) (refusal : Option Reply) (from : NodeId) (content : Payload)
-    → AsksOf site s s.lease from content (ask_let_in site s id capability asked refusal)
-let_in_follows site s id capability asked (Some answer) from content = stays (record { row = refl; outs = refl; ends = refl })
-let_in_follows site s id capability asked None from content =
+    → is_ask content ≡ true → AsksOf site s s.lease from content (ask_let_in site s id capability asked refusal)
+let_in_follows site s id capability asked (Some answer) from content is = stays (record { row = refl; outs = refl; ends = refl })
+let_in_follows site s id capability asked None from content is =
     let first = steps_to (record s { used = site.now }) (keeps (view_record s capability.location s.kept.location)) in
     let ask = waiting_ask site id capability.epoch asked in
     after_bare s.kept.file site (lease_row_of s) s.lease from content first (λ state. ask_rows site state ask) (record { outs = refl; ends = refl })
     (subst (λ file. Follows file site (lease_row_of s) s.lease from content (ask_rows site first.state ask))
-    (view_keeps s capability.location s.kept.location) (rows_follow site first.state ask from content))
+    (view_keeps s capability.location s.kept.location) (rows_follow site first.state ask from content is (view_stores s capability.location s.kept.location refl)))
 
 kind_follows : (site : Site) (s : FileState) (k : Kind) (id : OpId) (capability : Capability) (asked : Op) (from : NodeId) (content : Payload)
-    → AsksOf site s s.lease from content (ask_comes site s k id capability asked)
+    → is_ask content ≡ true → AsksOf site s s.lease from content (ask_comes site s k id capability asked)
 unfolding ask_handled
-kind_follows site s kind.Replicated id capability asked from content =
-    let_in_follows site s id capability asked (refusal_of site s.kept.location capability asked) from content
-kind_follows site s kind.Striped id capability asked from content = stays (record { row = refl; outs = refl; ends = refl })
+kind_follows site s kind.Replicated id capability asked from content is =
+    let_in_follows site s id capability asked (refusal_of site s.kept.location capability asked) from content is
+kind_follows site s kind.Striped id capability asked from content is = stays (record { row = refl; outs = refl; ends = refl })
 
 -- The register.
 
@@ -369,7 +374,7 @@ calmly site s from content step q = stays (record { row = q.row; outs = q.outs; 
 
 message_follows : (site : Site) (s : FileState) (from : NodeId) (content : Payload) → AsksOf site s s.lease from content (message_comes site s from content)
 message_follows site s from (payload.Ask number capability asked) =
-    kind_follows site s capability.location.kind (record { client = from; number = number }) capability asked from _
+    kind_follows site s capability.location.kind (record { client = from; number = number }) capability asked from (payload.Ask number capability asked) refl
 message_follows site s from (payload.Read file ballot) = handles (read_shows site s (message_comes site s from (payload.Read file ballot)).state.kept.location from ballot file)
 message_follows site s from (payload.Write file ballot boot l) = handles (write_shows site s (message_comes site s from (payload.Write file ballot boot l)).state.kept.location from ballot boot l file)
 message_follows site s from (payload.Promise file ballot boot report) = handles (let q = answer_shows site s (message_comes site s from (payload.Promise file ballot boot report)).state.kept.location from (payload.Promise file ballot boot report) in record { row = q.row; outs = q.outs; ends = q.ends })

@@ -1,16 +1,18 @@
 -- what the step of a file shows of the file's lease
-use Rattle.std.specs.Prelude.{◌≡◌, ℕ, Bool, false, Option, Some, None, List, [], ◌∷◌, is_some, filter, filter_map}
+use Rattle.std.specs.Prelude.{◌≡◌, ℕ, Bool, true, false, ◌||◌, Option, Some, None, List, [], ◌∷◌, is_some, filter, filter_map}
 use Rattle.xt_base.specs.declared.ids.NodeId.{NodeId}
 use Rattle.xt_base.specs.declared.ids.FileId.{FileId}
 use Rattle.xt_base.specs.declared.file.Location.{Location}
 use Rattle.xt_base.specs.declared.message.Msg.{Msg}
 use Rattle.xt_base.specs.declared.message.Payload.{Payload}
+use Rattle.xt_base.specs.declared.message.Payload.TheVariants as payload
 use Rattle.xt_base.specs.declared.event.Mark.{Mark}
 use Rattle.xt_base.specs.declared.event.Mark.TheVariants as mark
 use Rattle.xt_protocol.specs.FileIds.{is_file}
 use Rattle.xt_protocol.specs.LeaseRows.{LeaseState}
 use Rattle.xt_protocol.specs.declared.Turned.{Turned}
 use Rattle.lease_runs.specs.LeaseWorld.{LeaseSetting, LeaseRow, RowStep, row_handles, row_asks, expired_row, lease_file}
+use Rattle.osd_invariants.specs.Sound.{IsStored}
 use Rattle.osd_rows.specs.FileStates.{FileState, Site, FileStep, members_of}
 use Rattle.osd_rows.specs.Overdue.{expired}
 use Rattle.osd_rows.specs.FileSteps.{step_of_file, wake_of_file}
@@ -23,9 +25,13 @@ lease_row_of s = record { acceptor = s.acceptor; lease = s.lease }
 abbrev pub lease_setting : Site → FileId → Option Location → LeaseSetting
 lease_setting site file location = record { file = file; list = 1; members = members_of location; times = site.times }
 
--- the messages that are about leases
+-- the messages that are about leases, and asks: a step whose messages among these are a lease's sends no ask
+abbrev pub is_ask : Payload → Bool
+is_ask (payload.Ask number capability asked) = true
+is_ask _ = false
+
 abbrev pub is_lease_msg : Msg → Bool
-is_lease_msg m = is_some (lease_file m.payload)
+is_lease_msg m = is_some (lease_file m.payload) || is_ask m.payload
 
 abbrev pub lease_msgs : List Msg → List Msg
 lease_msgs outs = filter is_lease_msg outs
@@ -65,10 +71,11 @@ pub record ShowsRow (step : FileStep) (r : RowStep) : Type 0 where
 abbrev pub stays_so : LeaseRow → RowStep
 stays_so x = record { row = x; outs = []; end = None }
 
--- What a message may do to the lease: it is handled as one about the lease; a round is begun for it; or the lease stays.
+-- What a message may do to the lease: it is handled as one about the lease; it is an ask for which a round is begun, and the
+-- file's list is stored; or the lease stays.
 pub data Follows (file : FileId) (site : Site) (x : LeaseRow) (l : LeaseState) (from : NodeId) (content : Payload) (step : FileStep) : Type 0 where
   handles : ShowsRow step (row_handles (lease_setting site file step.state.kept.location) site.node site.now x from content) → Follows file site x l from content step
-  asks : ShowsRow step (row_asks (lease_setting site file step.state.kept.location) site.node site.now x l) → Follows file site x l from content step
+  asks : is_ask content ≡ true → IsStored step.state.kept.location → ShowsRow step (row_asks (lease_setting site file step.state.kept.location) site.node site.now x l) → Follows file site x l from content step
   stays : ShowsRow step (stays_so x) → Follows file site x l from content step
 
 -- and what a Wake may

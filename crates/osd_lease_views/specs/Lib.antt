@@ -1,3 +1,4 @@
 pub mod LeaseView
 pub mod OsdView
 pub mod OutsView
+pub mod ActsView

@@ -8,6 +8,7 @@
 ghost use Rattle.osd_lease_views.specs.LeaseView.{ShowsLeases};
 ghost use Rattle.osd_lease_views.specs.OsdView.{OsdShowsLeases};
 ghost use Rattle.osd_lease_views.specs.OutsView.{SendsByFile};
+ghost use Rattle.osd_lease_views.specs.ActsView.{ShowsActs};
 
 /// The steps of a file show in its lease as rows of the lease.
 pub fn leases_are_shown()
@@ -22,4 +23,10 @@ pub fn leases_are_shown_by_file()
 /// What a step of a file sends about leases is about the lease of that file.
 pub fn leases_are_sent_by_file()
     ensures { SendsByFile }
+{}
+
+/// A step of a file marks that a lease was won, or acts of its primary, and these only where the lease is held; its record
+/// isn't of a start, and stores a list only as an ask names it. A Wake marks and records nothing.
+pub fn acts_are_shown()
+    ensures { ShowsActs }
 {}
