@@ -1,8 +1,9 @@
 -- A test whether moves are legal, which computes.
 use Rattle.std.proofs.Common.{◌≡◌, ℕ, suc, ◌*◌, ◌<◌, ◌≤◌, ◌⊎◌, Bool, true, false, not, List, [], ◌∷◌, length, refl, sym, ap, ap₂, ◌∙◌, inl, inr, arith, true≢false, nat_lt, nat_le, ◌==◌, Option, Some, None}
-use Rattle.std.specs.Prelude.{count_by}
+use Rattle.std.specs.Prelude.{count_by, map}
 use Rattle.std.proofs.lemmas.Bool.Decides.{nat_tests}
-use Rattle.replica_safety.specs.Epochs.{Epoch, precedes, same_epoch, Stamp, is_below, Write, Head, stamp_of}
+use Rattle.xt_protocol.specs.Stamps.{is_earlier, is_epoch, is_below}
+use Rattle.replica_safety.specs.Epochs.{Epoch, Stamp, Write, name, Head, stamp_of}
 use Rattle.replica_safety.specs.Lists.{Has, Majority}
 use Rattle.replica_safety.specs.Protocol.{Reported, Acknowledged, State, writes_of, Move, Draw, Promise, Report, Choose, Take_head, Take_update, Acknowledge, Activate, Issue, Commit, Lose, after}
 use Rattle.replica_safety.specs.Histories.{three, first_write, second_write, one_write, failover, epoch_one, later_start, taken_over, drawn_twice, lower_promise, report_before_promise, lone_report, lesser_head, second_choice, older_head, skipped_update, active_early, active_again, two_open, committed_early, late_commit, write_again, Commits, GoesWrong, Repeats}
@@ -47,15 +48,48 @@ unfolding under
 is_under true f h = f h
 is_under false f h = tt
 
+same_name : ℕ × ℕ → ℕ × ℕ → Bool
+same_name v w = both (v.0 == w.0) (v.1 == w.1)
+
+same_name_self : (w : ℕ × ℕ) → same_name w w ≡ true
+unfolding same_name both
+same_name_self w = grind (arith, nat_tests)
+
+same_bytes : List ℕ → List ℕ → Bool
+same_bytes [] [] = true
+same_bytes [] (w ∷ ws) = false
+same_bytes (v ∷ vs) [] = false
+same_bytes (v ∷ vs) (w ∷ ws) = both (v == w) (same_bytes vs ws)
+
+one_number : (m n : ℕ) → (m == n) ≡ true → m ≡ n
+one_number m n e = grind (arith, nat_tests)
+
+same_bytes_is : (vs ws : List ℕ) → same_bytes vs ws ≡ true → vs ≡ ws
+unfolding same_bytes
+same_bytes_is [] [] h = refl
+same_bytes_is [] (w ∷ ws) h = absurd (true≢false (sym h))
+same_bytes_is (v ∷ vs) [] h = absurd (true≢false (sym h))
+same_bytes_is (v ∷ vs) (w ∷ ws) h = ap₂ (λ x xs. x ∷ xs) (one_number v w (left _ _ h)) (same_bytes_is vs ws (right _ _ h))
+
 same_write : Write → Write → Bool
-same_write v w = both (v.0 == w.0) (v.1 == w.1)
+same_write v w =
+    both (both (both (v.stamp.epoch.number == w.stamp.epoch.number) (v.stamp.epoch.node.0 == w.stamp.epoch.node.0)) (both (v.stamp.count == w.stamp.count) (v.id.client.0 == w.id.client.0)))
+    (both (both (both (v.id.number == w.id.number) (v.mark.epoch == w.mark.epoch)) (both (v.mark.size == w.mark.size) (v.drop_from == w.drop_from)))
+    (both (v.object == w.object) (same_bytes v.body w.body)))
 
 same_write_is : (v w : Write) → same_write v w ≡ true → v ≡ w
 unfolding same_write
-same_write_is v w h = λ i. (number v.0 w.0 (left _ _ h) i, number v.1 w.1 (right _ _ h) i)
-  where
-    number : (m n : ℕ) → (m == n) ≡ true → m ≡ n
-    number m n e = grind (arith, nat_tests)
+same_write_is v w h = let a = left _ _ h in let b = left _ _ (right _ _ h) in let c = right _ _ (right _ _ h) in λ i. record {
+  stamp = record {
+    epoch = record { number = one_number _ _ (left _ _ (left _ _ a)) i; node = record { 0 = one_number _ _ (right _ _ (left _ _ a)) i } };
+    count = one_number _ _ (left _ _ (right _ _ a)) i;
+  };
+  id = record { client = record { 0 = one_number _ _ (right _ _ (right _ _ a)) i }; number = one_number _ _ (left _ _ (left _ _ b)) i };
+  mark = record { epoch = one_number _ _ (right _ _ (left _ _ b)) i; size = one_number _ _ (left _ _ (right _ _ b)) i };
+  drop_from = one_number _ _ (right _ _ (right _ _ b)) i;
+  object = one_number _ _ (left _ _ c) i;
+  body = same_bytes_is _ _ (right _ _ c) i;
+}
 
 same_writes : List Write → List Write → Bool
 same_writes [] [] = true
@@ -70,23 +104,19 @@ same_writes_is [] (w ∷ ws) h = absurd (true≢false (sym h))
 same_writes_is (v ∷ vs) [] h = absurd (true≢false (sym h))
 same_writes_is (v ∷ vs) (w ∷ ws) h = ap₂ (λ x xs. x ∷ xs) (same_write_is v w (left _ _ h)) (same_writes_is vs ws (right _ _ h))
 
-same_write_self : (w : Write) → same_write w w ≡ true
-unfolding same_write both
-same_write_self w = grind (arith, nat_tests)
-
 is_new : Write → List Write → Bool
 is_new w [] = true
-is_new w (v ∷ vs) = both (not (same_write w v)) (is_new w vs)
+is_new w (v ∷ vs) = both (not (same_name (name w) (name v))) (is_new w vs)
 
-is_new_is : (w : Write) (vs : List Write) → is_new w vs ≡ true → Has w vs → ⊥
+is_new_is : (w : Write) (vs : List Write) → is_new w vs ≡ true → Has (name w) (map name vs) → ⊥
 unfolding is_new
 is_new_is w [] h k = elim k [ ]
-is_new_is w (v ∷ vs) h (inl p) = true≢false (sym (same_write_self w) ∙ ap (same_write w) p ∙ is_not _ (left _ _ h))
+is_new_is w (v ∷ vs) h (inl p) = true≢false (sym (same_name_self (name w)) ∙ ap (same_name (name w)) p ∙ is_not _ (left _ _ h))
 is_new_is w (v ∷ vs) h (inr k) = is_new_is w vs (right _ _ h) k
 
 is_current : Option Epoch → Epoch → Bool
 is_current None e = false
-is_current (Some d) e = same_epoch d e
+is_current (Some d) e = is_epoch d e
 
 is_current_is : (c : Option Epoch) (e : Epoch) → is_current c e ≡ true → c ≡ Some e
 unfolding is_current
@@ -97,7 +127,7 @@ is_current_is (Some d) e h = ap Some (same_is d e h)
 has_reported : Bool → List Reported → Epoch → Head → ℕ → Bool
 has_reported greatest [] e found r = false
 has_reported greatest (x ∷ xs) e found r =
-    one_of (both (both (x.replica == r) (same_epoch x.epoch e)) (under greatest (not (is_below (stamp_of found) (stamp_of x.head))))) (has_reported greatest xs e found r)
+    one_of (both (both (x.replica == r) (is_epoch x.epoch e)) (under greatest (not (is_below (stamp_of found) (stamp_of x.head))))) (has_reported greatest xs e found r)
 
 has_reported_is : (greatest : Bool) (xs : List Reported) (e : Epoch) (found : Head) (r : ℕ) → has_reported greatest xs e found r ≡ true → HasReported greatest xs e found r
 unfolding has_reported
@@ -107,20 +137,20 @@ has_reported_is greatest (x ∷ xs) e found r h = go (has_reported_is greatest x
     number : (m n : ℕ) → (m == n) ≡ true → n ≡ m
     number m n p = grind (arith, nat_tests)
 
-    go : (has_reported greatest xs e found r ≡ true → HasReported greatest xs e found r) → (both (both (x.replica == r) (same_epoch x.epoch e)) (under greatest (not (is_below (stamp_of found) (stamp_of x.head)))) ≡ true) ⊎ (has_reported greatest xs e found r ≡ true) → HasReported greatest (x ∷ xs) e found r
+    go : (has_reported greatest xs e found r ≡ true → HasReported greatest xs e found r) → (both (both (x.replica == r) (is_epoch x.epoch e)) (under greatest (not (is_below (stamp_of found) (stamp_of x.head)))) ≡ true) ⊎ (has_reported greatest xs e found r ≡ true) → HasReported greatest (x ∷ xs) e found r
     go rest (inl p) = (x.head, inl (λ i. record { replica = number x.replica r (left _ _ (left _ _ p)) i; epoch = sym (same_is x.epoch e (right _ _ (left _ _ p))) i; head = x.head }), is_under greatest (is_not _) (right _ _ p))
     go rest (inr p) = let t = rest p in (t.0, inr t.1, t.2)
 
 is_reported : List Reported → Epoch → Head → Bool
 is_reported [] e found = false
-is_reported (x ∷ xs) e found = one_of (both (same_epoch x.epoch e) (both (same_epoch x.head.epoch found.epoch) (same_writes x.head.writes found.writes))) (is_reported xs e found)
+is_reported (x ∷ xs) e found = one_of (both (is_epoch x.epoch e) (both (is_epoch x.head.epoch found.epoch) (same_writes x.head.writes found.writes))) (is_reported xs e found)
 
 is_reported_is : (xs : List Reported) (e : Epoch) (found : Head) → is_reported xs e found ≡ true → (r : ℕ) × Has (record { replica = r; epoch = e; head = found }) xs
 unfolding is_reported
 is_reported_is [] e found h = absurd (true≢false (sym h))
 is_reported_is (x ∷ xs) e found h = go (is_reported_is xs e found) (either _ _ h)
   where
-    go : (is_reported xs e found ≡ true → (r : ℕ) × Has (record { replica = r; epoch = e; head = found }) xs) → (both (same_epoch x.epoch e) (both (same_epoch x.head.epoch found.epoch) (same_writes x.head.writes found.writes)) ≡ true) ⊎ (is_reported xs e found ≡ true) → (r : ℕ) × Has (record { replica = r; epoch = e; head = found }) (x ∷ xs)
+    go : (is_reported xs e found ≡ true → (r : ℕ) × Has (record { replica = r; epoch = e; head = found }) xs) → (both (is_epoch x.epoch e) (both (is_epoch x.head.epoch found.epoch) (same_writes x.head.writes found.writes)) ≡ true) ⊎ (is_reported xs e found ≡ true) → (r : ℕ) × Has (record { replica = r; epoch = e; head = found }) (x ∷ xs)
     go rest (inl p) = (
       x.replica,
       inl (λ i. record {
@@ -162,8 +192,8 @@ is_majority_is members test each h = record { those = test; more_than_half = les
 
 allows : Rules → List ℕ → State → Move → Bool
 allows rules members s (Draw e) = under rules.drawn_once (not (s.drawn e))
-allows rules members s (Promise r e) = under rules.promises_rise (precedes (s.promised r) e)
-allows rules members s (Report r e) = both (s.drawn e) (under rules.promised_first (same_epoch (s.promised r) e))
+allows rules members s (Promise r e) = under rules.promises_rise (is_earlier (s.promised r) e)
+allows rules members s (Report r e) = both (s.drawn e) (under rules.promised_first (is_epoch (s.promised r) e))
 allows rules members s (Choose e found) =
     both (both (under rules.current_acts (is_current s.current e)) (under rules.chosen_once (not (s.chosen e))))
     (both (is_reported s.reports e found) (under rules.majority_reports (is_majority members (has_reported rules.greatest_head s.reports e found))))
@@ -171,7 +201,7 @@ allows rules members s (Take_head r t) =
     both (both (s.chosen t.epoch) (nat_le (length (s.base t.epoch)) t.count))
     (both (nat_le t.count (length (writes_of s t.epoch))) (under rules.heads_rise (is_below (stamp_of (s.head r)) t)))
 allows rules members s (Take_update r t) =
-    both (same_epoch (s.head r).epoch t.epoch)
+    both (is_epoch (s.head r).epoch t.epoch)
     (both (under rules.in_order (suc (length (s.head r).writes) == t.count)) (nat_le t.count (length (writes_of s t.epoch))))
 allows rules members s (Acknowledge r t) = not (is_below (stamp_of (s.head r)) t)
 allows rules members s (Activate e) =
@@ -247,7 +277,7 @@ allows_is rules members s Lose h = tt
 
 -- to open this is to open all that the test computes with
 allows_all : Rules → List ℕ → State → List Move → Bool
-unfolding allows both one_of under same_write same_writes is_new is_current has_reported is_reported has_acknowledged is_majority precedes same_epoch is_below
+unfolding allows both one_of under same_name same_bytes same_write same_writes is_new is_current has_reported is_reported has_acknowledged is_majority
 allows_all rules members s [] = true
 allows_all rules members s (m ∷ ms) = both (allows rules members s m) (allows_all rules members (after s m) ms)
 
@@ -257,7 +287,6 @@ allows_all_is rules members s [] h = tt
 allows_all_is rules members s (m ∷ ms) h = (allows_is rules members s m (left _ _ h), allows_all_is rules members (after s m) ms (right _ _ h))
 
 first_begins : IsStart three first_start
-unfolding precedes
 first_begins = record {
   at_most_one_open = omega arith;
   different = tt;
@@ -278,7 +307,7 @@ failover_is = (checked every_rule failover refl, refl)
 later_begins : IsStart three later_start
 later_begins = record {
   at_most_one_open = omega arith;
-  different = (λ h. elim h [ inl p ↦ absurd (omega (arith, ap (λ (w : Write). w.1) p)) | inr k ↦ k ], ((λ h. h), tt));
+  different = (λ h. elim h [ inl p ↦ absurd (omega (arith, ap (λ (w : ℕ × ℕ). w.1) p)) | inr k ↦ k ], ((λ h. h), tt));
   kept = record { those = λ r. true; more_than_half = omega arith; each = λ r h. (has_one r, not_before_self epoch_one) };
 }
   where
@@ -311,7 +340,7 @@ without_greatest_head = (checked (record every_rule { greatest_head = false }) l
 
 pub without_chosen_once : GoesWrong (record every_rule { chosen_once = false }) second_choice
 unfolding allows_all
-without_chosen_once = (checked (record every_rule { chosen_once = false }) second_choice refl, λ h. absurd (omega (arith, ap (λ (w : Write). w.1) h.1)))
+without_chosen_once = (checked (record every_rule { chosen_once = false }) second_choice refl, λ h. absurd (omega (arith, ap (λ (w : Write). w.id.number) h.1)))
 
 pub without_heads_rise : GoesWrong (record every_rule { heads_rise = false }) older_head
 unfolding allows_all
@@ -319,7 +348,7 @@ without_heads_rise = (checked (record every_rule { heads_rise = false }) older_h
 
 pub without_in_order : GoesWrong (record every_rule { in_order = false }) skipped_update
 unfolding allows_all
-without_in_order = (checked (record every_rule { in_order = false }) skipped_update refl, λ h. absurd (omega (arith, ap (λ (w : Write). w.1) h.1)))
+without_in_order = (checked (record every_rule { in_order = false }) skipped_update refl, λ h. absurd (omega (arith, ap (λ (w : Write). w.id.number) h.1)))
 
 pub without_majority_has_head : GoesWrong (record every_rule { majority_has_head = false }) active_early
 unfolding allows_all

@@ -1,8 +1,11 @@
 -- What holds in every state of a history.
 use Rattle.std.proofs.Common.{◌≡◌, ℕ, suc, pred, ◌≤◌, ◌⊎◌, Bool, true, false, List, [], ◌∷◌, ◌++◌, length, take, drop, refl, sym, ap, ◌∙◌, subst, inl, inr, arith, append_assoc, append-nil, length-append, length-take, take_all, ap₂, subst₂, take-append-drop, true≢false, ◌==◌, if◌then◌else◌, Option, Some, None}
+use Rattle.std.specs.Prelude.{map}
+use Rattle.std.proofs.lemmas.List.{map-append}
 use Rattle.std.proofs.Math.Seq.{drop-append_seam}
 use Rattle.std.proofs.lemmas.Bool.Decides.{nat_tests}
-use Rattle.replica_safety.specs.Epochs.{Epoch, precedes, same_epoch, Stamp, AtMost, Write, Head, stamp_of, at_epoch, at_node}
+use Rattle.xt_protocol.specs.Stamps.{is_earlier, is_epoch}
+use Rattle.replica_safety.specs.Epochs.{Epoch, Stamp, AtMost, Write, name, Head, stamp_of, at_epoch, at_node}
 use Rattle.replica_safety.specs.Lists.{Has, AreDistinct, Majority}
 use Rattle.replica_safety.specs.Protocol.{Reported, Acknowledged, Act, Activated, Issued, Committed, State, writes_of, last_write, Move, Draw, Promise, Report, Choose, Take_head, Take_update, Acknowledge, Activate, Issue, Commit, Lose, after, after_all}
 use Rattle.replica_safety.specs.Rules.{every_rule, Legal, AreLegal, Start, IsStart, begin, HasReported, HasAcknowledged}
@@ -13,7 +16,7 @@ use Rattle.replica_safety.proofs.Lists.{IsFront, IsNear, has-left, has-append, d
 -- Who reported had promised, to an epoch that was drawn.
 pub record PromisesHold (drawn : Epoch → Bool) (promised : ℕ → Epoch) (reports : List Reported) : Type 0 where
   pub asked : (x : Reported) → Has x reports → drawn x.epoch ≡ true
-  pub since : (x : Reported) → Has x reports → precedes (promised x.replica) x.epoch ≡ false
+  pub since : (x : Reported) → Has x reports → is_earlier (promised x.replica) x.epoch ≡ false
 
 -- Heads only grow, so what was acknowledged is still reached.
 pub record AcknowledgementsHold (head : ℕ → Head) (acknowledged : List Acknowledged) : Type 0 where
@@ -32,16 +35,16 @@ pub record HeadsHold (chosen : Epoch → Bool) (base log : Epoch → List Write)
 -- No epoch is chosen below one that was chosen before.
 pub record ChoicesHold (members : List ℕ) (drawn chosen : Epoch → Bool) (promised : ℕ → Epoch) (current : Option Epoch) (reports : List Reported) : Type 0 where
   pub drawn_first : (e : Epoch) → chosen e ≡ true → drawn e ≡ true
-  pub promised_by : (e : Epoch) → chosen e ≡ true → Majority members (λ r. precedes (promised r) e ≡ false)
+  pub promised_by : (e : Epoch) → chosen e ≡ true → Majority members (λ r. is_earlier (promised r) e ≡ false)
   pub current_drawn : (e : Epoch) → current ≡ Some e → drawn e ≡ true
-  pub newest : (e f : Epoch) → current ≡ Some e → chosen e ≡ true → chosen f ≡ true → precedes e f ≡ false
-  pub passed_by : (e f : Epoch) → current ≡ Some e → chosen f ≡ true → precedes e f ≡ true →
-      Majority members (λ r. (precedes e (promised r) ≡ true) × ((x : Reported) → Has x reports → x.replica ≡ r → x.epoch ≡ e → ⊥))
+  pub newest : (e f : Epoch) → current ≡ Some e → chosen e ≡ true → chosen f ≡ true → is_earlier e f ≡ false
+  pub passed_by : (e f : Epoch) → current ≡ Some e → chosen f ≡ true → is_earlier e f ≡ true →
+      Majority members (λ r. (is_earlier e (promised r) ≡ true) × ((x : Reported) → Has x reports → x.replica ≡ r → x.epoch ≡ e → ⊥))
 
 -- The writes of an epoch that may still count: the line, or the line and one write more.
 pub record WritesHold (start : Start) (acts : List Act) (writes : List Write) : Type 0 where
   pub near : IsNear (line_of start.line acts) writes
-  pub distinct : AreDistinct writes
+  pub distinct : AreDistinct (map name writes)
   pub issued : (w : Write) → Has w writes → WasIssued start acts w
 
 -- The line, by the epoch that was active last.
@@ -49,8 +52,8 @@ pub record LineHolds (members : List ℕ) (start : Start) (latest : Epoch) (acts
   pub latest_chosen : chosen latest ≡ true
   pub active_chosen : (e : Epoch) → active e ≡ true → chosen e ≡ true
   pub idle : (e : Epoch) → active e ≡ false → log e ≡ []
-  pub later_idle : (e : Epoch) → precedes latest e ≡ true → active e ≡ false
-  pub writes : (e : Epoch) → chosen e ≡ true → precedes e latest ≡ false → WritesHold start acts (base e ++ log e)
+  pub later_idle : (e : Epoch) → is_earlier latest e ≡ true → active e ≡ false
+  pub writes : (e : Epoch) → chosen e ≡ true → is_earlier e latest ≡ false → WritesHold start acts (base e ++ log e)
   pub acting : (e : Epoch) → current ≡ Some e → active e ≡ true → (e ≡ latest) × (committed e ≡ length (line_of start.line acts))
   pub kept : Majority members (λ r.
       AtMost (record { epoch = latest; count = length (line_of start.line acts) }) (stamp_of (head r)) ×
@@ -82,10 +85,10 @@ pub record Sound (members : List ℕ) (start : Start) (s : State) : Type 0 where
   pub told : AreOnOneLine start.line s.acts
 
 -- by cases on whether two epochs, or two nodes, are one
-by_epoch : (P : Bool → Type 0) (d e : Epoch) → (d ≡ e → P true) → (same_epoch d e ≡ false → P false) → P (same_epoch d e)
-by_epoch P d e is other = go (same_epoch d e) refl
+by_epoch : (P : Bool → Type 0) (d e : Epoch) → (d ≡ e → P true) → (is_epoch d e ≡ false → P false) → P (is_epoch d e)
+by_epoch P d e is other = go (is_epoch d e) refl
   where
-    go : (b : Bool) → same_epoch d e ≡ b → P b
+    go : (b : Bool) → is_epoch d e ≡ b → P b
     go true p = is (same_is d e p)
     go false p = other p
 
@@ -159,12 +162,12 @@ module _ (members : List ℕ) (start : Start) where
   }
 
   -- Promise
-  rises : (s : State) (r : ℕ) (e : Epoch) → precedes (s.promised r) e ≡ true → (q : ℕ) → precedes (at_node r e s.promised q) (s.promised q) ≡ false
-  rises s r e above q = by_node (λ b. precedes (if b then e else s.promised q) (s.promised q) ≡ false) q r
-      (λ p. not_after (s.promised q) e (subst (λ n. precedes (s.promised n) e ≡ true) (sym p) above))
+  rises : (s : State) (r : ℕ) (e : Epoch) → is_earlier (s.promised r) e ≡ true → (q : ℕ) → is_earlier (at_node r e s.promised q) (s.promised q) ≡ false
+  rises s r e above q = by_node (λ b. is_earlier (if b then e else s.promised q) (s.promised q) ≡ false) q r
+      (λ p. not_after (s.promised q) e (subst (λ n. is_earlier (s.promised n) e ≡ true) (sym p) above))
       (not_before_self (s.promised q))
 
-  promised : (s : State) (r : ℕ) (e : Epoch) → precedes (s.promised r) e ≡ true → Sound members start s → Sound members start (after s (Promise r e))
+  promised : (s : State) (r : ℕ) (e : Epoch) → is_earlier (s.promised r) e ≡ true → Sound members start s → Sound members start (after s (Promise r e))
   promised s r e above ok = record {
     promises = record {
       asked = ok.promises.asked;
@@ -217,17 +220,17 @@ module _ (members : List ℕ) (start : Start) where
       asked_too x (inl p) = subst (λ y. s.drawn y.epoch ≡ true) (sym p) asked
       asked_too x (inr h) = ok.promises.asked x h
 
-      since_too : (x : Reported) → Has x (new ∷ s.reports) → precedes (s.promised x.replica) x.epoch ≡ false
-      since_too x (inl p) = subst (λ y. precedes (s.promised y.replica) y.epoch ≡ false) (sym p) (subst (λ d. precedes d e ≡ false) (sym promise) (not_before_self e))
+      since_too : (x : Reported) → Has x (new ∷ s.reports) → is_earlier (s.promised x.replica) x.epoch ≡ false
+      since_too x (inl p) = subst (λ y. is_earlier (s.promised y.replica) y.epoch ≡ false) (sym p) (subst (λ d. is_earlier d e ≡ false) (sym promise) (not_before_self e))
       since_too x (inr h) = ok.promises.since x h
 
       told_too : (x : Reported) → Has x (new ∷ s.reports) → IsOfEpoch s.chosen s.base s.log x.head
       told_too x (inl p) = subst (λ y. IsOfEpoch s.chosen s.base s.log y.head) (sym p) (ok.heads.own r)
       told_too x (inr h) = ok.heads.told x h
 
-      none_told : (d : Epoch) (q : ℕ) → (precedes d (s.promised q) ≡ true) × ((x : Reported) → Has x s.reports → x.replica ≡ q → x.epoch ≡ d → ⊥) → (x : Reported) → Has x (new ∷ s.reports) → x.replica ≡ q → x.epoch ≡ d → ⊥
+      none_told : (d : Epoch) (q : ℕ) → (is_earlier d (s.promised q) ≡ true) × ((x : Reported) → Has x s.reports → x.replica ≡ q → x.epoch ≡ d → ⊥) → (x : Reported) → Has x (new ∷ s.reports) → x.replica ≡ q → x.epoch ≡ d → ⊥
       none_told d q late x (inl p) same is = true_false
-          (subst (λ y. precedes d y ≡ true) (ap s.promised (sym same ∙ ap (λ (y : Reported). y.replica) p) ∙ promise ∙ ap (λ (y : Reported). y.epoch) (sym p) ∙ is) late.0)
+          (subst (λ y. is_earlier d y ≡ true) (ap s.promised (sym same ∙ ap (λ (y : Reported). y.replica) p) ∙ promise ∙ ap (λ (y : Reported). y.epoch) (sym p) ∙ is) late.0)
           (not_before_self d)
       none_told d q late x (inr h) same is = late.1 x h same is
 
@@ -242,14 +245,14 @@ module _ (members : List ℕ) (start : Start) where
 
   -- Choose
   none_later : (s : State) (e : Epoch) (found : Head) → s.current ≡ Some e → Majority members (HasReported true s.reports e found) → Sound members start s →
-      (f : Epoch) → s.chosen f ≡ true → precedes e f ≡ false
-  none_later s e found c greatest ok f h = not_true (precedes e f) (λ before. clash (shared greatest (ok.choices.passed_by e f c h before)))
+      (f : Epoch) → s.chosen f ≡ true → is_earlier e f ≡ false
+  none_later s e found c greatest ok f h = not_true (is_earlier e f) (λ before. clash (shared greatest (ok.choices.passed_by e f c h before)))
     where
-      clash : (r : ℕ) × HasReported true s.reports e found r × ((precedes e (s.promised r) ≡ true) × ((x : Reported) → Has x s.reports → x.replica ≡ r → x.epoch ≡ e → ⊥)) → ⊥
+      clash : (r : ℕ) × HasReported true s.reports e found r × ((is_earlier e (s.promised r) ≡ true) × ((x : Reported) → Has x s.reports → x.replica ≡ r → x.epoch ≡ e → ⊥)) → ⊥
       clash w = w.2.1 (record { replica = w.0; epoch = e; head = w.1.0 }) w.1.1 refl refl
 
-  differs : (s : State) (e : Epoch) → s.chosen e ≡ false → (d : Epoch) → s.chosen d ≡ true → same_epoch d e ≡ false
-  differs s e unchosen d h = not_true (same_epoch d e) (λ p. true_false h (subst (λ x. s.chosen x ≡ false) (sym (same_is d e p)) unchosen))
+  differs : (s : State) (e : Epoch) → s.chosen e ≡ false → (d : Epoch) → s.chosen d ≡ true → is_epoch d e ≡ false
+  differs s e unchosen d h = not_true (is_epoch d e) (λ p. true_false h (subst (λ x. s.chosen x ≡ false) (sym (same_is d e p)) unchosen))
 
   still_of_epoch : (s : State) (e : Epoch) (found : Head) → s.chosen e ≡ false → (h : Head) → IsOfEpoch s.chosen s.base s.log h →
       IsOfEpoch (at_epoch e true s.chosen) (at_epoch e found.writes s.base) s.log h
@@ -282,18 +285,18 @@ module _ (members : List ℕ) (start : Start) where
       front_holds : WritesHold start s.acts (s.base found.epoch ++ s.log found.epoch) → length line ≤ length found.writes → WritesHold start s.acts found.writes
       front_holds all long = record {
         near = near_front line found.writes _ all.near of.front long;
-        distinct = distinct_front found.writes of.front.0 (subst AreDistinct (sym of.front.1) all.distinct);
+        distinct = distinct_front (map name found.writes) (map name of.front.0) (subst AreDistinct (ap (map name) (sym of.front.1) ∙ map-append name found.writes of.front.0) all.distinct);
         issued = λ w h. all.issued w (subst (Has w) of.front.1 (has-left w found.writes of.front.0 h));
       }
 
-      by_place : (precedes ok.latest found.epoch ≡ true) ⊎ ((ok.latest ≡ found.epoch) × (length line ≤ length found.writes)) → WritesHold start s.acts found.writes
+      by_place : (is_earlier ok.latest found.epoch ≡ true) ⊎ ((ok.latest ≡ found.epoch) × (length line ≤ length found.writes)) → WritesHold start s.acts found.writes
       by_place (inl before) = subst (WritesHold start s.acts)
           (sym (whole_front found.writes (s.base found.epoch ++ s.log found.epoch) of.front
           (subst (λ ws. length (s.base found.epoch ++ ws) ≤ length found.writes) (sym (ok.line.idle found.epoch (ok.line.later_idle found.epoch before)))
           (subst (λ ws. length ws ≤ length found.writes) (sym (append-nil (s.base found.epoch))) of.whole))))
           (ok.line.writes found.epoch of.has_one (not_after ok.latest found.epoch before))
       by_place (inr same) = front_holds
-          (ok.line.writes found.epoch of.has_one (subst (λ d. precedes d ok.latest ≡ false) same.0 (not_before_self ok.latest))) same.1
+          (ok.line.writes found.epoch of.has_one (subst (λ d. is_earlier d ok.latest ≡ false) same.0 (not_before_self ok.latest))) same.1
 
   chosen_choices : (s : State) (e : Epoch) (found : Head) → s.current ≡ Some e → s.chosen e ≡ false → Majority members (HasReported true s.reports e found) →
       Sound members start s → ChoicesOf members (after s (Choose e found))
@@ -301,21 +304,21 @@ module _ (members : List ℕ) (start : Start) where
     drawn_first = λ d h. drawn_too d (was_true e s.chosen d h);
     promised_by = λ d h. promised_too d (was_true e s.chosen d h);
     current_drawn = ok.choices.current_drawn;
-    newest = λ d f p _ h. subst (λ x. precedes x f ≡ false) (some_is (sym c ∙ p)) (newest_too f (was_true e s.chosen f h));
-    passed_by = λ d f p h before. true_false before (subst (λ x. precedes x f ≡ false) (some_is (sym c ∙ p)) (newest_too f (was_true e s.chosen f h)));
+    newest = λ d f p _ h. subst (λ x. is_earlier x f ≡ false) (some_is (sym c ∙ p)) (newest_too f (was_true e s.chosen f h));
+    passed_by = λ d f p h before. true_false before (subst (λ x. is_earlier x f ≡ false) (some_is (sym c ∙ p)) (newest_too f (was_true e s.chosen f h)));
   }
     where
       drawn_too : (d : Epoch) → (d ≡ e) ⊎ (s.chosen d ≡ true) → s.drawn d ≡ true
       drawn_too d (inl p) = subst (λ x. s.drawn x ≡ true) (sym p) (ok.choices.current_drawn e c)
       drawn_too d (inr h) = ok.choices.drawn_first d h
 
-      promised_too : (d : Epoch) → (d ≡ e) ⊎ (s.chosen d ≡ true) → Majority members (λ r. precedes (s.promised r) d ≡ false)
-      promised_too d (inl p) = subst (λ x. Majority members (λ r. precedes (s.promised r) x ≡ false)) (sym p)
+      promised_too : (d : Epoch) → (d ≡ e) ⊎ (s.chosen d ≡ true) → Majority members (λ r. is_earlier (s.promised r) d ≡ false)
+      promised_too d (inl p) = subst (λ x. Majority members (λ r. is_earlier (s.promised r) x ≡ false)) (sym p)
           (weaker (λ r told. ok.promises.since (record { replica = r; epoch = e; head = told.0 }) told.1) greatest)
       promised_too d (inr h) = ok.choices.promised_by d h
 
-      newest_too : (f : Epoch) → (f ≡ e) ⊎ (s.chosen f ≡ true) → precedes e f ≡ false
-      newest_too f (inl p) = subst (λ x. precedes e x ≡ false) (sym p) (not_before_self e)
+      newest_too : (f : Epoch) → (f ≡ e) ⊎ (s.chosen f ≡ true) → is_earlier e f ≡ false
+      newest_too f (inl p) = subst (λ x. is_earlier e x ≡ false) (sym p) (not_before_self e)
       newest_too f (inr h) = none_later s e found c greatest ok f h
 
   chosen_line : (s : State) (e : Epoch) (found : Head) → s.current ≡ Some e → s.chosen e ≡ false → WritesHold start s.acts found.writes →
@@ -325,7 +328,7 @@ module _ (members : List ℕ) (start : Start) where
     active_chosen = λ d h. put_true e s.chosen d (ok.line.active_chosen d h);
     idle = ok.line.idle;
     later_idle = ok.line.later_idle;
-    writes = λ d. by_epoch (λ b. (if b then true else s.chosen d) ≡ true → precedes d ok.latest ≡ false → WritesHold start s.acts ((if b then found.writes else s.base d) ++ s.log d)) d e
+    writes = λ d. by_epoch (λ b. (if b then true else s.chosen d) ≡ true → is_earlier d ok.latest ≡ false → WritesHold start s.acts ((if b then found.writes else s.base d) ++ s.log d)) d e
         (λ p _ _. subst (λ ws. WritesHold start s.acts (found.writes ++ ws)) (sym (empty_log d p)) (subst (WritesHold start s.acts) (sym (append-nil found.writes)) holds))
         (λ _ h up. ok.line.writes d h up);
     acting = ok.line.acting;
@@ -484,7 +487,7 @@ module _ (members : List ℕ) (start : Start) where
       latest_chosen = legal.chosen;
       active_chosen = λ d h. chosen_too d (was_true e s.active d h);
       idle = λ d h. ok.line.idle d (was_false e s.active d h);
-      later_idle = λ d h. rw (not_true (same_epoch d e) (λ p. true_false (subst (λ x. precedes e x ≡ true) (same_is d e p) h) (not_before_self e)))
+      later_idle = λ d h. rw (not_true (is_epoch d e) (λ p. true_false (subst (λ x. is_earlier e x ≡ true) (same_is d e p) h) (not_before_self e)))
           (ok.line.later_idle d (up_to_before ok.latest e d newest_of h));
       writes = λ d h up. subst (λ x. WritesHold start acts (s.base x ++ s.log x)) (is_one e d (ok.choices.newest e d legal.current legal.chosen h) up)
           (settled s.acts act (s.base e ++ s.log e) (line_is ∙ sym all) holds);
@@ -507,7 +510,7 @@ module _ (members : List ℕ) (start : Start) where
       line : List Write
       line = line_of start.line acts
 
-      newest_of : precedes e ok.latest ≡ false
+      newest_of : is_earlier e ok.latest ≡ false
       newest_of = ok.choices.newest e ok.latest legal.current legal.chosen ok.line.latest_chosen
 
       all : s.base e ++ s.log e ≡ s.base e
@@ -571,7 +574,7 @@ module _ (members : List ℕ) (start : Start) where
 
       holds : WritesHold start s.acts (writes_of s e)
       holds = ok.line.writes e (ok.line.active_chosen e legal.active)
-          (subst (λ x. precedes x ok.latest ≡ false) (sym (ok.line.acting e legal.current legal.active).0) (not_before_self ok.latest))
+          (subst (λ x. is_earlier x ok.latest ≡ false) (sym (ok.line.acting e legal.current legal.active).0) (not_before_self ok.latest))
 
       line_is : line ≡ writes_of s e
       line_is = near_line line (writes_of s e) holds.near
@@ -588,7 +591,7 @@ module _ (members : List ℕ) (start : Start) where
       pushed : WritesHold start acts (writes_of s e ++ w ∷ [])
       pushed = record {
         near = record { more = w ∷ []; is = ap (λ ws. ws ++ w ∷ []) line_is; one = omega arith };
-        distinct = distinct_push (writes_of s e) w holds.distinct legal.new;
+        distinct = subst AreDistinct (sym (map-append name (writes_of s e) (w ∷ []))) (distinct_push (map name (writes_of s e)) (name w) holds.distinct legal.new);
         issued = λ v h. issued_too v (has-append v (writes_of s e) (w ∷ []) h);
       }
 
@@ -605,7 +608,7 @@ module _ (members : List ℕ) (start : Start) where
       idle = ok.line.idle;
       later_idle = ok.line.later_idle;
       writes = λ d h up. subst (λ x. WritesHold start acts (s.base x ++ s.log x))
-          (is_one e d (ok.choices.newest e d legal.current e_chosen h) (subst (λ x. precedes d x ≡ false) (sym acting.0) up))
+          (is_one e d (ok.choices.newest e d legal.current e_chosen h) (subst (λ x. is_earlier d x ≡ false) (sym acting.0) up))
           (settled s.acts act (writes_of s e) line_is holds);
       acting = λ d p _. (
         sym (some_is (sym legal.current ∙ p)) ∙ acting.0,
@@ -632,7 +635,7 @@ module _ (members : List ℕ) (start : Start) where
       e_chosen = ok.line.active_chosen e legal.active
 
       holds : WritesHold start s.acts (writes_of s e)
-      holds = ok.line.writes e e_chosen (subst (λ x. precedes x ok.latest ≡ false) (sym acting.0) (not_before_self ok.latest))
+      holds = ok.line.writes e e_chosen (subst (λ x. is_earlier x ok.latest ≡ false) (sym acting.0) (not_before_self ok.latest))
 
       length_is : suc (s.committed e) ≡ length (writes_of s e)
       length_is = omega (arith, acting.1, legal.open_write, holds.near.one, ap length holds.near.is, length-append before holds.near.more)
@@ -716,7 +719,7 @@ module _ (members : List ℕ) (start : Start) where
     };
     choices = record {
       drawn_first = λ e h. h;
-      promised_by = λ e h. weaker (λ r has. subst (λ d. precedes (start.promised r) d ≡ false) (sym (same_is e start.epoch h)) has.1) is.kept;
+      promised_by = λ e h. weaker (λ r has. subst (λ d. is_earlier (start.promised r) d ≡ false) (sym (same_is e start.epoch h)) has.1) is.kept;
       current_drawn = λ e p. absurd (none p);
       newest = λ e f p _ _. absurd (none p);
       passed_by = λ e f p _ _. absurd (none p);
@@ -726,7 +729,7 @@ module _ (members : List ℕ) (start : Start) where
       latest_chosen = same_self start.epoch;
       active_chosen = λ e h. h;
       idle = λ e h. rw h;
-      later_idle = λ e h. not_true (same_epoch e start.epoch) (λ p. true_false (subst (λ d. precedes start.epoch d ≡ true) (same_is e start.epoch p) h) (not_before_self start.epoch));
+      later_idle = λ e h. not_true (is_epoch e start.epoch) (λ p. true_false (subst (λ d. is_earlier start.epoch d ≡ true) (same_is e start.epoch p) h) (not_before_self start.epoch));
       writes = λ e h _. subst (WritesHold start []) (sym (rw h)) first;
       acting = λ e p _. absurd (none p);
       kept = weaker (λ r has. (

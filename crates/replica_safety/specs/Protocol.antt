@@ -15,7 +15,7 @@ pub record Acknowledged : Type 0 where
 
 -- What a primary does in the sight of others. Each act tells a write, and which place that write has in the file's line of writes.
 pub data Act : Type 0 where
-  -- it begins to serve; the write is the last of those that it begins with, (0, 0) where there is none
+  -- it begins to serve; the write is the last of those that it begins with, `no_write` where there is none
   Activated : (place : ℕ) → (write : Write) → Act
   -- it sends a new write to the replicas
   Issued : (place : ℕ) → (write : Write) → Act
@@ -45,9 +45,20 @@ pub record State : Type 0 where
 abbrev pub writes_of : State → Epoch → List Write
 writes_of s e = s.base e ++ s.log e
 
--- The last write, (0, 0) where there is none.
+-- What stands for a write where there is none.
+abbrev pub no_write : Write
+no_write = record {
+  stamp = record { epoch = record { number = 0; node = record { 0 = 0 } }; count = 0 };
+  id = record { client = record { 0 = 0 }; number = 0 };
+  mark = record { epoch = 0; size = 0 };
+  drop_from = 0;
+  object = 0;
+  body = [];
+}
+
+-- The last write, `no_write` where there is none.
 abbrev pub last_write : List Write → Write
-last_write [] = (0, 0)
+last_write [] = no_write
 last_write (w ∷ []) = w
 last_write (w ∷ v ∷ ws) = last_write (v ∷ ws)
 

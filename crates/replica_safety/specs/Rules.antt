@@ -1,6 +1,7 @@
 -- When a move is allowed, and from where a history begins.
-use Rattle.std.specs.Prelude.{◌≡◌, ℕ, suc, ◌<◌, ◌≤◌, Bool, true, false, List, [], ◌∷◌, ◌++◌, length, take, None, Some}
-use Rattle.replica_safety.specs.Epochs.{Epoch, precedes, same_epoch, Stamp, Below, AtMost, Write, Head, stamp_of, at_epoch}
+use Rattle.std.specs.Prelude.{◌≡◌, ℕ, suc, ◌<◌, ◌≤◌, Bool, true, false, List, [], ◌∷◌, ◌++◌, length, map, take, None, Some}
+use Rattle.xt_protocol.specs.Stamps.{is_earlier, is_epoch}
+use Rattle.replica_safety.specs.Epochs.{Epoch, Stamp, Below, AtMost, Write, name, Head, stamp_of, at_epoch}
 use Rattle.replica_safety.specs.Lists.{Has, AreDistinct, Majority}
 use Rattle.replica_safety.specs.Protocol.{Reported, Acknowledged, State, writes_of, Move, Draw, Promise, Report, Choose, Take_head, Take_update, Acknowledge, Activate, Issue, Commit, Lose, after}
 
@@ -78,7 +79,7 @@ Legal rules members s (Draw e) = record {
 }
 Legal rules members s (Promise r e) = record {
   -- a majority that has promised an epoch keeps every lower one from being chosen after it
-  above : Under rules.promises_rise (precedes (s.promised r) e ≡ true);
+  above : Under rules.promises_rise (is_earlier (s.promised r) e ≡ true);
 }
 Legal rules members s (Report r e) = record {
   drawn : s.drawn e ≡ true;
@@ -125,7 +126,7 @@ Legal rules members s (Issue e w) = record {
   active : s.active e ≡ true;
   -- so the next primary finds at most one write that isn't committed, and its first act tells that one
   none_open : Under rules.one_open (s.committed e ≡ length (writes_of s e));
-  new : Under rules.write_is_new (Has w (writes_of s e) → ⊥);
+  new : Under rules.write_is_new (Has (name w) (map name (writes_of s e)) → ⊥);
 }
 Legal rules members s (Commit e) = record {
   current : Under rules.current_acts (s.current ≡ Some e);
@@ -156,19 +157,19 @@ pub record Start : Type 0 where
 -- Replicas may differ at the start, and some may have less than the line.
 pub record IsStart (members : List ℕ) (start : Start) : Type 0 where
   pub at_most_one_open : length start.open_writes ≤ 1
-  pub different : AreDistinct (start.line ++ start.open_writes)
+  pub different : AreDistinct (map name (start.line ++ start.open_writes))
   -- a majority has the line, and has promised this epoch or one above it
-  pub kept : Majority members (λ r. (length start.line ≤ start.holds r) × (precedes (start.promised r) start.epoch ≡ false))
+  pub kept : Majority members (λ r. (length start.line ≤ start.holds r) × (is_earlier (start.promised r) start.epoch ≡ false))
 
 -- The state at the start. The starting epoch counts as one that has issued all these writes, and may act no more.
 abbrev pub begin : Start → State
 begin start = record {
   promised = start.promised;
   head = λ r. record { epoch = start.epoch; writes = take (start.holds r) (start.line ++ start.open_writes) };
-  drawn = λ e. same_epoch e start.epoch;
-  chosen = λ e. same_epoch e start.epoch;
+  drawn = λ e. is_epoch e start.epoch;
+  chosen = λ e. is_epoch e start.epoch;
   base = λ e. [];
-  active = λ e. same_epoch e start.epoch;
+  active = λ e. is_epoch e start.epoch;
   log = at_epoch start.epoch (start.line ++ start.open_writes) (λ e. []);
   committed = λ e. length start.line;
   current = None;
@@ -180,10 +181,10 @@ begin start = record {
 -- The first version of a list begins with no write and no promise.
 abbrev pub first_start : Start
 first_start = record {
-  epoch = record { number = 0; node = 0 };
+  epoch = record { number = 0; node = record { 0 = 0 } };
   line = [];
   open_writes = [];
-  promised = λ r. record { number = 0; node = 0 };
+  promised = λ r. record { number = 0; node = record { 0 = 0 } };
   holds = λ r. 0;
 }
 
