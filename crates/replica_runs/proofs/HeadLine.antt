@@ -1,0 +1,103 @@
+-- What the marks of a world of writes say, in the words of the entries.
+use Rattle.std.proofs.Common.{◌≡◌, ℕ, suc, pred, zero, List, [], ◌∷◌, ◌++◌, length, refl, sym, ap, ◌∙◌, subst, subst₂, ◌==◌, if◌then◌else◌, Some}
+use Rattle.std.specs.Prelude.{slice_get, map}
+use Rattle.std.proofs.lemmas.List.{map-append}
+use Rattle.xt_base.specs.declared.file.Op.{Op}
+use Rattle.xt_base.specs.declared.file.Update.{Update}
+use Rattle.time_line.specs.Content.{place_of, content_of, range_of}
+use Rattle.replica_safety.specs.Epochs.{name}
+use Rattle.replica_safety.specs.Lists.{AreDistinct}
+use Rattle.replica_safety.specs.Protocol.{Act, Activated, Issued, Committed, last_write}
+use Rattle.replica_safety.specs.Rules.{Start}
+use Rattle.replica_safety.specs.Line.{with_told, line_of, AreOnOneLine}
+use Rattle.replica_safety.proofs.Lists.{distinct_front}
+use Rattle.replica_safety.proofs.Conclusions.{line_distinct}
+use Rattle.replica_runs.specs.Made.{IsMade, ops_of}
+use Rattle.replica_runs.specs.Marks.{acts_of, line_at, AnswersShow}
+use Rattle.replica_runs.specs.Answers.{ReadsShow}
+use Rattle.replica_runs.specs.World.{Mark, Told, ShowsRead, ShowsWrite}
+use Rattle.replica_runs.specs.HeadOrder.{order_told, order_of, last_of, AreOnOneOrder, order_at}
+use Rattle.replica_runs.specs.HeadWorld.{World}
+use Rattle.replica_runs.proofs.Seen.{line_grows, reads_show}
+use Rattle.replica_runs.proofs.Shows.{line_made}
+use Rattle.replica_runs.proofs.Tools.{by_test}
+use Rattle.replica_runs.proofs.HeadStands.{entry_of, IsReached}
+
+length-names : (ws : List Update) → length (map name ws) ≡ length ws
+length-names [] = refl
+length-names (w ∷ ws) = ap suc (length-names ws)
+
+last_names : (ws : List Update) → last_of (map name ws) ≡ name (last_write ws)
+last_names [] = refl
+last_names (w ∷ []) = refl
+last_names (w ∷ v ∷ ws) = last_names (v ∷ ws)
+
+get_names : (ws : List Update) (n : ℕ) (w : Update) → slice_get ws n ≡ Some w → slice_get (map name ws) n ≡ Some (name w)
+get_names [] n w p = absurd cc
+get_names (v ∷ ws) zero w p = ap Some (ap name (some_is p))
+  where
+    some_is : {a b : Update} → Some a ≡ Some b → a ≡ b
+    some_is q = cc
+get_names (v ∷ ws) (suc n) w p = get_names ws n w p
+
+ops_names : (ops : ℕ × ℕ → Op) (ws : List Update) → ops_of ops ws ≡ map ops (map name ws)
+ops_names ops [] = refl
+ops_names ops (w ∷ ws) = ap (λ l. ops (name w) ∷ l) (ops_names ops ws)
+
+told_names : (count : ℕ) (w : Update) (ws : List Update) → order_told count (name w) (map name ws) ≡ map name (with_told count w ws)
+told_names count w ws = subst (λ k. (if count == suc k then map name ws ++ name w ∷ [] else map name ws) ≡ map name (with_told count w ws)) (sym (length-names ws))
+    (by_test (λ b. (if b then map name ws ++ name w ∷ [] else map name ws) ≡ map name (if b then ws ++ w ∷ [] else ws)) (count == suc (length ws)) (λ _. sym (map-append name ws (w ∷ []))) (λ _. refl))
+
+-- the order that the entries tell is that of the marks
+order_marks : (start : Start) (ms : List Mark) → order_of (order_at start) (map entry_of ms) ≡ map name (line_at start ms)
+order_marks start [] = refl
+order_marks start (Told n (Activated count w) ∷ ms) = ap (order_told count (name w)) (order_marks start ms) ∙ told_names count w (line_at start ms)
+order_marks start (Told n (Issued count w) ∷ ms) = order_marks start ms
+order_marks start (Told n (Committed count w) ∷ ms) = ap (order_told count (name w)) (order_marks start ms) ∙ told_names count w (line_at start ms)
+order_marks start (ShowsRead n ws o body ∷ ms) = order_marks start ms
+order_marks start (ShowsWrite n place id ∷ ms) = order_marks start ms
+
+fits_one : (ws : List Update) (order : List (ℕ × ℕ)) (count : ℕ) (w : Update) → order ≡ map name ws → (length ws ≡ count) × (last_write ws ≡ w) → (length order ≡ count) × (last_of order ≡ name w)
+fits_one ws order count w same f = (ap length same ∙ length-names ws ∙ f.0, ap last_of same ∙ last_names ws ∙ ap name f.1)
+
+module _ (stripe : ℕ) (ops : ℕ × ℕ → Op) (start : Start) where
+  distinct_before : (ms : List Mark) (a : Act) → AreDistinct (map name (line_of start.line (a ∷ acts_of ms))) → AreDistinct (map name (line_of start.line (acts_of ms)))
+  distinct_before ms a d = let f = line_grows (line_of start.line (acts_of ms)) a in
+      distinct_front (map name (line_of start.line (acts_of ms))) (map name f.0) (subst AreDistinct (ap (map name) (sym f.1) ∙ map-append name (line_of start.line (acts_of ms)) f.0) d)
+
+  entries_fit : (ms : List Mark) → AreOnOneLine start.line (acts_of ms) → AnswersShow start ms → ReadsShow stripe ops start ms → AreDistinct (map name (line_at start ms)) → AreOnOneOrder stripe ops (order_at start) (map entry_of ms)
+  entries_fit [] line answers reads d = tt
+  entries_fit (Told n (Activated count w) ∷ ms) line answers reads d = (
+    fits_one (line_at start (Told n (Activated count w) ∷ ms)) _ count w (order_marks start (Told n (Activated count w) ∷ ms)) line.0,
+    subst AreDistinct (sym (order_marks start (Told n (Activated count w) ∷ ms))) d,
+    entries_fit ms line.1 answers reads (distinct_before ms (Activated count w) d),
+  )
+  entries_fit (Told n (Issued count w) ∷ ms) line answers reads d = (
+    line.0 ∙ ap suc (sym (ap length (order_marks start ms) ∙ length-names (line_at start ms))),
+    subst AreDistinct (sym (order_marks start ms)) d,
+    entries_fit ms line.1 answers reads d,
+  )
+  entries_fit (Told n (Committed count w) ∷ ms) line answers reads d = (
+    fits_one (line_at start (Told n (Committed count w) ∷ ms)) _ count w (order_marks start (Told n (Committed count w) ∷ ms)) line.0,
+    subst AreDistinct (sym (order_marks start (Told n (Committed count w) ∷ ms))) d,
+    entries_fit ms line.1 answers reads (distinct_before ms (Committed count w) d),
+  )
+  entries_fit (ShowsRead n ws o body ∷ ms) line answers reads d = (
+    (
+      ap length answers.0.0 ∙ sym (ap length (order_marks start ms) ∙ length-names (line_at start ms)),
+      λ at len fits. reads.1 at len fits ∙ ap (λ l. range_of (content_of stripe l) (place_of stripe o at) len) (ops_names ops (line_at start ms) ∙ ap (map ops) (sym (order_marks start ms))),
+    ),
+    subst AreDistinct (sym (order_marks start ms)) d,
+    entries_fit ms line answers.1 reads.0 d,
+  )
+  entries_fit (ShowsWrite n place id ∷ ms) line answers reads d = (
+    subst₂ (λ l i. slice_get l (pred place) ≡ Some i) (sym (order_marks start ms)) answers.0.2 (get_names (line_at start ms) (pred place) answers.0.0 answers.0.1),
+    subst AreDistinct (sym (order_marks start ms)) d,
+    entries_fit ms line answers.1 reads d,
+  )
+
+  pub entries_fit_there : (members : List ℕ) (w : World) → IsReached stripe ops members start w → AreOnOneOrder stripe ops (order_at start) w.entries
+  entries_fit_there members w r = let is = r.good.is in subst (AreOnOneOrder stripe ops (order_at start)) (sym r.stand.entries)
+      (entries_fit r.world.marks (subst (AreOnOneLine start.line) (sym is.shows.acts) is.shows.sound.told) is.shows.answers
+      (reads_show stripe ops start r.world.marks is.shows.answers (line_made (IsMade stripe ops) members start r.world is))
+      (subst (λ a. AreDistinct (map name (line_of start.line a))) (sym is.shows.acts) (line_distinct members start is.state is.shows.sound)))

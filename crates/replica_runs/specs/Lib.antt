@@ -1,0 +1,10 @@
+pub mod FileHeads
+pub mod World
+pub mod Steps
+pub mod Made
+pub mod Marks
+pub mod Answers
+pub mod HeadWorld
+pub mod HeadSteps
+pub mod HeadOrder
+pub mod HeadSample

@@ -1,0 +1,52 @@
+-- What the marks tell: one line of writes, and answers that show it.
+use Rattle.std.specs.Prelude.{◌≡◌, ℕ, pred, ◌≤◌, List, [], ◌∷◌, ◌++◌, slice_get, Some}
+use Rattle.xt_base.specs.declared.file.Op.{Op}
+use Rattle.std.specs.Prelude.{false}
+use Rattle.xt_protocol.specs.Stamps.{is_earlier}
+use Rattle.replica_safety.specs.Epochs.{Write, name}
+use Rattle.replica_runs.specs.Made.{IsMade, bodies_of}
+use Rattle.replica_safety.specs.Lists.{Has}
+use Rattle.replica_safety.specs.Protocol.{Act}
+use Rattle.replica_safety.specs.Rules.{Start, IsStart}
+use Rattle.replica_safety.specs.Line.{line_of}
+use Rattle.replica_runs.specs.World.{Mark, Told, ShowsRead, ShowsWrite}
+use Rattle.replica_runs.specs.Steps.{Step, begin, after_all, MayAll}
+
+abbrev pub acts_of : List Mark → List Act
+acts_of [] = []
+acts_of (Told n a ∷ ms) = a ∷ acts_of ms
+acts_of (ShowsRead n ws o body ∷ ms) = acts_of ms
+acts_of (ShowsWrite n place w ∷ ms) = acts_of ms
+
+-- The line at this moment.
+abbrev pub line_at : Start → List Mark → List Write
+line_at start ms = line_of start.line (acts_of ms)
+
+-- Each answer shows the line as it was when it was given.
+abbrev pub AnswersShow : Start → List Mark → Type 0
+AnswersShow start [] = Unit {0}
+AnswersShow start (Told n a ∷ ms) = AnswersShow start ms
+AnswersShow start (ShowsRead n ws o body ∷ ms) = ((ws ≡ line_at start ms) × (body ≡ bodies_of ws o)) × AnswersShow start ms
+AnswersShow start (ShowsWrite n place id ∷ ms) = ((w : Write) × (slice_get (line_at start ms) (pred place) ≡ Some w) × (name w ≡ id)) × AnswersShow start ms
+
+abbrev pub AreMadeAfter : (List Write → Write → Type 0) → List Write → List Write → Type 0
+AreMadeAfter makes done [] = Unit {0}
+AreMadeAfter makes done (w ∷ ws) = makes done w × AreMadeAfter makes (done ++ w ∷ []) ws
+
+-- Each write is made for those before it.
+abbrev pub AreMade : (List Write → Write → Type 0) → List Write → Type 0
+AreMade makes ws = AreMadeAfter makes [] ws
+
+-- A version of a list that may begin: who stores it has promised its epoch, and its writes are made in order.
+pub record Begins (makes : List Write → Write → Type 0) (members : List ℕ) (start : Start) : Type 0 where
+  pub is : IsStart members start
+  pub promised : (r : ℕ) → start.epoch.number ≤ (start.promised r).number
+  -- what it takes over is of no later epoch, and each stamp is of one write
+  pub older : (u : Write) → Has u (start.line ++ start.open_writes) → is_earlier start.epoch u.stamp.epoch ≡ false
+  pub apart : (u v : Write) → Has u (start.line ++ start.open_writes) → Has v (start.line ++ start.open_writes) → u.stamp ≡ v.stamp → u ≡ v
+  pub made : AreMade makes (start.line ++ start.open_writes)
+
+-- P holds of the marks after every run.
+abbrev pub Always : (ℕ → (ℕ × ℕ → Op) → Start → List Mark → Type 0) → Type 0
+Always P = (stripe : ℕ) (ops : ℕ × ℕ → Op) (members : List ℕ) (start : Start) (steps : List Step) → Begins (IsMade stripe ops) members start → MayAll (IsMade stripe ops) members (begin start) steps →
+    P stripe ops start (after_all (begin start) steps).marks
