@@ -1,0 +1,145 @@
+//! Capabilities: what the metadata server seals under a secret that it shares with the storage devices, and what
+//! these test before they serve an ask.
+//!
+//! `hmac` is HMAC-SHA-256. `seal` puts in the tag of all fields before it, and `check` says of a use whether it is
+//! denied, and by the first of four tests that it fails.
+#![tactic(auto)]
+
+ghost use Rattle.std.specs.Prelude.{◌≡◌, ◌≤◌, ℕ, List, true, length, map, bit_xor, Ok, OnOk, IfOk, OnErr};
+ghost use Rattle.std.specs.Str.{bytes_eq};
+ghost use Rattle.capabilities.specs.Tags.{masked, hmac_of, tag_of, sealed, is_sealed};
+ghost use Rattle.capabilities.specs.Denials.{denial_of, Judges};
+ghost use Rattle.capabilities.specs.declared.CapErr.TheVariants.{OutOfMemory as no_memory};
+
+use sha2::{Digest, Sha256};
+use std::alloc::{AllocError, Global};
+use xt_base::{Capability, Denial, FileId, OutOfMemory};
+use xt_wire::FieldWriter;
+
+/// The bytes of a block of SHA-256.
+const BLOCK: usize = 64;
+
+/// What changes the key for the inner hash.
+const INNER_PAD: u8 = 0x36;
+
+/// What changes the key for the outer hash.
+const OUTER_PAD: u8 = 0x5C;
+
+/// Why a capability doesn't serve a use.
+#[derive(Clone, Copy, PartialEq, Eq)]
+pub enum CapErr {
+    OutOfMemory,
+    Denied { rule: Denial },
+}
+
+impl From<AllocError> for CapErr {
+    ghost from_gives = { λ _ e. e ≡ no_memory };
+
+    fn from(_e: AllocError) -> CapErr {
+        CapErr::OutOfMemory
+    }
+}
+
+/// Changes each byte by the pad.
+fn mask(bytes: &mut [u8], pad: u8)
+    ensures { bytes.new ≡ map (λ byte. bit_xor byte pad) bytes.old }
+{
+    for byte in bytes.iter_mut() {
+        *byte ^= pad;
+    }
+}
+
+/// The key, filled with zeros to a block, with each byte changed by the pad.
+fn masked(key: &[u8], pad: u8) -> [u8; BLOCK]
+    requires { length key.now ≤ 64 }
+    ensures { result ≡ masked pad key.now }
+{
+    let mut block = [0; BLOCK];
+    block[..key.len()].copy_from_slice(key);
+    mask(&mut block, pad);
+    block
+}
+
+/// The HMAC-SHA-256 of a message under a key of 1 to 64 bytes. It takes no memory, and so doesn't fail.
+#[tactic(auto, unfolding(crate::specs::Tags::hmac_of))]
+pub fn hmac(key: &[u8], message: &[u8]) -> Result<[u8; 32], OutOfMemory>
+    requires some { 1 ≤ length key.now }
+    requires short { length key.now ≤ 64 }
+    ensures { result ≡ Ok (hmac_of key.now message.now) }
+{
+    let mut inner = Sha256::new();
+    inner.update(&masked(key, INNER_PAD));
+    inner.update(message);
+    let mut outer = Sha256::new();
+    outer.update(&masked(key, OUTER_PAD));
+    outer.update(&inner.finalize());
+    Ok(outer.finalize())
+}
+
+/// The tag of a capability under the key.
+fn tag_of(alloc: Global, key: &[u8], capability: &Capability) -> Result<[u8; 32], OutOfMemory>
+    requires some { 1 ≤ length key.now }
+    requires short { length key.now ≤ 64 }
+    ensures { IfOk result (λ tag. tag ≡ tag_of key.now capability.now) }
+{
+    let mut fields = FieldWriter::new(alloc);
+    fields.sealed(capability)?;
+    hmac(key, fields.finish().as_slice())
+}
+
+/// Whether two tags are one. It looks at each byte, also past the first that differs, so that the time it takes doesn't
+/// tell how many bytes were right. No proof speaks of time.
+fn same_tag(one: &[u8; 32], other: &[u8; 32]) -> bool
+    ensures { result ≡ bytes_eq one.now other.now }
+{
+    let mut differing = 0;
+    for i in 0..32 {
+        differing |= one[i] ^ other[i];
+    }
+    differing == 0
+}
+
+/// Puts the tag under the key, of 1 to 64 bytes, into the capability. The capability is unchanged if memory runs out.
+pub fn seal(alloc: Global, key: &[u8], capability: &mut Capability) -> Result<(), OutOfMemory>
+    requires some { 1 ≤ length key.now }
+    requires short { length key.now ≤ 64 }
+    ensures ok { OnOk result (capability.new ≡ sealed key.now capability.old) }
+    ensures err { OnErr result (capability.new ≡ capability.old) }
+{
+    capability.tag = tag_of(alloc, key, capability)?;
+    Ok(())
+}
+
+/// Whether a capability serves a use, a write or not, of a file at the clock `now`: `Denied` has the first test that
+/// fails, in the order of the denials' numbers. The key has 1 to 64 bytes.
+pub fn check(
+    alloc: Global,
+    key: &[u8],
+    capability: &Capability,
+    file: &FileId,
+    now: u64,
+    write: bool,
+) -> Result<(), CapErr>
+    requires some { 1 ≤ length key.now }
+    requires short { length key.now ≤ 64 }
+    ensures { Judges result (denial_of key.now capability.now file.now now write) }
+{
+    let tag = tag_of(alloc, key, capability)?;
+    let rule = if !same_tag(&capability.tag, &tag) {
+        Denial::Tag
+    } else if capability.file != *file {
+        Denial::File
+    } else if now > capability.expiry {
+        Denial::Expired
+    } else if write && capability.mode == 1 {
+        Denial::Mode
+    } else {
+        return Ok(());
+    };
+    Err(CapErr::Denied { rule })
+}
+
+/// What was sealed has its tag, so that no check under the same key denies it for that.
+pub fn what_is_sealed_has_its_tag()
+    ensures { (key : List ℕ) (capability : Capability) → is_sealed key (sealed key capability) ≡ true }
+{}
