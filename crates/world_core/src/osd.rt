@@ -7,8 +7,9 @@ ghost use Rattle.world_runs.specs.Records.{body_in};
 ghost use Rattle.world_core.specs.Turns.{with_op, reply_to, refusal_given, answer_given, update_given, fits_with};
 ghost use Rattle.xt_protocol.specs.Heads.{session_of, head_after};
 
-use crate::body::{behind, cut_or_filled, overlay, present_body, readable};
+use crate::body::present_body;
 use crate::turned::{nothing, one};
+use object_bytes::{behind, cut_or_filled, overlay, readable};
 use replica_records::{plain_stamp, session_of, sessions_with, take_update, version_of};
 use std::alloc::Global;
 use world_hull::Hull;
