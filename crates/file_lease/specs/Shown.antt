@@ -1,5 +1,9 @@
 -- what the calls tell, by the definitions
-use Rattle.std.specs.Prelude.{ℕ, if◌then◌else◌}
+use Rattle.std.specs.Prelude.{ℕ, if◌then◌else◌, Option, Some, None}
+use Rattle.xt_base.specs.declared.ids.Ballot.{Ballot}
+use Rattle.xt_base.specs.declared.ids.Lease.{Lease}
+use Rattle.flease_lease.specs.declared.held.Renewal.{Renewal}
+use Rattle.flease_lease.specs.declared.held.Renewal.TheVariants as given
 use Rattle.xt_protocol.specs.LeaseRows.{LeaseState, free, asking, writing, held, has_run_out, has_turn, LeaseNews}
 use Rattle.xt_protocol.specs.LeaseRows as lease
 use Rattle.file_lease.specs.declared.news.Expiry.{Expiry}
@@ -20,3 +24,10 @@ shown_news (lease.sends_write ballot lease targets) = news.Writes ballot lease t
 shown_news (lease.holds end) = news.Holds end
 shown_news (lease.finds found) = news.Finds found
 shown_news lease.ends = news.Ends
+
+-- the news of a renewal, by the ballot of its round and the lease that it writes
+abbrev pub news_by : Renewal → Option (Ballot × Lease) → News
+news_by renewal None = news.Nothing
+news_by given.Nothing (Some round) = news.Nothing
+news_by (given.WriteTo targets) (Some round) = news.Writes round.0 round.1 targets
+news_by (given.Renewed end) (Some round) = news.Holds end

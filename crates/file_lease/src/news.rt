@@ -23,9 +23,13 @@ pub enum News {
         targets: Targets,
     },
     /// The lease, or its renewal, is held until this end.
-    Holds { end: u64 },
+    Holds {
+        end: u64,
+    },
     /// A live report has ended the round: this lease.
-    Finds { lease: Lease },
+    Finds {
+        lease: Lease,
+    },
     /// The round has ended otherwise.
     Ends,
 }

@@ -11,7 +11,7 @@ use std::marker::Model;
 use xt_base::{Ballot, Boot, Lease, NodeId};
 
 /// A round whose Write isn't sent. Contracts see the round.
-#[derive(Clone, Copy, PartialEq, Eq)]
+#[derive(Drop)]
 pub struct Asking {
     round: Round,
 }
@@ -27,7 +27,7 @@ impl Model for Asking {
 }
 
 /// What a promise made of a round that asks.
-#[derive(Clone, Copy, PartialEq, Eq)]
+#[derive(Drop)]
 pub enum Asked {
     Still(Asking),
     /// A Write goes to these.

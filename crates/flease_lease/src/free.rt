@@ -8,7 +8,7 @@ use std::marker::Model;
 use xt_base::Members;
 
 /// Neither a lease nor a round. Contracts see who asks, and the greatest count known.
-#[derive(Clone, Copy, PartialEq, Eq)]
+#[derive(Drop)]
 pub struct Free {
     proposer: Proposer,
 }

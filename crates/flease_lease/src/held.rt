@@ -10,7 +10,7 @@ use std::marker::Model;
 use xt_base::{Ballot, Boot, Lease, Members, NodeId, Payload};
 
 /// A lease that this node holds until its end, and perhaps a round that renews it.
-#[derive(Clone, Copy, PartialEq, Eq)]
+#[derive(Drop)]
 pub struct Held {
     proposer: Proposer,
     end: u64,

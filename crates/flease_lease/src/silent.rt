@@ -5,7 +5,7 @@ use std::marker::Model;
 use xt_base::{Boot, NodeId, Times};
 
 /// An OSD that has just started and drops every message.
-#[derive(Clone, Copy, PartialEq, Eq)]
+#[derive(Drop)]
 pub struct Silent {
     times: Times,
     node: NodeId,

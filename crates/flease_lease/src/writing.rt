@@ -11,7 +11,7 @@ use std::marker::Model;
 use xt_base::{Ballot, Boot, Lease, NodeId};
 
 /// A round whose Write is sent. Contracts see the round.
-#[derive(Clone, Copy, PartialEq, Eq)]
+#[derive(Drop)]
 pub struct Writing {
     round: Round,
 }
@@ -27,7 +27,7 @@ impl Model for Writing {
 }
 
 /// What an acceptance made of a round that writes.
-#[derive(Clone, Copy, PartialEq, Eq)]
+#[derive(Drop)]
 pub enum Written {
     Still(Writing),
     Won(Held),

@@ -1,0 +1,41 @@
+-- what a call makes of the lease, beside the rows of `LeaseRows`
+use Rattle.std.specs.Prelude.{ℕ, Bool, true, false, if◌then◌else◌, Option, Some, None, List, IsTrue}
+use Rattle.xt_base.specs.declared.ids.NodeId.{NodeId}
+use Rattle.xt_base.specs.declared.ids.Ballot.{Ballot}
+use Rattle.xt_protocol.specs.LeaseRows.{LeaseState, Proposer, Held, Turn, free, asking, writing, held, can_ask, round_starts, is_renewal_due, renewal_starts, has_turn, turn_at}
+
+-- nothing is overdue: a lease that is held gives a turn
+abbrev pub IsSettled : LeaseState → ℕ → Type 0
+IsSettled (held h) now = IsTrue (has_turn h now)
+IsSettled (free p) now = Unit {0}
+IsSettled (asking r) now = Unit {0}
+IsSettled (writing r) now = Unit {0}
+
+-- a file without a lease asks for one, where there is a count left
+abbrev pub asks_at : LeaseState → ℕ → List NodeId → LeaseState
+asks_at (free p) now members = if can_ask p then asking (round_starts p now members) else free p
+asks_at other now members = other
+
+-- the ballot of the round that starts so
+abbrev pub ballot_asked : LeaseState → ℕ → List NodeId → Option Ballot
+ballot_asked (free p) now members = if can_ask p then Some (round_starts p now members).ballot else None
+ballot_asked other now members = None
+
+-- a holder renews its lease, where that is due
+abbrev pub renews_at : LeaseState → ℕ → ℕ → List NodeId → LeaseState
+renews_at (held h) now used members = if is_renewal_due h now used then held (renewal_starts h now members) else held h
+renews_at other now used members = other
+
+abbrev pub ballot_renewed : LeaseState → ℕ → ℕ → List NodeId → Option Ballot
+ballot_renewed (held h) now used members =
+    if is_renewal_due h now used then Some (round_starts h.proposer now members).ballot else None
+ballot_renewed other now used members = None
+
+-- the holder's turn at a moment
+abbrev pub turn_of : LeaseState → ℕ → Option Turn
+turn_of (held h) now = turn_at h now
+turn_of other now = None
+
+abbrev pub is_free : LeaseState → Bool
+is_free (free p) = true
+is_free other = false
