@@ -1,0 +1,101 @@
+-- a head stays within its limits
+use Rattle.std.proofs.Common.{◌≡◌, ◌==◌, ◌&&◌, ◌||◌, ℕ, ◌<◌, ◌≤◌, Bool, true, false, if◌then◌else◌, nat_lt, nat_le, List, length, ◌⊎◌, inl, inr, ◌^◌, ◌-◌, eq-eqb, arith}
+use Rattle.std.specs.List.{AllByRecursion}
+use Rattle.std.proofs.lemmas.Bool.{and_parts}
+use Rattle.std.proofs.lemmas.Bool.Decides.{nat_tests}
+use Rattle.xt_base.specs.declared.ids.Epoch.{Epoch}
+use Rattle.xt_base.specs.declared.file.ObjectVersion.{ObjectVersion}
+use Rattle.xt_base.specs.declared.file.Session.{Session}
+use Rattle.xt_base.specs.declared.file.FileHead.{FileHead}
+use Rattle.xt_base.specs.declared.file.Update.{Update}
+use Rattle.xt_base.specs.declared.TheConstants.{OBJECTS, CLIENTS, COUNTS, NO_OBJECT}
+use Rattle.xt_base.specs.Limits.{FitsEpoch, FitsHead, FitsVersion, FitsSession, FitsVersions, FitsSessions, FitsUpdate, is_at_most, rise}
+use Rattle.xt_protocol.specs.Stamps.{is_epoch, is_earlier}
+use Rattle.xt_protocol.specs.Heads.{head_after, versions_below, with_version, with_session}
+use Rattle.xt_protocol.specs.Folds.{held_after, body_of}
+use Rattle.version_lists.specs.Rising.{held_rise, HeadRises}
+use Rattle.osd_rows.specs.ReplicaRows.{head_fits}
+use Rattle.version_lists.proofs.HeadLimits.{when, objects_of, clients_of, below_all, version_all, session_all, below_still_rise, versions_still_rise, sessions_still_rise, held_still_rise}
+
+at_most_along : (a b c : Epoch) → is_at_most a b ≡ true → is_at_most b c ≡ true → is_at_most a c ≡ true
+at_most_along a b c first second = grind (arith, nat_tests)
+
+pub earlier_at_most : (a b : Epoch) → is_earlier a b ≡ true → is_at_most a b ≡ true
+earlier_at_most a b is = grind (arith, nat_tests)
+
+-- neither is earlier than the other
+pub neither_at_most : (a b : Epoch) → is_earlier b a ≡ false → is_at_most a b ≡ true
+neither_at_most a b differ = grind (arith, nat_tests)
+
+pub promised_fits : (head : FileHead) (epoch : Epoch) → FitsHead head → FitsEpoch epoch → is_at_most head.promised epoch ≡ true → FitsHead (record head { promised = epoch })
+promised_fits head epoch fits new le =
+    record {
+      promise = new;
+      place = fits.place;
+      operation = fits.operation;
+      after = fits.after;
+      objects = fits.objects;
+      clients = fits.clients;
+      kept = at_most_along head.stamp.epoch head.promised epoch fits.kept le;
+    }
+
+-- what the test of a head after an update says
+record Room (head : FileHead) : Type 0 where
+  versions : length head.versions ≤ OBJECTS
+  sessions : length head.sessions ≤ CLIENTS
+
+room_of : (head : FileHead) → head_fits head ≡ true → Room head
+room_of head fits =
+    let parts = and_parts (nat_le (length head.versions) OBJECTS && nat_le (length head.sessions) CLIENTS) (nat_lt head.stamp.count COUNTS) fits in
+    let lists = and_parts (nat_le (length head.versions) OBJECTS) (nat_le (length head.sessions) CLIENTS) parts.0 in
+    let few : nat_le (length head.versions) OBJECTS ≡ true = lists.0 in
+    let clients : nat_le (length head.sessions) CLIENTS ≡ true = lists.1 in
+    record { versions = grind (arith, nat_tests, few); sessions = grind (arith, nat_tests, clients) }
+
+-- an object below the last number, where there is one
+small : (update : Update) → FitsUpdate update → (update.object == NO_OBJECT) ≡ false → update.object < 2 ^ 32
+small update fits some = at fits.gets
+  where
+    at : (update.object < 2 ^ 32 - 1) ⊎ (update.object ≡ NO_OBJECT) → update.object < 2 ^ 32
+    at (inl below) = omega arith
+    at (inr none) = absurd (let same : (update.object == NO_OBJECT) ≡ true = eq-eqb update.object NO_OBJECT none in cc (same, some))
+
+-- Update taken: the head is still within its limits.
+pub update_fits : (head : FileHead) (update : Update) → FitsHead head → FitsUpdate update → is_at_most update.stamp.epoch head.promised ≡ true → head_fits (head_after head update) ≡ true → FitsHead (head_after head update)
+update_fits head update fits new le test =
+    let room = room_of (head_after head update) test in
+    let below = versions_below head.versions update.drop_from in
+    let below_up : rise (objects_of below) ≡ true = below_still_rise head.versions update.drop_from fits.objects.rising in
+    let below_each : AllByRecursion FitsVersion below = below_all FitsVersion head.versions update.drop_from fits.objects.each in
+    let s : Session = record { client = update.id.client; number = update.id.number; count = update.stamp.count } in
+    record {
+      promise = fits.promise;
+      place = new.place;
+      operation = new.operation;
+      after = new.after;
+      objects =
+          record {
+            few = room.versions;
+            each =
+                when (AllByRecursion FitsVersion) (update.object == NO_OBJECT) _ _ (λ none. below_each)
+                (λ some. version_all FitsVersion below update.object update.stamp below_each (record { which = small update new some; write = new.place }));
+            rising =
+                when (λ (vs : List ObjectVersion). rise (objects_of vs) ≡ true) (update.object == NO_OBJECT) _ _ (λ none. below_up)
+                (λ some. versions_still_rise below update.object update.stamp below_up);
+          };
+      clients =
+          record {
+            few = room.sessions;
+            each = session_all FitsSession head.sessions s fits.clients.each (record { who = new.operation.who; operation = new.operation.operation; writes = new.place.writes });
+            rising = sessions_still_rise head.sessions s fits.clients.rising;
+          };
+      kept = le;
+    }
+
+-- the held bodies still rise
+pub held_up : (held : List ObjectVersion) (update : Update) → held_rise held ≡ true → held_rise (held_after held update) ≡ true
+held_up held update up =
+    when (λ (vs : List ObjectVersion). held_rise vs ≡ true) (update.object == NO_OBJECT) _ _ (λ none. up) (λ some. held_still_rise held (body_of update.object update.stamp) up)
+
+pub head_rises : (head : FileHead) → FitsHead head → HeadRises head
+head_rises head fits = record { versions = fits.objects.rising; sessions = fits.clients.rising }

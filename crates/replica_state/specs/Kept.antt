@@ -1,0 +1,19 @@
+-- what a replica keeps of its file
+use Rattle.std.specs.Prelude.{None, List, IsTrue}
+use Rattle.xt_base.specs.declared.ids.FileId.{FileId}
+use Rattle.xt_base.specs.declared.file.ObjectVersion.{ObjectVersion}
+use Rattle.xt_base.specs.declared.file.FileHead.{FileHead}
+use Rattle.xt_base.specs.declared.record.FileRow.{FileRow}
+use Rattle.xt_base.specs.declared.record.Record.{Record}
+use Rattle.xt_base.specs.declared.record.Record.TheVariants as kept
+use Rattle.xt_base.specs.Limits.{FitsEpoch, is_at_most}
+
+-- without where its content is kept
+abbrev pub kept_row : FileId → FileHead → List ObjectVersion → FileRow
+kept_row file head held = record { file = file; head = head; held = held; location = None }
+
+-- what a primary may note in its own replica: a promise that isn't below the one before, or a body
+abbrev pub IsNotable : FileRow → Record → Type 0
+IsNotable row (kept.Promise file epoch) = FitsEpoch epoch × IsTrue (is_at_most row.head.promised epoch)
+IsNotable row (kept.Stage file object version bytes) = Unit {0}
+IsNotable row _ = ⊥

@@ -1,0 +1,12 @@
+//! A replica of a file: what it keeps, and what it does with the messages of a primary.
+//!
+//! Each call computes exactly its row of the definitions in `osd_rows`, and what is kept changes as its record says. No call
+//! copies a head, a body or a list but into a record or an answer that holds it. Where memory runs out, the replica is as it
+//! was.
+#![tactic(auto)]
+
+mod answers;
+mod replica;
+
+pub use osd_rows::Acted;
+pub use replica::Replica;

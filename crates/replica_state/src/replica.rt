@@ -1,0 +1,192 @@
+ghost use Rattle.std.specs.Prelude.{◌≡◌, IfOk, OnOk, OnErr, IsTrue};
+ghost use Rattle.xt_base.specs.Limits.{FitsEpoch, FitsHead, FitsUpdate};
+ghost use Rattle.xt_protocol.specs.Folds.{row_after};
+ghost use Rattle.osd_rows.specs.ReplicaRows.{kept_after, gathered, staged, headed, updated};
+ghost use Rattle.version_lists.specs.Rising.{held_rise};
+ghost use Rattle.replica_state.specs.Kept.{kept_row, IsNotable};
+
+use crate::answers::{
+    acknowledgement, after_record, body_turned_away, head_turned_away, hold, hold_body, only,
+    plain_status, promised_status, refused, update_turned_away,
+};
+use osd_rows::Acted;
+use std::alloc::Global;
+use std::marker::Model;
+use version_lists::{is_earlier, take_update};
+use xt_base::{
+    Copies, Epoch, FileHead, FileId, HeldPairs, ObjectVersion, Octets, OutOfMemory, Payload,
+    Record, Stamp, Update,
+};
+
+/// A replica of one file. Contracts see what is kept of the file, without where its content is kept.
+#[derive(Drop)]
+pub struct Replica {
+    alloc: Global,
+    file: FileId,
+    head: FileHead,
+    held: HeldPairs,
+}
+
+impl Model for Replica {
+    ghost use Rattle.std.specs.Prelude.{IsTrue, None};
+    ghost use Rattle.xt_base.specs.declared.record.FileRow.{FileRow};
+    ghost use Rattle.xt_base.specs.Limits.{FitsHead};
+    ghost use Rattle.version_lists.specs.Rising.{held_rise};
+
+    ghost Value = { FileRow };
+
+    ghost view = { λ r. record { file = r.file; head = r.head; held = r.held; location = None } };
+
+    ghost invariant = { λ r. FitsHead r.head × IsTrue (held_rise r.held) };
+}
+
+impl Replica {
+    /// The replica that keeps this head and holds these bodies, as records within their limits and in their places fold.
+    pub fn new(alloc: Global, file: FileId, head: FileHead, held: HeldPairs) -> Replica
+        requires fits { FitsHead head }
+        requires rising { IsTrue (held_rise held) }
+        ensures { result ≡ kept_row file head held }
+    {
+        Replica {
+            alloc,
+            file,
+            head,
+            held,
+        }
+    }
+
+    /// What the replica says of the file.
+    pub fn head(&self) -> &FileHead
+        ensures value { result.now ≡ self.now.head }
+        ensures fits { FitsHead result.now }
+    {
+        &self.head
+    }
+
+    /// The bodies that it holds.
+    pub fn held(&self) -> &HeldPairs
+        ensures value { result.now ≡ self.now.held }
+        ensures rising { IsTrue (held_rise result.now) }
+    {
+        &self.held
+    }
+
+    /// Gathered: an epoch that isn't earlier than the promised one is promised, and the head told; else it is refused.
+    #[tactic(auto, unfolding(osd_rows::specs::ReplicaRows::gathered), using(crate::proofs::HeadFits::promised_fits, crate::proofs::HeadFits::earlier_at_most))]
+    pub fn on_gather(&mut self, epoch: &Epoch) -> Result<Acted, OutOfMemory>
+        requires { FitsEpoch epoch.now }
+        ensures row { IfOk result (λ acted. acted ≡ gathered self.old.file self.old.head epoch.now) }
+        ensures kept { IfOk result (λ acted. self.new ≡ kept_after self.old acted.rec) }
+        ensures same { OnErr result (self.new ≡ self.old) }
+    {
+        let (file, epoch) = (self.file, *epoch);
+        if is_earlier(epoch, self.head.promised) {
+            return Ok(refused(&file, &self.head, epoch));
+        }
+        if !is_earlier(self.head.promised, epoch) {
+            return Ok(only(plain_status(self.alloc, &file, &self.head, epoch)?));
+        }
+        let status = promised_status(self.alloc, &file, &self.head, epoch)?;
+        self.head.promised = epoch;
+        Ok(after_record(Record::Promise { file, epoch }, status))
+    }
+
+    /// Staged: a body is held from now on. One that is held already is acknowledged again.
+    pub fn on_stage(
+        &mut self,
+        epoch: &Epoch,
+        object: u64,
+        version: &Stamp,
+        bytes: &Octets,
+    ) -> Result<Acted, OutOfMemory>
+        ensures row { IfOk result (λ acted. acted ≡ staged self.old.file self.old.head self.old.held epoch.now object version.now bytes.now) }
+        ensures kept { IfOk result (λ acted. self.new ≡ kept_after self.old acted.rec) }
+        ensures same { OnErr result (self.new ≡ self.old) }
+    {
+        let (file, epoch, version) = (self.file, *epoch, *version);
+        match body_turned_away(&file, &self.head, epoch) {
+            Some(acted) => Ok(acted),
+            None => {
+                let body = ObjectVersion { object, version };
+                let rec = hold_body(self.alloc, &file, &mut self.held, body, bytes)?;
+                Ok(Acted {
+                    rec,
+                    answer: Some(Payload::Staged {
+                        file,
+                        epoch,
+                        object,
+                        version,
+                    }),
+                })
+            }
+        }
+    }
+
+    /// Head taken: a head of the promised epoch that is above the own one takes its place, where each version that it names
+    /// is held.
+    pub fn on_head(&mut self, epoch: &Epoch, head: &FileHead) -> Result<Acted, OutOfMemory>
+        requires { FitsHead head.now }
+        ensures row { IfOk result (λ acted. acted ≡ headed self.old.file self.old.head self.old.held epoch.now head.now) }
+        ensures kept { IfOk result (λ acted. self.new ≡ kept_after self.old acted.rec) }
+        ensures same { OnErr result (self.new ≡ self.old) }
+    {
+        let file = self.file;
+        match head_turned_away(&file, &self.head, self.held.as_slice(), *epoch, head) {
+            Some(acted) => Ok(acted),
+            None => {
+                let rec = Record::Head {
+                    file,
+                    head: head.copy(self.alloc)?,
+                };
+                self.head = head.copy(self.alloc)?;
+                Ok(after_record(rec, acknowledgement(&file, head.stamp)))
+            }
+        }
+    }
+
+    /// Update taken: the next update of the promised epoch changes the head, and its body is held.
+    #[tactic(auto, using(crate::proofs::HeadFits::update_fits, crate::proofs::HeadFits::held_up))]
+    pub fn on_update(&mut self, update: &Update) -> Result<Acted, OutOfMemory>
+        requires { FitsUpdate update.now }
+        ensures row { IfOk result (λ acted. acted ≡ updated self.old.file self.old.head update.now) }
+        ensures kept { IfOk result (λ acted. self.new ≡ kept_after self.old acted.rec) }
+        ensures same { OnErr result (self.new ≡ self.old) }
+    {
+        let file = self.file;
+        match update_turned_away(&file, &self.head, update) {
+            Some(acted) => Ok(acted),
+            None => {
+                let rec = Record::Update {
+                    file,
+                    update: update.copy(self.alloc)?,
+                };
+                take_update(&mut self.head, &mut self.held, update)?;
+                Ok(after_record(rec, acknowledgement(&file, update.stamp)))
+            }
+        }
+    }
+
+    /// Takes what a primary recorded in its own replica: a promise that isn't below the one before, or a body.
+    pub fn note(&mut self, rec: &Record) -> Result<(), OutOfMemory>
+        requires { IsNotable self.old rec.now }
+        ensures kept { OnOk result (self.new ≡ row_after self.old rec.now) }
+        ensures same { OnErr result (self.new ≡ self.old) }
+    {
+        match rec {
+            Record::Promise { epoch, .. } => self.head.promised = *epoch,
+            Record::Stage {
+                object,
+                version,
+                ..
+            } => hold(
+                &mut self.held,
+                ObjectVersion {
+                    object: *object,
+                    version: *version,
+                },
+            )?,
+            _ => unreachable!(),
+        }
+        Ok(())
+    }
+}
