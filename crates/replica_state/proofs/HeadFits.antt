@@ -1,5 +1,5 @@
 -- a head stays within its limits
-use Rattle.std.proofs.Common.{◌≡◌, ◌==◌, ◌&&◌, ◌||◌, ℕ, ◌<◌, ◌≤◌, Bool, true, false, if◌then◌else◌, nat_lt, nat_le, List, length, ◌⊎◌, inl, inr, ◌^◌, ◌-◌, eq-eqb, arith}
+use Rattle.std.proofs.Common.{◌≡◌, ◌==◌, ◌&&◌, ◌<◌, ◌≤◌, true, false, nat_lt, nat_le, List, length, ◌⊎◌, inl, inr, ◌^◌, ◌-◌, eq-eqb, arith}
 use Rattle.std.specs.List.{AllByRecursion}
 use Rattle.std.proofs.lemmas.Bool.{and_parts}
 use Rattle.std.proofs.lemmas.Bool.Decides.{nat_tests}
@@ -9,13 +9,13 @@ use Rattle.xt_base.specs.declared.file.Session.{Session}
 use Rattle.xt_base.specs.declared.file.FileHead.{FileHead}
 use Rattle.xt_base.specs.declared.file.Update.{Update}
 use Rattle.xt_base.specs.declared.TheConstants.{OBJECTS, CLIENTS, COUNTS, NO_OBJECT}
-use Rattle.xt_base.specs.Limits.{FitsEpoch, FitsHead, FitsVersion, FitsSession, FitsVersions, FitsSessions, FitsUpdate, is_at_most, rise}
-use Rattle.xt_protocol.specs.Stamps.{is_epoch, is_earlier}
-use Rattle.xt_protocol.specs.Heads.{head_after, versions_below, with_version, with_session}
+use Rattle.xt_base.specs.Limits.{FitsEpoch, FitsHead, FitsVersion, FitsSession, FitsUpdate, is_at_most, rise}
+use Rattle.xt_protocol.specs.Stamps.{is_earlier}
+use Rattle.xt_protocol.specs.Heads.{head_after, versions_below}
 use Rattle.xt_protocol.specs.Folds.{held_after, body_of}
 use Rattle.version_lists.specs.Rising.{held_rise, HeadRises}
 use Rattle.osd_rows.specs.ReplicaRows.{head_fits}
-use Rattle.version_lists.proofs.HeadLimits.{when, objects_of, clients_of, below_all, version_all, session_all, below_still_rise, versions_still_rise, sessions_still_rise, held_still_rise}
+use Rattle.version_lists.proofs.HeadLimits.{when, objects_of, below_all, version_all, session_all, below_still_rise, versions_still_rise, sessions_still_rise, held_still_rise}
 
 at_most_along : (a b c : Epoch) → is_at_most a b ≡ true → is_at_most b c ≡ true → is_at_most a c ≡ true
 at_most_along a b c first second = grind (arith, nat_tests)

@@ -6,7 +6,9 @@
 #![tactic(auto)]
 
 mod answers;
+mod fetching;
 mod replica;
 
+pub use fetching::fetched_from;
 pub use osd_rows::Acted;
 pub use replica::Replica;
