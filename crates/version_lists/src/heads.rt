@@ -81,3 +81,24 @@ pub fn take_update(
     head.mark = update.mark;
     Ok(())
 }
+
+/// What an update makes of a head alone, in place. Where memory runs out, it is as it was.
+pub fn update_head(head: &mut FileHead, update: &Update) -> Result<(), OutOfMemory>
+    requires { HeadRises head.old }
+    ensures ok { OnOk result (head.new ≡ head_after head.old update.now) }
+    ensures same { OnErr result (head.new ≡ head.old) }
+{
+    let versions = &mut head.versions.items;
+    let sessions = &mut head.sessions.items;
+    versions.reserve(1)?;
+    sessions.reserve(1)?;
+    drop_versions(versions, update.drop_from);
+    if update.object != NO_OBJECT {
+        put_version(versions, version_made(update));
+    }
+    put_session(sessions, session_made(update));
+    head.stamp = update.stamp;
+    head.last = update.id;
+    head.mark = update.mark;
+    Ok(())
+}
