@@ -14,10 +14,10 @@ use Rattle.xt_base.specs.declared.file.Update.{Update}
 use Rattle.xt_base.specs.declared.reply.Reply.{Reply}
 use Rattle.xt_base.specs.declared.reply.Reply.TheVariants as reply
 use Rattle.xt_base.specs.declared.reply.Denial.TheVariants as denial
-use Rattle.xt_base.specs.declared.TheConstants.{OBJECTS, COUNTS, CLIENTS}
+use Rattle.xt_base.specs.declared.TheConstants.{OBJECTS, COUNTS, CLIENTS, NO_OBJECT}
 use Rattle.xt_base.specs.declared.record.Record.{Record}
 use Rattle.xt_base.specs.declared.record.Record.TheVariants as kept
-use Rattle.xt_base.specs.Limits.{FitsMessage, FitsNode, FitsFile, FitsOp, FitsReply, FitsBytes, FitsUpdate, FitsSession, IsCount, no_object}
+use Rattle.xt_base.specs.Limits.{FitsMessage, FitsNode, FitsFile, FitsOp, FitsReply, FitsBytes, FitsUpdate, FitsSession, IsCount}
 use Rattle.xt_base.specs.Overlay.{overlay, cut_or_filled}
 use Rattle.xt_protocol.specs.Folds.{FollowsHead}
 use Rattle.xt_protocol.specs.Heads.{session_of, version_of, head_after}
@@ -119,7 +119,7 @@ update_fits body head ask object at bytes bodies state asked fit below counted =
     let most : length bytes ≤ length (overlay old at bytes) = size.0 in
     let least : 1 ≤ length bytes = fit.some in
     let full : (length (overlay old at bytes) == 0) ≡ false = grind (arith, nat_tests, most, least) in
-    let real : (object == no_object) ≡ false = grind (arith, nat_tests, below) in
+    let real : (object == NO_OBJECT) ≡ false = grind (arith, nat_tests, below) in
     record {
       place = record { tenure = record { place = omega arith; primary = omega arith }; writes = omega (arith, counted) };
       operation = record { who = asked.client; operation = asked.number };

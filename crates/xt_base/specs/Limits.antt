@@ -2,7 +2,7 @@
 use Rattle.std.specs.Prelude.{ℕ, ◌<◌, ◌≤◌, ◌^◌, ◌%◌, ◌-◌, ◌≡◌, ◌⊎◌, List, [], ◌∷◌, length, map, IfSome, Bool, true, nat_lt, nat_le, ◌==◌, ◌&&◌, ◌||◌, IsTrue, IsUtf8, slice_index}
 use Rattle.std.specs.List.{AllByRecursion}
 use Rattle.xt_base.specs.MemberList.{are_members}
-use Rattle.xt_base.specs.declared.TheConstants.{BODY, CLIENTS, OBJECTS}
+use Rattle.xt_base.specs.declared.TheConstants.{BODY, CLIENTS, NO_OBJECT, OBJECTS}
 use Rattle.xt_base.specs.declared.ids.NodeId.{NodeId}
 use Rattle.xt_base.specs.declared.ids.Boot.{Boot}
 use Rattle.xt_base.specs.declared.ids.FileId.{FileId}
@@ -150,13 +150,9 @@ pub record FitsCapability (capability : Capability) : Type 0 where
 abbrev pub IsObject : ℕ → Type 0
 IsObject object = object < 2 ^ 32
 
--- what stands in an update for no object
-abbrev pub no_object : ℕ
-no_object = 2 ^ 64 - 1
-
 -- an object below the last number of 32 bits, which is sent for none; or none
 abbrev pub IsObjectOrNone : ℕ → Type 0
-IsObjectOrNone object = (object < 2 ^ 32 - 1) ⊎ (object ≡ no_object)
+IsObjectOrNone object = (object < 2 ^ 32 - 1) ⊎ (object ≡ NO_OBJECT)
 
 abbrev pub FitsOp : Op → Type 0
 FitsOp (op.Read object at len) = IsObject object × (at < 2 ^ 32) × (1 ≤ len) × (len ≤ BODY)
@@ -171,7 +167,7 @@ pub record FitsUpdate (update : Update) : Type 0 where
   pub drops : IsObjectOrNone update.drop_from
   pub gets : IsObjectOrNone update.object
   pub bytes : FitsBytes update.body
-  pub empty : (length update.body == 0) ≡ (update.object == no_object)
+  pub empty : (length update.body == 0) ≡ (update.object == NO_OBJECT)
 
 -- each number is above the one before it
 abbrev pub rise : List ℕ → Bool

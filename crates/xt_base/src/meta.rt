@@ -107,7 +107,7 @@ impl Copies for MetaReq {
 }
 
 /// Why the MRC refuses a request.
-#[derive(Clone, Copy, PartialEq, Eq)]
+#[derive(Clone, Copy)]
 pub enum MetaRefusal {
     NotFound,
     Exists,

@@ -173,7 +173,7 @@ impl Copies for Folded {
 }
 
 /// A body that is to be kept.
-#[derive(Clone, Copy, PartialEq, Eq)]
+#[derive(Clone, Copy)]
 pub struct KeepBody {
     pub file: FileId,
     pub object: u64,

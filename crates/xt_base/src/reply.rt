@@ -98,7 +98,7 @@ pub enum Retry {
 }
 
 /// What one member of a file's list gave to a call that may be made again.
-#[derive(Clone, Copy, PartialEq, Eq)]
+#[derive(Clone, Copy)]
 pub struct Answered {
     pub node: NodeId,
     pub outcome: Retry,

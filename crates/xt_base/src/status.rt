@@ -47,7 +47,7 @@ pub enum Limited {
 }
 
 /// Why an OSD refuses an ask for good.
-#[derive(Clone, Copy, PartialEq, Eq)]
+#[derive(Clone, Copy)]
 pub enum AskRefusal {
     Denied { rule: Denial },
     OldList { version: u32 },
@@ -57,7 +57,7 @@ pub enum AskRefusal {
 }
 
 /// The refusal that ended an operation, as it was sent.
-#[derive(Clone, Copy, PartialEq, Eq)]
+#[derive(Clone, Copy)]
 pub enum Refusal {
     Ask { refusal: AskRefusal },
     Meta { refusal: MetaRefusal },
