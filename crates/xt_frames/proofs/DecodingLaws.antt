@@ -5,9 +5,9 @@ use Rattle.std.proofs.lemmas.Bool.{ltb-false, le-ltb, eqb-true}
 use Rattle.std.proofs.lemmas.List.{append-nil, nil_from_length, take_at, drop_at, take-append-drop, length-append, length-take}
 use Rattle.xt_base.specs.Limits.{AreBytes, FitsMessage}
 use Rattle.xt_base.specs.declared.message.Msg.{Msg}
-use Rattle.xt_wire.specs.declared.fault.FieldErr.{FieldErr}
-use Rattle.xt_wire.specs.BasicFields.{word_bytes, byte_at, word_at}
-use Rattle.xt_wire.proofs.BasicLaws.{word_field, word-length, bytes-take}
+use Rattle.xt_fields.specs.declared.fault.FieldErr.{FieldErr}
+use Rattle.xt_fields.specs.BasicFields.{word_bytes, byte_at, word_at}
+use Rattle.xt_fields.proofs.BasicLaws.{word_field, word-length, bytes-take}
 use Rattle.xt_frames.specs.declared.fault.FrameErr.{FrameErr}
 use Rattle.xt_frames.specs.declared.fault.FrameErr.TheVariants as fault
 use Rattle.xt_frames.specs.Frames.{kind_of, content_of, frame_of}

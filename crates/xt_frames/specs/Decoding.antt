@@ -2,9 +2,9 @@
 use Rattle.std.specs.Prelude.{◌≡◌, ℕ, ◌+◌, ◌-◌, List, length, take, drop, nat_lt, nat_le, ◌==◌, ◌&&◌, Result, Ok, Err, if◌then◌else◌}
 use Rattle.xt_base.specs.declared.TheConstants.{FRAME}
 use Rattle.xt_base.specs.declared.message.Msg.{Msg}
-use Rattle.xt_wire.specs.declared.fault.FieldErr.{FieldErr}
-use Rattle.xt_wire.specs.declared.fault.FieldErr.TheVariants as field
-use Rattle.xt_wire.specs.BasicFields.{byte_at, word_at}
+use Rattle.xt_fields.specs.declared.fault.FieldErr.{FieldErr}
+use Rattle.xt_fields.specs.declared.fault.FieldErr.TheVariants as field
+use Rattle.xt_fields.specs.BasicFields.{byte_at, word_at}
 use Rattle.xt_frames.specs.declared.fault.FrameErr.{FrameErr}
 use Rattle.xt_frames.specs.declared.fault.FrameErr.TheVariants as fault
 use Rattle.xt_frames.specs.PayloadFields.{message_at}

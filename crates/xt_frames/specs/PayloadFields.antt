@@ -4,14 +4,16 @@ use Rattle.xt_base.specs.declared.TheConstants.{BODY}
 use Rattle.xt_base.specs.declared.message.Payload.{Payload}
 use Rattle.xt_base.specs.declared.message.Payload.TheVariants as payload
 use Rattle.xt_base.specs.declared.message.Msg.{Msg}
-use Rattle.xt_wire.specs.declared.fault.FieldErr.TheVariants as fault
-use Rattle.xt_wire.specs.Reading.{Field, ◌&◌, made}
-use Rattle.xt_wire.specs.BasicFields.{word_at, count_at, raw_at, octets_at}
+use Rattle.xt_fields.specs.declared.fault.FieldErr.TheVariants as fault
+use Rattle.xt_fields.specs.Reading.{Field, ◌&◌, made}
+use Rattle.xt_fields.specs.BasicFields.{word_at, count_at, raw_at, octets_at}
 use Rattle.xt_wire.specs.IdFields.{node_at, boot_at, file_at, ballot_at, epoch_at, stamp_at, lease_at, report_at}
 use Rattle.xt_wire.specs.FileFields.{capability_at, op_at, update_at, head_at}
-use Rattle.xt_wire.specs.ReplyFields.{reply_at}
-use Rattle.xt_wire.specs.MetaFields.{meta_req_at, meta_answer_at}
-use Rattle.xt_wire.specs.RegistryFields.{registry_req_at, registry_answer_at}
+use Rattle.xt_answers.specs.ReplyFields.{reply_at}
+use Rattle.xt_wire.specs.MetaFields.{meta_req_at}
+use Rattle.xt_answers.specs.MetaAnswers.{meta_answer_at}
+use Rattle.xt_wire.specs.RegistryFields.{registry_req_at}
+use Rattle.xt_answers.specs.RegistryAnswers.{registry_answer_at}
 
 unfoldable pub read_fields : Field Payload
 read_fields = made (λ f. payload.Read f.0 f.1) (file_at & ballot_at)

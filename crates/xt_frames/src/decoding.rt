@@ -8,7 +8,7 @@ use crate::fault::FrameErr;
 use crate::reading::message;
 use std::alloc::Global;
 use xt_base::{FRAME, Msg};
-use xt_wire::FieldReader;
+use xt_fields::FieldReader;
 
 /// The version of frames.
 pub(crate) const VERSION: u8 = 1;
@@ -64,9 +64,7 @@ fn message_of(alloc: Global, part: &[u8]) -> Result<Msg, FrameErr>
     let mut reader = FieldReader::new(part);
     let kind = kind_of(&mut reader)?;
     let msg = message(&mut reader, alloc, kind)?;
-    if reader.left() != 0 {
-        return Err(FrameErr::Field);
-    }
+    reader.end()?;
     Ok(msg)
 }
 

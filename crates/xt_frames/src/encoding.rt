@@ -2,14 +2,15 @@ ghost use Rattle.std.specs.Prelude.{◌≡◌, ◌≤◌, ◌++◌, length, OnOk
 ghost use Rattle.xt_base.specs.declared.TheConstants.{FRAME};
 ghost use Rattle.xt_base.specs.Limits.{FitsMessage};
 ghost use Rattle.xt_base.specs.FrameLength.{frame_length};
-ghost use Rattle.xt_wire.specs.BasicFields.{word_bytes};
+ghost use Rattle.xt_fields.specs.BasicFields.{word_bytes};
 ghost use Rattle.xt_frames.specs.Frames.{content_of, frame_of};
 
 use crate::decoding::VERSION;
 use crate::writing::{kind, put_payload};
 use std::alloc::Global;
 use xt_base::{Msg, Octets, OutOfMemory};
-use xt_wire::FieldWriter;
+use xt_fields::FieldWriter;
+use xt_wire::WriteIds;
 
 /// What is behind the length.
 fn put_content(writer: &mut FieldWriter, msg: &Msg) -> Result<(), OutOfMemory>

@@ -2,7 +2,7 @@ ghost use Rattle.std.specs.Prelude.{◌≡◌};
 ghost use Rattle.xt_frames.specs.Decoding.{fault_of};
 
 use thiserror::Error;
-use xt_wire::FieldErr;
+use xt_fields::FieldErr;
 
 /// Why bytes don't begin with a frame. Where several hold, the first one in the order of the tests is given.
 #[derive(Clone, Copy, Debug, PartialEq, Eq, Error)]

@@ -13,6 +13,3 @@ mod writing;
 pub use decoding::decode;
 pub use encoding::encode;
 pub use fault::FrameErr;
-
-#[cfg(test)]
-mod tests;

@@ -1,10 +1,12 @@
 ghost use Rattle.std.specs.Prelude.{◌≡◌};
-ghost use Rattle.xt_wire.specs.Reading.{Gives};
+ghost use Rattle.xt_fields.specs.Reading.{Gives};
 ghost use Rattle.xt_frames.specs.PayloadFields.{read_fields, promise_fields, write_fields, accepted_fields, outrun_fields, gather_fields, status_fields, fetch_fields, object_fields, stage_fields, staged_fields, head_fields, update_fields, ack_fields, refused_fields, behind_fields, missing_fields, ask_fields, reply_fields, meta_fields, meta_reply_fields, registry_fields, registry_reply_fields, stop_fields, lease_arms, replica_arms, service_arms, payload_arms, message_at};
 
 use std::alloc::Global;
+use xt_answers::{ReadAnswers, ReadReplies};
 use xt_base::{BODY, Msg, Payload};
-use xt_wire::{FieldErr, FieldReader};
+use xt_fields::{FieldErr, FieldReader};
+use xt_wire::{ReadFiles, ReadIds, ReadRequests};
 
 /// The longest `bytes` field, in bytes.
 const BODY_LIMIT: u32 = BODY as u32;

@@ -1,18 +1,22 @@
 ghost use Rattle.std.specs.Prelude.{◌≡◌, ◌<◌, ◌^◌, ◌++◌, length, OnOk};
 ghost use Rattle.xt_base.specs.Limits.{IsObject, FitsHead, FitsUpdate, FitsOp, FitsReply, FitsMetaReq, FitsMetaAnswer, FitsRegistryReq, FitsRegistryAnswer, FitsPayload};
-ghost use Rattle.xt_wire.specs.BasicFields.{byte_bytes, word_bytes, long_bytes, octets_bytes};
+ghost use Rattle.xt_fields.specs.BasicFields.{byte_bytes, word_bytes, long_bytes, octets_bytes};
 ghost use Rattle.xt_wire.specs.IdFields.{node_bytes, boot_bytes, file_bytes, ballot_bytes, epoch_bytes, stamp_bytes, lease_bytes, report_bytes};
 ghost use Rattle.xt_wire.specs.FileFields.{capability_bytes, op_bytes, update_bytes, head_bytes};
-ghost use Rattle.xt_wire.specs.ReplyFields.{reply_bytes};
-ghost use Rattle.xt_wire.specs.MetaFields.{meta_req_bytes, meta_answer_bytes};
-ghost use Rattle.xt_wire.specs.RegistryFields.{registry_req_bytes, registry_answer_bytes};
+ghost use Rattle.xt_answers.specs.ReplyFields.{reply_bytes};
+ghost use Rattle.xt_wire.specs.MetaFields.{meta_req_bytes};
+ghost use Rattle.xt_answers.specs.MetaAnswers.{meta_answer_bytes};
+ghost use Rattle.xt_wire.specs.RegistryFields.{registry_req_bytes};
+ghost use Rattle.xt_answers.specs.RegistryAnswers.{registry_answer_bytes};
 ghost use Rattle.xt_frames.specs.Frames.{kind_of, payload_bytes};
 
+use xt_answers::{WriteAnswers, WriteReplies};
 use xt_base::{
     Ballot, Boot, Capability, Epoch, FileHead, FileId, Lease, MetaAnswer, MetaReq, Op, OutOfMemory,
     Payload, RegistryAnswer, RegistryReq, Reply, Stamp, Update,
 };
-use xt_wire::FieldWriter;
+use xt_fields::FieldWriter;
+use xt_wire::{WriteFiles, WriteIds, WriteRequests};
 
 /// The number of a payload's kind.
 pub(crate) fn kind(payload: &Payload) -> u8

@@ -14,12 +14,13 @@ use Rattle.xt_base.specs.declared.file.Op.TheVariants as op
 use Rattle.std.proofs.lemmas.Bool.{eqb-true, ne_eqb, eqb-false, leb-true, lt-ltb, ltb-true}
 use Rattle.std.proofs.Math.Dec.{eqb-suc-zero}
 use Rattle.xt_base.specs.MemberList.{are_members, are_distinct}
-use Rattle.xt_base.specs.Limits.{no_object, rise, is_at_most, IsObjectOrNone, FitsMembers, FitsStripe, FitsLocation, FitsCapability, FitsOp, FitsUpdate, FitsVersion, FitsSession, FitsVersions, FitsSessions, FitsHead, FitsBytes}
-use Rattle.xt_wire.specs.BasicFields.{word_bytes, octets_bytes, byte_at, word_at, tagged}
+use Rattle.xt_base.specs.declared.TheConstants.{NO_OBJECT}
+use Rattle.xt_base.specs.Limits.{rise, is_at_most, IsObjectOrNone, FitsMembers, FitsStripe, FitsLocation, FitsCapability, FitsOp, FitsUpdate, FitsVersion, FitsSession, FitsVersions, FitsSessions, FitsHead, FitsBytes}
+use Rattle.xt_fields.specs.BasicFields.{word_bytes, octets_bytes, byte_at, word_at, tagged}
 use Rattle.xt_wire.specs.FileFields.{kind_bytes, kind_arms, kind_at, version_at, stripe_at, members_bytes, members_at, location_bytes, location_at, capability_bytes, capability_at, op_bytes, read_op_at, some_octets_at, write_op_at, truncate_op_at, op_arms, op_at, slot_bytes, slot_at, update_bytes, has_its_body, update_at, object_version_bytes, object_version_at, session_bytes, session_at, versions_bytes, versions_at, sessions_bytes, sessions_at, head_bytes, head_at}
-use Rattle.xt_wire.specs.OneSpelling.{IsField, Taken}
-use Rattle.xt_wire.proofs.Laws.{IsArm, AreArms, both, made_field, fit_field, as_field, arm, lone_arm, arm_again, no_more, or_arm, bind_ok, ok_is, and_is}
-use Rattle.xt_wire.proofs.BasicLaws.{byte_field, word_field, long_field, count_field, body_field, tag_field, within_byte, within_word, counted_field, tagged_field}
+use Rattle.xt_fields.specs.OneSpelling.{IsField, Taken}
+use Rattle.xt_fields.proofs.Laws.{IsArm, AreArms, both, made_field, fit_field, as_field, arm, lone_arm, arm_again, no_more, or_arm, bind_ok, ok_is, and_is}
+use Rattle.xt_fields.proofs.BasicLaws.{byte_field, word_field, long_field, count_field, body_field, tag_field, within_byte, within_word, counted_field, tagged_field}
 use Rattle.xt_wire.proofs.IdLaws.{node_field, file_field, epoch_field, stamp_field, op_id_field, mark_field}
 
 abbrev Fits_any : Kind → Type 0
@@ -128,19 +129,19 @@ op_field = tagged_field op_arms_take op_again
 -- ---- updates
 
 -- the word that is read is the one that is written for what it means
-slot_written : (n : ℕ) (same : Bool) → eqb n 4294967295 ≡ same → n < 2 ^ 32 → slot_bytes (cond same no_object n) ≡ word_bytes n
+slot_written : (n : ℕ) (same : Bool) → eqb n 4294967295 ≡ same → n < 2 ^ 32 → slot_bytes (cond same NO_OBJECT n) ≡ word_bytes n
 unfolding slot_bytes
 slot_written n true e lt = ap word_bytes (sym (eqb-true n 4294967295 e))
-slot_written n false e lt = let other : eqb n no_object ≡ false = ne_eqb _ _ (omega arith) in rw other refl
+slot_written n false e lt = let other : eqb n NO_OBJECT ≡ false = ne_eqb _ _ (omega arith) in rw other refl
 
-slot_fits : (n : ℕ) (same : Bool) → eqb n 4294967295 ≡ same → n < 2 ^ 32 → IsObjectOrNone (cond same no_object n)
+slot_fits : (n : ℕ) (same : Bool) → eqb n 4294967295 ≡ same → n < 2 ^ 32 → IsObjectOrNone (cond same NO_OBJECT n)
 slot_fits n true e lt = inr refl
 slot_fits n false e lt = inl (let other : n ≢ 4294967295 = eqb-false _ _ e in omega arith)
 
 slot_again : (n : ℕ) (rest : List ℕ) → IsObjectOrNone n → slot_at (slot_bytes n ++ rest) ≡ Ok (n, rest)
 unfolding slot_at slot_bytes
 slot_again n rest (inl lt) =
-    let some : eqb n no_object ≡ false = ne_eqb _ _ (omega arith) in
+    let some : eqb n NO_OBJECT ≡ false = ne_eqb _ _ (omega arith) in
     let other : eqb n 4294967295 ≡ false = ne_eqb _ _ (omega arith) in
     let read : word_at (word_bytes n ++ rest) ≡ Ok (n, rest) = word_field.again n rest (omega arith) in
     rw (some, read, other) refl
@@ -152,9 +153,9 @@ pub slot_field : IsField slot_bytes IsObjectOrNone slot_at
 unfolding slot_at
 slot_field = record {
   takes = λ given x all e.
-      let a = bind_ok (word_at given) (λ read. Ok (cond (eqb read.0 4294967295) no_object read.0, read.1)) x e in
+      let a = bind_ok (word_at given) (λ read. Ok (cond (eqb read.0 4294967295) NO_OBJECT read.0, read.1)) x e in
       let s = word_field.takes given a.0 all a.1 in
-      let read : ℕ × List ℕ = (cond (eqb a.0.0 4294967295) no_object a.0.0, a.0.1) in
+      let read : ℕ × List ℕ = (cond (eqb a.0.0 4294967295) NO_OBJECT a.0.0, a.0.1) in
       subst (λ (y : ℕ × List ℕ). Taken given (slot_bytes y.0) y.1 (IsObjectOrNone y.0)) (ok_is read x a.2)
       (record { parts = s.parts ∙ ap (λ (t : List ℕ). t ++ a.0.1) (sym (slot_written a.0.0 (eqb a.0.0 4294967295) refl s.within)); left = s.left; within = slot_fits a.0.0 (eqb a.0.0 4294967295) refl s.within });
   again = slot_again;
@@ -173,8 +174,8 @@ agreed false false h = refl
 pub update_field : IsField update_bytes FitsUpdate update_at
 unfolding update_at
 update_field = as_field
-    (λ u h. record { place = h.0.0.0.0.0.0; operation = h.0.0.0.0.0.1; after = h.0.0.0.0.1; drops = h.0.0.0.1; gets = h.0.0.1; bytes = h.0.1; empty = agree (eqb (length u.body) 0) (eqb u.object no_object) h.1 })
-    (λ u h. ((((((h.place, h.operation), h.after), h.drops), h.gets), h.bytes), agreed (eqb (length u.body) 0) (eqb u.object no_object) h.empty))
+    (λ u h. record { place = h.0.0.0.0.0.0; operation = h.0.0.0.0.0.1; after = h.0.0.0.0.1; drops = h.0.0.0.1; gets = h.0.0.1; bytes = h.0.1; empty = agree (eqb (length u.body) 0) (eqb u.object NO_OBJECT) h.1 })
+    (λ u h. ((((((h.place, h.operation), h.after), h.drops), h.gets), h.bytes), agreed (eqb (length u.body) 0) (eqb u.object NO_OBJECT) h.empty))
     (fit_field has_its_body
     (made_field (λ u. record { stamp = u.0.0.0.0.0; id = u.0.0.0.0.1; mark = u.0.0.0.1; drop_from = u.0.0.1; object = u.0.1; body = u.1 })
     (λ (u : Update). (((((u.stamp, u.id), u.mark), u.drop_from), u.object), u.body)) (λ a. refl) (λ b. refl)

@@ -11,11 +11,11 @@ use Rattle.xt_base.specs.declared.ids.Stamp.{Stamp}
 use Rattle.xt_base.specs.declared.ids.Lease.{Lease}
 use Rattle.xt_base.specs.declared.ids.OpId.{OpId}
 use Rattle.xt_base.specs.declared.ids.SizeMark.{SizeMark}
-use Rattle.xt_wire.specs.BasicFields.{byte_at, tagged}
-use Rattle.xt_wire.specs.IdFields.{node_bytes, node_at, boot_bytes, boot_at, file_bytes, file_at, ballot_bytes, ballot_at, epoch_bytes, epoch_at, stamp_bytes, stamp_at, lease_bytes, lease_at, report_bytes, report_at, report_arms, some_report_at, report_arms, some_report_at, report_arms, some_report_at, report_arms, some_report_at, report_arms, some_report_at, report_arms, some_report_at, op_id_bytes, op_id_at, mark_bytes, mark_at}
-use Rattle.xt_wire.specs.OneSpelling.{IsField}
-use Rattle.xt_wire.proofs.Laws.{IsArm, AreArms, both, made_field, as_field, arm, lone_arm, arm_again, no_more, or_arm}
-use Rattle.xt_wire.proofs.BasicLaws.{word_field, long_field, count_field, raw_field, tagged_field}
+use Rattle.xt_fields.specs.BasicFields.{byte_at, tagged}
+use Rattle.xt_wire.specs.IdFields.{node_bytes, node_at, boot_bytes, boot_at, file_bytes, file_at, ballot_bytes, ballot_at, epoch_bytes, epoch_at, stamp_bytes, stamp_at, lease_bytes, lease_at, report_bytes, report_at, report_arms, some_report_at, op_id_bytes, op_id_at, mark_bytes, mark_at}
+use Rattle.xt_fields.specs.OneSpelling.{IsField}
+use Rattle.xt_fields.proofs.Laws.{IsArm, AreArms, both, made_field, as_field, arm, lone_arm, arm_again, no_more, or_arm}
+use Rattle.xt_fields.proofs.BasicLaws.{word_field, long_field, count_field, raw_field, tagged_field}
 
 pub node_field : IsField node_bytes FitsNode node_at
 unfolding node_at

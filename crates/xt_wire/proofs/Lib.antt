@@ -1,11 +1,5 @@
-pub mod Laws
-pub mod BasicLaws
 pub mod IdLaws
 pub mod FileLaws
-pub mod ReplyLaws
 pub mod MetaLaws
 pub mod RegistryLaws
-pub mod Loops
-pub mod Texts
-pub mod Lengths
 pub mod FieldLengths

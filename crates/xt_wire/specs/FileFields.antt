@@ -2,8 +2,8 @@
 use Rattle.std.specs.Prelude.{ℕ, ◌^◌, ◌%◌, List, ◌++◌, length, map, Ok, Err, Bool, not, nat_lt, ◌==◌, if◌then◌else◌}
 use Rattle.std.specs.List.{flat_map}
 use Rattle.xt_base.specs.MemberList.{are_members}
-use Rattle.xt_base.specs.declared.TheConstants.{BODY, CLIENTS, OBJECTS}
-use Rattle.xt_base.specs.Limits.{no_object, rise, is_at_most}
+use Rattle.xt_base.specs.declared.TheConstants.{BODY, CLIENTS, NO_OBJECT, OBJECTS}
+use Rattle.xt_base.specs.Limits.{rise, is_at_most}
 use Rattle.xt_base.specs.declared.ids.NodeId.{NodeId}
 use Rattle.xt_base.specs.declared.file.Kind.{Kind}
 use Rattle.xt_base.specs.declared.file.Kind.TheVariants.{Replicated, Striped}
@@ -15,9 +15,9 @@ use Rattle.xt_base.specs.declared.file.Update.{Update}
 use Rattle.xt_base.specs.declared.file.ObjectVersion.{ObjectVersion}
 use Rattle.xt_base.specs.declared.file.Session.{Session}
 use Rattle.xt_base.specs.declared.file.FileHead.{FileHead}
-use Rattle.xt_wire.specs.declared.fault.FieldErr.TheVariants as fault
-use Rattle.xt_wire.specs.Reading.{Field, ◌&◌, made, fit}
-use Rattle.xt_wire.specs.BasicFields.{byte_bytes, word_bytes, long_bytes, octets_bytes, byte_at, word_at, long_at, count_at, raw_at, octets_at, within, counted, tagged}
+use Rattle.xt_fields.specs.declared.fault.FieldErr.TheVariants as fault
+use Rattle.xt_fields.specs.Reading.{Field, ◌&◌, made, fit}
+use Rattle.xt_fields.specs.BasicFields.{byte_bytes, word_bytes, long_bytes, octets_bytes, byte_at, word_at, long_at, count_at, raw_at, octets_at, within, counted, tagged}
 use Rattle.xt_wire.specs.IdFields.{node_bytes, node_at, file_bytes, file_at, epoch_bytes, epoch_at, stamp_bytes, stamp_at, op_id_bytes, op_id_at, mark_bytes, mark_at}
 
 -- ---- locations
@@ -108,10 +108,10 @@ op_at = tagged op_arms
 
 -- an object, or the greatest word for none
 unfoldable pub slot_bytes : ℕ → List ℕ
-slot_bytes object = word_bytes (if object == no_object then 4294967295 else object)
+slot_bytes object = word_bytes (if object == NO_OBJECT then 4294967295 else object)
 
 unfoldable pub slot_at : Field ℕ
-slot_at = made (λ n. if n == 4294967295 then no_object else n) word_at
+slot_at = made (λ n. if n == 4294967295 then NO_OBJECT else n) word_at
 
 abbrev pub update_bytes : Update → List ℕ
 update_bytes update =
@@ -120,7 +120,7 @@ update_bytes update =
 
 -- whether the body is empty exactly where no object gets it
 abbrev pub has_its_body : Update → Bool
-has_its_body update = if length update.body == 0 then update.object == no_object else not (update.object == no_object)
+has_its_body update = if length update.body == 0 then update.object == NO_OBJECT else not (update.object == NO_OBJECT)
 
 unfoldable pub update_at : Field Update
 update_at =

@@ -9,9 +9,9 @@ use Rattle.xt_base.specs.declared.ids.Stamp.{Stamp}
 use Rattle.xt_base.specs.declared.ids.Lease.{Lease}
 use Rattle.xt_base.specs.declared.ids.OpId.{OpId}
 use Rattle.xt_base.specs.declared.ids.SizeMark.{SizeMark}
-use Rattle.xt_wire.specs.declared.fault.FieldErr.TheVariants as fault
-use Rattle.xt_wire.specs.Reading.{Field, ◌&◌, made}
-use Rattle.xt_wire.specs.BasicFields.{byte_bytes, word_bytes, long_bytes, word_at, long_at, count_at, raw_at, tagged}
+use Rattle.xt_fields.specs.declared.fault.FieldErr.TheVariants as fault
+use Rattle.xt_fields.specs.Reading.{Field, ◌&◌, made}
+use Rattle.xt_fields.specs.BasicFields.{byte_bytes, word_bytes, long_bytes, word_at, long_at, count_at, raw_at, tagged}
 
 abbrev pub node_bytes : NodeId → List ℕ
 node_bytes node = word_bytes node.0

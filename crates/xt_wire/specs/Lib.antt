@@ -1,8 +1,4 @@
-pub mod Reading
-pub mod OneSpelling
-pub mod BasicFields
 pub mod IdFields
 pub mod FileFields
-pub mod ReplyFields
 pub mod MetaFields
 pub mod RegistryFields

@@ -1,25 +1,18 @@
-//! Fields as bytes: numbers with the high byte first, bytes and texts behind their length, and the fields that
-//! frames and records share.
+//! The fields that frames and records share, as bytes: nodes, files, leases and epochs; locations, capabilities,
+//! operations, updates and heads; and requests.
 //!
 //! Each value within the limits of `xt_base` has one spelling. What is written is that spelling, what is read is
-//! the value whose spelling stands there, and no second spelling is taken.
+//! the value whose spelling stands there, and no second spelling is taken. The traits here give these fields to the
+//! reader and the writer of basic fields.
 #![tactic(auto)]
 
-mod fault;
 mod file;
 mod ids;
-mod meta;
-mod reader;
-mod registry;
-mod reply;
+mod requests;
 mod spelling;
-mod writer;
 
-pub use fault::FieldErr;
-pub use file::{clients_rise, is_at_most, objects_rise};
-pub use reader::FieldReader;
+pub use file::{ReadFiles, WriteFiles, clients_rise, is_at_most, objects_rise};
+pub use ids::{ReadIds, WriteIds};
+pub use requests::{ReadRequests, WriteRequests};
 pub use spelling::each_has_one_spelling;
-pub use writer::FieldWriter;
-
-#[cfg(test)]
-mod tests;
+pub use xt_fields::{FieldErr, FieldReader, FieldWriter};

@@ -1,10 +1,9 @@
-ghost use Rattle.xt_base.specs.Limits.{FitsBallot, FitsBoot, FitsCapability, FitsEpoch, FitsFile, FitsHead, FitsLease, FitsLocation, FitsMark, FitsMetaAnswer, FitsMetaReq, FitsNode, FitsOp, FitsOpId, FitsRegistryAnswer, FitsRegistryReq, FitsReply, FitsStamp, FitsUpdate};
-ghost use Rattle.xt_wire.specs.OneSpelling.{IsField};
+ghost use Rattle.xt_base.specs.Limits.{FitsBallot, FitsBoot, FitsCapability, FitsEpoch, FitsFile, FitsHead, FitsLease, FitsLocation, FitsMark, FitsMetaReq, FitsNode, FitsOp, FitsOpId, FitsRegistryReq, FitsStamp, FitsUpdate};
+ghost use Rattle.xt_fields.specs.OneSpelling.{IsField};
 ghost use Rattle.xt_wire.specs.IdFields.{node_bytes, node_at, boot_bytes, boot_at, file_bytes, file_at, ballot_bytes, ballot_at, epoch_bytes, epoch_at, stamp_bytes, stamp_at, lease_bytes, lease_at, op_id_bytes, op_id_at, mark_bytes, mark_at};
 ghost use Rattle.xt_wire.specs.FileFields.{location_bytes, location_at, capability_bytes, capability_at, op_bytes, op_at, update_bytes, update_at, head_bytes, head_at};
-ghost use Rattle.xt_wire.specs.ReplyFields.{reply_bytes, reply_at};
-ghost use Rattle.xt_wire.specs.MetaFields.{meta_req_bytes, meta_req_at, meta_answer_bytes, meta_answer_at};
-ghost use Rattle.xt_wire.specs.RegistryFields.{registry_req_bytes, registry_req_at, registry_answer_bytes, registry_answer_at};
+ghost use Rattle.xt_wire.specs.MetaFields.{meta_req_bytes, meta_req_at};
+ghost use Rattle.xt_wire.specs.RegistryFields.{registry_req_bytes, registry_req_at};
 
 /// What is read of a field is a value within limits whose spelling stands there, and what is spelled so is read,
 /// whatever follows it. So each value has one spelling, and no spelling begins another.
@@ -23,9 +22,6 @@ pub fn each_has_one_spelling()
     ensures operation { IsField op_bytes FitsOp op_at }
     ensures update { IsField update_bytes FitsUpdate update_at }
     ensures head { IsField head_bytes FitsHead head_at }
-    ensures reply { IsField reply_bytes FitsReply reply_at }
     ensures meta_req { IsField meta_req_bytes FitsMetaReq meta_req_at }
-    ensures meta_answer { IsField meta_answer_bytes FitsMetaAnswer meta_answer_at }
     ensures registry_req { IsField registry_req_bytes FitsRegistryReq registry_req_at }
-    ensures registry_answer { IsField registry_answer_bytes FitsRegistryAnswer registry_answer_at }
 {}

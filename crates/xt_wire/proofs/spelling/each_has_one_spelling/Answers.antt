@@ -1,8 +1,7 @@
 use Rattle.xt_wire.proofs.IdLaws.{node_field, boot_field, file_field, ballot_field, epoch_field, stamp_field, lease_field, op_id_field, mark_field}
 use Rattle.xt_wire.proofs.FileLaws.{location_field, capability_field, op_field, update_field, head_field}
-use Rattle.xt_wire.proofs.ReplyLaws.{reply_field}
-use Rattle.xt_wire.proofs.MetaLaws.{meta_req_field, meta_answer_field}
-use Rattle.xt_wire.proofs.RegistryLaws.{registry_req_field, registry_answer_field}
+use Rattle.xt_wire.proofs.MetaLaws.{meta_req_field}
+use Rattle.xt_wire.proofs.RegistryLaws.{registry_req_field}
 use Rattle.xt_wire.proofs.spelling.each_has_one_spelling.Goals as goal
 
 pub returns : goal.returns
@@ -21,9 +20,6 @@ returns c = record {
   operation = op_field;
   update = update_field;
   head = head_field;
-  reply = reply_field;
   meta_req = meta_req_field;
-  meta_answer = meta_answer_field;
   registry_req = registry_req_field;
-  registry_answer = registry_answer_field;
 }

@@ -1,0 +1,4 @@
+pub mod ReplyLaws
+pub mod MetaAnswerLaws
+pub mod RegistryAnswerLaws
+pub mod AnswerLengths

@@ -1,0 +1,3 @@
+pub mod ReplyFields
+pub mod MetaAnswers
+pub mod RegistryAnswers

@@ -1,0 +1,547 @@
+ghost use Rattle.std.specs.Prelude.{◌≡◌, ◌<◌, ◌^◌, ◌++◌, length, OnOk, OnErr};
+ghost use Rattle.xt_base.specs.Limits.{FitsMetaAnswer, FitsNames, FitsRegistryAnswer, FitsRow, FitsRows};
+ghost use Rattle.xt_base.specs.declared.meta.MetaAnswer.TheVariants.{Refused};
+ghost use Rattle.xt_fields.specs.Reading.{Gives, made};
+ghost use Rattle.xt_fields.specs.BasicFields.{byte_bytes, half_bytes, word_bytes, long_bytes, text_at, list_at};
+ghost use Rattle.xt_wire.specs.IdFields.{mark_bytes};
+ghost use Rattle.xt_wire.specs.FileFields.{capability_bytes};
+ghost use Rattle.xt_answers.specs.ReplyFields.{denial_bytes};
+ghost use Rattle.xt_answers.specs.MetaAnswers.{refusal_bytes, refusal_arms, forbidden_at, too_few_at, report_denied_at, names_bytes, names_at, row_kind_bytes, row_kind_at, meta_answer_bytes, meta_answer_at, meta_answer_arms, names_answer_at, row_answer_at, granted_at};
+ghost use Rattle.xt_answers.specs.RegistryAnswers.{row_bytes, row_at, rows_bytes, rows_at, registry_answer_bytes, registry_answer_at, registry_answer_arms, done_at, changed_at, row_told_at, rows_told_at};
+
+use crate::reply::{ReadReplies, WriteReplies};
+use std::alloc::Global;
+use xt_base::{
+    Capability, Denial, MetaAnswer, MetaRefusal, Names, OutOfMemory, RegistryAnswer, RegistryRow,
+    RegistryRows, RowKind, Seq, SizeMark,
+};
+use xt_fields::{FieldErr, FieldReader, FieldWriter};
+use xt_wire::{ReadFiles, ReadIds, WriteFiles, WriteIds};
+
+/// The longest name in a list of names, and the longest address, in bytes.
+const NAME_LIMIT: u16 = 255;
+
+/// How many names an answer may have.
+const NAMES_LIMIT: u32 = 512;
+
+/// How many rows an answer may have.
+const ROWS_LIMIT: u32 = 256;
+
+/// Reads answers of the metadata server and of the directory service. One that is refused leaves the reader as it was.
+pub trait ReadAnswers {
+    /// At most 512 names.
+    fn names(&mut self, alloc: Global) -> Result<Names, FieldErr>;
+
+    /// An answer of the metadata server.
+    fn meta_answer(&mut self, alloc: Global) -> Result<MetaAnswer, FieldErr>;
+
+    /// A row of the registry.
+    fn row(&mut self, alloc: Global) -> Result<RegistryRow, FieldErr>;
+
+    /// At most 256 rows.
+    fn rows(&mut self, alloc: Global) -> Result<RegistryRows, FieldErr>;
+
+    /// An answer of the directory service.
+    fn registry_answer(&mut self, alloc: Global) -> Result<RegistryAnswer, FieldErr>;
+}
+
+/// What a row is.
+#[tactic(auto, unfolding(crate::specs::MetaAnswers::row_kind_at, crate::specs::MetaAnswers::row_kind_arms))]
+fn row_kind(fields: &mut FieldReader<'_>) -> Result<RowKind, FieldErr>
+    ensures { Gives result fields.new (row_kind_at fields.old) }
+{
+    match fields.byte()? {
+        1 => Ok(RowKind::Directory),
+        2 => Ok(RowKind::File),
+        _ => Err(FieldErr::Unfit),
+    }
+}
+
+/// So many names.
+fn name_list(fields: &mut FieldReader<'_>, alloc: Global, count: u32) -> Result<Names, FieldErr>
+    ensures { Gives result fields.new (list_at (text_at 255) count fields.old) }
+{
+    let mut names = Seq::new(alloc);
+    for _ in 0..count {
+        let name = fields.text(alloc, NAME_LIMIT)?;
+        names.push(name)?;
+    }
+    Ok(names)
+}
+
+/// The refusal of this number.
+#[tactic(auto, unfolding(crate::specs::MetaAnswers::refusal_arms))]
+fn refusal(fields: &mut FieldReader<'_>, number: u8) -> Result<MetaRefusal, FieldErr>
+    ensures { Gives result fields.new (refusal_arms number fields.old) }
+{
+    match number {
+        1 => Ok(MetaRefusal::NotFound),
+        2 => Ok(MetaRefusal::Exists),
+        3 => Ok(MetaRefusal::NotDir),
+        4 => Ok(MetaRefusal::IsDir),
+        5 => Ok(MetaRefusal::NotEmpty),
+        6 => Ok(MetaRefusal::IntoSelf),
+        7 => Ok(MetaRefusal::OtherVolume),
+        8 => forbidden(fields),
+        9 => Ok(MetaRefusal::NameBad),
+        10 => too_few(fields),
+        11 => report_denied(fields),
+        _ => Err(FieldErr::Unfit),
+    }
+}
+
+/// That a rule forbids it.
+#[tactic(auto, unfolding(crate::specs::MetaAnswers::forbidden_at))]
+fn forbidden(fields: &mut FieldReader<'_>) -> Result<MetaRefusal, FieldErr>
+    ensures { Gives result fields.new (forbidden_at fields.old) }
+{
+    let rule = fields.byte_within(1, 4)?;
+    Ok(MetaRefusal::Forbidden { rule })
+}
+
+/// That too few nodes are there.
+#[tactic(auto, unfolding(crate::specs::MetaAnswers::too_few_at))]
+fn too_few(fields: &mut FieldReader<'_>) -> Result<MetaRefusal, FieldErr>
+    ensures { Gives result fields.new (too_few_at fields.old) }
+{
+    let have = fields.byte()?;
+    Ok(MetaRefusal::TooFew { have })
+}
+
+/// That the report is denied.
+#[tactic(auto, unfolding(crate::specs::MetaAnswers::report_denied_at))]
+fn report_denied(fields: &mut FieldReader<'_>) -> Result<MetaRefusal, FieldErr>
+    ensures { Gives result fields.new (report_denied_at fields.old) }
+{
+    let rule = fields.denial()?;
+    Ok(MetaRefusal::Denied { rule })
+}
+
+/// The answer that makes a refusal known.
+fn refused(fields: &mut FieldReader<'_>, number: u8) -> Result<MetaAnswer, FieldErr>
+    ensures { Gives result fields.new (made Refused (refusal_arms number) fields.old) }
+{
+    let refusal = refusal(fields, number)?;
+    Ok(MetaAnswer::Refused { refusal })
+}
+
+/// The answer of this number.
+#[tactic(auto, unfolding(crate::specs::MetaAnswers::meta_answer_arms))]
+fn meta_answer_arm(
+    fields: &mut FieldReader<'_>,
+    number: u8,
+    alloc: Global,
+) -> Result<MetaAnswer, FieldErr>
+    ensures { Gives result fields.new (meta_answer_arms number fields.old) }
+{
+    match number {
+        0 => Ok(MetaAnswer::Done),
+        12 => names_answer(fields, alloc),
+        13 => row_answer(fields),
+        14 => granted(fields),
+        _ => refused(fields, number),
+    }
+}
+
+/// The names of a directory.
+#[tactic(auto, unfolding(crate::specs::MetaAnswers::names_answer_at))]
+fn names_answer(fields: &mut FieldReader<'_>, alloc: Global) -> Result<MetaAnswer, FieldErr>
+    ensures { Gives result fields.new (names_answer_at fields.old) }
+{
+    let names = fields.names(alloc)?;
+    Ok(MetaAnswer::Names { names })
+}
+
+/// A row.
+#[tactic(auto, unfolding(crate::specs::MetaAnswers::row_answer_at))]
+fn row_answer(fields: &mut FieldReader<'_>) -> Result<MetaAnswer, FieldErr>
+    ensures { Gives result fields.new (row_answer_at fields.old) }
+{
+    let kind = row_kind(fields)?;
+    let owner = fields.word()?;
+    let group = fields.word()?;
+    let mode = fields.half()?;
+    let mark = fields.mark()?;
+    Ok(MetaAnswer::Row {
+        kind,
+        owner,
+        group,
+        mode,
+        mark,
+    })
+}
+
+/// A capability and the size.
+#[tactic(auto, unfolding(crate::specs::MetaAnswers::granted_at))]
+fn granted(fields: &mut FieldReader<'_>) -> Result<MetaAnswer, FieldErr>
+    ensures { Gives result fields.new (granted_at fields.old) }
+{
+    let capability = fields.capability()?;
+    let mark = fields.mark()?;
+    Ok(MetaAnswer::Granted { capability, mark })
+}
+
+/// So many rows.
+fn row_list(
+    fields: &mut FieldReader<'_>,
+    alloc: Global,
+    count: u32,
+) -> Result<RegistryRows, FieldErr>
+    ensures { Gives result fields.new (list_at row_at count fields.old) }
+{
+    let mut rows = Seq::new(alloc);
+    for _ in 0..count {
+        let row = fields.row(alloc)?;
+        rows.push(row)?;
+    }
+    Ok(rows)
+}
+
+/// The answer of this number.
+#[tactic(auto, unfolding(crate::specs::RegistryAnswers::registry_answer_arms))]
+fn registry_answer_arm(
+    fields: &mut FieldReader<'_>,
+    number: u8,
+    alloc: Global,
+) -> Result<RegistryAnswer, FieldErr>
+    ensures { Gives result fields.new (registry_answer_arms number fields.old) }
+{
+    match number {
+        0 => done(fields),
+        1 => changed(fields),
+        2 => Ok(RegistryAnswer::Absent),
+        3 => row_told(fields, alloc),
+        4 => rows_told(fields, alloc),
+        _ => Err(FieldErr::Unfit),
+    }
+}
+
+/// That it is done.
+#[tactic(auto, unfolding(crate::specs::RegistryAnswers::done_at))]
+fn done(fields: &mut FieldReader<'_>) -> Result<RegistryAnswer, FieldErr>
+    ensures { Gives result fields.new (done_at fields.old) }
+{
+    let version = fields.count()?;
+    Ok(RegistryAnswer::Done { version })
+}
+
+/// That the row's version is another.
+#[tactic(auto, unfolding(crate::specs::RegistryAnswers::changed_at))]
+fn changed(fields: &mut FieldReader<'_>) -> Result<RegistryAnswer, FieldErr>
+    ensures { Gives result fields.new (changed_at fields.old) }
+{
+    let version = fields.count()?;
+    Ok(RegistryAnswer::Changed { version })
+}
+
+/// The row.
+#[tactic(auto, unfolding(crate::specs::RegistryAnswers::row_told_at))]
+fn row_told(fields: &mut FieldReader<'_>, alloc: Global) -> Result<RegistryAnswer, FieldErr>
+    ensures { Gives result fields.new (row_told_at fields.old) }
+{
+    let row = fields.row(alloc)?;
+    Ok(RegistryAnswer::Row { row })
+}
+
+/// The rows.
+#[tactic(auto, unfolding(crate::specs::RegistryAnswers::rows_told_at))]
+fn rows_told(fields: &mut FieldReader<'_>, alloc: Global) -> Result<RegistryAnswer, FieldErr>
+    ensures { Gives result fields.new (rows_told_at fields.old) }
+{
+    let rows = fields.rows(alloc)?;
+    Ok(RegistryAnswer::Rows { rows })
+}
+
+impl ReadAnswers for FieldReader<'_> {
+    #[tactic(auto, unfolding(crate::specs::MetaAnswers::names_at))]
+    fn names(&mut self, alloc: Global) -> Result<Names, FieldErr>
+        ensures given { Gives result self.new (names_at self.old) }
+        ensures kept { OnErr result (self.new ≡ self.old) }
+    {
+        let mut ahead = self.ahead();
+        let count = ahead.word()?;
+        if count > NAMES_LIMIT {
+            return Err(FieldErr::Over);
+        }
+        let names = name_list(&mut ahead, alloc, count)?;
+        *self = ahead;
+        Ok(names)
+    }
+
+    #[tactic(auto, unfolding(crate::specs::MetaAnswers::meta_answer_at))]
+    fn meta_answer(&mut self, alloc: Global) -> Result<MetaAnswer, FieldErr>
+        ensures given { Gives result self.new (meta_answer_at self.old) }
+        ensures kept { OnErr result (self.new ≡ self.old) }
+    {
+        let mut ahead = self.ahead();
+        let number = ahead.byte()?;
+        let meta_answer = meta_answer_arm(&mut ahead, number, alloc)?;
+        *self = ahead;
+        Ok(meta_answer)
+    }
+
+    #[tactic(auto, unfolding(crate::specs::RegistryAnswers::row_at))]
+    fn row(&mut self, alloc: Global) -> Result<RegistryRow, FieldErr>
+        ensures given { Gives result self.new (row_at self.old) }
+        ensures kept { OnErr result (self.new ≡ self.old) }
+    {
+        let mut ahead = self.ahead();
+        let node = ahead.node()?;
+        let kind = ahead.byte()?;
+        let address = ahead.text(alloc, NAME_LIMIT)?;
+        let version = ahead.count()?;
+        *self = ahead;
+        Ok(RegistryRow {
+            node,
+            kind,
+            address,
+            version,
+        })
+    }
+
+    #[tactic(auto, unfolding(crate::specs::RegistryAnswers::rows_at))]
+    fn rows(&mut self, alloc: Global) -> Result<RegistryRows, FieldErr>
+        ensures given { Gives result self.new (rows_at self.old) }
+        ensures kept { OnErr result (self.new ≡ self.old) }
+    {
+        let mut ahead = self.ahead();
+        let count = ahead.word()?;
+        if count > ROWS_LIMIT {
+            return Err(FieldErr::Over);
+        }
+        let rows = row_list(&mut ahead, alloc, count)?;
+        *self = ahead;
+        Ok(rows)
+    }
+
+    #[tactic(auto, unfolding(crate::specs::RegistryAnswers::registry_answer_at))]
+    fn registry_answer(&mut self, alloc: Global) -> Result<RegistryAnswer, FieldErr>
+        ensures given { Gives result self.new (registry_answer_at self.old) }
+        ensures kept { OnErr result (self.new ≡ self.old) }
+    {
+        let mut ahead = self.ahead();
+        let number = ahead.byte()?;
+        let registry_answer = registry_answer_arm(&mut ahead, number, alloc)?;
+        *self = ahead;
+        Ok(registry_answer)
+    }
+}
+
+/// Writes answers of the metadata server and of the directory service.
+pub trait WriteAnswers {
+    /// Names.
+    fn names(&mut self, names: &Names) -> Result<(), OutOfMemory>
+        requires { FitsNames names.now };
+
+    /// An answer of the metadata server.
+    fn meta_answer(&mut self, meta_answer: &MetaAnswer) -> Result<(), OutOfMemory>
+        requires { FitsMetaAnswer meta_answer.now };
+
+    /// A row of the registry.
+    fn row(&mut self, row: &RegistryRow) -> Result<(), OutOfMemory>
+        requires { FitsRow row.now };
+
+    /// Rows of the registry.
+    fn rows(&mut self, rows: &RegistryRows) -> Result<(), OutOfMemory>
+        requires { FitsRows rows.now };
+
+    /// An answer of the directory service.
+    fn registry_answer(&mut self, registry_answer: &RegistryAnswer) -> Result<(), OutOfMemory>
+        requires { FitsRegistryAnswer registry_answer.now };
+}
+
+/// What a row is.
+fn put_row_kind(fields: &mut FieldWriter, kind: RowKind) -> Result<(), OutOfMemory>
+    ensures { OnOk result (fields.new ≡ fields.old ++ row_kind_bytes kind) }
+{
+    fields.byte(match kind {
+        RowKind::Directory => 1,
+        RowKind::File => 2,
+    })
+}
+
+/// A refusal.
+fn put_refusal(fields: &mut FieldWriter, refusal: MetaRefusal) -> Result<(), OutOfMemory>
+    ensures { OnOk result (fields.new ≡ fields.old ++ refusal_bytes refusal) }
+{
+    match refusal {
+        MetaRefusal::NotFound => fields.byte(1),
+        MetaRefusal::Exists => fields.byte(2),
+        MetaRefusal::NotDir => fields.byte(3),
+        MetaRefusal::IsDir => fields.byte(4),
+        MetaRefusal::NotEmpty => fields.byte(5),
+        MetaRefusal::IntoSelf => fields.byte(6),
+        MetaRefusal::OtherVolume => fields.byte(7),
+        MetaRefusal::Forbidden { rule } => put_forbidden(fields, rule),
+        MetaRefusal::NameBad => fields.byte(9),
+        MetaRefusal::TooFew { have } => put_too_few(fields, have),
+        MetaRefusal::Denied { rule } => put_report_denied(fields, rule),
+    }
+}
+
+/// That a rule forbids it.
+fn put_forbidden(fields: &mut FieldWriter, rule: u8) -> Result<(), OutOfMemory>
+    ensures { OnOk result (fields.new ≡ fields.old ++ (byte_bytes 8 ++ byte_bytes rule)) }
+{
+    fields.byte(8)?;
+    fields.byte(rule)
+}
+
+/// That too few nodes are there.
+fn put_too_few(fields: &mut FieldWriter, have: u8) -> Result<(), OutOfMemory>
+    ensures { OnOk result (fields.new ≡ fields.old ++ (byte_bytes 10 ++ byte_bytes have)) }
+{
+    fields.byte(10)?;
+    fields.byte(have)
+}
+
+/// That the report is denied.
+fn put_report_denied(fields: &mut FieldWriter, rule: Denial) -> Result<(), OutOfMemory>
+    ensures { OnOk result (fields.new ≡ fields.old ++ (byte_bytes 11 ++ denial_bytes rule)) }
+{
+    fields.byte(11)?;
+    fields.denial(rule)
+}
+
+/// The names of a directory.
+fn put_names_answer(fields: &mut FieldWriter, names: &Names) -> Result<(), OutOfMemory>
+    requires { FitsNames names.now }
+    ensures { OnOk result (fields.new ≡ fields.old ++ (byte_bytes 12 ++ names_bytes names.now)) }
+{
+    fields.byte(12)?;
+    fields.names(names)
+}
+
+/// A row.
+fn put_row_answer(
+    fields: &mut FieldWriter,
+    kind: RowKind,
+    owner: u32,
+    group: u32,
+    mode: u16,
+    mark: SizeMark,
+) -> Result<(), OutOfMemory>
+    ensures { OnOk result (fields.new ≡ fields.old ++ (byte_bytes 13 ++ row_kind_bytes kind ++ word_bytes owner ++ word_bytes group ++ half_bytes mode ++ mark_bytes mark)) }
+{
+    fields.byte(13)?;
+    put_row_kind(fields, kind)?;
+    fields.word(owner)?;
+    fields.word(group)?;
+    fields.half(mode)?;
+    fields.mark(mark)
+}
+
+/// A capability and the size.
+fn put_granted(
+    fields: &mut FieldWriter,
+    capability: &Capability,
+    mark: SizeMark,
+) -> Result<(), OutOfMemory>
+    ensures { OnOk result (fields.new ≡ fields.old ++ (byte_bytes 14 ++ capability_bytes capability.now ++ mark_bytes mark)) }
+{
+    fields.byte(14)?;
+    fields.capability(capability)?;
+    fields.mark(mark)
+}
+
+/// That it is done.
+fn put_done(fields: &mut FieldWriter, version: u64) -> Result<(), OutOfMemory>
+    ensures { OnOk result (fields.new ≡ fields.old ++ (byte_bytes 0 ++ long_bytes version)) }
+{
+    fields.byte(0)?;
+    fields.long(version)
+}
+
+/// That the row's version is another.
+fn put_changed(fields: &mut FieldWriter, version: u64) -> Result<(), OutOfMemory>
+    ensures { OnOk result (fields.new ≡ fields.old ++ (byte_bytes 1 ++ long_bytes version)) }
+{
+    fields.byte(1)?;
+    fields.long(version)
+}
+
+/// The row.
+fn put_row_told(fields: &mut FieldWriter, row: &RegistryRow) -> Result<(), OutOfMemory>
+    requires { FitsRow row.now }
+    ensures { OnOk result (fields.new ≡ fields.old ++ (byte_bytes 3 ++ row_bytes row.now)) }
+{
+    fields.byte(3)?;
+    fields.row(row)
+}
+
+/// The rows.
+fn put_rows_told(fields: &mut FieldWriter, rows: &RegistryRows) -> Result<(), OutOfMemory>
+    requires { FitsRows rows.now }
+    ensures { OnOk result (fields.new ≡ fields.old ++ (byte_bytes 4 ++ rows_bytes rows.now)) }
+{
+    fields.byte(4)?;
+    fields.rows(rows)
+}
+
+impl WriteAnswers for FieldWriter {
+    fn names(&mut self, names: &Names) -> Result<(), OutOfMemory>
+        requires { FitsNames names.now }
+        ensures { OnOk result (self.new ≡ self.old ++ names_bytes names.now) }
+    {
+        let names = names.as_slice();
+        self.word(names.len() as u32)?;
+        for name in names {
+            self.text(name.as_str())?;
+        }
+        Ok(())
+    }
+
+    fn meta_answer(&mut self, meta_answer: &MetaAnswer) -> Result<(), OutOfMemory>
+        requires { FitsMetaAnswer meta_answer.now }
+        ensures { OnOk result (self.new ≡ self.old ++ meta_answer_bytes meta_answer.now) }
+    {
+        match meta_answer {
+            MetaAnswer::Done => self.byte(0),
+            MetaAnswer::Names { names } => put_names_answer(self, names),
+            MetaAnswer::Row {
+                kind,
+                owner,
+                group,
+                mode,
+                mark,
+            } => put_row_answer(self, *kind, *owner, *group, *mode, *mark),
+            MetaAnswer::Granted { capability, mark } => put_granted(self, capability, *mark),
+            MetaAnswer::Refused { refusal } => put_refusal(self, *refusal),
+        }
+    }
+
+    fn row(&mut self, row: &RegistryRow) -> Result<(), OutOfMemory>
+        requires { FitsRow row.now }
+        ensures { OnOk result (self.new ≡ self.old ++ row_bytes row.now) }
+    {
+        self.node(row.node)?;
+        self.byte(row.kind)?;
+        self.text(row.address.as_str())?;
+        self.long(row.version)
+    }
+
+    fn rows(&mut self, rows: &RegistryRows) -> Result<(), OutOfMemory>
+        requires { FitsRows rows.now }
+        ensures { OnOk result (self.new ≡ self.old ++ rows_bytes rows.now) }
+    {
+        let rows = rows.as_slice();
+        self.word(rows.len() as u32)?;
+        for row in rows {
+            self.row(row)?;
+        }
+        Ok(())
+    }
+
+    fn registry_answer(&mut self, registry_answer: &RegistryAnswer) -> Result<(), OutOfMemory>
+        requires { FitsRegistryAnswer registry_answer.now }
+        ensures { OnOk result (self.new ≡ self.old ++ registry_answer_bytes registry_answer.now) }
+    {
+        match registry_answer {
+            RegistryAnswer::Done { version } => put_done(self, *version),
+            RegistryAnswer::Changed { version } => put_changed(self, *version),
+            RegistryAnswer::Absent => self.byte(2),
+            RegistryAnswer::Row { row } => put_row_told(self, row),
+            RegistryAnswer::Rows { rows } => put_rows_told(self, rows),
+        }
+    }
+}

@@ -1,0 +1,279 @@
+ghost use Rattle.std.specs.Prelude.{◌≡◌, ◌≢◌, ◌<◌, ◌^◌, ◌++◌, length, OnOk, OnErr, IfErr};
+ghost use Rattle.xt_fields.specs.declared.fault.FieldErr.TheVariants.{OutOfMemory};
+ghost use Rattle.xt_base.specs.Limits.{FitsReply};
+ghost use Rattle.xt_fields.specs.Reading.{Gives};
+ghost use Rattle.xt_fields.specs.BasicFields.{byte_bytes, word_bytes, long_bytes, octets_bytes};
+ghost use Rattle.xt_wire.specs.IdFields.{node_bytes, mark_bytes};
+ghost use Rattle.xt_answers.specs.ReplyFields.{denial_at, denial_arms, denial_bytes, reply_at, reply_arms, reply_bytes, ok_reply_at, no_lease_at, no_majority_at, elsewhere_at, denied_at, old_list_at, old_epoch_at, too_far_at};
+
+use std::alloc::Global;
+use xt_base::{BODY, Denial, NodeId, OutOfMemory, Reply, SizeMark};
+use xt_fields::{FieldErr, FieldReader, FieldWriter};
+use xt_wire::{ReadFiles, ReadIds, WriteIds};
+
+/// The longest `bytes` field, in bytes.
+const BODY_LIMIT: u32 = BODY as u32;
+
+/// Reads replies of an OSD. One that is refused leaves the reader as it was.
+pub trait ReadReplies {
+    /// Why an ask is denied.
+    fn denial(&mut self) -> Result<Denial, FieldErr>;
+
+    /// A reply.
+    fn reply(&mut self, alloc: Global) -> Result<Reply, FieldErr>;
+}
+
+/// The rule of this number.
+#[tactic(auto, unfolding(crate::specs::ReplyFields::denial_arms))]
+fn denial_arm(fields: &mut FieldReader<'_>, number: u8) -> Result<Denial, FieldErr>
+    ensures given { Gives result fields.new (denial_arms number fields.old) }
+    ensures never { IfErr result (λ e. e ≢ OutOfMemory) }
+{
+    match number {
+        1 => Ok(Denial::Tag),
+        2 => Ok(Denial::File),
+        3 => Ok(Denial::Expired),
+        4 => Ok(Denial::Mode),
+        5 => Ok(Denial::List),
+        6 => Ok(Denial::Range),
+        _ => Err(FieldErr::Unfit),
+    }
+}
+
+/// The reply of this number.
+#[tactic(auto, unfolding(crate::specs::ReplyFields::reply_arms))]
+fn reply_arm(fields: &mut FieldReader<'_>, number: u8, alloc: Global) -> Result<Reply, FieldErr>
+    ensures { Gives result fields.new (reply_arms number fields.old) }
+{
+    match number {
+        1 => ok_reply(fields, alloc),
+        2 => no_lease(fields),
+        3 => no_majority(fields),
+        4 => elsewhere(fields),
+        5 => denied(fields),
+        6 => old_list(fields),
+        7 => old_epoch(fields),
+        8 => too_far(fields),
+        9 => Ok(Reply::ClientsFull),
+        _ => Err(FieldErr::Unfit),
+    }
+}
+
+/// That the operation is done.
+#[tactic(auto, unfolding(crate::specs::ReplyFields::ok_reply_at))]
+fn ok_reply(fields: &mut FieldReader<'_>, alloc: Global) -> Result<Reply, FieldErr>
+    ensures { Gives result fields.new (ok_reply_at fields.old) }
+{
+    let count = fields.count()?;
+    let mark = fields.mark()?;
+    let bytes = fields.octets(alloc, BODY_LIMIT)?;
+    Ok(Reply::Ok { count, mark, bytes })
+}
+
+/// That no lease was to be had.
+#[tactic(auto, unfolding(crate::specs::ReplyFields::no_lease_at))]
+fn no_lease(fields: &mut FieldReader<'_>) -> Result<Reply, FieldErr>
+    ensures { Gives result fields.new (no_lease_at fields.old) }
+{
+    let end = fields.long()?;
+    Ok(Reply::NoLease { end })
+}
+
+/// That too few acknowledgements came in time.
+#[tactic(auto, unfolding(crate::specs::ReplyFields::no_majority_at))]
+fn no_majority(fields: &mut FieldReader<'_>) -> Result<Reply, FieldErr>
+    ensures { Gives result fields.new (no_majority_at fields.old) }
+{
+    let have = fields.byte()?;
+    let need = fields.byte()?;
+    Ok(Reply::NoMajority { have, need })
+}
+
+/// That another node holds the lease.
+#[tactic(auto, unfolding(crate::specs::ReplyFields::elsewhere_at))]
+fn elsewhere(fields: &mut FieldReader<'_>) -> Result<Reply, FieldErr>
+    ensures { Gives result fields.new (elsewhere_at fields.old) }
+{
+    let node = fields.node()?;
+    let end = fields.long()?;
+    Ok(Reply::Elsewhere { node, end })
+}
+
+/// That the ask is denied.
+#[tactic(auto, unfolding(crate::specs::ReplyFields::denied_at))]
+fn denied(fields: &mut FieldReader<'_>) -> Result<Reply, FieldErr>
+    ensures { Gives result fields.new (denied_at fields.old) }
+{
+    let rule = fields.denial()?;
+    Ok(Reply::Denied { rule })
+}
+
+/// That the list is older.
+#[tactic(auto, unfolding(crate::specs::ReplyFields::old_list_at))]
+fn old_list(fields: &mut FieldReader<'_>) -> Result<Reply, FieldErr>
+    ensures { Gives result fields.new (old_list_at fields.old) }
+{
+    let version = fields.version()?;
+    Ok(Reply::OldList { version })
+}
+
+/// That the truncate epoch is older.
+#[tactic(auto, unfolding(crate::specs::ReplyFields::old_epoch_at))]
+fn old_epoch(fields: &mut FieldReader<'_>) -> Result<Reply, FieldErr>
+    ensures { Gives result fields.new (old_epoch_at fields.old) }
+{
+    let epoch = fields.count()?;
+    Ok(Reply::OldEpoch { epoch })
+}
+
+/// That an object would be too far.
+#[tactic(auto, unfolding(crate::specs::ReplyFields::too_far_at))]
+fn too_far(fields: &mut FieldReader<'_>) -> Result<Reply, FieldErr>
+    ensures { Gives result fields.new (too_far_at fields.old) }
+{
+    let object = fields.long()?;
+    Ok(Reply::TooFar { object })
+}
+
+impl ReadReplies for FieldReader<'_> {
+    #[tactic(auto, unfolding(crate::specs::ReplyFields::denial_at))]
+    fn denial(&mut self) -> Result<Denial, FieldErr>
+        ensures given { Gives result self.new (denial_at self.old) }
+        ensures kept { OnErr result (self.new ≡ self.old) }
+        ensures never { IfErr result (λ e. e ≢ OutOfMemory) }
+    {
+        let mut ahead = self.ahead();
+        let number = ahead.byte()?;
+        let denial = denial_arm(&mut ahead, number)?;
+        *self = ahead;
+        Ok(denial)
+    }
+
+    #[tactic(auto, unfolding(crate::specs::ReplyFields::reply_at))]
+    fn reply(&mut self, alloc: Global) -> Result<Reply, FieldErr>
+        ensures given { Gives result self.new (reply_at self.old) }
+        ensures kept { OnErr result (self.new ≡ self.old) }
+    {
+        let mut ahead = self.ahead();
+        let number = ahead.byte()?;
+        let reply = reply_arm(&mut ahead, number, alloc)?;
+        *self = ahead;
+        Ok(reply)
+    }
+}
+
+/// Writes replies of an OSD.
+pub trait WriteReplies {
+    /// Why an ask is denied.
+    fn denial(&mut self, denial: Denial) -> Result<(), OutOfMemory>;
+
+    /// A reply.
+    fn reply(&mut self, reply: &Reply) -> Result<(), OutOfMemory>
+        requires { FitsReply reply.now };
+}
+
+/// That the operation is done.
+fn put_ok_reply(
+    fields: &mut FieldWriter,
+    count: u64,
+    mark: SizeMark,
+    bytes: &[u8],
+) -> Result<(), OutOfMemory>
+    requires { length bytes.now < 2 ^ 32 }
+    ensures { OnOk result (fields.new ≡ fields.old ++ (byte_bytes 1 ++ long_bytes count ++ mark_bytes mark ++ octets_bytes bytes.now)) }
+{
+    fields.byte(1)?;
+    fields.long(count)?;
+    fields.mark(mark)?;
+    fields.octets(bytes)
+}
+
+/// That no lease was to be had.
+fn put_no_lease(fields: &mut FieldWriter, end: u64) -> Result<(), OutOfMemory>
+    ensures { OnOk result (fields.new ≡ fields.old ++ (byte_bytes 2 ++ long_bytes end)) }
+{
+    fields.byte(2)?;
+    fields.long(end)
+}
+
+/// That too few acknowledgements came in time.
+fn put_no_majority(fields: &mut FieldWriter, have: u8, need: u8) -> Result<(), OutOfMemory>
+    ensures { OnOk result (fields.new ≡ fields.old ++ (byte_bytes 3 ++ byte_bytes have ++ byte_bytes need)) }
+{
+    fields.byte(3)?;
+    fields.byte(have)?;
+    fields.byte(need)
+}
+
+/// That another node holds the lease.
+fn put_elsewhere(fields: &mut FieldWriter, node: NodeId, end: u64) -> Result<(), OutOfMemory>
+    ensures { OnOk result (fields.new ≡ fields.old ++ (byte_bytes 4 ++ node_bytes node ++ long_bytes end)) }
+{
+    fields.byte(4)?;
+    fields.node(node)?;
+    fields.long(end)
+}
+
+/// That the ask is denied.
+fn put_denied(fields: &mut FieldWriter, rule: Denial) -> Result<(), OutOfMemory>
+    ensures { OnOk result (fields.new ≡ fields.old ++ (byte_bytes 5 ++ denial_bytes rule)) }
+{
+    fields.byte(5)?;
+    fields.denial(rule)
+}
+
+/// That the list is older.
+fn put_old_list(fields: &mut FieldWriter, version: u32) -> Result<(), OutOfMemory>
+    ensures { OnOk result (fields.new ≡ fields.old ++ (byte_bytes 6 ++ word_bytes version)) }
+{
+    fields.byte(6)?;
+    fields.word(version)
+}
+
+/// That the truncate epoch is older.
+fn put_old_epoch(fields: &mut FieldWriter, epoch: u64) -> Result<(), OutOfMemory>
+    ensures { OnOk result (fields.new ≡ fields.old ++ (byte_bytes 7 ++ long_bytes epoch)) }
+{
+    fields.byte(7)?;
+    fields.long(epoch)
+}
+
+/// That an object would be too far.
+fn put_too_far(fields: &mut FieldWriter, object: u64) -> Result<(), OutOfMemory>
+    ensures { OnOk result (fields.new ≡ fields.old ++ (byte_bytes 8 ++ long_bytes object)) }
+{
+    fields.byte(8)?;
+    fields.long(object)
+}
+
+impl WriteReplies for FieldWriter {
+    fn denial(&mut self, denial: Denial) -> Result<(), OutOfMemory>
+        ensures { OnOk result (self.new ≡ self.old ++ denial_bytes denial) }
+    {
+        self.byte(match denial {
+            Denial::Tag => 1,
+            Denial::File => 2,
+            Denial::Expired => 3,
+            Denial::Mode => 4,
+            Denial::List => 5,
+            Denial::Range => 6,
+        })
+    }
+
+    fn reply(&mut self, reply: &Reply) -> Result<(), OutOfMemory>
+        requires { FitsReply reply.now }
+        ensures { OnOk result (self.new ≡ self.old ++ reply_bytes reply.now) }
+    {
+        match reply {
+            Reply::Ok { count, mark, bytes } => put_ok_reply(self, *count, *mark, bytes.as_slice()),
+            Reply::NoLease { end } => put_no_lease(self, *end),
+            Reply::NoMajority { have, need } => put_no_majority(self, *have, *need),
+            Reply::Elsewhere { node, end } => put_elsewhere(self, *node, *end),
+            Reply::Denied { rule } => put_denied(self, *rule),
+            Reply::OldList { version } => put_old_list(self, *version),
+            Reply::OldEpoch { epoch } => put_old_epoch(self, *epoch),
+            Reply::TooFar { object } => put_too_far(self, *object),
+            Reply::ClientsFull => self.byte(9),
+        }
+    }
+}

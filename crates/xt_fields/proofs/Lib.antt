@@ -1,0 +1,5 @@
+pub mod Laws
+pub mod BasicLaws
+pub mod Loops
+pub mod Texts
+pub mod Lengths

@@ -1,9 +1,0 @@
-use Rattle.std.proofs.Common.{◌≡◌, ◌-◌}
-use Rattle.xt_wire.specs.BasicFields.{list_at}
-use Rattle.xt_wire.specs.FileFields.{object_version_at}
-use Rattle.xt_wire.proofs.Loops.{with_front}
-use Rattle.xt_wire.proofs.reader.FieldReader.object_version_list.Given as goal
-
--- what was read and what is still read are the whole list
-abbrev pub invariant-loop : goal.invariant-loop
-invariant-loop l = with_front l.list (list_at object_version_at (l.count - l.counter) l.self) ≡ list_at object_version_at l.count l.initial.self

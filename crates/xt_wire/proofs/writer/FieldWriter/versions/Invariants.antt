@@ -1,8 +1,0 @@
-use Rattle.std.proofs.Common.{◌≡◌, ◌++◌, take}
-use Rattle.std.specs.List.{flat_map}
-use Rattle.xt_wire.specs.FileFields.{object_version_bytes}
-use Rattle.xt_wire.proofs.writer.FieldWriter.versions.Given as goal
-
--- those so far stand behind the count
-abbrev pub invariant-loop-entry : goal.invariant-loop-entry
-invariant-loop-entry l = l.self ≡ l.initial.self ++ flat_map object_version_bytes (take l.entry-index l.list)

@@ -1,0 +1,456 @@
+ghost use Rattle.std.specs.Prelude.{◌≡◌, ◌<◌, ◌^◌, ◌++◌, length, OnOk, OnErr};
+ghost use Rattle.xt_base.specs.Limits.{FitsMetaReq, FitsRegistryReq};
+ghost use Rattle.xt_fields.specs.Reading.{Gives};
+ghost use Rattle.xt_fields.specs.BasicFields.{byte_bytes, half_bytes, word_bytes, long_bytes, text_bytes};
+ghost use Rattle.xt_wire.specs.IdFields.{node_bytes, mark_bytes};
+ghost use Rattle.xt_wire.specs.FileFields.{kind_bytes, capability_bytes};
+ghost use Rattle.xt_wire.specs.MetaFields.{meta_req_bytes, meta_req_at, meta_req_arms, mkdir_at, create_at, rename_at, unlink_at, rmdir_at, list_names_at, stat_at, chmod_at, grant_at, size_report_at};
+ghost use Rattle.xt_wire.specs.RegistryFields.{registry_req_bytes, registry_req_at, registry_req_arms, set_row_at, get_row_at, list_rows_at, remove_row_at};
+
+use crate::file::{ReadFiles, WriteFiles};
+use crate::ids::{ReadIds, WriteIds};
+use std::alloc::Global;
+use xt_base::{Capability, Kind, MetaReq, NodeId, OutOfMemory, RegistryReq, SizeMark};
+use xt_fields::{FieldErr, FieldReader, FieldWriter};
+
+/// The longest address, in bytes.
+const ADDRESS_LIMIT: u16 = 255;
+
+/// Reads requests to the metadata server and to the directory service. One that is refused leaves the reader as it was.
+pub trait ReadRequests {
+    /// A request to the metadata server.
+    fn meta_req(&mut self, alloc: Global) -> Result<MetaReq, FieldErr>;
+
+    /// A request to the directory service.
+    fn registry_req(&mut self, alloc: Global) -> Result<RegistryReq, FieldErr>;
+}
+
+/// The request of this number.
+#[tactic(auto, unfolding(crate::specs::MetaFields::meta_req_arms))]
+fn meta_req_arm(
+    fields: &mut FieldReader<'_>,
+    number: u8,
+    alloc: Global,
+) -> Result<MetaReq, FieldErr>
+    ensures { Gives result fields.new (meta_req_arms number fields.old) }
+{
+    match number {
+        1 => mkdir(fields, alloc),
+        2 => create(fields, alloc),
+        3 => rename(fields, alloc),
+        4 => unlink(fields, alloc),
+        5 => rmdir(fields, alloc),
+        6 => list_names(fields, alloc),
+        7 => stat(fields, alloc),
+        8 => chmod(fields, alloc),
+        9 => grant(fields, alloc),
+        10 => size_report(fields),
+        _ => Err(FieldErr::Unfit),
+    }
+}
+
+/// A directory to be made.
+#[tactic(auto, unfolding(crate::specs::MetaFields::mkdir_at))]
+fn mkdir(fields: &mut FieldReader<'_>, alloc: Global) -> Result<MetaReq, FieldErr>
+    ensures { Gives result fields.new (mkdir_at fields.old) }
+{
+    let path = fields.text(alloc, u16::MAX)?;
+    let mode = fields.half()?;
+    Ok(MetaReq::Mkdir { path, mode })
+}
+
+/// A file to be made.
+#[tactic(auto, unfolding(crate::specs::MetaFields::create_at))]
+fn create(fields: &mut FieldReader<'_>, alloc: Global) -> Result<MetaReq, FieldErr>
+    ensures { Gives result fields.new (create_at fields.old) }
+{
+    let path = fields.text(alloc, u16::MAX)?;
+    let mode = fields.half()?;
+    let kind = fields.kind()?;
+    let n = fields.byte_within(1, 9)?;
+    let stripe = fields.stripe()?;
+    Ok(MetaReq::Create {
+        path,
+        mode,
+        kind,
+        n,
+        stripe,
+    })
+}
+
+/// A row to be moved.
+#[tactic(auto, unfolding(crate::specs::MetaFields::rename_at))]
+fn rename(fields: &mut FieldReader<'_>, alloc: Global) -> Result<MetaReq, FieldErr>
+    ensures { Gives result fields.new (rename_at fields.old) }
+{
+    let from = fields.text(alloc, u16::MAX)?;
+    let to = fields.text(alloc, u16::MAX)?;
+    Ok(MetaReq::Rename { from, to })
+}
+
+/// A file to be removed.
+#[tactic(auto, unfolding(crate::specs::MetaFields::unlink_at))]
+fn unlink(fields: &mut FieldReader<'_>, alloc: Global) -> Result<MetaReq, FieldErr>
+    ensures { Gives result fields.new (unlink_at fields.old) }
+{
+    let path = fields.text(alloc, u16::MAX)?;
+    Ok(MetaReq::Unlink { path })
+}
+
+/// A directory to be removed.
+#[tactic(auto, unfolding(crate::specs::MetaFields::rmdir_at))]
+fn rmdir(fields: &mut FieldReader<'_>, alloc: Global) -> Result<MetaReq, FieldErr>
+    ensures { Gives result fields.new (rmdir_at fields.old) }
+{
+    let path = fields.text(alloc, u16::MAX)?;
+    Ok(MetaReq::Rmdir { path })
+}
+
+/// A directory to be listed.
+#[tactic(auto, unfolding(crate::specs::MetaFields::list_names_at))]
+fn list_names(fields: &mut FieldReader<'_>, alloc: Global) -> Result<MetaReq, FieldErr>
+    ensures { Gives result fields.new (list_names_at fields.old) }
+{
+    let path = fields.text(alloc, u16::MAX)?;
+    let after = fields.text(alloc, u16::MAX)?;
+    Ok(MetaReq::List { path, after })
+}
+
+/// A row to be told.
+#[tactic(auto, unfolding(crate::specs::MetaFields::stat_at))]
+fn stat(fields: &mut FieldReader<'_>, alloc: Global) -> Result<MetaReq, FieldErr>
+    ensures { Gives result fields.new (stat_at fields.old) }
+{
+    let path = fields.text(alloc, u16::MAX)?;
+    Ok(MetaReq::Stat { path })
+}
+
+/// A mode to be set.
+#[tactic(auto, unfolding(crate::specs::MetaFields::chmod_at))]
+fn chmod(fields: &mut FieldReader<'_>, alloc: Global) -> Result<MetaReq, FieldErr>
+    ensures { Gives result fields.new (chmod_at fields.old) }
+{
+    let path = fields.text(alloc, u16::MAX)?;
+    let mode = fields.half()?;
+    Ok(MetaReq::Chmod { path, mode })
+}
+
+/// A capability that is wanted.
+#[tactic(auto, unfolding(crate::specs::MetaFields::grant_at))]
+fn grant(fields: &mut FieldReader<'_>, alloc: Global) -> Result<MetaReq, FieldErr>
+    ensures { Gives result fields.new (grant_at fields.old) }
+{
+    let path = fields.text(alloc, u16::MAX)?;
+    let want = fields.byte_within(1, 3)?;
+    Ok(MetaReq::Grant { path, want })
+}
+
+/// A size that a client learnt.
+#[tactic(auto, unfolding(crate::specs::MetaFields::size_report_at))]
+fn size_report(fields: &mut FieldReader<'_>) -> Result<MetaReq, FieldErr>
+    ensures { Gives result fields.new (size_report_at fields.old) }
+{
+    let capability = fields.capability()?;
+    let mark = fields.mark()?;
+    Ok(MetaReq::Report { capability, mark })
+}
+
+/// The request of this number.
+#[tactic(auto, unfolding(crate::specs::RegistryFields::registry_req_arms))]
+fn registry_req_arm(
+    fields: &mut FieldReader<'_>,
+    number: u8,
+    alloc: Global,
+) -> Result<RegistryReq, FieldErr>
+    ensures { Gives result fields.new (registry_req_arms number fields.old) }
+{
+    match number {
+        1 => set_row(fields, alloc),
+        2 => get_row(fields),
+        3 => list_rows(fields),
+        4 => remove_row(fields),
+        _ => Err(FieldErr::Unfit),
+    }
+}
+
+/// A node to be registered.
+#[tactic(auto, unfolding(crate::specs::RegistryFields::set_row_at))]
+fn set_row(fields: &mut FieldReader<'_>, alloc: Global) -> Result<RegistryReq, FieldErr>
+    ensures { Gives result fields.new (set_row_at fields.old) }
+{
+    let node = fields.node()?;
+    let kind = fields.byte()?;
+    let address = fields.text(alloc, ADDRESS_LIMIT)?;
+    let expected = fields.count()?;
+    Ok(RegistryReq::Set {
+        node,
+        kind,
+        address,
+        expected,
+    })
+}
+
+/// A row to be told.
+#[tactic(auto, unfolding(crate::specs::RegistryFields::get_row_at))]
+fn get_row(fields: &mut FieldReader<'_>) -> Result<RegistryReq, FieldErr>
+    ensures { Gives result fields.new (get_row_at fields.old) }
+{
+    let node = fields.node()?;
+    Ok(RegistryReq::Get { node })
+}
+
+/// Rows to be listed.
+#[tactic(auto, unfolding(crate::specs::RegistryFields::list_rows_at))]
+fn list_rows(fields: &mut FieldReader<'_>) -> Result<RegistryReq, FieldErr>
+    ensures { Gives result fields.new (list_rows_at fields.old) }
+{
+    let kind = fields.byte()?;
+    let after = fields.node()?;
+    Ok(RegistryReq::List { kind, after })
+}
+
+/// A node to be removed.
+#[tactic(auto, unfolding(crate::specs::RegistryFields::remove_row_at))]
+fn remove_row(fields: &mut FieldReader<'_>) -> Result<RegistryReq, FieldErr>
+    ensures { Gives result fields.new (remove_row_at fields.old) }
+{
+    let node = fields.node()?;
+    let expected = fields.count()?;
+    Ok(RegistryReq::Remove { node, expected })
+}
+
+impl ReadRequests for FieldReader<'_> {
+    #[tactic(auto, unfolding(crate::specs::MetaFields::meta_req_at))]
+    fn meta_req(&mut self, alloc: Global) -> Result<MetaReq, FieldErr>
+        ensures given { Gives result self.new (meta_req_at self.old) }
+        ensures kept { OnErr result (self.new ≡ self.old) }
+    {
+        let mut ahead = self.ahead();
+        let number = ahead.byte()?;
+        let meta_req = meta_req_arm(&mut ahead, number, alloc)?;
+        *self = ahead;
+        Ok(meta_req)
+    }
+
+    #[tactic(auto, unfolding(crate::specs::RegistryFields::registry_req_at))]
+    fn registry_req(&mut self, alloc: Global) -> Result<RegistryReq, FieldErr>
+        ensures given { Gives result self.new (registry_req_at self.old) }
+        ensures kept { OnErr result (self.new ≡ self.old) }
+    {
+        let mut ahead = self.ahead();
+        let number = ahead.byte()?;
+        let registry_req = registry_req_arm(&mut ahead, number, alloc)?;
+        *self = ahead;
+        Ok(registry_req)
+    }
+}
+
+/// Writes requests to the metadata server and to the directory service.
+pub trait WriteRequests {
+    /// A request to the metadata server.
+    fn meta_req(&mut self, meta_req: &MetaReq) -> Result<(), OutOfMemory>
+        requires { FitsMetaReq meta_req.now };
+
+    /// A request to the directory service.
+    fn registry_req(&mut self, registry_req: &RegistryReq) -> Result<(), OutOfMemory>
+        requires { FitsRegistryReq registry_req.now };
+}
+
+/// A directory to be made.
+fn put_mkdir(fields: &mut FieldWriter, path: &str, mode: u16) -> Result<(), OutOfMemory>
+    requires { length path.now < 2 ^ 16 }
+    ensures { OnOk result (fields.new ≡ fields.old ++ (byte_bytes 1 ++ text_bytes path.now ++ half_bytes mode)) }
+{
+    fields.byte(1)?;
+    fields.text(path)?;
+    fields.half(mode)
+}
+
+/// A file to be made.
+fn put_create(
+    fields: &mut FieldWriter,
+    path: &str,
+    mode: u16,
+    kind: Kind,
+    n: u8,
+    stripe: u32,
+) -> Result<(), OutOfMemory>
+    requires { length path.now < 2 ^ 16 }
+    ensures { OnOk result (fields.new ≡ fields.old ++ (byte_bytes 2 ++ text_bytes path.now ++ half_bytes mode ++ kind_bytes kind ++ byte_bytes n ++ word_bytes stripe)) }
+{
+    fields.byte(2)?;
+    fields.text(path)?;
+    fields.half(mode)?;
+    fields.kind(kind)?;
+    fields.byte(n)?;
+    fields.word(stripe)
+}
+
+/// A row to be moved.
+fn put_rename(fields: &mut FieldWriter, from: &str, to: &str) -> Result<(), OutOfMemory>
+    requires from_fits { length from.now < 2 ^ 16 }
+    requires to_fits { length to.now < 2 ^ 16 }
+    ensures { OnOk result (fields.new ≡ fields.old ++ (byte_bytes 3 ++ text_bytes from.now ++ text_bytes to.now)) }
+{
+    fields.byte(3)?;
+    fields.text(from)?;
+    fields.text(to)
+}
+
+/// A file to be removed.
+fn put_unlink(fields: &mut FieldWriter, path: &str) -> Result<(), OutOfMemory>
+    requires { length path.now < 2 ^ 16 }
+    ensures { OnOk result (fields.new ≡ fields.old ++ (byte_bytes 4 ++ text_bytes path.now)) }
+{
+    fields.byte(4)?;
+    fields.text(path)
+}
+
+/// A directory to be removed.
+fn put_rmdir(fields: &mut FieldWriter, path: &str) -> Result<(), OutOfMemory>
+    requires { length path.now < 2 ^ 16 }
+    ensures { OnOk result (fields.new ≡ fields.old ++ (byte_bytes 5 ++ text_bytes path.now)) }
+{
+    fields.byte(5)?;
+    fields.text(path)
+}
+
+/// A directory to be listed.
+fn put_list_names(fields: &mut FieldWriter, path: &str, after: &str) -> Result<(), OutOfMemory>
+    requires path_fits { length path.now < 2 ^ 16 }
+    requires after_fits { length after.now < 2 ^ 16 }
+    ensures { OnOk result (fields.new ≡ fields.old ++ (byte_bytes 6 ++ text_bytes path.now ++ text_bytes after.now)) }
+{
+    fields.byte(6)?;
+    fields.text(path)?;
+    fields.text(after)
+}
+
+/// A row to be told.
+fn put_stat(fields: &mut FieldWriter, path: &str) -> Result<(), OutOfMemory>
+    requires { length path.now < 2 ^ 16 }
+    ensures { OnOk result (fields.new ≡ fields.old ++ (byte_bytes 7 ++ text_bytes path.now)) }
+{
+    fields.byte(7)?;
+    fields.text(path)
+}
+
+/// A mode to be set.
+fn put_chmod(fields: &mut FieldWriter, path: &str, mode: u16) -> Result<(), OutOfMemory>
+    requires { length path.now < 2 ^ 16 }
+    ensures { OnOk result (fields.new ≡ fields.old ++ (byte_bytes 8 ++ text_bytes path.now ++ half_bytes mode)) }
+{
+    fields.byte(8)?;
+    fields.text(path)?;
+    fields.half(mode)
+}
+
+/// A capability that is wanted.
+fn put_grant(fields: &mut FieldWriter, path: &str, want: u8) -> Result<(), OutOfMemory>
+    requires { length path.now < 2 ^ 16 }
+    ensures { OnOk result (fields.new ≡ fields.old ++ (byte_bytes 9 ++ text_bytes path.now ++ byte_bytes want)) }
+{
+    fields.byte(9)?;
+    fields.text(path)?;
+    fields.byte(want)
+}
+
+/// A size that a client learnt.
+fn put_size_report(
+    fields: &mut FieldWriter,
+    capability: &Capability,
+    mark: SizeMark,
+) -> Result<(), OutOfMemory>
+    ensures { OnOk result (fields.new ≡ fields.old ++ (byte_bytes 10 ++ capability_bytes capability.now ++ mark_bytes mark)) }
+{
+    fields.byte(10)?;
+    fields.capability(capability)?;
+    fields.mark(mark)
+}
+
+/// A node to be registered.
+fn put_set_row(
+    fields: &mut FieldWriter,
+    node: NodeId,
+    kind: u8,
+    address: &str,
+    expected: u64,
+) -> Result<(), OutOfMemory>
+    requires { length address.now < 2 ^ 16 }
+    ensures { OnOk result (fields.new ≡ fields.old ++ (byte_bytes 1 ++ node_bytes node ++ byte_bytes kind ++ text_bytes address.now ++ long_bytes expected)) }
+{
+    fields.byte(1)?;
+    fields.node(node)?;
+    fields.byte(kind)?;
+    fields.text(address)?;
+    fields.long(expected)
+}
+
+/// A row to be told.
+fn put_get_row(fields: &mut FieldWriter, node: NodeId) -> Result<(), OutOfMemory>
+    ensures { OnOk result (fields.new ≡ fields.old ++ (byte_bytes 2 ++ node_bytes node)) }
+{
+    fields.byte(2)?;
+    fields.node(node)
+}
+
+/// Rows to be listed.
+fn put_list_rows(fields: &mut FieldWriter, kind: u8, after: NodeId) -> Result<(), OutOfMemory>
+    ensures { OnOk result (fields.new ≡ fields.old ++ (byte_bytes 3 ++ byte_bytes kind ++ node_bytes after)) }
+{
+    fields.byte(3)?;
+    fields.byte(kind)?;
+    fields.node(after)
+}
+
+/// A node to be removed.
+fn put_remove_row(fields: &mut FieldWriter, node: NodeId, expected: u64) -> Result<(), OutOfMemory>
+    ensures { OnOk result (fields.new ≡ fields.old ++ (byte_bytes 4 ++ node_bytes node ++ long_bytes expected)) }
+{
+    fields.byte(4)?;
+    fields.node(node)?;
+    fields.long(expected)
+}
+
+impl WriteRequests for FieldWriter {
+    fn meta_req(&mut self, meta_req: &MetaReq) -> Result<(), OutOfMemory>
+        requires { FitsMetaReq meta_req.now }
+        ensures { OnOk result (self.new ≡ self.old ++ meta_req_bytes meta_req.now) }
+    {
+        match meta_req {
+            MetaReq::Mkdir { path, mode } => put_mkdir(self, path.as_str(), *mode),
+            MetaReq::Create {
+                path,
+                mode,
+                kind,
+                n,
+                stripe,
+            } => put_create(self, path.as_str(), *mode, *kind, *n, *stripe),
+            MetaReq::Rename { from, to } => put_rename(self, from.as_str(), to.as_str()),
+            MetaReq::Unlink { path } => put_unlink(self, path.as_str()),
+            MetaReq::Rmdir { path } => put_rmdir(self, path.as_str()),
+            MetaReq::List { path, after } => put_list_names(self, path.as_str(), after.as_str()),
+            MetaReq::Stat { path } => put_stat(self, path.as_str()),
+            MetaReq::Chmod { path, mode } => put_chmod(self, path.as_str(), *mode),
+            MetaReq::Grant { path, want } => put_grant(self, path.as_str(), *want),
+            MetaReq::Report { capability, mark } => put_size_report(self, capability, *mark),
+        }
+    }
+
+    fn registry_req(&mut self, registry_req: &RegistryReq) -> Result<(), OutOfMemory>
+        requires { FitsRegistryReq registry_req.now }
+        ensures { OnOk result (self.new ≡ self.old ++ registry_req_bytes registry_req.now) }
+    {
+        match registry_req {
+            RegistryReq::Set {
+                node,
+                kind,
+                address,
+                expected,
+            } => put_set_row(self, *node, *kind, address.as_str(), *expected),
+            RegistryReq::Get { node } => put_get_row(self, *node),
+            RegistryReq::List { kind, after } => put_list_rows(self, *kind, *after),
+            RegistryReq::Remove { node, expected } => put_remove_row(self, *node, *expected),
+        }
+    }
+}
