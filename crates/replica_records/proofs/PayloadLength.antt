@@ -3,12 +3,12 @@ use Rattle.std.proofs.Common.{◌≤◌, List, ◌++◌, length, Option, Some, N
 use Rattle.std.proofs.lemmas.List.{length-append}
 use Rattle.xt_base.specs.declared.ids.NodeId.{NodeId}
 use Rattle.xt_base.specs.Limits.{FitsMembers, FitsLogged, FitsRecord}
-use Rattle.xt_wire.specs.BasicFields.{word_bytes, long_bytes, octets_bytes}
+use Rattle.xt_fields.specs.BasicFields.{word_bytes, long_bytes, octets_bytes}
 use Rattle.xt_wire.specs.IdFields.{node_bytes, file_bytes, epoch_bytes, stamp_bytes}
 use Rattle.xt_wire.specs.FileFields.{location_bytes, update_bytes, head_bytes}
 use Rattle.xt_wire.specs.MetaFields.{meta_req_bytes}
 use Rattle.xt_wire.proofs.FileLaws.{members_few}
-use Rattle.xt_wire.proofs.BasicLaws.{word-length, long-length}
+use Rattle.xt_fields.proofs.BasicLaws.{word-length, long-length}
 use Rattle.std.specs.Prelude.{IfSome}
 use Rattle.xt_base.specs.declared.record.Logged.{Logged}
 use Rattle.xt_base.specs.declared.record.Logged.TheVariants as logged

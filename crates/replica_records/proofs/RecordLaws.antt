@@ -11,15 +11,15 @@ use Rattle.xt_base.specs.declared.record.Logged.{Logged}
 use Rattle.xt_base.specs.declared.record.Logged.TheVariants as logged
 use Rattle.xt_base.specs.declared.record.Record.{Record}
 use Rattle.xt_base.specs.declared.record.Record.TheVariants as kept
-use Rattle.xt_wire.specs.declared.fault.FieldErr.{FieldErr}
-use Rattle.xt_wire.specs.declared.fault.FieldErr.TheVariants as fault
-use Rattle.xt_wire.specs.Reading.{◌>>=◌, made, fit}
-use Rattle.xt_wire.specs.BasicFields.{byte_at, list_at, tagged}
+use Rattle.xt_fields.specs.declared.fault.FieldErr.{FieldErr}
+use Rattle.xt_fields.specs.declared.fault.FieldErr.TheVariants as fault
+use Rattle.xt_fields.specs.Reading.{◌>>=◌, made, fit}
+use Rattle.xt_fields.specs.BasicFields.{byte_at, list_at, tagged}
 use Rattle.xt_wire.specs.IdFields.{node_bytes, node_at}
 use Rattle.xt_wire.specs.FileFields.{members_at}
-use Rattle.xt_wire.specs.OneSpelling.{Taken, IsField}
-use Rattle.xt_wire.proofs.Laws.{IsArm, AreArms, both, arm, arm_again, no_more, or_arm, bind_ok, ok_is, and_is}
-use Rattle.xt_wire.proofs.BasicLaws.{word_field, count_field, body_field, tagged_field}
+use Rattle.xt_fields.specs.OneSpelling.{Taken, IsField}
+use Rattle.xt_fields.proofs.Laws.{IsArm, AreArms, both, arm, arm_again, no_more, or_arm, bind_ok, ok_is, and_is}
+use Rattle.xt_fields.proofs.BasicLaws.{word_field, count_field, body_field, tagged_field}
 use Rattle.xt_wire.proofs.IdLaws.{node_field, boot_field, file_field, epoch_field, stamp_field}
 use Rattle.xt_wire.proofs.FileLaws.{members_field, location_field, update_field, head_field}
 use Rattle.xt_wire.proofs.MetaLaws.{meta_req_field}

@@ -7,10 +7,10 @@ use Rattle.xt_base.specs.declared.record.Logged.{Logged}
 use Rattle.xt_base.specs.declared.record.Logged.TheVariants as logged
 use Rattle.xt_base.specs.declared.record.Record.{Record}
 use Rattle.xt_base.specs.declared.record.Record.TheVariants as kept
-use Rattle.xt_wire.specs.declared.fault.FieldErr.{FieldErr}
-use Rattle.xt_wire.specs.declared.fault.FieldErr.TheVariants as fault
-use Rattle.xt_wire.specs.Reading.{Field, ◌&◌, made, fit}
-use Rattle.xt_wire.specs.BasicFields.{word_at, count_at, octets_at, list_at, tagged}
+use Rattle.xt_fields.specs.declared.fault.FieldErr.{FieldErr}
+use Rattle.xt_fields.specs.declared.fault.FieldErr.TheVariants as fault
+use Rattle.xt_fields.specs.Reading.{Field, ◌&◌, made, fit}
+use Rattle.xt_fields.specs.BasicFields.{word_at, count_at, octets_at, list_at, tagged}
 use Rattle.xt_wire.specs.IdFields.{node_at, boot_at, file_at, epoch_at, stamp_at}
 use Rattle.xt_wire.specs.FileFields.{location_at, update_at, head_at}
 use Rattle.xt_wire.specs.MetaFields.{meta_req_at}

@@ -5,7 +5,7 @@ use Rattle.xt_base.specs.declared.record.Logged.{Logged}
 use Rattle.xt_base.specs.declared.record.Logged.TheVariants as logged
 use Rattle.xt_base.specs.declared.record.Record.{Record}
 use Rattle.xt_base.specs.declared.record.Record.TheVariants as kept
-use Rattle.xt_wire.specs.BasicFields.{byte_bytes, word_bytes, long_bytes, octets_bytes}
+use Rattle.xt_fields.specs.BasicFields.{byte_bytes, word_bytes, long_bytes, octets_bytes}
 use Rattle.xt_wire.specs.IdFields.{node_bytes, boot_bytes, file_bytes, epoch_bytes, stamp_bytes}
 use Rattle.xt_wire.specs.FileFields.{members_bytes, location_bytes, update_bytes, head_bytes}
 use Rattle.xt_wire.specs.MetaFields.{meta_req_bytes}

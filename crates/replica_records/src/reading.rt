@@ -1,12 +1,12 @@
 ghost use Rattle.std.specs.Prelude.{◌≡◌, ◌≤◌, take, IfOk, IfErr, Ok};
-ghost use Rattle.xt_wire.specs.Reading.{Gives, Fails};
-ghost use Rattle.xt_wire.specs.BasicFields.{list_at};
+ghost use Rattle.xt_fields.specs.Reading.{Gives, Fails};
+ghost use Rattle.xt_fields.specs.BasicFields.{list_at};
 ghost use Rattle.xt_wire.specs.IdFields.{node_at};
 ghost use Rattle.replica_records.specs.RecordFields.{nodes_at, logged_at, meta_logged_at, registry_logged_at, record_at, boot_record_at, promise_record_at, update_record_at, stage_record_at, head_record_at, view_record_at, meta_record_at};
 
 use std::alloc::Global;
 use xt_base::{BODY, Logged, Members, NodeId, Record};
-use xt_wire::{FieldErr, FieldReader};
+use xt_wire::{FieldErr, FieldReader, ReadFiles, ReadIds, ReadRequests};
 
 /// The longest `bytes` field, in bytes.
 const BODY_LIMIT: u32 = BODY as u32;

@@ -1,6 +1,6 @@
 ghost use Rattle.std.specs.Prelude.{◌≡◌, ◌<◌, ◌^◌, ◌++◌, length, OnOk};
 ghost use Rattle.xt_base.specs.Limits.{IsObject, FitsHead, FitsUpdate, FitsMetaReq, FitsRegistryReq, FitsLogged, FitsRecord};
-ghost use Rattle.xt_wire.specs.BasicFields.{byte_bytes, word_bytes, long_bytes, octets_bytes};
+ghost use Rattle.xt_fields.specs.BasicFields.{byte_bytes, word_bytes, long_bytes, octets_bytes};
 ghost use Rattle.xt_wire.specs.IdFields.{node_bytes, boot_bytes, file_bytes, epoch_bytes, stamp_bytes};
 ghost use Rattle.xt_wire.specs.FileFields.{location_bytes, update_bytes, head_bytes};
 ghost use Rattle.xt_wire.specs.MetaFields.{meta_req_bytes};
@@ -11,7 +11,7 @@ use xt_base::{
     Boot, Epoch, FileHead, FileId, Location, Logged, Members, MetaReq, NodeId, OutOfMemory, Record,
     RegistryReq, Stamp, Update,
 };
-use xt_wire::FieldWriter;
+use xt_wire::{FieldWriter, WriteFiles, WriteIds, WriteRequests};
 
 /// A record.
 pub(crate) fn put_record(writer: &mut FieldWriter, rec: &Record) -> Result<(), OutOfMemory>

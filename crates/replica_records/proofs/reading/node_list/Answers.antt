@@ -1,9 +1,9 @@
 use Rattle.std.proofs.Common.{◌∙◌, take, arith}
 use Rattle.std.proofs.lemmas.List.{length-set}
 use Rattle.std.proofs.lemmas.Result.{err_from_is_err_and}
-use Rattle.xt_wire.specs.BasicFields.{list_at}
+use Rattle.xt_fields.specs.BasicFields.{list_at}
 use Rattle.xt_wire.specs.IdFields.{node_at}
-use Rattle.xt_wire.proofs.Loops.{fills, ends, are_filled}
+use Rattle.xt_fields.proofs.Loops.{fills, ends, are_filled}
 use Rattle.replica_records.proofs.reading.node_list.Goals as goal
 
 pub returns-in_err-node-clause-err : goal.returns-in_err-node-clause-err

@@ -1,7 +1,7 @@
 use Rattle.std.proofs.Common.{◌≡◌, ◌-◌, length, take}
-use Rattle.xt_wire.specs.BasicFields.{list_at}
+use Rattle.xt_fields.specs.BasicFields.{list_at}
 use Rattle.xt_wire.specs.IdFields.{node_at}
-use Rattle.xt_wire.proofs.Loops.{with_front}
+use Rattle.xt_fields.proofs.Loops.{with_front}
 use Rattle.replica_records.proofs.reading.node_list.Given as goal
 
 -- what was read and what is still read are the whole list
