@@ -9,7 +9,8 @@ use Rattle.xt_base.specs.FrameLength.{frame_length}
 use Rattle.xt_base.specs.declared.message.Msg.{Msg}
 use Rattle.world_runs.specs.declared.Sent.{Sent}
 use Rattle.world_runs.specs.Lines.{pending, least_pending, no_longer_pending}
-use Rattle.world_core.specs.Counts.{AreCounts, IsFirstPending, within_64}
+use Rattle.frame_lengths.specs.Within64.{within_64}
+use Rattle.world_core.specs.Counts.{AreCounts, IsFirstPending}
 
 pub counts_sent : (sent : List Sent) (first bytes : ℕ) (m : Msg) (more : ℕ) → AreCounts sent first bytes
     → more ≡ min (bytes + within_64 (frame_length m)) 18446744073709551615

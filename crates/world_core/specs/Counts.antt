@@ -1,14 +1,11 @@
 -- what is counted beside the messages
-use Rattle.std.specs.Prelude.{ℕ, ◌≡◌, ◌<◌, ◌≤◌, min, nat_lt, if◌then◌else◌, true, false, Option, Some, None, List, length, slice_index_or}
+use Rattle.std.specs.Prelude.{ℕ, ◌≡◌, ◌<◌, ◌≤◌, nat_lt, if◌then◌else◌, true, false, Option, Some, None, List, length, slice_index_or}
 use Rattle.xt_base.specs.declared.status.Limited.{Limited}
 use Rattle.xt_base.specs.declared.status.Limited.TheVariants as limited
+use Rattle.frame_lengths.specs.Within64.{within_64}
 use Rattle.world_runs.specs.declared.Sent.{Sent}
 use Rattle.world_runs.specs.declared.TheConstants.{MESSAGES, MESSAGE_BYTES}
 use Rattle.world_runs.specs.Lines.{frame_bytes}
-
--- the number, or the greatest of 64 bits where it is greater
-abbrev pub within_64 : ℕ → ℕ
-within_64 n = min n 18446744073709551615
 
 -- no message before the first place is pending, and the bytes are those of all frames
 pub record AreCounts (sent : List Sent) (first bytes : ℕ) : Type 0 where

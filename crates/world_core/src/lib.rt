@@ -8,7 +8,6 @@ mod body;
 mod client;
 mod entries;
 mod files;
-mod frame;
 mod host;
 mod keeping;
 mod nodes;

@@ -3,7 +3,7 @@ ghost use Rattle.std.specs.Prelude.{take, ◌≡◌, ◌++◌, ◌∷◌, [], �
 ghost use Rattle.world_runs.specs.Lines.{pending, least_pending, no_longer_pending};
 ghost use Rattle.world_core.specs.Counts.{limit_passed, IsFirstPending};
 
-use crate::frame::frame_length;
+use frame_lengths::frame_length;
 use std::alloc::Global;
 use std::marker::Model;
 use world_runs::{MESSAGE_BYTES, MESSAGES, Sent};

@@ -1,7 +1,6 @@
-//! How long the frame of a message is, in bytes. One that passes 64 bits stays at the greatest number.
 ghost use Rattle.std.specs.Prelude.{◌≡◌, ◌≤◌, ◌+◌, ◌*◌, length, sum_by};
 ghost use Rattle.xt_base.specs.FrameLength.{octets_length, text_length, report_length, location_length, capability_length, head_length, update_length, op_length, reply_length, meta_req_length, meta_refusal_length, meta_answer_length, registry_req_length, row_length, registry_answer_length, payload_length, frame_length};
-ghost use Rattle.world_core.specs.Counts.{within_64};
+ghost use Rattle.frame_lengths.specs.Within64.{within_64};
 
 use xt_base::{
     Capability, FileHead, Lease, Location, MetaAnswer, MetaRefusal, MetaReq, Msg, Name, Octets, Op,
@@ -221,7 +220,7 @@ fn payload_length(payload: &Payload) -> u64
     }
 }
 
-/// The length of the message's frame in bytes.
+/// The length of the message's frame in bytes, or the greatest number of 64 bits where it is longer.
 pub fn frame_length(message: &Msg) -> u64
     ensures { result ≡ within_64 (frame_length message.now) }
 {
