@@ -46,7 +46,7 @@ impl<'a> Model for Turn<'a> {
 }
 
 /// What an answer to a renewal made.
-#[derive(Clone, Copy, PartialEq, Eq)]
+#[derive(Clone, Copy)]
 pub enum Renewal {
     Nothing,
     /// A Write goes to these.

@@ -17,6 +17,3 @@ pub use free::Free;
 pub use held::{Held, Renewal, Turn};
 pub use silent::{Awake, Silent};
 pub use writing::{Writing, Written};
-
-#[cfg(test)]
-mod tests;

@@ -7,7 +7,7 @@ use std::marker::Model;
 use xt_base::{Ballot, Boot, Members, NodeId, Times};
 
 /// Who asks for a file's lease, and the greatest count of a ballot that it knows.
-#[derive(Clone, Copy, PartialEq, Eq)]
+#[derive(Clone, Copy)]
 pub struct Proposer {
     node: NodeId,
     boot: Boot,

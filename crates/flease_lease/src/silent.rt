@@ -27,7 +27,7 @@ impl Model for Silent {
 }
 
 /// An OSD whose silence is over.
-#[derive(Clone, Copy, PartialEq, Eq)]
+#[derive(Clone, Copy)]
 pub struct Awake {
     times: Times,
     node: NodeId,

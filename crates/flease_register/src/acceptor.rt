@@ -6,7 +6,7 @@ use std::marker::Model;
 use xt_base::{Ballot, Boot, Lease, NodeId};
 
 /// One boot of a node as an acceptor of a file's lease. Contracts see what it has promised and accepted.
-#[derive(Clone, Copy, PartialEq, Eq)]
+#[derive(Clone, Copy)]
 pub struct Acceptor {
     boot: Boot,
     promised: Option<Ballot>,
@@ -24,7 +24,7 @@ impl Model for Acceptor {
 }
 
 /// The answer to a Read.
-#[derive(Clone, Copy, PartialEq, Eq)]
+#[derive(Clone, Copy)]
 pub enum ReadAnswer {
     /// The ballot is promised. The report is the accepted lease.
     Promise { report: Option<Lease> },
@@ -33,7 +33,7 @@ pub enum ReadAnswer {
 }
 
 /// The answer to a Write.
-#[derive(Clone, Copy, PartialEq, Eq)]
+#[derive(Clone, Copy)]
 pub enum WriteAnswer {
     Accepted,
     /// Another ballot was promised last.

@@ -12,6 +12,3 @@ mod targets;
 pub use acceptor::{Acceptor, ReadAnswer, WriteAnswer};
 pub use round::{Round, Took};
 pub use targets::Targets;
-
-#[cfg(test)]
-mod tests;

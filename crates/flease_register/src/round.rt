@@ -8,7 +8,7 @@ use std::marker::Model;
 use xt_base::{Ballot, Boot, Lease, Members, NodeId, Times, majority};
 
 /// A round of a proposer: a Read to all members, and once a majority has promised, a Write to those that did.
-#[derive(Clone, Copy, PartialEq, Eq)]
+#[derive(Clone, Copy)]
 pub struct Round {
     ballot: Ballot,
     start: u64,
@@ -32,7 +32,7 @@ impl Model for Round {
 }
 
 /// What a promise did.
-#[derive(Clone, Copy, PartialEq, Eq)]
+#[derive(Clone, Copy)]
 pub enum Took {
     /// Nothing: its sender is no member or was counted, or its report lives and Write was sent.
     Ignored,

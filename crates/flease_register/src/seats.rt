@@ -7,7 +7,7 @@ use std::marker::Model;
 use xt_base::{Boot, Members, NodeId};
 
 /// A member in a round.
-#[derive(Clone, Copy, PartialEq, Eq)]
+#[derive(Clone, Copy)]
 pub struct Seat {
     node: NodeId,
     counted: Option<Boot>,
@@ -98,7 +98,7 @@ fn count_acceptance(seats: &mut [Seat], from: NodeId, boot: Boot)
 }
 
 /// A seat for each member of a round, in list order. Contracts see the list.
-#[derive(Clone, Copy, PartialEq, Eq)]
+#[derive(Clone, Copy)]
 pub struct Seats {
     places: [Seat; 9],
     count: usize,

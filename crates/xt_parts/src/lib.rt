@@ -10,8 +10,6 @@ mod cutting;
 mod joining;
 mod laws;
 mod part;
-#[cfg(test)]
-mod tests;
 
 pub use cutting::{CutErr, cut};
 pub use joining::{JoinErr, Joiner, Whole};
