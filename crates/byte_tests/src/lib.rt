@@ -1,0 +1,16 @@
+//! The tests of the crates that make and read bytes, and of those that negotiate a lease, as loops over tables.
+//!
+//! They try through public calls what no contract can say: that bytes, published values and orders of refusals are
+//! those of the documents, and that the calls succeed.
+#![tactic(auto)]
+
+#[cfg(test)]
+mod fields;
+#[cfg(test)]
+mod frames;
+#[cfg(test)]
+mod lease;
+#[cfg(test)]
+mod parts;
+#[cfg(test)]
+mod register;
