@@ -11,7 +11,7 @@ if [ $# -lt 1 ] || [ $# -gt 2 ]; then
 fi
 program=${2:-$top/crates/xtfs/out/xtfs}
 if [ ! -x "$program" ]; then
-    echo "no program at $program (examples/run.sh builds it)" >&2
+    echo "no program at $program (tests/build.sh builds it)" >&2
     exit 2
 fi
 
