@@ -10,6 +10,3 @@ mod source;
 
 pub use sink::{MemorySink, Sink, StdoutSink};
 pub use source::{MemorySource, Source, StdinSource};
-
-#[cfg(test)]
-mod tests;

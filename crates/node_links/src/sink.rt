@@ -34,10 +34,14 @@ pub trait Sink {
         ensures sound { OnOk result (fault_count self.new ≡ fault_count self.old) }
         ensures failed { OnErr result (Rose (fault_count self.old) (fault_count self.new)) }
         ensures kept { OnErr result (held self.new ≡ held self.old) }
-        ensures faults { fault_count self.new ≡ fault_count_after (is_err result) (fault_count self.old) }
+        ensures faults { fault_count self.new ≡
+            fault_count_after (is_err result) (fault_count self.old) }
         // Where the bytes are told, it takes as many as fit, and fails as planned or where there is no room.
-        ensures most { IfOk result (λ n. IfSome (held self.old) (λ bytes. n ≡ fitting (room self.old) bytes piece.now)) }
-        ensures plan { IfSome (held self.old) (λ bytes. is_err result ≡ (fails self.old 1 || is_full (room self.old) bytes piece.now)) }
+        ensures most { IfOk result (λ n.
+            IfSome (held self.old) (λ bytes. n ≡ fitting (room self.old) bytes piece.now)) }
+        ensures plan { IfSome (held self.old)
+            (λ bytes. is_err result ≡
+            (fails self.old 1 || is_full (room self.old) bytes piece.now)) }
         ensures later { OnSome (held self.old) ((k : ℕ) → fails self.new k ≡ fails self.old (k + 1)) }
         ensures room { room self.new ≡ room self.old };
 }

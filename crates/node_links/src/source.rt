@@ -29,9 +29,11 @@ pub trait Source {
         ensures sound { OnOk result (fault_count self.new ≡ fault_count self.old) }
         ensures failed { OnErr result (Rose (fault_count self.old) (fault_count self.new)) }
         ensures kept { OnErr result (left self.new ≡ left self.old) }
-        ensures faults { fault_count self.new ≡ fault_count_after (is_err result) (fault_count self.old) }
+        ensures faults { fault_count self.new ≡
+            fault_count_after (is_err result) (fault_count self.old) }
         // Where the bytes are told, it gives as many as it can, and fails as planned.
-        ensures most { IfOk result (λ n. IfSome (left self.old) (λ bytes. n ≡ min (length bytes) (length buf.old))) }
+        ensures most { IfOk result (λ n.
+            IfSome (left self.old) (λ bytes. n ≡ min (length bytes) (length buf.old))) }
         ensures plan { OnSome (left self.old) (is_err result ≡ fails self.old 1) }
         ensures later { OnSome (left self.old) ((k : ℕ) → fails self.new k ≡ fails self.old (k + 1)) };
 }

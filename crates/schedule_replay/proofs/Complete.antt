@@ -14,29 +14,19 @@ use Rattle.schedule_text.specs.LineText.{line_text, schedule_text, IsLine}
 use Rattle.schedule_text.specs.EntryText.{trace_text}
 use Rattle.schedule_text.specs.StatusText.{last_line}
 use Rattle.schedule_text.proofs.LineAgain.{one_line}
+use Rattle.schedule_text.proofs.InLine.{same_line}
 use Rattle.world_runs.specs.World.{World, start_world}
 use Rattle.world_runs.specs.Rules.{refusal}
 use Rattle.world_runs.specs.Lines.{Whole, Stopped, line_applied}
 use Rattle.world_runs.specs.Runs.{after, after_refusal, run_of}
 use Rattle.world_runs.proofs.Grows.{line_grows}
-use Rattle.world_runs.specs.declared.TheConstants.{LINES, LINE_BYTES}
+use Rattle.time_line.specs.declared.TheConstants.{LINES, LINE_BYTES}
 use Rattle.world_core.specs.Room.{Room, line_overflow}
-use Rattle.schedule_replay.specs.RawLine.{line_feed, IsInLine}
-use Rattle.schedule_replay.specs.NextLine.{ended, IsNoLine, StopsReading}
-use Rattle.schedule_replay.specs.Replay.{AreLines, IsDoneFrom, AreDoneFrom, AreRun, EndsWith, EndsAt, IsReplay, HasCause, IsWhole, Completes}
-use Rattle.schedule_replay.proofs.LineBytes.{line_fits}
-
--- two texts in a line each, with their line feeds at the front of the same bytes
-same_line : (xs ys first second : List ℕ) → IsInLine xs → IsInLine ys → xs ++ line_feed ∷ first ≡ ys ++ line_feed ∷ second → (xs ≡ ys) × (first ≡ second)
-same_line [] [] first second p q e = (refl, cc)
-same_line [] (y ∷ ys) first second p q e = absurd (q.0 (let same : y ≡ line_feed = cc in same))
-same_line (x ∷ xs) [] first second p q e = absurd (p.0 (let same : x ≡ line_feed = cc in same))
-same_line (x ∷ xs) (y ∷ ys) first second p q e =
-    let tails : xs ++ line_feed ∷ first ≡ ys ++ line_feed ∷ second = cc in
-    let rest = same_line xs ys first second p.1 q.1 tails in
-    let heads : x ≡ y = cc in
-    let texts : xs ≡ ys = rest.0 in
-    (cc, rest.1)
+use Rattle.schedule_lines.specs.RawLine.{line_feed, IsInLine}
+use Rattle.schedule_lines.specs.NextLine.{ended, IsNoLine, StopsReading}
+use Rattle.schedule_lines.specs.Causes.{HasCause}
+use Rattle.schedule_replay.specs.Replay.{AreLines, IsDoneFrom, AreDoneFrom, AreRun, EndsWith, EndsAt, IsReplay, IsWhole, Completes}
+use Rattle.schedule_lines.proofs.LineBytes.{line_fits}
 
 -- what is in a line at the front of a line is no longer than it
 no_longer : (xs first ys second : List ℕ) → IsInLine xs → xs ++ first ≡ ys ++ line_feed ∷ second → length xs ≤ length ys
@@ -197,7 +187,7 @@ good_end room w rest taken behind new (status.JournalFull need limit) p done few
     let full : line_overflow room w line ≡ Some (record { world = found.0; overflow = record { need = need; limit = limit } }) = found.1 in
     cc
 good_end room w rest taken behind new (status.Malformed number) p done few e ends =
-    let stops = ends.0.1 in no_malformed (length w.lines) rest taken behind stops.0 p e stops.1 stops.3
+    let stops = ends.0.1 in no_malformed (length w.lines) rest taken behind stops.0 p e stops.1 stops.4
 good_end room w rest taken behind new (status.Illegal number rule) p done few e (line, is_taken, broken, counted, none) =
     let whole = taken_done room w rest line taken behind p done e is_taken.1 is_taken.2 in
     let legal : refusal w line ≡ None = whole.0 in

@@ -17,12 +17,13 @@ use Rattle.world_hull.specs.declared.errors.WorldErr.{WorldErr}
 use Rattle.world_hull.specs.declared.errors.WorldErr.TheVariants as error
 use Rattle.world_core.specs.Standing.{Standing, IsDone, IsRefused, IsLeft}
 use Rattle.world_core.specs.Room.{Room, line_overflow, IsRoomToldBy}
-use Rattle.world_runs.specs.declared.TheConstants.{LINES}
-use Rattle.schedule_replay.specs.Fronts.{IsFrontOf}
-use Rattle.schedule_replay.specs.NextLine.{ended, StopsReading}
+use Rattle.time_line.specs.declared.TheConstants.{LINES}
+use Rattle.schedule_lines.specs.Fronts.{IsFrontOf}
+use Rattle.schedule_lines.specs.NextLine.{ended, StopsReading}
 use Rattle.schedule_replay.specs.Replay.{AddsPart, AddsAll, EndsWith, IsCutShort, EndsAt}
-use Rattle.schedule_replay.specs.Steps.{IsPut, IsFinished, Grown, status_for}
-use Rattle.schedule_replay.proofs.Streamed.{Puts-append}
+use Rattle.schedule_lines.specs.Putting.{IsPut, IsFinished}
+use Rattle.schedule_replay.specs.Steps.{Grown, status_for}
+use Rattle.schedule_lines.proofs.Streamed.{Puts-append}
 
 -- a front behind the same bytes
 front_behind : (before front bytes : List ℕ) → IsFrontOf front bytes → IsFrontOf (before ++ front) (before ++ bytes)

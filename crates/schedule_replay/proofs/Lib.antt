@@ -1,7 +1,5 @@
-pub mod Streamed
 pub mod Endings
 pub mod Whole
 pub mod LineEnds
 pub mod Causes
-pub mod LineBytes
 pub mod Complete

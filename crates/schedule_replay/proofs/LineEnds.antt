@@ -10,11 +10,12 @@ use Rattle.schedule_text.specs.EntryText.{trace_text}
 use Rattle.world_hull.specs.declared.errors.WorldErr.{WorldErr}
 use Rattle.world_core.specs.Room.{Room, line_overflow, IsRoomToldBy, IsRoomTold}
 use Rattle.world_core.specs.Standing.{Standing, IsDone, IsRefused}
-use Rattle.world_runs.specs.declared.TheConstants.{LINES}
-use Rattle.schedule_replay.specs.NextLine.{ended, StopsReading}
+use Rattle.time_line.specs.declared.TheConstants.{LINES}
+use Rattle.schedule_lines.specs.NextLine.{ended, StopsReading}
 use Rattle.schedule_replay.specs.Replay.{ShowsFiles}
-use Rattle.schedule_replay.specs.Steps.{IsPut, IsFinished, IsNext, IsEnd, Grown, status_for}
-use Rattle.schedule_replay.proofs.Streamed.{Puts-nothing}
+use Rattle.schedule_lines.specs.Putting.{IsPut, IsFinished}
+use Rattle.schedule_replay.specs.Steps.{IsNext, IsEnd, Grown, status_for}
+use Rattle.schedule_lines.proofs.Streamed.{Puts-nothing}
 use Rattle.schedule_replay.proofs.Endings.{Comes, stop_ends, stop_told, finished_ends, put_ends, done_adds, refused_ends, refused_told}
 
 -- the entries behind those that were printed

@@ -13,7 +13,6 @@ use Rattle.time_line.specs.Bounds.{FitsLine}
 use Rattle.schedule_text.specs.LineText.{line_text, schedule_text, IsLine}
 use Rattle.schedule_text.specs.EntryText.{trace_text}
 use Rattle.schedule_text.specs.StatusText.{last_line}
-use Rattle.schedule_text.proofs.LineFits.{line_fits}
 use Rattle.world_runs.specs.World.{World, start_world}
 use Rattle.world_runs.specs.Lines.{Applied}
 use Rattle.world_runs.specs.Runs.{after, run_of, left_by}
@@ -21,11 +20,12 @@ use Rattle.world_runs.proofs.Grows.{line_grows}
 use Rattle.world_safety.proofs.Runs.{run-answers, run-fresh}
 use Rattle.world_core.specs.Room.{Room}
 use Rattle.world_core.specs.Standing.{Standing, Held, starting, seen, IsDone}
-use Rattle.world_runs.specs.declared.TheConstants.{LINES}
-use Rattle.schedule_replay.specs.NextLine.{ended}
+use Rattle.time_line.specs.declared.TheConstants.{LINES}
+use Rattle.schedule_lines.specs.NextLine.{ended}
 use Rattle.schedule_replay.specs.Replay.{AreLines, IsDoneFrom, AreDoneFrom, AreRun, EndsAt, ShowsFiles, IsReplay}
-use Rattle.schedule_replay.specs.Steps.{IsNext, IsEnd, IsFinished}
-use Rattle.schedule_replay.proofs.Streamed.{Takes-append, Takes-nothing, Puts-append, Puts-nothing}
+use Rattle.schedule_lines.specs.Putting.{IsFinished}
+use Rattle.schedule_replay.specs.Steps.{IsNext, IsEnd}
+use Rattle.schedule_lines.proofs.Streamed.{Takes-append, Takes-nothing, Puts-append, Puts-nothing}
 use Rattle.schedule_replay.proofs.Endings.{finished_ends}
 
 -- one line more
@@ -102,7 +102,7 @@ goes_on room source_before source_now source_after sink_before sink_now sink_aft
 -- each line is within its limits
 each_fits : (before : ℕ) (lines : List Line) → AreLines before lines → AllByRecursion FitsLine lines
 each_fits before [] formed = tt
-each_fits before (l ∷ lines) formed = (line_fits (before == 0) l formed.0, each_fits (before + 1) lines formed.1)
+each_fits before (l ∷ lines) formed = (formed.0.1, each_fits (before + 1) lines formed.1)
 
 -- the trace of a run shows its files, with more or without
 shows_more : (lines : List Line) (w : World) (more : List Entry) → AreLines 0 lines → w ≡ run_of lines → (more ≡ []) ⊎ ShowsFiles (w.entries ++ more) → ShowsFiles ((run_of lines).entries ++ more)

@@ -1,5 +1,2 @@
-pub mod RawLine
-pub mod Fronts
-pub mod NextLine
 pub mod Replay
 pub mod Steps

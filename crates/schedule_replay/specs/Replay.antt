@@ -4,7 +4,6 @@ use Rattle.xt_base.specs.declared.status.Limited.TheVariants as limited
 use Rattle.xt_base.specs.declared.status.Status.{Status}
 use Rattle.xt_base.specs.declared.status.Status.TheVariants as status
 use Rattle.node_links.specs.Streams.{Takes, IsAtEnd, Puts}
-use Rattle.xt_base.specs.Faults.{Rose}
 use Rattle.time_line.specs.declared.line.Line.{Line}
 use Rattle.time_line.specs.declared.entry.Entry.{Entry}
 use Rattle.time_line.specs.TimeLine.{IsToldWhole, AnswersShow}
@@ -12,15 +11,15 @@ use Rattle.time_line.specs.Fresh.{IsFresh}
 use Rattle.schedule_text.specs.LineText.{line_text, schedule_text, IsLine}
 use Rattle.schedule_text.specs.EntryText.{trace_text}
 use Rattle.schedule_text.specs.StatusText.{last_line}
-use Rattle.world_runs.specs.declared.TheConstants.{LINES}
+use Rattle.time_line.specs.declared.TheConstants.{LINES}
 use Rattle.world_runs.specs.World.{World, start_world}
 use Rattle.world_runs.specs.Rules.{refusal}
 use Rattle.world_runs.specs.Lines.{Whole, Stopped, line_applied}
 use Rattle.world_runs.specs.Runs.{after, run_of, IsPartOf}
 use Rattle.world_core.specs.Standing.{limit_of}
 use Rattle.world_core.specs.Room.{Room, line_overflow}
-use Rattle.schedule_replay.specs.Fronts.{IsFrontOf}
-use Rattle.schedule_replay.specs.NextLine.{ended, StopsReading}
+use Rattle.schedule_lines.specs.Fronts.{IsFrontOf}
+use Rattle.schedule_lines.specs.NextLine.{ended, StopsReading}
 
 -- each line is within its bounds; only the first may set the times
 abbrev pub AreLines : ℕ → List Line → Type 0
@@ -143,14 +142,6 @@ abbrev pub IsWhole : List Line → Option (List ℕ) → Option (List ℕ) → S
 IsWhole lines sink_before sink_after status.Done = Puts sink_before sink_after (trace_text (run_of lines).entries)
 IsWhole lines sink_before sink_after status.OutOfMemory = Unit {0}
 IsWhole lines sink_before sink_after _ = ⊥
-
--- A fault is told only where that object's count rose, with the count.
-abbrev pub HasCause : ℕ → ℕ → ℕ → ℕ → Status → Type 0
-HasCause source_before source_after sink_before sink_after (status.SourceFault count) =
-    Rose source_before source_after × (count ≡ source_after)
-HasCause source_before source_after sink_before sink_after (status.SinkFault count) =
-    Rose sink_before sink_after × (count ≡ sink_after)
-HasCause source_before source_after sink_before sink_after _ = Unit {0}
 
 -- Where the source has a schedule whose lines are all well formed, legal and within the limits, the replay is done and its
 -- trace is whole, unless memory runs out.

@@ -3,33 +3,17 @@ use Rattle.std.specs.Prelude.{ℕ, ◌==◌, ◌≡◌, ◌⊎◌, Option, Some,
 use Rattle.xt_base.specs.declared.status.Status.{Status}
 use Rattle.xt_base.specs.declared.status.Status.TheVariants as status
 use Rattle.node_links.specs.Streams.{Takes, Puts}
-use Rattle.xt_base.specs.Faults.{Rose}
 use Rattle.time_line.specs.declared.line.Line.{Line}
 use Rattle.time_line.specs.declared.entry.Entry.{Entry}
 use Rattle.schedule_text.specs.LineText.{line_text, IsLine}
 use Rattle.schedule_text.specs.EntryText.{trace_text}
-use Rattle.schedule_text.specs.StatusText.{last_line}
 use Rattle.world_hull.specs.declared.errors.WorldErr.{WorldErr}
 use Rattle.world_hull.specs.declared.errors.WorldErr.TheVariants as error
 use Rattle.world_core.specs.Standing.{Standing, IsDone}
 use Rattle.world_core.specs.Room.{Room, line_overflow}
-use Rattle.schedule_replay.specs.Fronts.{PutsFront}
-use Rattle.schedule_replay.specs.NextLine.{ended}
-use Rattle.schedule_replay.specs.Replay.{EndsAt, ShowsFiles, HasCause}
-
--- the text was put, or the sink failed behind a front of it
-abbrev pub IsPut : Option (List ℕ) → Option (List ℕ) → List ℕ → Option Status → Type 0
-IsPut old new text None = Puts old new text
-IsPut old new text (Some (status.SinkFault count)) = PutsFront old new text
-IsPut old new text (Some status.OutOfMemory) = Puts old new []
-IsPut old new text (Some _) = ⊥
-
--- the last line of the status was put, or the sink failed behind a front of it, or there was no memory for its text
-abbrev pub IsFinished : Option (List ℕ) → Option (List ℕ) → Status → Status → Type 0
-IsFinished old new s given =
-    ((given ≡ s) × Puts old new (last_line s))
-    ⊎ ((count : ℕ) × (given ≡ status.SinkFault count) × PutsFront old new (last_line s))
-    ⊎ ((given ≡ status.OutOfMemory) × Puts old new [])
+use Rattle.schedule_lines.specs.NextLine.{ended}
+use Rattle.schedule_lines.specs.Causes.{HasCause}
+use Rattle.schedule_replay.specs.Replay.{EndsAt, ShowsFiles}
 
 -- The line is done: it was taken and applied, and what it adds to the trace was put.
 pub record IsNext (room : Room) (source_before source_after sink_before sink_after : Option (List ℕ)) (old new : Standing) : Type 0 where
@@ -57,22 +41,6 @@ pub record IsEnd (room : Room) (source_before source_after sink_before sink_afte
 abbrev pub IsStep : Room → Option (List ℕ) → Option (List ℕ) → Option (List ℕ) → Option (List ℕ) → Standing → Standing → Option Status → Type 0
 IsStep room source_before source_after sink_before sink_after old new None = IsNext room source_before source_after sink_before sink_after old new
 IsStep room source_before source_after sink_before sink_after old new (Some s) = IsEnd room source_before source_after sink_before sink_after old s
-
--- the sink's count of faults rose exactly where it is told to have failed, with that count
-abbrev pub CausesPut : ℕ → ℕ → Option Status → Type 0
-CausesPut before later None = later ≡ before
-CausesPut before later (Some (status.SinkFault count)) = Rose before later × (count ≡ later)
-CausesPut before later (Some _) = later ≡ before
-
--- a failure of the sink is told only where its count of faults rose, with that count
-abbrev pub CausesEnd : ℕ → ℕ → Status → Type 0
-CausesEnd before later (status.SinkFault count) = Rose before later × (count ≡ later)
-CausesEnd before later _ = Unit {0}
-
--- the status doesn't tell of the sink
-abbrev pub IsNoSinkFault : Status → Type 0
-IsNoSinkFault (status.SinkFault count) = ⊥
-IsNoSinkFault _ = Unit {0}
 
 -- no count rose where the replay goes on, and the status where it ends has its cause
 abbrev pub CausesStep : ℕ → ℕ → ℕ → ℕ → Option Status → Type 0

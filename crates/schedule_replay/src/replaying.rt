@@ -4,24 +4,26 @@ ghost use Rattle.world_runs.specs.World.{start_world};
 ghost use Rattle.world_core.specs.Standing.{Standing, standing};
 ghost use Rattle.disk_hull.specs.Room.{journal_overflow};
 ghost use Rattle.world_core.specs.Room.{Room};
-ghost use Rattle.schedule_replay.specs.Replay.{IsReplay, HasCause, Completes};
+ghost use Rattle.schedule_lines.specs.Causes.{HasCause};
+ghost use Rattle.schedule_replay.specs.Replay.{IsReplay, Completes};
 ghost use Rattle.schedule_replay.specs.Steps.{IsEnd};
 
-use crate::ending::finish;
-use crate::reading::take_byte;
 use crate::step::replay_line;
 use disk_hull::DiskHull;
 use node_links::{Sink, Source};
+use schedule_lines::{finish, take_byte};
 use std::alloc::Global;
+use time_line::LINES;
 use world_core::World;
 use world_hull::Hull;
-use world_runs::LINES;
 use xt_base::{Failed, Limited, Status};
 
 /// Ends a replay behind as many lines as a schedule may have.
 fn past_last<S: Source, K: Sink>(alloc: Global, src: &mut S, out: &mut K) -> Status
-    ensures end { (room : Room) → (w : Standing) → length w.world.lines ≡ LINES → IsEnd room (S.left src.old) (S.left src.new) (K.held out.old) (K.held out.new) w result }
-    ensures cause { HasCause (S.fault_count src.old) (S.fault_count src.new) (K.fault_count out.old) (K.fault_count out.new) result }
+    ensures end { (room : Room) → (w : Standing) → length w.world.lines ≡ LINES →
+        IsEnd room (S.left src.old) (S.left src.new) (K.held out.old) (K.held out.new) w result }
+    ensures cause { HasCause (S.fault_count src.old) (S.fault_count src.new) (K.fault_count out.old)
+        (K.fault_count out.new) result }
 {
     match take_byte(src) {
         Ok(None) => Status::Done,
@@ -52,8 +54,10 @@ fn replay_over<H: Hull, S: Source, K: Sink>(
 ) -> Status
     requires start { (standing H.kept world.old).world ≡ start_world }
     requires going { world.old.ended ≡ false }
-    ensures replay { IsReplay H.overflow (S.left src.old) (S.left src.new) (K.held out.old) (K.held out.new) result }
-    ensures cause { HasCause (S.fault_count src.old) (S.fault_count src.new) (K.fault_count out.old) (K.fault_count out.new) result }
+    ensures replay { IsReplay H.overflow (S.left src.old) (S.left src.new) (K.held out.old)
+        (K.held out.new) result }
+    ensures cause { HasCause (S.fault_count src.old) (S.fault_count src.new) (K.fault_count out.old)
+        (K.fault_count out.new) result }
 {
     let mut raw = Vec::new(alloc);
     for _line in 0..LINES {
@@ -68,11 +72,15 @@ fn replay_over<H: Hull, S: Source, K: Sink>(
 /// Replays the schedule that the source gives, and puts its trace.
 pub fn replay<S: Source, K: Sink>(alloc: Global, src: &mut S, out: &mut K) -> Status
     // The trace is that of a run of the lines that were taken, over journals of the limited length.
-    ensures replay { IsReplay journal_overflow (S.left src.old) (S.left src.new) (K.held out.old) (K.held out.new) result }
-    // A fault is told only where its object's count rose.
-    ensures cause { HasCause (S.fault_count src.old) (S.fault_count src.new) (K.fault_count out.old) (K.fault_count out.new) result }
+    ensures replay { IsReplay journal_overflow (S.left src.old) (S.left src.new) (K.held out.old)
+        (K.held out.new) result }
+    // A fault ends the replay and is told, where its object's count rose; with any other status no count did.
+    ensures cause { HasCause (S.fault_count src.old) (S.fault_count src.new) (K.fault_count out.old)
+        (K.fault_count out.new) result }
     // A good schedule is done whole, where neither the source nor the sink fails, unless memory runs out.
-    ensures complete { (Rose (S.fault_count src.old) (S.fault_count src.new) → ⊥) → (Rose (K.fault_count out.old) (K.fault_count out.new) → ⊥) → Completes journal_overflow (S.left src.old) (K.held out.old) (K.held out.new) result }
+    ensures complete { (Rose (S.fault_count src.old) (S.fault_count src.new) → ⊥) →
+        (Rose (K.fault_count out.old) (K.fault_count out.new) → ⊥) →
+        Completes journal_overflow (S.left src.old) (K.held out.old) (K.held out.new) result }
 {
     let mut world = World::new(alloc, DiskHull::new(alloc));
     replay_over(alloc, &mut world, src, out)

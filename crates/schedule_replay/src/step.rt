@@ -5,14 +5,12 @@ ghost use Rattle.world_core.specs.Standing.{standing, IsDone, IsRefused};
 ghost use Rattle.schedule_replay.specs.Replay.{ShowsFiles};
 ghost use Rattle.schedule_replay.specs.Steps.{IsStep, CausesStep, Grown, status_for};
 
-use crate::ending::{finish, put_entries};
-use crate::next::{NextLine, next_line};
 use node_links::{Sink, Source};
+use schedule_lines::{NextLine, finish, next_line, put_entries};
 use std::alloc::Global;
-use time_line::Line;
+use time_line::{LINES, Line};
 use world_core::World;
 use world_hull::{Hull, WorldErr};
-use world_runs::LINES;
 use xt_base::Status;
 
 /// The status with which a line ends a replay that isn't done.
@@ -32,8 +30,10 @@ fn apply<H: Hull>(world: &mut World<H>, line: Line) -> Result<(), WorldErr>
     requires going { world.old.ended ≡ false }
     requires values { FitsLine line }
     ensures done { OnOk result (IsDone (standing H.kept world.old) line (standing H.kept world.new)) }
-    ensures refused { IfErr result (IsRefused (standing H.kept world.old) line (standing H.kept world.new)) }
-    ensures room { IsRoomTold (line_overflow H.overflow (standing H.kept world.old).world line) world.new.world.entries result }
+    ensures refused { IfErr result
+        (IsRefused (standing H.kept world.old) line (standing H.kept world.new)) }
+    ensures room { IsRoomTold (line_overflow H.overflow (standing H.kept world.old).world line)
+        world.new.world.entries result }
     ensures grown { Grown world.old.world.entries world.new.world.entries }
     ensures shows { ShowsFiles world.new.world.entries }
 {
@@ -51,8 +51,10 @@ pub fn replay_line<H: Hull, S: Source, K: Sink>(
 ) -> Option<Status>
     requires going { world.old.ended ≡ false }
     requires few { length world.old.world.lines < LINES }
-    ensures step { IsStep H.overflow (S.left src.old) (S.left src.new) (K.held out.old) (K.held out.new) (standing H.kept world.old) (standing H.kept world.new) result }
-    ensures cause { CausesStep (S.fault_count src.old) (S.fault_count src.new) (K.fault_count out.old) (K.fault_count out.new) result }
+    ensures step { IsStep H.overflow (S.left src.old) (S.left src.new) (K.held out.old)
+        (K.held out.new) (standing H.kept world.old) (standing H.kept world.new) result }
+    ensures cause { CausesStep (S.fault_count src.old) (S.fault_count src.new)
+        (K.fault_count out.old) (K.fault_count out.new) result }
 {
     let before = world.lines().len() as u64;
     let line = match next_line(alloc, src, raw, before) {

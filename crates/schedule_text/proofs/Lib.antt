@@ -1,7 +1,9 @@
 pub mod Digits
+pub mod EntryAgain
 pub mod Hex
+pub mod InLine
 pub mod LineAgain
-pub mod LineFits
 pub mod Many
 pub mod Trace
+pub mod TraceAgain
 pub mod WordsAgain

@@ -1,5 +1,5 @@
 -- A line that was written is read.
-use Rattle.std.proofs.Common.{◌≡◌, ℕ, ◌^◌, ◌<◌, ◌≤◌, Bool, List, [], ◌∷◌, Some, refl, sym, ap, subst, ◌∙◌, arith}
+use Rattle.std.proofs.Common.{◌≡◌, ℕ, ◌*◌, ◌^◌, ◌<◌, ◌≤◌, Bool, List, [], ◌∷◌, Some, refl, sym, ap, subst, ◌∙◌, arith}
 use Rattle.std.specs.Prelude.{codes}
 use Rattle.std.specs.Fmt.{decimal}
 use Rattle.xt_base.specs.declared.file.Kind.{Kind}
@@ -11,36 +11,38 @@ use Rattle.time_line.specs.declared.line.Line.{Line}
 use Rattle.time_line.specs.declared.line.Line.TheVariants as line
 use Rattle.xt_base.specs.declared.ids.NodeId.{NodeId}
 use Rattle.schedule_text.specs.Words.{spaced, hex_of, hex_pair}
-use Rattle.schedule_text.specs.LineText.{line_text, line_words, IsLine, IsPlace, IsOneOsd, IsCall, AreBytes}
+use Rattle.xt_base.specs.Limits.{AreBytes, FitsLocation, FitsMembers}
+use Rattle.time_line.specs.Bounds.{FitsCall}
+use Rattle.schedule_text.specs.LineText.{line_text, line_words, IsLine, IsPlace, IsOneOsd, IsCall}
 use Rattle.schedule_text.specs.CallText.{call_name, call_words, file_words}
 use Rattle.schedule_text.specs.Reading.{first_word, other_words}
-use Rattle.schedule_text.specs.LineReading.{times_at, osd_at, client_at, file_at, start_at, stop_at, crash_at, cut_at, tick_at, read_at, write_place, write_at, deliver_at, drop_at, settle_at, named_line, line_at}
+use Rattle.schedule_text.specs.LineReading.{times_at, osd_at, client_at, file_at, start_at, stop_at, crash_at, cut_at, tick_at, read_at, write_place, write_at, deliver_at, drop_at, settle_at, node_line, named_line, line_at}
 use Rattle.schedule_text.proofs.WordsAgain.{number_at_again, first_again, others_again, hex-IsWord, hex_again, pair-IsWord, byte_again}
 
 abbrev IsRead : Line → Type 0
 IsRead line = line_at (line_text line) ≡ Some line
 
 times_again : (lease drift : ℕ) → lease < 2 ^ 64 → drift < 2 ^ 64 → IsRead (line.Times lease drift)
-unfolding line_text line_words line_at named_line times_at first_word other_words
+unfolding line_text line_words line_at named_line node_line times_at first_word other_words
 times_again lease drift p q =
     rw (number_at_again 64 lease (decimal drift ∷ []) p (omega arith), number_at_again 64 drift [] q (omega arith)) refl
 
 osd_again : (node : NodeId) → node.0 < 2 ^ 32 → IsRead (line.Osd node)
-unfolding line_text line_words line_at named_line osd_at first_word other_words
+unfolding line_text line_words line_at named_line node_line osd_at first_word other_words
 osd_again node p = rw (number_at_again 32 node.0 [] p (omega arith)) refl
 
 client_again : (node : NodeId) (clock : ℕ) → node.0 < 2 ^ 32 → clock < 2 ^ 64 → IsRead (line.Client node clock)
-unfolding line_text line_words line_at named_line client_at first_word other_words
+unfolding line_text line_words line_at named_line node_line client_at first_word other_words
 client_again node clock p q =
     rw (number_at_again 32 node.0 (decimal clock ∷ []) p (omega arith), number_at_again 64 clock [] q (omega arith)) refl
 
 start_again : (node : NodeId) (clock : ℕ) → node.0 < 2 ^ 32 → clock < 2 ^ 64 → IsRead (line.Start node clock)
-unfolding line_text line_words line_at named_line start_at first_word other_words
+unfolding line_text line_words line_at named_line node_line start_at first_word other_words
 start_again node clock p q =
     rw (number_at_again 32 node.0 (decimal clock ∷ []) p (omega arith), number_at_again 64 clock [] q (omega arith)) refl
 
 stop_again : (node : NodeId) → node.0 < 2 ^ 32 → IsRead (line.Stop node)
-unfolding line_text line_words line_at named_line stop_at first_word other_words
+unfolding line_text line_words line_at named_line node_line stop_at first_word other_words
 stop_again node p = rw (number_at_again 32 node.0 [] p (omega arith)) refl
 
 -- first_word stays as it is here, so the byte is passed by lemma
@@ -80,7 +82,7 @@ unfolding line_text line_words line_at named_line settle_at first_word other_wor
 settle_again count p = rw (number_at_again 128 count [] p p) refl
 
 -- where a replicated file lies that has one OSD
-abbrev on_one : ℕ → NodeId → Location
+abbrev pub on_one : ℕ → NodeId → Location
 on_one stripe node = record { version = 1; kind = Replicated; stripe = stripe; members = node ∷ [] }
 
 -- other_words stays as it is here, so the name is passed by lemma
@@ -95,7 +97,7 @@ file_again number stripe node p q r =
     ) refl
 
 file_line_again : (number stripe : ℕ) (node : NodeId) → number < 2 ^ 64 → stripe < 2 ^ 32 → node.0 < 2 ^ 32 → IsRead (line.File number (on_one stripe node))
-unfolding line_text line_words line_at named_line first_word other_words
+unfolding line_text line_words line_at named_line node_line first_word other_words
 file_line_again number stripe node p q r = file_again number stripe node p q r
 
 read_again : (client : NodeId) (file object at len : ℕ) → client.0 < 2 ^ 32 → file < 2 ^ 64 → object < 2 ^ 64 → at < 2 ^ 32 → len < 2 ^ 32 → IsRead (line.Call client (call.Read file object at len))
@@ -125,48 +127,49 @@ write_again : (client : NodeId) (file object at : ℕ) (bytes : List ℕ) → cl
 unfolding line_text line_words call_name line_at first_word other_words
 write_again client file object at bytes p q r s fits = write_words_again client file object at bytes p q r s fits
 
-one_of : (nodes : List NodeId) → IsOneOsd nodes → (node : NodeId) × (nodes ≡ node ∷ []) × (node.0 < 2 ^ 32)
-one_of [] one = absurd one
-one_of (node ∷ []) one = (node, refl, one)
-one_of (node ∷ next ∷ nodes) one = absurd one
+pub one_of : (nodes : List NodeId) → IsOneOsd nodes → FitsMembers nodes → (node : NodeId) × (nodes ≡ node ∷ []) × (node.0 < 2 ^ 32)
+one_of [] one fits = absurd one
+one_of (node ∷ []) one fits = (node, refl, fits.each.0)
+one_of (node ∷ next ∷ nodes) one fits = absurd one
 
-place_of : (version : ℕ) (kind : Kind) (stripe : ℕ) (members : List NodeId) (node : NodeId) → version ≡ 1 → kind ≡ Replicated → members ≡ node ∷ []
+pub place_of : (version : ℕ) (kind : Kind) (stripe : ℕ) (members : List NodeId) (node : NodeId) → version ≡ 1 → kind ≡ Replicated → members ≡ node ∷ []
     → (let location : Location = record { version = version; kind = kind; stripe = stripe; members = members } in location) ≡ on_one stripe node
 place_of version kind stripe members node p q r = rw (p, q, r) refl
 
-place_again : (number : ℕ) (location : Location) → number < 1000000 → IsPlace location → IsRead (line.File number location)
-place_again number location p place =
-    let one = one_of location.members place.one in
+place_again : (number : ℕ) (location : Location) → number < 1000000 → IsPlace location → FitsLocation location → IsRead (line.File number location)
+place_again number location p place fits =
+    let one = one_of location.members place.one fits.nodes in
     let e : location ≡ on_one location.stripe one.0 = place_of location.version location.kind location.stripe location.members one.0 place.version place.kind one.1 in
-    let most : location.stripe ≤ 131072 = place.stripe.most in
+    let most : location.stripe ≤ 131072 = fits.size.most in
     subst (λ (l : Location). IsRead (line.File number l)) (sym e) (file_line_again number location.stripe one.0 (omega arith) (omega arith) one.2)
 
 -- a call that was written is read
-call_again : (client : NodeId) (made : Call) → client.0 < 2 ^ 32 → IsCall made → IsRead (line.Call client made)
-call_again client (call.Read file object at len) p range =
-    read_again client file object at len p range.file_fits (omega arith) range.at_fits (omega arith)
-call_again client (call.Write file object at bytes) p written =
-    write_again client file object at bytes p written.0.file_fits (omega arith) written.0.at_fits written.1
-call_again client (call.Truncate file size epoch) p never = absurd never
-call_again client (call.Meta user group wanted) p never = absurd never
-call_again client (call.Report user group file) p never = absurd never
-call_again client (call.Registry wanted) p never = absurd never
+call_again : (client : NodeId) (made : Call) → client.0 < 2 ^ 32 → IsCall made → FitsCall made → IsRead (line.Call client made)
+call_again client (call.Read file object at len) p made (q, r, s, t, u) = read_again client file object at len p q (omega arith) s (omega arith)
+call_again client (call.Write file object at bytes) p made (q, r, s, t, u) = write_again client file object at bytes p q (omega arith) s t.all
+call_again client (call.Truncate file size epoch) p never fits = absurd never
+call_again client (call.Meta user group wanted) p never fits = absurd never
+call_again client (call.Report user group file) p never fits = absurd never
+call_again client (call.Registry wanted) p never fits = absurd never
 
 -- a line that was written is read
 pub line_again : (first : Bool) (l : Line) → IsLine first l → IsRead l
-line_again first (line.Times lease drift) h = times_again lease drift (omega arith) (omega arith)
-line_again first (line.Osd node) h = osd_again node h
-line_again first (line.Client node clock) h = client_again node clock h.0 (omega arith)
-line_again first (line.File number location) h = place_again number location h.0 h.1
-line_again first (line.Start node clock) h = start_again node clock h.0 (omega arith)
-line_again first (line.Stop node) h = stop_again node h
-line_again first (line.Crash node device_call fill) h = crash_again node device_call fill h.0 (omega arith) h.3
-line_again first (line.Cut node count) h = cut_again node count h.0 h.1
-line_again first (line.Tick count) h = tick_again count (omega arith)
-line_again first (line.Call client made) h = call_again client made h.0 h.1
-line_again first (line.Deliver number) h = deliver_again number h
-line_again first (line.Drop number) h = drop_again number h
-line_again first (line.Settle count) h = settle_again count h
+line_again first (line.Times lease drift) (form, fits) =
+    let short : 2 * drift < lease = fits.short in
+    let small : lease < 2 ^ 40 = fits.small in
+    times_again lease drift (omega arith) (omega arith)
+line_again first (line.Osd node) (form, fits) = osd_again node fits
+line_again first (line.Client node clock) (form, (p, q)) = client_again node clock p (omega arith)
+line_again first (line.File number location) (form, (p, fits)) = place_again number location p form fits
+line_again first (line.Start node clock) (form, (p, q)) = start_again node clock p (omega arith)
+line_again first (line.Stop node) (form, fits) = stop_again node fits
+line_again first (line.Crash node device_call fill) (form, (p, q, r, s)) = crash_again node device_call fill p (omega arith) s
+line_again first (line.Cut node count) (form, fits) = cut_again node count fits form
+line_again first (line.Tick count) (form, fits) = tick_again count (omega arith)
+line_again first (line.Call client made) (form, (p, fits)) = call_again client made p form fits
+line_again first (line.Deliver number) (form, fits) = deliver_again number form
+line_again first (line.Drop number) (form, fits) = drop_again number form
+line_again first (line.Settle count) (form, fits) = settle_again count form
 
 -- no two lines are spelled alike
 pub one_line : (first second : Bool) (a b : Line) → IsLine first a → IsLine second b → line_text a ≡ line_text b → a ≡ b

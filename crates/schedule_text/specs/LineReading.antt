@@ -103,23 +103,28 @@ settle_at words = do
   count ← number_at 128 words
   Some (line.Settle count.0)
 
--- the line of this name
-unfoldable pub named_line : List ℕ → List ℕ → Option Line
-named_line name words =
+-- the line of this name, of those that set the times, declare, start or stop
+unfoldable pub node_line : List ℕ → List ℕ → Option Line
+node_line name words =
     if bytes_eq name (codes "times") then times_at words
     else if bytes_eq name (codes "osd") then osd_at words
     else if bytes_eq name (codes "client") then client_at words
     else if bytes_eq name (codes "file") then file_at words
     else if bytes_eq name (codes "start") then start_at words
     else if bytes_eq name (codes "stop") then stop_at words
-    else if bytes_eq name (codes "crash") then crash_at words
+    else None
+
+-- the line of this name, of all but a write
+unfoldable pub named_line : List ℕ → List ℕ → Option Line
+named_line name words =
+    if bytes_eq name (codes "crash") then crash_at words
     else if bytes_eq name (codes "cut") then cut_at words
     else if bytes_eq name (codes "tick") then tick_at words
     else if bytes_eq name (codes "read") then read_at words
     else if bytes_eq name (codes "deliver") then deliver_at words
     else if bytes_eq name (codes "drop") then drop_at words
     else if bytes_eq name (codes "settle") then settle_at words
-    else None
+    else node_line name words
 
 -- the line that the bytes may spell
 unfoldable pub line_at : List ℕ → Option Line

@@ -1,19 +1,21 @@
-ghost use Rattle.std.specs.Prelude.{◌≡◌, ◌<◌, ◌^◌, ◌↔◌, IsTrue, length};
-ghost use Rattle.schedule_text.specs.LineText.{IsLine, IsPlace, IsStripe, IsOneOsd, IsRange, AreBytes, IsCall};
+ghost use Rattle.std.specs.Prelude.{◌≡◌, ◌<◌, ◌^◌, ◌↔◌, IsTrue};
+ghost use Rattle.xt_base.specs.Limits.{FitsStripe, FitsMembers, FitsLocation};
+ghost use Rattle.time_line.specs.Bounds.{FitsCall};
+ghost use Rattle.schedule_text.specs.LineText.{IsLine, IsPlace, IsOneOsd, IsCall};
 
 use time_line::Line;
 use xt_base::{BODY, COUNTS, Call, Kind, Location, NodeId, Times};
 
 /// Whether a stripe is 1,024 to 131,072 bytes, in steps of 1,024.
 pub(crate) fn is_stripe(stripe: u32) -> bool
-    ensures { IsTrue result ↔ IsStripe stripe }
+    ensures { IsTrue result ↔ FitsStripe stripe }
 {
     (1_024..=131_072).contains(&stripe) && stripe % 1_024 == 0
 }
 
 /// Whether the nodes are one OSD.
 pub(crate) fn is_one_osd(nodes: &[NodeId]) -> bool
-    ensures { IsTrue result ↔ IsOneOsd nodes.now }
+    ensures { IsTrue result ↔ (IsOneOsd nodes.now × FitsMembers nodes.now) }
 {
     match nodes {
         [node] => {
@@ -26,7 +28,7 @@ pub(crate) fn is_one_osd(nodes: &[NodeId]) -> bool
 
 /// Whether a schedule may put a file so.
 pub(crate) fn is_place(location: &Location) -> bool
-    ensures { IsTrue result ↔ IsPlace location.now }
+    ensures { IsTrue result ↔ (IsPlace location.now × FitsLocation location.now) }
 {
     location.version == 1
         && location.kind == Kind::Replicated
@@ -34,23 +36,23 @@ pub(crate) fn is_place(location: &Location) -> bool
         && is_one_osd(location.members.as_slice())
 }
 
-/// Whether a call may have this range of an object.
-pub(crate) fn is_range(file: u64, object: u64, at: u32, len: usize) -> bool
-    ensures { IsTrue result ↔ IsRange file object at len }
+/// Whether a call may read this range of an object.
+pub(crate) fn is_read(file: u64, object: u64, at: u32, len: u32) -> bool
+    ensures { IsTrue result ↔ FitsCall (Call.Read file object at len) }
 {
-    object < 1 << 32 && (1..=BODY).contains(&len)
+    object < 1 << 32 && (1..=BODY).contains(&(len as usize))
 }
 
 /// Whether a call may write these bytes to an object.
 pub(crate) fn is_written(file: u64, object: u64, at: u32, bytes: &[u8]) -> bool
-    ensures { IsTrue result ↔ (IsRange file object at (length bytes.now) × AreBytes bytes.now) }
+    ensures { IsTrue result ↔ FitsCall (Call.Write file object at bytes.now) }
 {
-    is_range(file, object, at, bytes.len())
+    object < 1 << 32 && (1..=BODY).contains(&bytes.len())
 }
 
 /// Whether a schedule may make the call.
 pub(crate) fn is_call(call: &Call) -> bool
-    ensures { IsTrue result ↔ IsCall call.now }
+    ensures { IsTrue result ↔ (IsCall call.now × FitsCall call.now) }
 {
     match call {
         Call::Read {
@@ -58,7 +60,7 @@ pub(crate) fn is_call(call: &Call) -> bool
             object,
             at,
             len,
-        } => is_range(*file, *object, *at, *len as usize),
+        } => is_read(*file, *object, *at, *len),
         Call::Write {
             file,
             object,

@@ -14,7 +14,8 @@ fn push_read(
     at: u32,
     len: u32,
 ) -> Result<(), OutOfMemory>
-    ensures { OnOk result (out.new.items ≡ out.old.items ++ behind (decimal file ∷ decimal object ∷ decimal at ∷ decimal len ∷ [])) }
+    ensures { OnOk result (out.new.items ≡
+        out.old.items ++ behind (decimal file ∷ decimal object ∷ decimal at ∷ decimal len ∷ [])) }
 {
     push_number(out, file)?;
     push_number(out, object)?;
@@ -30,7 +31,9 @@ fn push_write(
     at: u32,
     bytes: &Octets,
 ) -> Result<(), OutOfMemory>
-    ensures { OnOk result (out.new.items ≡ out.old.items ++ behind (decimal file ∷ decimal object ∷ decimal at ∷ hex_of bytes.now ∷ [])) }
+    ensures { OnOk result (out.new.items ≡
+        out.old.items ++
+        behind (decimal file ∷ decimal object ∷ decimal at ∷ hex_of bytes.now ∷ [])) }
 {
     push_number(out, file)?;
     push_number(out, object)?;
@@ -40,7 +43,8 @@ fn push_write(
 
 /// Appends ` F SIZE EPOCH`.
 fn push_truncate(out: &mut Vec<u8>, file: u64, size: u64, epoch: u64) -> Result<(), OutOfMemory>
-    ensures { OnOk result (out.new.items ≡ out.old.items ++ behind (decimal file ∷ decimal size ∷ decimal epoch ∷ [])) }
+    ensures { OnOk result (out.new.items ≡
+        out.old.items ++ behind (decimal file ∷ decimal size ∷ decimal epoch ∷ [])) }
 {
     push_number(out, file)?;
     push_number(out, size)?;
@@ -49,7 +53,8 @@ fn push_truncate(out: &mut Vec<u8>, file: u64, size: u64, epoch: u64) -> Result<
 
 /// Appends ` USER GROUP`.
 fn push_asker(out: &mut Vec<u8>, user: u32, group: u32) -> Result<(), OutOfMemory>
-    ensures { OnOk result (out.new.items ≡ out.old.items ++ behind (decimal user ∷ decimal group ∷ [])) }
+    ensures { OnOk result (out.new.items ≡
+        out.old.items ++ behind (decimal user ∷ decimal group ∷ [])) }
 {
     push_number(out, u64::from(user))?;
     push_number(out, u64::from(group))
@@ -57,7 +62,8 @@ fn push_asker(out: &mut Vec<u8>, user: u32, group: u32) -> Result<(), OutOfMemor
 
 /// Appends ` report F`.
 fn push_report(out: &mut Vec<u8>, file: u64) -> Result<(), OutOfMemory>
-    ensures { OnOk result (out.new.items ≡ out.old.items ++ behind (codes "report" ∷ decimal file ∷ [])) }
+    ensures { OnOk result (out.new.items ≡
+        out.old.items ++ behind (codes "report" ∷ decimal file ∷ [])) }
 {
     push_word(out, b"report")?;
     push_number(out, file)
@@ -117,7 +123,8 @@ fn push_path_and_mode(
     path: &Name,
     mode: u16,
 ) -> Result<(), OutOfMemory>
-    ensures { OnOk result (out.new.items ≡ out.old.items ++ behind (verb.now ∷ path.now ∷ mode_word mode ∷ [])) }
+    ensures { OnOk result (out.new.items ≡
+        out.old.items ++ behind (verb.now ∷ path.now ∷ mode_word mode ∷ [])) }
 {
     push_path(out, verb, path)?;
     push_mode(out, mode)
@@ -132,7 +139,10 @@ fn push_create(
     n: u8,
     stripe: u32,
 ) -> Result<(), OutOfMemory>
-    ensures { OnOk result (out.new.items ≡ out.old.items ++ behind (codes "create" ∷ path.now ∷ mode_word mode ∷ kind_word kind ∷ decimal n ∷ decimal stripe ∷ [])) }
+    ensures { OnOk result (out.new.items ≡
+        out.old.items ++
+        behind (codes "create" ∷ path.now ∷ mode_word mode ∷ kind_word kind ∷ decimal n
+        ∷ decimal stripe ∷ [])) }
 {
     push_path_and_mode(out, b"create", path, mode)?;
     push_word(out, kind_word(kind))?;
@@ -142,7 +152,8 @@ fn push_create(
 
 /// Appends ` rename PATH PATH`.
 fn push_rename(out: &mut Vec<u8>, from: &Name, to: &Name) -> Result<(), OutOfMemory>
-    ensures { OnOk result (out.new.items ≡ out.old.items ++ behind (codes "rename" ∷ from.now ∷ to.now ∷ [])) }
+    ensures { OnOk result (out.new.items ≡
+        out.old.items ++ behind (codes "rename" ∷ from.now ∷ to.now ∷ [])) }
 {
     push_path(out, b"rename", from)?;
     push_word(out, to.as_str().as_bytes())
@@ -150,7 +161,8 @@ fn push_rename(out: &mut Vec<u8>, from: &Name, to: &Name) -> Result<(), OutOfMem
 
 /// Appends ` list PATH NAME|-`.
 fn push_list(out: &mut Vec<u8>, path: &Name, after: &Name) -> Result<(), OutOfMemory>
-    ensures { OnOk result (out.new.items ≡ out.old.items ++ behind (codes "list" ∷ path.now ∷ name_or_dash after.now ∷ [])) }
+    ensures { OnOk result (out.new.items ≡
+        out.old.items ++ behind (codes "list" ∷ path.now ∷ name_or_dash after.now ∷ [])) }
 {
     push_path(out, b"list", path)?;
     push_name_or_dash(out, after)
@@ -158,7 +170,8 @@ fn push_list(out: &mut Vec<u8>, path: &Name, after: &Name) -> Result<(), OutOfMe
 
 /// Appends ` grant PATH read|write|truncate`.
 fn push_grant(out: &mut Vec<u8>, path: &Name, want: u8) -> Result<(), OutOfMemory>
-    ensures { OnOk result (out.new.items ≡ out.old.items ++ behind (codes "grant" ∷ path.now ∷ want_word want ∷ [])) }
+    ensures { OnOk result (out.new.items ≡
+        out.old.items ++ behind (codes "grant" ∷ path.now ∷ want_word want ∷ [])) }
 {
     push_path(out, b"grant", path)?;
     push_want(out, want)
@@ -197,7 +210,10 @@ fn push_set(
     address: &Name,
     expected: u64,
 ) -> Result<(), OutOfMemory>
-    ensures { OnOk result (out.new.items ≡ out.old.items ++ behind (codes "set" ∷ decimal node.0 ∷ decimal kind ∷ address.now ∷ decimal expected ∷ [])) }
+    ensures { OnOk result (out.new.items ≡
+        out.old.items ++
+        behind (codes "set" ∷ decimal node.0 ∷ decimal kind ∷ address.now ∷ decimal expected
+        ∷ [])) }
 {
     push_word(out, b"set")?;
     push_node(out, node)?;
@@ -208,7 +224,8 @@ fn push_set(
 
 /// Appends ` get NODE`.
 fn push_get(out: &mut Vec<u8>, node: NodeId) -> Result<(), OutOfMemory>
-    ensures { OnOk result (out.new.items ≡ out.old.items ++ behind (codes "get" ∷ decimal node.0 ∷ [])) }
+    ensures { OnOk result (out.new.items ≡
+        out.old.items ++ behind (codes "get" ∷ decimal node.0 ∷ [])) }
 {
     push_word(out, b"get")?;
     push_node(out, node)
@@ -216,7 +233,8 @@ fn push_get(out: &mut Vec<u8>, node: NodeId) -> Result<(), OutOfMemory>
 
 /// Appends ` list KIND AFTER`.
 fn push_rows_after(out: &mut Vec<u8>, kind: u8, after: NodeId) -> Result<(), OutOfMemory>
-    ensures { OnOk result (out.new.items ≡ out.old.items ++ behind (codes "list" ∷ decimal kind ∷ decimal after.0 ∷ [])) }
+    ensures { OnOk result (out.new.items ≡
+        out.old.items ++ behind (codes "list" ∷ decimal kind ∷ decimal after.0 ∷ [])) }
 {
     push_word(out, b"list")?;
     push_number(out, u64::from(kind))?;
@@ -225,7 +243,8 @@ fn push_rows_after(out: &mut Vec<u8>, kind: u8, after: NodeId) -> Result<(), Out
 
 /// Appends ` remove NODE EXPECTED`.
 fn push_remove(out: &mut Vec<u8>, node: NodeId, expected: u64) -> Result<(), OutOfMemory>
-    ensures { OnOk result (out.new.items ≡ out.old.items ++ behind (codes "remove" ∷ decimal node.0 ∷ decimal expected ∷ [])) }
+    ensures { OnOk result (out.new.items ≡
+        out.old.items ++ behind (codes "remove" ∷ decimal node.0 ∷ decimal expected ∷ [])) }
 {
     push_word(out, b"remove")?;
     push_node(out, node)?;
@@ -300,7 +319,8 @@ fn push_meta_call(
     group: u32,
     request: &MetaReq,
 ) -> Result<(), OutOfMemory>
-    ensures { OnOk result (out.new.items ≡ out.old.items ++ behind (decimal user ∷ decimal group ∷ meta_words request.now)) }
+    ensures { OnOk result (out.new.items ≡
+        out.old.items ++ behind (decimal user ∷ decimal group ∷ meta_words request.now)) }
 {
     push_asker(out, user, group)?;
     push_meta(out, request)
@@ -308,7 +328,9 @@ fn push_meta_call(
 
 /// Appends ` USER GROUP report F`.
 fn push_report_call(out: &mut Vec<u8>, user: u32, group: u32, file: u64) -> Result<(), OutOfMemory>
-    ensures { OnOk result (out.new.items ≡ out.old.items ++ behind (decimal user ∷ decimal group ∷ codes "report" ∷ decimal file ∷ [])) }
+    ensures { OnOk result (out.new.items ≡
+        out.old.items ++
+        behind (decimal user ∷ decimal group ∷ codes "report" ∷ decimal file ∷ [])) }
 {
     push_asker(out, user, group)?;
     push_report(out, file)

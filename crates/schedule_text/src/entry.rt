@@ -1,9 +1,11 @@
-ghost use Rattle.std.specs.Prelude.{◌≡◌, ◌++◌, ◌∷◌, [], OnOk, IfOk, codes};
+ghost use Rattle.std.specs.Prelude.{◌≡◌, ◌++◌, ◌∷◌, [], List, OnOk, IfOk, codes};
+ghost use Rattle.std.specs.List.{AllByRecursion};
 ghost use Rattle.std.specs.Fmt.{decimal};
 ghost use Rattle.schedule_text.specs.Words.{behind, spaced, hex_or_dash};
 ghost use Rattle.schedule_text.specs.CallText.{call_name, call_words};
 ghost use Rattle.schedule_text.specs.OutcomeText.{outcome_words};
-ghost use Rattle.schedule_text.specs.EntryText.{entry_text, trace_text, update_words, halt_word};
+ghost use Rattle.time_line.specs.declared.entry.Entry.{Entry};
+ghost use Rattle.schedule_text.specs.EntryText.{entry_text, trace_text, update_words, halt_word, IsEntry};
 
 use crate::call::{call_name, push_call};
 use crate::outcome::push_outcome;
@@ -17,7 +19,8 @@ use xt_base::{Boot, Call, NodeId, Octets, OpId, OutOfMemory, Outcome};
 
 /// Appends ` CLIENT NUMBER`.
 fn push_id(out: &mut Vec<u8>, id: OpId) -> Result<(), OutOfMemory>
-    ensures { OnOk result (out.new.items ≡ out.old.items ++ behind (decimal id.client.0 ∷ decimal id.number ∷ [])) }
+    ensures { OnOk result (out.new.items ≡
+        out.old.items ++ behind (decimal id.client.0 ∷ decimal id.number ∷ [])) }
 {
     push_node(out, id.client)?;
     push_number(out, id.number)
@@ -25,7 +28,9 @@ fn push_id(out: &mut Vec<u8>, id: OpId) -> Result<(), OutOfMemory>
 
 /// Appends `up N BOOT CLOCK`.
 fn push_up(out: &mut Vec<u8>, node: NodeId, boot: Boot, clock: u64) -> Result<(), OutOfMemory>
-    ensures { OnOk result (out.new.items ≡ out.old.items ++ spaced (codes "up" ∷ decimal node.0 ∷ decimal boot.0 ∷ decimal clock ∷ [])) }
+    ensures { OnOk result (out.new.items ≡
+        out.old.items ++
+        spaced (codes "up" ∷ decimal node.0 ∷ decimal boot.0 ∷ decimal clock ∷ [])) }
 {
     push_clock(out, b"up", node, boot.0)?;
     push_number(out, clock)
@@ -45,7 +50,9 @@ fn halt_word(how: Halt) -> &'static [u8]
 
 /// Appends `down N CLOCK` and how the node stopped.
 fn push_down(out: &mut Vec<u8>, node: NodeId, clock: u64, how: Halt) -> Result<(), OutOfMemory>
-    ensures { OnOk result (out.new.items ≡ out.old.items ++ spaced (codes "down" ∷ decimal node.0 ∷ decimal clock ∷ halt_word how ∷ [])) }
+    ensures { OnOk result (out.new.items ≡
+        out.old.items ++
+        spaced (codes "down" ∷ decimal node.0 ∷ decimal clock ∷ halt_word how ∷ [])) }
 {
     push_clock(out, b"down", node, clock)?;
     push_word(out, halt_word(how))
@@ -58,7 +65,10 @@ fn push_begin(
     number: u64,
     call: &Call,
 ) -> Result<(), OutOfMemory>
-    ensures { OnOk result (out.new.items ≡ out.old.items ++ spaced (codes "begin" ∷ decimal client.0 ∷ decimal number ∷ call_name call.now ∷ call_words call.now)) }
+    ensures { OnOk result (out.new.items ≡
+        out.old.items ++
+        spaced (codes "begin" ∷ decimal client.0 ∷ decimal number ∷ call_name call.now
+        ∷ call_words call.now)) }
 {
     push_clock(out, b"begin", client, number)?;
     push_word(out, call_name(call))?;
@@ -74,7 +84,8 @@ fn push_update(
     count: u64,
     id: OpId,
 ) -> Result<(), OutOfMemory>
-    ensures { OnOk result (out.new.items ≡ out.old.items ++ spaced (name.now ∷ update_words node file count id)) }
+    ensures { OnOk result (out.new.items ≡
+        out.old.items ++ spaced (name.now ∷ update_words node file count id)) }
 {
     push_clock(out, name, node, file)?;
     push_number(out, count)?;
@@ -90,7 +101,10 @@ fn push_answer(
     count: u64,
     bytes: &Octets,
 ) -> Result<(), OutOfMemory>
-    ensures { OnOk result (out.new.items ≡ out.old.items ++ spaced (codes "answer" ∷ decimal node.0 ∷ decimal file ∷ decimal id.client.0 ∷ decimal id.number ∷ decimal count ∷ hex_or_dash bytes.now ∷ [])) }
+    ensures { OnOk result (out.new.items ≡
+        out.old.items ++
+        spaced (codes "answer" ∷ decimal node.0 ∷ decimal file ∷ decimal id.client.0
+        ∷ decimal id.number ∷ decimal count ∷ hex_or_dash bytes.now ∷ [])) }
 {
     push_clock(out, b"answer", node, file)?;
     push_id(out, id)?;
@@ -105,7 +119,9 @@ fn push_done(
     number: u64,
     outcome: &Outcome,
 ) -> Result<(), OutOfMemory>
-    ensures { OnOk result (out.new.items ≡ out.old.items ++ spaced (codes "done" ∷ decimal client.0 ∷ decimal number ∷ outcome_words outcome.now)) }
+    ensures { OnOk result (out.new.items ≡
+        out.old.items ++
+        spaced (codes "done" ∷ decimal client.0 ∷ decimal number ∷ outcome_words outcome.now)) }
 {
     push_clock(out, b"done", client, number)?;
     push_outcome(out, outcome)
@@ -183,3 +199,15 @@ pub fn print_entries(alloc: Global, entries: &[Entry]) -> Result<Octets, OutOfMe
     }
     Ok(Octets::from(out))
 }
+
+/// Two entries of a schedule's trace, within the limits of their values, that are spelled alike are one entry.
+pub fn one_entry_a_spelling()
+    ensures { (a b : Entry) → IsEntry a → IsEntry b → entry_text a ≡ entry_text b → a ≡ b }
+{}
+
+/// Two traces of such entries that are spelled alike are one trace: so what is said of the entries of a trace is said of
+/// its bytes.
+pub fn one_trace_a_spelling()
+    ensures { (first second : List Entry) → AllByRecursion IsEntry first →
+        AllByRecursion IsEntry second → trace_text first ≡ trace_text second → first ≡ second }
+{}

@@ -1,5 +1,5 @@
 ghost use Rattle.std.specs.Prelude.{◌≡◌, IfOk, MatchOption, Some, None};
-ghost use Rattle.schedule_text.specs.LineReading.{times_at, osd_at, client_at, file_at, start_at, stop_at, crash_at, cut_at, tick_at, read_at, write_place, write_at, deliver_at, drop_at, settle_at, named_line, line_at};
+ghost use Rattle.schedule_text.specs.LineReading.{times_at, osd_at, client_at, file_at, start_at, stop_at, crash_at, cut_at, tick_at, read_at, write_place, write_at, deliver_at, drop_at, settle_at, node_line, named_line, line_at};
 
 use crate::words::{byte_of, bytes_of, cut, u8_at, u32_at, u64_at, u128_at};
 use std::alloc::Global;
@@ -154,10 +154,10 @@ pub(crate) fn settle(words: &[u8]) -> Option<Line>
     Some(Line::Settle { count })
 }
 
-/// A line of this name, of any but a write.
-#[tactic(auto, unfolding(crate::specs::LineReading::named_line))]
-pub(crate) fn named_line(name: &[u8], words: &[u8]) -> Option<Line>
-    ensures { result ≡ named_line name.now words.now }
+/// A line of this name, of those that set the times, declare, start or stop.
+#[tactic(auto, unfolding(crate::specs::LineReading::node_line))]
+pub(crate) fn node_line(name: &[u8], words: &[u8]) -> Option<Line>
+    ensures { result ≡ node_line name.now words.now }
 {
     if name == b"times".as_slice() {
         times(words)
@@ -171,7 +171,17 @@ pub(crate) fn named_line(name: &[u8], words: &[u8]) -> Option<Line>
         start(words)
     } else if name == b"stop".as_slice() {
         stop(words)
-    } else if name == b"crash".as_slice() {
+    } else {
+        None
+    }
+}
+
+/// A line of this name, of any but a write.
+#[tactic(auto, unfolding(crate::specs::LineReading::named_line))]
+pub(crate) fn named_line(name: &[u8], words: &[u8]) -> Option<Line>
+    ensures { result ≡ named_line name.now words.now }
+{
+    if name == b"crash".as_slice() {
         crash(words)
     } else if name == b"cut".as_slice() {
         cut_line(words)
@@ -186,14 +196,15 @@ pub(crate) fn named_line(name: &[u8], words: &[u8]) -> Option<Line>
     } else if name == b"settle".as_slice() {
         settle(words)
     } else {
-        None
+        node_line(name, words)
     }
 }
 
 /// The client, the file, the object and the place of a write, and the words behind them.
 #[tactic(auto, unfolding(crate::specs::LineReading::write_place))]
 pub(crate) fn write_place(words: &[u8]) -> Option<(NodeId, u64, u64, u32, &[u8])>
-    ensures { MatchOption result (write_place words.now ≡ None) (λ x. write_place words.now ≡ Some (x.0, x.1, x.2, x.3, x.4.now)) }
+    ensures { MatchOption result (write_place words.now ≡ None)
+        (λ x. write_place words.now ≡ Some (x.0, x.1, x.2, x.3, x.4.now)) }
 {
     let (client, words) = u32_at(words)?;
     let (file, words) = u64_at(words)?;

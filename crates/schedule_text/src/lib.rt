@@ -3,7 +3,7 @@
 //!
 //! Each line has one spelling: words with one space between, numbers in decimal digits without leading zeros, bytes
 //! in lower-case hex. A line is read exactly where its bytes are that spelling of a line of the language; what is
-//! printed is the spelling. A line stands without its line feed.
+//! printed is the spelling. A line stands without its line feed. Lines, entries and traces that are spelled alike are one.
 #![tactic(auto)]
 
 mod bounds;
@@ -14,10 +14,8 @@ mod line;
 mod outcome;
 mod spelling;
 mod status;
-#[cfg(test)]
-mod tests;
 mod words;
 
-pub use entry::{print_entries, print_entry};
-pub use line::{LineErr, lines_fit, one_line_a_spelling, print_line, read_line};
+pub use entry::{one_entry_a_spelling, one_trace_a_spelling, print_entries, print_entry};
+pub use line::{LineErr, one_line_a_spelling, print_line, read_line};
 pub use status::print_status;

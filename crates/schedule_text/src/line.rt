@@ -4,7 +4,6 @@ ghost use Rattle.time_line.specs.declared.line.Line.{Line};
 ghost use Rattle.schedule_text.specs.Words.{spaced, hex_pair};
 ghost use Rattle.schedule_text.specs.CallText.{call_name, call_words};
 ghost use Rattle.schedule_text.specs.LineText.{line_text, IsLine};
-ghost use Rattle.time_line.specs.Bounds.{FitsLine};
 
 use crate::bounds::is_line;
 use crate::call::{call_name, push_call};
@@ -37,7 +36,8 @@ impl From<OutOfMemory> for LineErr {
 
 /// Appends a client's call.
 fn push_call_line(out: &mut Vec<u8>, client: NodeId, call: &Call) -> Result<(), OutOfMemory>
-    ensures { OnOk result (out.new.items ≡ out.old.items ++ spaced (call_name call.now ∷ decimal client.0 ∷ call_words call.now)) }
+    ensures { OnOk result (out.new.items ≡
+        out.old.items ++ spaced (call_name call.now ∷ decimal client.0 ∷ call_words call.now)) }
 {
     out.extend_from_slice(call_name(call))?;
     push_node(out, client)?;
@@ -46,7 +46,9 @@ fn push_call_line(out: &mut Vec<u8>, client: NodeId, call: &Call) -> Result<(), 
 
 /// Appends `crash N K BYTE`.
 fn push_crash(out: &mut Vec<u8>, node: NodeId, call: u8, fill: u8) -> Result<(), OutOfMemory>
-    ensures { OnOk result (out.new.items ≡ out.old.items ++ spaced (codes "crash" ∷ decimal node.0 ∷ decimal call ∷ hex_pair fill ∷ [])) }
+    ensures { OnOk result (out.new.items ≡
+        out.old.items ++
+        spaced (codes "crash" ∷ decimal node.0 ∷ decimal call ∷ hex_pair fill ∷ [])) }
 {
     push_clock(out, b"crash", node, u64::from(call))?;
     push_bytes(out, &[fill])
@@ -54,7 +56,8 @@ fn push_crash(out: &mut Vec<u8>, node: NodeId, call: u8, fill: u8) -> Result<(),
 
 /// Appends `cut N COUNT`.
 fn push_cut(out: &mut Vec<u8>, node: NodeId, count: u128) -> Result<(), OutOfMemory>
-    ensures { OnOk result (out.new.items ≡ out.old.items ++ spaced (codes "cut" ∷ decimal node.0 ∷ decimal count ∷ [])) }
+    ensures { OnOk result (out.new.items ≡
+        out.old.items ++ spaced (codes "cut" ∷ decimal node.0 ∷ decimal count ∷ [])) }
 {
     push_named_node(out, b"cut", node)?;
     push_wide_number(out, count)
@@ -93,7 +96,8 @@ pub fn print_line(alloc: Global, line: &Line) -> Result<Octets, OutOfMemory>
 
 /// Whether the line is in the language and these bytes spell it.
 fn is_spelled(alloc: Global, line: &Line, bytes: &[u8], first: bool) -> Result<bool, OutOfMemory>
-    ensures { IfOk result (λ yes. IsTrue yes ↔ (IsLine first line.now × (bytes.now ≡ line_text line.now))) }
+    ensures { IfOk result (λ yes.
+        IsTrue yes ↔ (IsLine first line.now × (bytes.now ≡ line_text line.now))) }
 {
     if !is_line(first, line) {
         return Ok(false);
@@ -110,7 +114,8 @@ pub fn read_line(alloc: Global, bytes: &[u8], first: bool) -> Result<Line, LineE
     ensures found { IfOk result (λ line. IsLine first line × (bytes.now ≡ line_text line)) }
 
     // What is spelled so is read, unless memory runs out.
-    ensures only { (line : Line) → IsLine first line → bytes.now ≡ line_text line → MatchResult result (λ read. read ≡ line) (λ e. e ≡ LineErr.OutOfMemory) }
+    ensures only { (line : Line) → IsLine first line → bytes.now ≡ line_text line →
+        MatchResult result (λ read. read ≡ line) (λ e. e ≡ LineErr.OutOfMemory) }
 {
     let Some(line) = loose_line(alloc, bytes)? else {
         return Err(LineErr::Malformed);
@@ -124,10 +129,6 @@ pub fn read_line(alloc: Global, bytes: &[u8], first: bool) -> Result<Line, LineE
 
 /// Two lines of the language that are spelled alike are one line.
 pub fn one_line_a_spelling()
-    ensures { (first second : Bool) (a b : Line) → IsLine first a → IsLine second b → line_text a ≡ line_text b → a ≡ b }
-{}
-
-/// The values of a line of the language fit what a schedule may hold.
-pub fn lines_fit()
-    ensures { (first : Bool) (line : Line) → IsLine first line → FitsLine line }
+    ensures { (first second : Bool) (a b : Line) → IsLine first a → IsLine second b →
+        line_text a ≡ line_text b → a ≡ b }
 {}

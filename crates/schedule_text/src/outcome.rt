@@ -102,7 +102,8 @@ fn push_marked(out: &mut Vec<u8>, mark: u8, number: u64) -> Result<(), OutOfMemo
 
 /// Appends `=nomajority:HAVE/NEED`.
 fn push_no_majority(out: &mut Vec<u8>, have: u8, need: u8) -> Result<(), OutOfMemory>
-    ensures { OnOk result (out.new.items ≡ out.old.items ++ (codes "=nomajority:" ++ decimal have ++ 47 ∷ decimal need)) }
+    ensures { OnOk result (out.new.items ≡
+        out.old.items ++ (codes "=nomajority:" ++ decimal have ++ 47 ∷ decimal need)) }
 {
     push_labelled(out, b"=nomajority:", u64::from(have))?;
     push_marked(out, b'/', u64::from(need))
@@ -110,7 +111,8 @@ fn push_no_majority(out: &mut Vec<u8>, have: u8, need: u8) -> Result<(), OutOfMe
 
 /// Appends `=elsewhere:NODE:END`.
 fn push_elsewhere(out: &mut Vec<u8>, node: NodeId, end: u64) -> Result<(), OutOfMemory>
-    ensures { OnOk result (out.new.items ≡ out.old.items ++ (codes "=elsewhere:" ++ decimal node.0 ++ 58 ∷ decimal end)) }
+    ensures { OnOk result (out.new.items ≡
+        out.old.items ++ (codes "=elsewhere:" ++ decimal node.0 ++ 58 ∷ decimal end)) }
 {
     push_labelled(out, b"=elsewhere:", u64::from(node.0))?;
     push_marked(out, b':', end)
@@ -174,7 +176,8 @@ fn row_word(kind: RowKind) -> &'static [u8]
 
 /// Appends ` EPOCH SIZE`.
 fn push_mark(out: &mut Vec<u8>, mark: SizeMark) -> Result<(), OutOfMemory>
-    ensures { OnOk result (out.new.items ≡ out.old.items ++ behind (decimal mark.epoch ∷ decimal mark.size ∷ [])) }
+    ensures { OnOk result (out.new.items ≡
+        out.old.items ++ behind (decimal mark.epoch ∷ decimal mark.size ∷ [])) }
 {
     push_number(out, mark.epoch)?;
     push_number(out, mark.size)
@@ -189,7 +192,10 @@ fn push_row(
     mode: u16,
     mark: SizeMark,
 ) -> Result<(), OutOfMemory>
-    ensures { OnOk result (out.new.items ≡ out.old.items ++ behind (codes "row" ∷ row_word kind ∷ decimal owner ∷ decimal group ∷ mode_word mode ∷ decimal mark.epoch ∷ decimal mark.size ∷ [])) }
+    ensures { OnOk result (out.new.items ≡
+        out.old.items ++
+        behind (codes "row" ∷ row_word kind ∷ decimal owner ∷ decimal group ∷ mode_word mode
+        ∷ decimal mark.epoch ∷ decimal mark.size ∷ [])) }
 {
     push_word(out, b"row")?;
     push_word(out, row_word(kind))?;
@@ -201,7 +207,9 @@ fn push_row(
 
 /// Appends ` granted F EPOCH SIZE`.
 fn push_granted(out: &mut Vec<u8>, file: u64, mark: SizeMark) -> Result<(), OutOfMemory>
-    ensures { OnOk result (out.new.items ≡ out.old.items ++ behind (codes "granted" ∷ decimal file ∷ decimal mark.epoch ∷ decimal mark.size ∷ [])) }
+    ensures { OnOk result (out.new.items ≡
+        out.old.items ++
+        behind (codes "granted" ∷ decimal file ∷ decimal mark.epoch ∷ decimal mark.size ∷ [])) }
 {
     push_word_and_number(out, b"granted", file)?;
     push_mark(out, mark)
@@ -237,7 +245,10 @@ fn push_meta_outcome(out: &mut Vec<u8>, answer: &MetaOutcome) -> Result<(), OutO
 
 /// Appends ` row NODE KIND ADDR V`.
 fn push_registry_row(out: &mut Vec<u8>, row: &RegistryRow) -> Result<(), OutOfMemory>
-    ensures { OnOk result (out.new.items ≡ out.old.items ++ behind (codes "row" ∷ decimal row.now.node.0 ∷ decimal row.now.kind ∷ row.now.address ∷ decimal row.now.version ∷ [])) }
+    ensures { OnOk result (out.new.items ≡
+        out.old.items ++
+        behind (codes "row" ∷ decimal row.now.node.0 ∷ decimal row.now.kind ∷ row.now.address
+        ∷ decimal row.now.version ∷ [])) }
 {
     push_word(out, b"row")?;
     push_node(out, row.node)?;
@@ -248,7 +259,8 @@ fn push_registry_row(out: &mut Vec<u8>, row: &RegistryRow) -> Result<(), OutOfMe
 
 /// Appends ` rows` and the nodes.
 fn push_rows(out: &mut Vec<u8>, nodes: &[NodeId]) -> Result<(), OutOfMemory>
-    ensures { OnOk result (out.new.items ≡ out.old.items ++ behind (codes "rows" ∷ node_words nodes.now)) }
+    ensures { OnOk result (out.new.items ≡
+        out.old.items ++ behind (codes "rows" ∷ node_words nodes.now)) }
 {
     push_word(out, b"rows")?;
     push_nodes(out, nodes)
@@ -257,7 +269,8 @@ fn push_rows(out: &mut Vec<u8>, nodes: &[NodeId]) -> Result<(), OutOfMemory>
 /// Appends the DIR's answer.
 #[tactic(auto, unfolding(crate::specs::OutcomeText::registry_outcome_words))]
 fn push_registry_outcome(out: &mut Vec<u8>, answer: &RegistryOutcome) -> Result<(), OutOfMemory>
-    ensures { OnOk result (out.new.items ≡ out.old.items ++ behind (registry_outcome_words answer.now)) }
+    ensures { OnOk result (out.new.items ≡
+        out.old.items ++ behind (registry_outcome_words answer.now)) }
 {
     match answer {
         RegistryOutcome::Done { version } => push_word_and_number(out, b"ok", *version),
@@ -270,7 +283,8 @@ fn push_registry_outcome(out: &mut Vec<u8>, answer: &RegistryOutcome) -> Result<
 
 /// Appends ` ok COUNT HEX`.
 fn push_ok(out: &mut Vec<u8>, count: u64, bytes: &Octets) -> Result<(), OutOfMemory>
-    ensures { OnOk result (out.new.items ≡ out.old.items ++ behind (codes "ok" ∷ decimal count ∷ hex_or_dash bytes.now ∷ [])) }
+    ensures { OnOk result (out.new.items ≡
+        out.old.items ++ behind (codes "ok" ∷ decimal count ∷ hex_or_dash bytes.now ∷ [])) }
 {
     push_word_and_number(out, b"ok", count)?;
     push_bytes_or_dash(out, bytes.as_slice())
@@ -278,7 +292,8 @@ fn push_ok(out: &mut Vec<u8>, count: u64, bytes: &Octets) -> Result<(), OutOfMem
 
 /// Appends ` retry ANSWERS`.
 pub(crate) fn push_retries(out: &mut Vec<u8>, answers: &[Answered]) -> Result<(), OutOfMemory>
-    ensures { OnOk result (out.new.items ≡ out.old.items ++ behind (codes "retry" ∷ answer_words answers.now)) }
+    ensures { OnOk result (out.new.items ≡
+        out.old.items ++ behind (codes "retry" ∷ answer_words answers.now)) }
 {
     push_word(out, b"retry")?;
     push_answers(out, answers)
@@ -286,7 +301,8 @@ pub(crate) fn push_retries(out: &mut Vec<u8>, answers: &[Answered]) -> Result<()
 
 /// Appends ` meta ANSWER`.
 fn push_meta(out: &mut Vec<u8>, answer: &MetaOutcome) -> Result<(), OutOfMemory>
-    ensures { OnOk result (out.new.items ≡ out.old.items ++ behind (codes "meta" ∷ meta_outcome_words answer.now)) }
+    ensures { OnOk result (out.new.items ≡
+        out.old.items ++ behind (codes "meta" ∷ meta_outcome_words answer.now)) }
 {
     push_word(out, b"meta")?;
     push_meta_outcome(out, answer)
@@ -294,7 +310,8 @@ fn push_meta(out: &mut Vec<u8>, answer: &MetaOutcome) -> Result<(), OutOfMemory>
 
 /// Appends ` registry ANSWER`.
 fn push_registry(out: &mut Vec<u8>, answer: &RegistryOutcome) -> Result<(), OutOfMemory>
-    ensures { OnOk result (out.new.items ≡ out.old.items ++ behind (codes "registry" ∷ registry_outcome_words answer.now)) }
+    ensures { OnOk result (out.new.items ≡
+        out.old.items ++ behind (codes "registry" ∷ registry_outcome_words answer.now)) }
 {
     push_word(out, b"registry")?;
     push_registry_outcome(out, answer)

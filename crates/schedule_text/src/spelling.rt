@@ -153,7 +153,8 @@ pub(crate) fn push_file(
 
 /// Appends `times L E`.
 pub(crate) fn push_times(out: &mut Vec<u8>, lease: u64, drift: u64) -> Result<(), OutOfMemory>
-    ensures { OnOk result (out.new.items ≡ out.old.items ++ spaced (codes "times" ∷ decimal lease ∷ decimal drift ∷ [])) }
+    ensures { OnOk result (out.new.items ≡
+        out.old.items ++ spaced (codes "times" ∷ decimal lease ∷ decimal drift ∷ [])) }
 {
     out.extend_from_slice(b"times")?;
     push_number(out, lease)?;
@@ -179,7 +180,8 @@ pub(crate) fn push_clock(
     node: NodeId,
     clock: u64,
 ) -> Result<(), OutOfMemory>
-    ensures { OnOk result (out.new.items ≡ out.old.items ++ spaced (name.now ∷ decimal node.0 ∷ decimal clock ∷ [])) }
+    ensures { OnOk result (out.new.items ≡
+        out.old.items ++ spaced (name.now ∷ decimal node.0 ∷ decimal clock ∷ [])) }
 {
     push_named_node(out, name, node)?;
     push_number(out, clock)
@@ -199,7 +201,8 @@ pub(crate) fn push_file_line(
     number: u64,
     location: &Location,
 ) -> Result<(), OutOfMemory>
-    ensures { OnOk result (out.new.items ≡ out.old.items ++ spaced (codes "file" ∷ file_words number location.now)) }
+    ensures { OnOk result (out.new.items ≡
+        out.old.items ++ spaced (codes "file" ∷ file_words number location.now)) }
 {
     out.extend_from_slice(b"file")?;
     push_file(out, number, location)

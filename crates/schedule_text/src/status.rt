@@ -12,7 +12,8 @@ use xt_base::{Limited, NodeId, Octets, OutOfMemory, Refusal, Rule, Status};
 
 /// Appends ` drift A B`.
 fn push_drift(out: &mut Vec<u8>, a: u64, b: u64) -> Result<(), OutOfMemory>
-    ensures { OnOk result (out.new.items ≡ out.old.items ++ behind (codes "drift" ∷ decimal a ∷ decimal b ∷ [])) }
+    ensures { OnOk result (out.new.items ≡
+        out.old.items ++ behind (codes "drift" ∷ decimal a ∷ decimal b ∷ [])) }
 {
     push_word_and_number(out, b"drift", a)?;
     push_number(out, b)
@@ -20,7 +21,8 @@ fn push_drift(out: &mut Vec<u8>, a: u64, b: u64) -> Result<(), OutOfMemory>
 
 /// Appends ` nosuchmessage M`.
 fn push_no_such_message(out: &mut Vec<u8>, number: u128) -> Result<(), OutOfMemory>
-    ensures { OnOk result (out.new.items ≡ out.old.items ++ behind (codes "nosuchmessage" ∷ decimal number ∷ [])) }
+    ensures { OnOk result (out.new.items ≡
+        out.old.items ++ behind (codes "nosuchmessage" ∷ decimal number ∷ [])) }
 {
     push_word(out, b"nosuchmessage")?;
     push_wide_number(out, number)
@@ -83,7 +85,8 @@ fn push_refusal(out: &mut Vec<u8>, refusal: &Refusal) -> Result<(), OutOfMemory>
 
 /// Appends ` illegal LINE` and the rule.
 fn push_illegal(out: &mut Vec<u8>, line: u64, rule: &Rule) -> Result<(), OutOfMemory>
-    ensures { OnOk result (out.new.items ≡ out.old.items ++ behind (codes "illegal" ∷ decimal line ∷ rule_words rule.now)) }
+    ensures { OnOk result (out.new.items ≡
+        out.old.items ++ behind (codes "illegal" ∷ decimal line ∷ rule_words rule.now)) }
 {
     push_word_and_number(out, b"illegal", line)?;
     push_rule(out, rule)
@@ -91,7 +94,8 @@ fn push_illegal(out: &mut Vec<u8>, line: u64, rule: &Rule) -> Result<(), OutOfMe
 
 /// Appends ` limit WHAT LIMIT`.
 fn push_limit(out: &mut Vec<u8>, what: Limited, limit: u64) -> Result<(), OutOfMemory>
-    ensures { OnOk result (out.new.items ≡ out.old.items ++ behind (codes "limit" ∷ limited_word what ∷ decimal limit ∷ [])) }
+    ensures { OnOk result (out.new.items ≡
+        out.old.items ++ behind (codes "limit" ∷ limited_word what ∷ decimal limit ∷ [])) }
 {
     push_word(out, b"limit")?;
     push_word_and_number(out, limited_word(what), limit)
@@ -99,7 +103,8 @@ fn push_limit(out: &mut Vec<u8>, what: Limited, limit: u64) -> Result<(), OutOfM
 
 /// Appends a word and two numbers.
 fn push_two(out: &mut Vec<u8>, word: &[u8], first: u64, second: u64) -> Result<(), OutOfMemory>
-    ensures { OnOk result (out.new.items ≡ out.old.items ++ behind (word.now ∷ decimal first ∷ decimal second ∷ [])) }
+    ensures { OnOk result (out.new.items ≡
+        out.old.items ++ behind (word.now ∷ decimal first ∷ decimal second ∷ [])) }
 {
     push_word_and_number(out, word, first)?;
     push_number(out, second)
@@ -107,7 +112,8 @@ fn push_two(out: &mut Vec<u8>, word: &[u8], first: u64, second: u64) -> Result<(
 
 /// Appends ` notours HEX`.
 fn push_not_ours(out: &mut Vec<u8>, first: &[u8]) -> Result<(), OutOfMemory>
-    ensures { OnOk result (out.new.items ≡ out.old.items ++ behind (codes "notours" ∷ hex_of first.now ∷ [])) }
+    ensures { OnOk result (out.new.items ≡
+        out.old.items ++ behind (codes "notours" ∷ hex_of first.now ∷ [])) }
 {
     push_word(out, b"notours")?;
     push_bytes(out, first)
@@ -115,7 +121,8 @@ fn push_not_ours(out: &mut Vec<u8>, first: &[u8]) -> Result<(), OutOfMemory>
 
 /// Appends ` refused` and the refusal.
 fn push_refused(out: &mut Vec<u8>, refusal: &Refusal) -> Result<(), OutOfMemory>
-    ensures { OnOk result (out.new.items ≡ out.old.items ++ behind (codes "refused" ∷ refusal_words refusal.now)) }
+    ensures { OnOk result (out.new.items ≡
+        out.old.items ++ behind (codes "refused" ∷ refusal_words refusal.now)) }
 {
     push_word(out, b"refused")?;
     push_refusal(out, refusal)

@@ -39,7 +39,8 @@ pub(crate) fn number_of(word: &[u8]) -> u128
 /// The first word's number, where it is below 2^128, and the other words.
 #[tactic(auto, unfolding(crate::specs::Reading::number_at))]
 pub(crate) fn u128_at(words: &[u8]) -> Option<(u128, &[u8])>
-    ensures { MatchOption result (number_at 128 words.now ≡ None) (λ x. number_at 128 words.now ≡ Some (x.0, x.1.now)) }
+    ensures { MatchOption result (number_at 128 words.now ≡ None)
+        (λ x. number_at 128 words.now ≡ Some (x.0, x.1.now)) }
 {
     let (word, rest) = cut(words);
     Some((number_of(word), rest))
@@ -48,7 +49,8 @@ pub(crate) fn u128_at(words: &[u8]) -> Option<(u128, &[u8])>
 /// The first word's number, where it is below 2^64, and the other words.
 #[tactic(auto, unfolding(crate::specs::Reading::number_at))]
 pub(crate) fn u64_at(words: &[u8]) -> Option<(u64, &[u8])>
-    ensures { MatchOption result (number_at 64 words.now ≡ None) (λ x. number_at 64 words.now ≡ Some (x.0, x.1.now)) }
+    ensures { MatchOption result (number_at 64 words.now ≡ None)
+        (λ x. number_at 64 words.now ≡ Some (x.0, x.1.now)) }
 {
     let (word, rest) = cut(words);
     let number = u64::try_from(number_of(word)).ok()?;
@@ -58,7 +60,8 @@ pub(crate) fn u64_at(words: &[u8]) -> Option<(u64, &[u8])>
 /// The first word's number, where it is below 2^32, and the other words.
 #[tactic(auto, unfolding(crate::specs::Reading::number_at))]
 pub(crate) fn u32_at(words: &[u8]) -> Option<(u32, &[u8])>
-    ensures { MatchOption result (number_at 32 words.now ≡ None) (λ x. number_at 32 words.now ≡ Some (x.0, x.1.now)) }
+    ensures { MatchOption result (number_at 32 words.now ≡ None)
+        (λ x. number_at 32 words.now ≡ Some (x.0, x.1.now)) }
 {
     let (word, rest) = cut(words);
     let number = u32::try_from(number_of(word)).ok()?;
@@ -68,7 +71,8 @@ pub(crate) fn u32_at(words: &[u8]) -> Option<(u32, &[u8])>
 /// The first word's number, where it is below 2^8, and the other words.
 #[tactic(auto, unfolding(crate::specs::Reading::number_at))]
 pub(crate) fn u8_at(words: &[u8]) -> Option<(u8, &[u8])>
-    ensures { MatchOption result (number_at 8 words.now ≡ None) (λ x. number_at 8 words.now ≡ Some (x.0, x.1.now)) }
+    ensures { MatchOption result (number_at 8 words.now ≡ None)
+        (λ x. number_at 8 words.now ≡ Some (x.0, x.1.now)) }
 {
     let (word, rest) = cut(words);
     let number = u8::try_from(number_of(word)).ok()?;

@@ -12,7 +12,8 @@ use Rattle.world_runs.specs.declared.Node.{Node}
 use Rattle.world_runs.specs.declared.DeclaredFile.{DeclaredFile}
 use Rattle.world_runs.specs.declared.Sent.{Sent}
 use Rattle.time_line.specs.Bounds.{FitsLine}
-use Rattle.world_runs.specs.declared.TheConstants.{LINES, LINE_BYTES, NODES, MESSAGES, MESSAGE_BYTES}
+use Rattle.time_line.specs.declared.TheConstants.{LINES, LINE_BYTES}
+use Rattle.world_runs.specs.declared.TheConstants.{NODES, MESSAGES, MESSAGE_BYTES}
 use Rattle.world_runs.specs.World.{World}
 use Rattle.world_runs.specs.Rules.{refusal}
 use Rattle.world_runs.specs.Lines.{Whole, Stopped, line_applied}

@@ -30,9 +30,9 @@ use crate::turned::nothing;
 use disk_model::Stop;
 use std::alloc::Global;
 use std::marker::Model;
-use time_line::{Entry, Halt, Line};
+use time_line::{Entry, Halt, LINE_BYTES, LINES, Line};
 use world_hull::{Hull, WorldErr};
-use world_runs::{LINE_BYTES, LINES, MESSAGE_BYTES, MESSAGES, NODES, Running};
+use world_runs::{MESSAGE_BYTES, MESSAGES, NODES, Running};
 use xt_base::{
     Boot, COUNTS, Call, Copies, Folded, Limited, Location, Msg, NodeId, OutOfMemory, Record, Rule,
     Times,

@@ -9,12 +9,6 @@ use disk_model::Stop;
 use xt_base::{Boot, Location, Msg, NodeId};
 use xt_protocol::{ClientState, OsdState};
 
-/// How many lines a schedule may have.
-pub const LINES: u64 = 65_536;
-
-/// How many bytes a line of a schedule may have, without its line feed.
-pub const LINE_BYTES: u64 = 300_000;
-
 /// How many nodes a schedule may declare.
 pub const NODES: u64 = 64;
 

@@ -1,20 +1,15 @@
 //! `xtfs`: takes a recorded schedule from the standard input and writes the trace of the nodes that it drives.
 //!
-//! `run` promises that what is put is the text of a run of the lines that were taken, that every answer in it shows its
-//! file as it stands, that acknowledgements are fresh, and when each status comes. `main` lends it the standard
-//! streams and ends with the status.
+//! `main` reads the words of the command line, lends the standard streams to `xtfs_job::run`, which carries all that is
+//! promised, and ends with its status.
 #![tactic(auto)]
 
-mod job;
-#[cfg(test)]
-mod tests;
-
-use job::run;
 use node_links::{StdinSource, StdoutSink};
 use std::io::BufReader;
 use std::process::ExitCode;
 use std::{env, io};
 use xt_base::Words;
+use xtfs_job::run;
 
 fn main(rt: HostRuntime) -> io::Result<ExitCode> {
     let alloc = rt.alloc();

@@ -1,6 +1,7 @@
-use Rattle.schedule_replay.proofs.Streamed.{byte_taken, none_taken}
+use Rattle.std.proofs.Common.{refl}
+use Rattle.schedule_lines.proofs.Streamed.{byte_taken, none_taken}
 use Rattle.schedule_replay.proofs.Whole.{past_end, past_limit, past_fault, nothing_taken}
-use Rattle.schedule_replay.proofs.Causes.{finished_cause}
+use Rattle.schedule_lines.proofs.Counted.{finished_cause}
 use Rattle.schedule_replay.proofs.replaying.past_last.Goals as goal
 
 pub returns-in-Ok-None-clause-end : goal.returns-in-Ok-None-clause-end
@@ -19,9 +20,9 @@ returns-in-Err-clause-end g c =
 
 pub returns-in-Ok-Some-clause-cause : goal.returns-in-Ok-Some-clause-cause
 returns-in-Ok-Some-clause-cause g c =
-    finished_cause _ _ _ _ _ _ _ c.finish.result c.finish.ensures.finished c.finish.ensures.cause tt
+    finished_cause _ _ _ _ _ _ _ c.finish.result c.finish.ensures.finished c.finish.ensures.cause (c.in-Ok-Some.ensures.sound, refl)
 
 pub returns-in-Err-clause-cause : goal.returns-in-Err-clause-cause
 returns-in-Err-clause-cause g c =
     finished_cause _ _ _ _ _ _ _ c.finish-in-Err.result c.finish-in-Err.ensures.finished c.finish-in-Err.ensures.cause
-    (c.in-Err.ensures.failed, c.faults.ensures)
+    (c.in-Err.ensures.failed, c.faults.ensures, refl)

@@ -1,5 +1,5 @@
 use Rattle.std.proofs.Common.{◌≡◌, ◌∙◌, ◌∷◌, [], length, length-append, ap, sym, subst, refl, arith}
-use Rattle.world_runs.specs.declared.TheConstants.{LINES}
+use Rattle.time_line.specs.declared.TheConstants.{LINES}
 use Rattle.world_runs.specs.World.{World}
 use Rattle.world_core.specs.Standing.{standing}
 use Rattle.schedule_replay.proofs.Whole.{begun, goes_on, ends_so, lines_after, still_going}

@@ -1,9 +1,10 @@
 use Rattle.std.proofs.Common.{ℕ, subst}
 use Rattle.world_core.specs.Standing.{standing}
-use Rattle.schedule_replay.specs.Steps.{CausesEnd}
+use Rattle.schedule_lines.specs.Causes.{CausesEnd}
 use Rattle.schedule_replay.proofs.LineEnds.{shown_more, stopped_end, unshown_end, line_next, refused_end}
 use Rattle.schedule_replay.proofs.Whole.{past_end}
-use Rattle.schedule_replay.proofs.Causes.{stopped_cause, finished_cause, put_cause, refused_cause}
+use Rattle.schedule_lines.proofs.Counted.{stopped_cause, finished_cause, put_cause}
+use Rattle.schedule_replay.proofs.Causes.{refused_cause}
 use Rattle.schedule_replay.proofs.step.replay_line.Goals as goal
 
 pub returns-in-End-clause-step : goal.returns-in-End-clause-step
@@ -16,7 +17,7 @@ returns-in-Stopped-clause-step g c =
 pub returns-in-Stopped-clause-cause : goal.returns-in-Stopped-clause-cause
 returns-in-Stopped-clause-cause g c =
     finished_cause _ _ _ _ _ _ c.in-Stopped.status c.finish.result c.finish.ensures.finished c.finish.ensures.cause
-    (stopped_cause _ _ _ _ _ _ _ c.in-Stopped.status c.in-Stopped.ensures.reading.2 c.in-Stopped.ensures.faults)
+    (stopped_cause _ _ _ _ _ _ c.in-Stopped.status c.in-Stopped.ensures.reading.2 c.in-Stopped.ensures.faults)
 
 pub returns-in-Some-clause-step : goal.returns-in-Some-clause-step
 returns-in-Some-clause-step g c =
@@ -26,7 +27,7 @@ returns-in-Some-clause-step g c =
     c.in-Some.ensures.put
 
 pub returns-in-Some-clause-cause : goal.returns-in-Some-clause-cause
-returns-in-Some-clause-cause g c = put_cause _ _ _ _ _ _ _ c.in-Some.status c.in-Some.ensures.put c.in-Some.ensures.cause
+returns-in-Some-clause-cause g c = put_cause _ _ _ _ _ _ _ c.in-Some.status c.in-Line.ensures.faults c.in-Some.ensures.put c.in-Some.ensures.cause
 
 pub returns-in-Ok-clause-step : goal.returns-in-Ok-clause-step
 returns-in-Ok-clause-step g c =
@@ -50,4 +51,4 @@ pub returns-in-Err-clause-cause : goal.returns-in-Err-clause-cause
 returns-in-Err-clause-cause g c =
     finished_cause _ _ _ _ _ _ c.status_of.result c.finish-in-Err.result c.finish-in-Err.ensures.finished
     (subst (λ (count : ℕ). CausesEnd count (g.K.Sink.fault_count c.finish-in-Err.new.out) c.finish-in-Err.result) c.in-None.ensures.cause c.finish-in-Err.ensures.cause)
-    (refused_cause _ _ _ _ _ c.in-Err.error c.status_of.result c.status_of.ensures)
+    (refused_cause _ _ _ _ c.in-Err.error c.status_of.result c.in-Line.ensures.faults c.status_of.ensures)

@@ -1,0 +1,256 @@
+use schedule_text::{LineErr, print_entry, print_line, print_status, read_line};
+use std::alloc::Global;
+use std::test::Fail;
+use time_line::{Entry, Line};
+use xt_base::{
+    AskRefusal, Call, Kind, Limited, Location, Members, NodeId, Octets, OutOfMemory, Outcome, Rule,
+    Status,
+};
+
+/// Lines that a schedule may have behind its first.
+const LINES: &str = "\
+osd 47\n\
+osd 0\n\
+osd 4294967295\n\
+client 901 0\n\
+client 110 4611686018427387903\n\
+start 47 1099511627776\n\
+file 550486 rep 1024 47\n\
+file 999999 rep 131072 1\n\
+tick 4294967295\n\
+read 199 279279 0 131071 131072\n\
+read 1 18446744073709551615 4294967295 4294967295 1\n\
+write 159 550486 0 984 f42331\n\
+write 106 605457 2 0 94bc\n\
+deliver 1\n\
+deliver 340282366920938463463374607431768211455\n\
+drop 3\n\
+settle 0\n\
+settle 100\n\
+stop 1\n\
+stop 4294967295\n\
+crash 1 1 00\n\
+crash 1 3 a5\n\
+crash 4294967295 4 ff\n\
+cut 1 0\n\
+cut 4294967295 340282366920938463463374607431768211455";
+
+/// Lines that none may have.
+const MALFORMED: &str = "\
+replay\n\
+osd\n\
+osd x\n\
+osd 03\n\
+osd +3\n\
+osd -3\n\
+osd  3\n\
+osd 3 4\n\
+OSD 3\n\
+osd 4294967296\n\
+client 9\n\
+client 9 4611686018427387904\n\
+start 9 00\n\
+file 1000000 rep 1024 1\n\
+file 1 rep 1000 1\n\
+file 1 rep 132096 1\n\
+file 1 str 1024 1\n\
+file 1 rep 1024 1 2\n\
+file 1 rep 1024\n\
+tick 01\n\
+tick 4294967296\n\
+read 100 1 0 0 0\n\
+read 100 1 0 0 131073\n\
+read 1 18446744073709551616 0 0 1\n\
+write 10 1 0 0 6\n\
+write 10 1 0 0 AB\n\
+write 10 1 0 0 6g\n\
+deliver 340282366920938463463374607431768211456\n\
+stop\n\
+stop 01\n\
+stop 1 1\n\
+stop 4294967296\n\
+crash 1 0 00\n\
+crash 1 5 00\n\
+crash 1 03 00\n\
+crash 1 260 00\n\
+crash 1 1\n\
+crash 1 1 a\n\
+crash 1 1 AB\n\
+crash 1 1 g0\n\
+crash 1 1 a5a5\n\
+crash 1 1 -\n\
+crash 4294967296 1 00\n\
+cut 1\n\
+cut 1 00\n\
+cut 1 340282366920938463463374607431768211456\n\
+cut 4294967296 0\n\
+down 1 0 idle\n\
+meta 1 1 1 stat /v";
+
+/// Whether the line is read, and printed as it was.
+fn is_read(alloc: Global, text: &str, first: bool) -> Result<bool, OutOfMemory> {
+    match read_line(alloc, text.as_bytes(), first) {
+        Ok(line) => is_spelled(alloc, line, text),
+        Err(_) => Ok(false),
+    }
+}
+
+/// Whether the line is spelled so.
+fn is_spelled(alloc: Global, line: Line, text: &str) -> Result<bool, OutOfMemory> {
+    Ok(print_line(alloc, &line)?.as_slice() == text.as_bytes())
+}
+
+/// Whether no line is spelled so.
+fn is_malformed(alloc: Global, text: &str, first: bool) -> bool {
+    matches!(
+        read_line(alloc, text.as_bytes(), first),
+        Err(LineErr::Malformed)
+    )
+}
+
+#[test]
+fn lines_are_read(rt: HostRuntime) -> Result<(), Fail> {
+    for text in LINES.split('\n') {
+        assert!(rt; is_read(rt.alloc(), text, false)?, "{text}");
+    }
+    for text in [
+        "osd 47",
+        "times 1000 100",
+        "times 1099511627775 549755813887",
+    ] {
+        assert!(rt; is_read(rt.alloc(), text, true)?, "{text}");
+    }
+    Ok(())
+}
+
+#[test]
+fn other_lines_are_malformed(rt: HostRuntime) {
+    for text in MALFORMED.split('\n') {
+        assert!(rt; is_malformed(rt.alloc(), text, false), "{text}");
+    }
+    for text in [
+        "",
+        " ",
+        " osd 3",
+        "osd 3 ",
+        "osd 3\r",
+        "osd 3\n",
+        "write 100 1 0 0 ",
+        "times 1000 100",
+    ] {
+        assert!(rt; is_malformed(rt.alloc(), text, false), "{text}");
+    }
+    for text in ["times 1000 500", "times 1000 0", "times 1099511627776 100"] {
+        assert!(rt; is_malformed(rt.alloc(), text, true), "{text}");
+    }
+}
+
+#[test]
+fn words_stand_in_this_order(rt: HostRuntime) -> Result<(), Fail> {
+    let write = Call::Write {
+        file: 550_486,
+        object: 1,
+        at: 984,
+        bytes: Octets::of(rt.alloc(), &[0xf4, 0x23, 0x31])?,
+    };
+    let cases = [
+        (
+            Line::Call {
+                client: NodeId(159),
+                call: write,
+            },
+            "write 159 550486 1 984 f42331",
+        ),
+        (
+            Line::Crash {
+                node: NodeId(7),
+                call: 3,
+                fill: 0xa5,
+            },
+            "crash 7 3 a5",
+        ),
+    ];
+    for (line, text) in cases {
+        assert!(rt; is_spelled(rt.alloc(), line, text)?, "{text}");
+    }
+    Ok(())
+}
+
+/// Whether the entry is printed so.
+fn is_printed(alloc: Global, entry: Entry, text: &str) -> Result<bool, OutOfMemory> {
+    Ok(print_entry(alloc, &entry)?.as_slice() == text.as_bytes())
+}
+
+/// Entries that no schedule comes to yet. All others stand in the vectors.
+#[test]
+fn later_entries_are_printed(rt: HostRuntime) -> Result<(), Fail> {
+    let members = Members::new(&[NodeId(1), NodeId(2), NodeId(3)])
+        .ok()
+        .ok_or("three members")?;
+    let location = Location {
+        version: 1,
+        kind: Kind::Replicated,
+        stripe: 131_072,
+        members,
+    };
+    let full = Outcome::Refused {
+        refusal: AskRefusal::ClientsFull,
+    };
+    let cases = [
+        (
+            Entry::File {
+                number: 1,
+                location,
+            },
+            "file 1 rep 131072 1 2 3",
+        ),
+        (
+            Entry::Done {
+                client: NodeId(143),
+                number: 1,
+                outcome: full,
+            },
+            "done 143 1 clientsfull",
+        ),
+    ];
+    for (entry, text) in cases {
+        assert!(rt; is_printed(rt.alloc(), entry, text)?, "{text}");
+    }
+    Ok(())
+}
+
+/// Whether a job that ended so writes this last.
+fn is_last(alloc: Global, status: Status, text: &str) -> Result<bool, OutOfMemory> {
+    Ok(print_status(alloc, &status)?.as_slice() == text.as_bytes())
+}
+
+/// Last lines that no schedule comes to, or none that is short. All others stand in the vectors.
+#[test]
+fn statuses_are_printed(rt: HostRuntime) -> Result<(), Fail> {
+    let cases = [
+        (
+            Status::Illegal {
+                line: 4,
+                rule: Rule::Drift { a: 101, b: 0 },
+            },
+            "! illegal 4 drift 101 0\n",
+        ),
+        (
+            Status::Limit {
+                what: Limited::Lines,
+                limit: 65_536,
+            },
+            "! limit lines 65536\n",
+        ),
+        (
+            Status::NotOurs {
+                first: *b"abcdefgh",
+            },
+            "! notours 6162636465666768\n",
+        ),
+    ];
+    for (status, text) in cases {
+        assert!(rt; is_last(rt.alloc(), status, text)?, "{text}");
+    }
+    Ok(())
+}

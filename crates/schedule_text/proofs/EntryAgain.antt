@@ -1,0 +1,427 @@
+-- An entry that was written is read, so no two are spelled alike.
+use Rattle.std.proofs.Common.{◌≡◌, ℕ, ◌*◌, ◌^◌, ◌<◌, ◌≤◌, if◌then◌else◌, ◌==◌, Option, List, [], ◌∷◌, Some, None, refl, sym, ap, subst, ◌∙◌, arith}
+use Rattle.std.specs.Prelude.{codes}
+use Rattle.std.specs.Str.{bytes_eq}
+use Rattle.std.specs.Fmt.{decimal}
+use Rattle.xt_base.specs.declared.ids.NodeId.{NodeId}
+use Rattle.xt_base.specs.declared.ids.OpId.{OpId}
+use Rattle.xt_base.specs.declared.ids.Boot.{Boot}
+use Rattle.xt_base.specs.declared.file.Location.{Location}
+use Rattle.xt_base.specs.declared.event.Call.{Call}
+use Rattle.xt_base.specs.declared.event.Call.TheVariants as call
+use Rattle.xt_base.specs.declared.event.Outcome.{Outcome}
+use Rattle.xt_base.specs.declared.event.Outcome.TheVariants as outcome
+use Rattle.xt_base.specs.declared.status.AskRefusal.{AskRefusal}
+use Rattle.xt_base.specs.declared.status.AskRefusal.TheVariants as refusal
+use Rattle.xt_base.specs.declared.reply.Denial.{Denial}
+use Rattle.xt_base.specs.declared.reply.Denial.TheVariants as denial
+use Rattle.xt_base.specs.Limits.{AreBytes, FitsLocation}
+use Rattle.time_line.specs.declared.entry.Entry.{Entry}
+use Rattle.time_line.specs.declared.entry.Entry.TheVariants as entry
+use Rattle.time_line.specs.declared.entry.Halt.{Halt}
+use Rattle.time_line.specs.declared.entry.Halt.TheVariants as halt
+use Rattle.time_line.specs.Bounds.{FitsCall, FitsOutcome, FitsRefusal}
+use Rattle.schedule_text.specs.Words.{spaced, hex_of, hex_or_dash}
+use Rattle.schedule_text.specs.LineText.{IsPlace, IsCall}
+use Rattle.schedule_text.specs.CallText.{call_name, call_words, file_words}
+use Rattle.schedule_text.specs.OutcomeText.{denial_number, ask_refusal_words, outcome_words}
+use Rattle.schedule_text.specs.EntryText.{update_words, halt_word, entry_words, entry_text, IsFinal, IsEntry}
+use Rattle.schedule_text.specs.Reading.{◌>>=◌, first_word, other_words, number_at, bytes_of}
+use Rattle.schedule_text.specs.LineReading.{node_of}
+use Rattle.schedule_text.proofs.LineAgain.{on_one, one_of, place_of}
+use Rattle.schedule_text.proofs.WordsAgain.{IsWord, number_at_again, first_again, others_again, hex-IsWord, hex_again}
+
+-- Readers, of what stands behind the name of an entry.
+
+times_in : List ℕ → Option Entry
+times_in words = do
+  lease ← number_at 64 words
+  drift ← number_at 64 lease.1
+  Some (entry.Times lease.0 drift.0)
+
+file_in : List ℕ → Option Entry
+file_in words = do
+  number ← number_at 64 words
+  stripe ← number_at 32 (other_words number.1)
+  node ← number_at 32 stripe.1
+  Some (entry.File number.0 (on_one stripe.0 (node_of node.0)))
+
+tick_in : List ℕ → Option Entry
+tick_in words = do
+  count ← number_at 64 words
+  Some (entry.Tick count.0)
+
+up_in : List ℕ → Option Entry
+up_in words = do
+  node ← number_at 32 words
+  boot ← number_at 64 node.1
+  clock ← number_at 64 boot.1
+  Some (entry.Up (node_of node.0) (record { 0 = boot.0 }) clock.0)
+
+halt_of : List ℕ → Option Halt
+halt_of word =
+    if bytes_eq word (codes "idle") then Some halt.Idle
+    else if bytes_eq word (codes "kept") then Some halt.Kept
+    else if bytes_eq word (codes "lost") then Some halt.Lost
+    else Some halt.Cut
+
+down_in : List ℕ → Option Entry
+down_in words = do
+  node ← number_at 32 words
+  clock ← number_at 64 node.1
+  how ← halt_of (first_word clock.1)
+  Some (entry.Down (node_of node.0) clock.0 how)
+
+call_of : List ℕ → ℕ → ℕ → ℕ → List ℕ → Option Call
+call_of name file object at words =
+    if bytes_eq name (codes "read") then (do
+      len ← number_at 32 words
+      Some (call.Read file object at len.0))
+    else Some (call.Write file object at (bytes_of (first_word words)))
+
+call_in : List ℕ → List ℕ → Option Call
+call_in name words = do
+  file ← number_at 64 words
+  object ← number_at 64 file.1
+  at ← number_at 32 object.1
+  call_of name file.0 object.0 at.0 at.1
+
+begin_in : List ℕ → Option Entry
+begin_in words = do
+  client ← number_at 32 words
+  number ← number_at 64 client.1
+  made ← call_in (first_word number.1) (other_words number.1)
+  Some (entry.Begin (node_of client.0) number.0 made)
+
+id_of : ℕ → ℕ → OpId
+id_of client number = record { client = node_of client; number = number }
+
+update_in : (NodeId → ℕ → ℕ → OpId → Entry) → List ℕ → Option Entry
+update_in made words = do
+  node ← number_at 32 words
+  file ← number_at 64 node.1
+  count ← number_at 64 file.1
+  client ← number_at 32 count.1
+  number ← number_at 64 client.1
+  Some (made (node_of node.0) file.0 count.0 (id_of client.0 number.0))
+
+answer_in : List ℕ → Option Entry
+answer_in words = do
+  node ← number_at 32 words
+  file ← number_at 64 node.1
+  client ← number_at 32 file.1
+  number ← number_at 64 client.1
+  count ← number_at 64 number.1
+  Some (entry.Answer (node_of node.0) file.0 (id_of client.0 number.0) count.0 (bytes_of (first_word count.1)))
+
+denial_of : ℕ → Denial
+denial_of number =
+    if number == 1 then denial.Tag
+    else if number == 2 then denial.File
+    else if number == 3 then denial.Expired
+    else if number == 4 then denial.Mode
+    else if number == 5 then denial.List
+    else denial.Range
+
+refusal_of : List ℕ → ℕ → Option AskRefusal
+refusal_of name value =
+    if bytes_eq name (codes "denied") then Some (refusal.Denied (denial_of value))
+    else if bytes_eq name (codes "oldlist") then Some (refusal.OldList value)
+    else if bytes_eq name (codes "oldepoch") then Some (refusal.OldEpoch value)
+    else Some (refusal.TooFar value)
+
+refusal_in : List ℕ → List ℕ → Option AskRefusal
+refusal_in name words =
+    if bytes_eq name (codes "clientsfull") then Some refusal.ClientsFull
+    else (do
+      value ← number_at 64 words
+      refusal_of name value.0)
+
+outcome_in : List ℕ → List ℕ → Option Outcome
+outcome_in name words =
+    if bytes_eq name (codes "ok") then (do
+      count ← number_at 64 words
+      Some (outcome.Ok count.0 (bytes_of (first_word count.1))))
+    else (do
+      why ← refusal_in name words
+      Some (outcome.Refused why))
+
+done_in : List ℕ → Option Entry
+done_in words = do
+  client ← number_at 32 words
+  number ← number_at 64 client.1
+  ended ← outcome_in (first_word number.1) (other_words number.1)
+  Some (entry.Done (node_of client.0) number.0 ended)
+
+entry_of : List ℕ → List ℕ → Option Entry
+entry_of name words =
+    if bytes_eq name (codes "times") then times_in words
+    else if bytes_eq name (codes "file") then file_in words
+    else if bytes_eq name (codes "tick") then tick_in words
+    else if bytes_eq name (codes "up") then up_in words
+    else if bytes_eq name (codes "down") then down_in words
+    else if bytes_eq name (codes "begin") then begin_in words
+    else if bytes_eq name (codes "issue") then update_in entry.Issue words
+    else if bytes_eq name (codes "commit") then update_in entry.Commit words
+    else if bytes_eq name (codes "answer") then answer_in words
+    else if bytes_eq name (codes "done") then done_in words
+    else None
+
+entry_at : List ℕ → Option Entry
+entry_at bytes = entry_of (first_word bytes) (other_words bytes)
+
+-- What was written is read, form by form.
+
+times_again : (lease drift : ℕ) → lease < 2 ^ 64 → drift < 2 ^ 64 → times_in (spaced (decimal lease ∷ decimal drift ∷ [])) ≡ Some (entry.Times lease drift)
+unfolding times_in
+times_again lease drift p q =
+    rw (number_at_again 64 lease (decimal drift ∷ []) p (omega arith), number_at_again 64 drift [] q (omega arith)) refl
+
+tick_again : (count : ℕ) → count < 2 ^ 64 → tick_in (spaced (decimal count ∷ [])) ≡ Some (entry.Tick count)
+unfolding tick_in
+tick_again count p = rw (number_at_again 64 count [] p (omega arith)) refl
+
+file_again : (number stripe : ℕ) (node : NodeId) → number < 2 ^ 64 → stripe < 2 ^ 32 → node.0 < 2 ^ 32 → file_in (spaced (file_words number (on_one stripe node))) ≡ Some (entry.File number (on_one stripe node))
+unfolding file_in
+file_again number stripe node p q r =
+    rw (
+      number_at_again 64 number (codes "rep" ∷ decimal stripe ∷ decimal node.0 ∷ []) p (omega arith),
+      others_again (codes "rep") (decimal stripe ∷ decimal node.0 ∷ []) (omega arith, (omega arith, (omega arith, tt))),
+      number_at_again 32 stripe (decimal node.0 ∷ []) q (omega arith),
+      number_at_again 32 node.0 [] r (omega arith),
+    ) refl
+
+place_again : (number : ℕ) (location : Location) → number < 1000000 → IsPlace location → FitsLocation location → file_in (spaced (file_words number location)) ≡ Some (entry.File number location)
+place_again number location p place fits =
+    let one = one_of location.members place.one fits.nodes in
+    let e : location ≡ on_one location.stripe one.0 = place_of location.version location.kind location.stripe location.members one.0 place.version place.kind one.1 in
+    let most : location.stripe ≤ 131072 = fits.size.most in
+    subst (λ (l : Location). file_in (spaced (file_words number l)) ≡ Some (entry.File number l)) (sym e)
+    (file_again number location.stripe one.0 (omega arith) (omega arith) one.2)
+
+up_again : (node : NodeId) (boot : Boot) (clock : ℕ) → node.0 < 2 ^ 32 → boot.0 < 2 ^ 64 → clock < 2 ^ 64 → up_in (spaced (decimal node.0 ∷ decimal boot.0 ∷ decimal clock ∷ [])) ≡ Some (entry.Up node boot clock)
+unfolding up_in
+up_again node boot clock p q r =
+    rw (
+      number_at_again 32 node.0 (decimal boot.0 ∷ decimal clock ∷ []) p (omega arith),
+      number_at_again 64 boot.0 (decimal clock ∷ []) q (omega arith),
+      number_at_again 64 clock [] r (omega arith),
+    ) refl
+
+pub halt-IsWord : (how : Halt) → IsWord (halt_word how)
+halt-IsWord halt.Idle = (omega arith, (omega arith, (omega arith, (omega arith, tt))))
+halt-IsWord halt.Kept = (omega arith, (omega arith, (omega arith, (omega arith, tt))))
+halt-IsWord halt.Lost = (omega arith, (omega arith, (omega arith, (omega arith, tt))))
+halt-IsWord halt.Cut = (omega arith, (omega arith, (omega arith, tt)))
+
+halt_again : (how : Halt) → halt_of (halt_word how) ≡ Some how
+unfolding halt_of
+halt_again halt.Idle = refl
+halt_again halt.Kept = refl
+halt_again halt.Lost = refl
+halt_again halt.Cut = refl
+
+down_again : (node : NodeId) (clock : ℕ) (how : Halt) → node.0 < 2 ^ 32 → clock < 2 ^ 64 → down_in (spaced (decimal node.0 ∷ decimal clock ∷ halt_word how ∷ [])) ≡ Some (entry.Down node clock how)
+unfolding down_in
+down_again node clock how p q =
+    rw (
+      number_at_again 32 node.0 (decimal clock ∷ halt_word how ∷ []) p (omega arith),
+      number_at_again 64 clock (halt_word how ∷ []) q (omega arith),
+      first_again (halt_word how) [] (halt-IsWord how),
+      halt_again how,
+    ) refl
+
+call_again : (made : Call) → IsCall made → FitsCall made → call_in (call_name made) (spaced (call_words made)) ≡ Some made
+unfolding call_name call_words call_in call_of
+call_again (call.Read file object at len) is (p, q, r, s, t) =
+    rw (
+      number_at_again 64 file (decimal object ∷ decimal at ∷ decimal len ∷ []) p (omega arith),
+      number_at_again 64 object (decimal at ∷ decimal len ∷ []) (omega arith) (omega arith),
+      number_at_again 32 at (decimal len ∷ []) r (omega arith),
+      number_at_again 32 len [] (omega arith) (omega arith),
+    ) refl
+call_again (call.Write file object at bytes) is (p, q, r, s, t) =
+    rw (
+      number_at_again 64 file (decimal object ∷ decimal at ∷ hex_of bytes ∷ []) p (omega arith),
+      number_at_again 64 object (decimal at ∷ hex_of bytes ∷ []) (omega arith) (omega arith),
+      number_at_again 32 at (hex_of bytes ∷ []) r (omega arith),
+      first_again (hex_of bytes) [] (hex-IsWord bytes s.all),
+      hex_again bytes s.all,
+    ) refl
+call_again (call.Truncate file size epoch) never fits = absurd never
+call_again (call.Meta user group wanted) never fits = absurd never
+call_again (call.Report user group file) never fits = absurd never
+call_again (call.Registry wanted) never fits = absurd never
+
+pub name-IsWord : (made : Call) → IsCall made → IsWord (call_name made)
+unfolding call_name
+name-IsWord (call.Read file object at len) is = (omega arith, (omega arith, (omega arith, (omega arith, tt))))
+name-IsWord (call.Write file object at bytes) is = (omega arith, (omega arith, (omega arith, (omega arith, (omega arith, tt)))))
+name-IsWord (call.Truncate file size epoch) never = absurd never
+name-IsWord (call.Meta user group wanted) never = absurd never
+name-IsWord (call.Report user group file) never = absurd never
+name-IsWord (call.Registry wanted) never = absurd never
+
+begin_again : (client : NodeId) (number : ℕ) (made : Call) → client.0 < 2 ^ 32 → number < 2 ^ 64 → IsCall made → FitsCall made
+    → begin_in (spaced (decimal client.0 ∷ decimal number ∷ call_name made ∷ call_words made)) ≡ Some (entry.Begin client number made)
+unfolding begin_in
+begin_again client number made p q is fits =
+    rw (
+      number_at_again 32 client.0 (decimal number ∷ call_name made ∷ call_words made) p (omega arith),
+      number_at_again 64 number (call_name made ∷ call_words made) q (omega arith),
+      first_again (call_name made) (call_words made) (name-IsWord made is),
+      others_again (call_name made) (call_words made) (name-IsWord made is),
+      call_again made is fits,
+    ) refl
+
+update_again : (made : NodeId → ℕ → ℕ → OpId → Entry) (node : NodeId) (file count : ℕ) (id : OpId) → node.0 < 2 ^ 32 → file < 2 ^ 64 → count < 2 ^ 64 → id.client.0 < 2 ^ 32 → id.number < 2 ^ 64
+    → update_in made (spaced (update_words node file count id)) ≡ Some (made node file count id)
+unfolding update_in id_of
+update_again made node file count id p q r s t =
+    rw (
+      number_at_again 32 node.0 (decimal file ∷ decimal count ∷ decimal id.client.0 ∷ decimal id.number ∷ []) p (omega arith),
+      number_at_again 64 file (decimal count ∷ decimal id.client.0 ∷ decimal id.number ∷ []) q (omega arith),
+      number_at_again 64 count (decimal id.client.0 ∷ decimal id.number ∷ []) r (omega arith),
+      number_at_again 32 id.client.0 (decimal id.number ∷ []) s (omega arith),
+      number_at_again 64 id.number [] t (omega arith),
+    ) refl
+
+pub hex_or_dash-IsWord : (bytes : List ℕ) → AreBytes bytes → IsWord (hex_or_dash bytes)
+hex_or_dash-IsWord [] fits = (omega arith, tt)
+hex_or_dash-IsWord (byte ∷ bytes) fits = hex-IsWord (byte ∷ bytes) fits
+
+hex_or_dash_again : (bytes : List ℕ) → AreBytes bytes → bytes_of (hex_or_dash bytes) ≡ bytes
+hex_or_dash_again [] fits = refl
+hex_or_dash_again (byte ∷ bytes) fits = hex_again (byte ∷ bytes) fits
+
+answer_again : (node : NodeId) (file count : ℕ) (id : OpId) (bytes : List ℕ) → node.0 < 2 ^ 32 → file < 2 ^ 64 → count < 2 ^ 64 → id.client.0 < 2 ^ 32 → id.number < 2 ^ 64 → AreBytes bytes
+    → answer_in (spaced (decimal node.0 ∷ decimal file ∷ decimal id.client.0 ∷ decimal id.number ∷ decimal count ∷ hex_or_dash bytes ∷ [])) ≡ Some (entry.Answer node file id count bytes)
+unfolding answer_in id_of
+answer_again node file count id bytes p q r s t fits =
+    rw (
+      number_at_again 32 node.0 (decimal file ∷ decimal id.client.0 ∷ decimal id.number ∷ decimal count ∷ hex_or_dash bytes ∷ []) p (omega arith),
+      number_at_again 64 file (decimal id.client.0 ∷ decimal id.number ∷ decimal count ∷ hex_or_dash bytes ∷ []) q (omega arith),
+      number_at_again 32 id.client.0 (decimal id.number ∷ decimal count ∷ hex_or_dash bytes ∷ []) s (omega arith),
+      number_at_again 64 id.number (decimal count ∷ hex_or_dash bytes ∷ []) t (omega arith),
+      number_at_again 64 count (hex_or_dash bytes ∷ []) r (omega arith),
+      first_again (hex_or_dash bytes) [] (hex_or_dash-IsWord bytes fits),
+      hex_or_dash_again bytes fits,
+    ) refl
+
+denial_again : (rule : Denial) → denial_of (denial_number rule) ≡ rule
+unfolding denial_of
+denial_again denial.Tag = refl
+denial_again denial.File = refl
+denial_again denial.Expired = refl
+denial_again denial.Mode = refl
+denial_again denial.List = refl
+denial_again denial.Range = refl
+
+pub denial_small : (rule : Denial) → denial_number rule < 2 ^ 64
+denial_small denial.Tag = omega arith
+denial_small denial.File = omega arith
+denial_small denial.Expired = omega arith
+denial_small denial.Mode = omega arith
+denial_small denial.List = omega arith
+denial_small denial.Range = omega arith
+
+-- the words of a refusal, the first of them apart
+abbrev pub refusal_name : AskRefusal → List ℕ
+refusal_name (refusal.Denied rule) = codes "denied"
+refusal_name (refusal.OldList version) = codes "oldlist"
+refusal_name (refusal.OldEpoch epoch) = codes "oldepoch"
+refusal_name (refusal.TooFar object) = codes "toofar"
+refusal_name refusal.ClientsFull = codes "clientsfull"
+
+abbrev pub refusal_values : AskRefusal → List (List ℕ)
+refusal_values (refusal.Denied rule) = decimal (denial_number rule) ∷ []
+refusal_values (refusal.OldList version) = decimal version ∷ []
+refusal_values (refusal.OldEpoch epoch) = decimal epoch ∷ []
+refusal_values (refusal.TooFar object) = decimal object ∷ []
+refusal_values refusal.ClientsFull = []
+
+pub refusal_is : (why : AskRefusal) → ask_refusal_words why ≡ refusal_name why ∷ refusal_values why
+unfolding ask_refusal_words
+refusal_is (refusal.Denied rule) = refl
+refusal_is (refusal.OldList version) = refl
+refusal_is (refusal.OldEpoch epoch) = refl
+refusal_is (refusal.TooFar object) = refl
+refusal_is refusal.ClientsFull = refl
+
+pub refusal-IsWord : (why : AskRefusal) → IsWord (refusal_name why)
+refusal-IsWord (refusal.Denied rule) = (omega arith, (omega arith, (omega arith, (omega arith, (omega arith, (omega arith, tt))))))
+refusal-IsWord (refusal.OldList version) = (omega arith, (omega arith, (omega arith, (omega arith, (omega arith, (omega arith, (omega arith, tt)))))))
+refusal-IsWord (refusal.OldEpoch epoch) = (omega arith, (omega arith, (omega arith, (omega arith, (omega arith, (omega arith, (omega arith, (omega arith, tt))))))))
+refusal-IsWord (refusal.TooFar object) = (omega arith, (omega arith, (omega arith, (omega arith, (omega arith, (omega arith, tt))))))
+refusal-IsWord refusal.ClientsFull = (omega arith, (omega arith, (omega arith, (omega arith, (omega arith, (omega arith, (omega arith, (omega arith, (omega arith, (omega arith, (omega arith, tt)))))))))))
+
+refusal_again : (why : AskRefusal) → FitsRefusal why → outcome_in (refusal_name why) (spaced (refusal_values why)) ≡ Some (outcome.Refused why)
+unfolding outcome_in refusal_in refusal_of
+refusal_again (refusal.Denied rule) fits =
+    rw (number_at_again 64 (denial_number rule) [] (denial_small rule) (let small = denial_small rule in omega arith), denial_again rule) refl
+refusal_again (refusal.OldList version) fits = rw (number_at_again 64 version [] (omega arith) (omega arith)) refl
+refusal_again (refusal.OldEpoch epoch) fits = rw (number_at_again 64 epoch [] (omega arith) (omega arith)) refl
+refusal_again (refusal.TooFar object) fits = rw (number_at_again 64 object [] fits (omega arith)) refl
+refusal_again refusal.ClientsFull fits = refl
+
+ok_again : (count : ℕ) (bytes : List ℕ) → count < 2 ^ 64 → AreBytes bytes → outcome_in (codes "ok") (spaced (decimal count ∷ hex_or_dash bytes ∷ [])) ≡ Some (outcome.Ok count bytes)
+unfolding outcome_in
+ok_again count bytes p fits =
+    rw (
+      number_at_again 64 count (hex_or_dash bytes ∷ []) p (omega arith),
+      first_again (hex_or_dash bytes) [] (hex_or_dash-IsWord bytes fits),
+      hex_or_dash_again bytes fits,
+    ) refl
+
+-- a call's end, the first of its words apart
+ended_again : (client : NodeId) (number : ℕ) (ended : Outcome) (name : List ℕ) (values : List (List ℕ)) → client.0 < 2 ^ 32 → number < 2 ^ 64 → IsWord name
+    → outcome_in name (spaced values) ≡ Some ended
+    → done_in (spaced (decimal client.0 ∷ decimal number ∷ name ∷ values)) ≡ Some (entry.Done client number ended)
+unfolding done_in
+ended_again client number ended name values p q word again =
+    rw (
+      number_at_again 32 client.0 (decimal number ∷ name ∷ values) p (omega arith),
+      number_at_again 64 number (name ∷ values) q (omega arith),
+      first_again name values word,
+      others_again name values word,
+      again,
+    ) refl
+
+done_again : (client : NodeId) (number : ℕ) (ended : Outcome) → client.0 < 2 ^ 32 → number < 2 ^ 64 → IsFinal ended → FitsOutcome ended
+    → done_in (spaced (decimal client.0 ∷ decimal number ∷ outcome_words ended)) ≡ Some (entry.Done client number ended)
+unfolding outcome_words
+done_again client number (outcome.Ok count bytes) p q is (r, s) =
+    ended_again client number (outcome.Ok count bytes) (codes "ok") (decimal count ∷ hex_or_dash bytes ∷ []) p q (omega arith, (omega arith, tt)) (ok_again count bytes (omega arith) s.all)
+done_again client number (outcome.Refused why) p q is fits =
+    ap (λ (words : List (List ℕ)). done_in (spaced (decimal client.0 ∷ decimal number ∷ words))) (refusal_is why)
+    ∙ ended_again client number (outcome.Refused why) (refusal_name why) (refusal_values why) p q (refusal-IsWord why) (refusal_again why fits)
+done_again client number (outcome.Retry answers) p q never fits = absurd never
+done_again client number (outcome.Meta answer) p q never fits = absurd never
+done_again client number (outcome.Registry answer) p q never fits = absurd never
+
+-- an entry that was written is read
+entry_again : (e : Entry) → IsEntry e → entry_at (entry_text e) ≡ Some e
+unfolding entry_text entry_words first_word other_words entry_at entry_of
+entry_again (entry.Times lease drift) (is, fits) =
+    let short : 2 * drift < lease = fits.short in
+    let small : lease < 2 ^ 40 = fits.small in
+    times_again lease drift (omega arith) (omega arith)
+entry_again (entry.File number location) (is, (p, fits)) = place_again number location p is fits
+entry_again (entry.Tick count) (is, fits) = tick_again count (omega arith)
+entry_again (entry.Up node boot clock) (is, (p, q, r)) = up_again node boot clock p (omega arith) (omega arith)
+entry_again (entry.Down node clock how) (is, (p, q)) = down_again node clock how p (omega arith)
+entry_again (entry.Begin client number made) (is, (p, q, fits)) = begin_again client number made p (omega arith) is fits
+entry_again (entry.Issue node file count id) (is, (p, q, r, s)) =
+    let whole = s.operation in update_again entry.Issue node file count id p q (omega arith) s.who (omega arith)
+entry_again (entry.Commit node file count id) (is, (p, q, r, s)) =
+    let whole = s.operation in update_again entry.Commit node file count id p q (omega arith) s.who (omega arith)
+entry_again (entry.Answer node file id count bytes) (is, ((p, q, r, s), fits)) =
+    let whole = s.operation in answer_again node file count id bytes p q (omega arith) s.who (omega arith) fits.all
+entry_again (entry.Done client number ended) (is, (p, q, fits)) = done_again client number ended p (omega arith) is fits
+
+-- no two entries are spelled alike
+pub one_entry : (a b : Entry) → IsEntry a → IsEntry b → entry_text a ≡ entry_text b → a ≡ b
+one_entry a b p q e = some_is (sym (entry_again a p) ∙ ap entry_at e ∙ entry_again b q)
+  where
+    some_is : {x y : Entry} → Some x ≡ Some y → x ≡ y
+    some_is e = cc
