@@ -76,21 +76,21 @@ impl Silent {
 
 impl Awake {
     /// The node.
-    pub(crate) fn node(&self) -> NodeId
+    pub fn node(&self) -> NodeId
         ensures { result ≡ self.now.node }
     {
         self.node
     }
 
     /// Its boot.
-    pub(crate) fn boot(&self) -> Boot
+    pub fn boot(&self) -> Boot
         ensures { result ≡ self.now.boot }
     {
         self.boot
     }
 
     /// The times that it goes by.
-    pub(crate) fn times(&self) -> Times
+    pub fn times(&self) -> Times
         ensures { result ≡ self.now.times }
     {
         self.times

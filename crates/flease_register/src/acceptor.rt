@@ -100,4 +100,11 @@ impl Acceptor {
     {
         self.accepted
     }
+
+    /// The boot.
+    pub fn boot(&self) -> Boot
+        ensures { result ≡ self.now.boot }
+    {
+        self.boot
+    }
 }

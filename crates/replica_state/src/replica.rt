@@ -55,6 +55,13 @@ impl Replica {
         }
     }
 
+    /// The file.
+    pub fn file(&self) -> FileId
+        ensures { result ≡ self.now.file }
+    {
+        self.file
+    }
+
     /// What the replica says of the file.
     pub fn head(&self) -> &FileHead
         ensures value { result.now ≡ self.now.head }
