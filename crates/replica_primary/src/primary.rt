@@ -1,0 +1,137 @@
+ghost use Rattle.std.specs.Prelude.{◌≡◌, None, Some, MatchOption, IfOk, OnErr};
+ghost use Rattle.osd_rows.specs.Primaries as rows;
+ghost use Rattle.osd_rows.specs.PrimaryRows.{epoch_drawn};
+ghost use Rattle.osd_rows.specs.Serving.{wakes};
+ghost use Rattle.replica_primary.specs.PrimaryViews.{chosen_by, rests_by};
+
+use crate::drawing::epoch_drawn;
+use crate::waking::wakes;
+use flease_lease::Turn;
+use osd_peers::peer_in;
+use osd_rows::{Peer, PeerState, Place, PrimaryState, Progress, Tenure};
+use std::alloc::Global;
+use std::marker::Model;
+use xt_base::{FileHead, FileId, Members, NodeId, OutOfMemory};
+use xt_protocol::Turned;
+
+/// The primary of one file at one node. Contracts see where it stands and its state.
+#[derive(Drop)]
+pub struct Primary {
+    alloc: Global,
+    place: Place,
+    state: PrimaryState,
+}
+
+impl Model for Primary {
+    ghost use Rattle.replica_primary.specs.PrimaryViews.{PrimaryView};
+
+    ghost Value = { PrimaryView };
+
+    ghost view = { λ p. record { place = p.place; state = p.state } };
+}
+
+/// The head that this node has reported, where it is a peer.
+fn reported_by(peers: &[Peer], node: NodeId) -> Option<&FileHead>
+    ensures { MatchOption result (rows.reported (rows.peer_in peers.now node) ≡ None) (λ head. rows.reported (rows.peer_in peers.now node) ≡ Some head.now) }
+{
+    match peer_in(peers, node) {
+        Some(PeerState::Reported { head }) => Some(head),
+        _ => None,
+    }
+}
+
+impl Primary {
+    /// An idle primary, of a file with objects of `stripe` bytes, that has learnt no epoch.
+    pub fn new(alloc: Global, file: FileId, node: NodeId, stripe: u32) -> Primary
+        ensures { result ≡ record { place = record { node = node; file = file; stripe = stripe }; state = rows.new_primary } }
+    {
+        Primary {
+            alloc,
+            place: Place { node, file, stripe },
+            state: PrimaryState {
+                learnt: 0,
+                tenure: None,
+            },
+        }
+    }
+
+    /// Ends the tenure, if there is one. What was learnt goes on.
+    pub fn idle(&mut self)
+        ensures { self.new ≡ record self.old { state = rows.idle self.old.state } }
+    {
+        self.state.tenure = None;
+    }
+
+    /// The head that was chosen, none where its bodies aren't fetched and it isn't installed.
+    pub fn chosen(&self) -> Option<&FileHead>
+        ensures { MatchOption result (chosen_by self.now.state.tenure ≡ None) (λ head. chosen_by self.now.state.tenure ≡ Some head.now) }
+    {
+        match &self.state.tenure {
+            Some(
+                Tenure {
+                    progress: Progress::Fetching { chosen, .. }
+                    | Progress::Installing { chosen, .. },
+                    ..
+                },
+            ) => Some(chosen),
+            _ => None,
+        }
+    }
+
+    /// The head on which the primary rests: the committed one while it is active, and the own one that is counted while it
+    /// gathers.
+    pub fn rests_on(&self) -> Option<&FileHead>
+        ensures { MatchOption result (rests_by self.now.place self.now.state.tenure ≡ None) (λ head. rests_by self.now.place self.now.state.tenure ≡ Some head.now) }
+    {
+        let node = self.place.node;
+        match &self.state.tenure {
+            Some(
+                Tenure {
+                    progress: Progress::Active { committed, .. },
+                    ..
+                },
+            ) => Some(committed),
+            Some(
+                Tenure {
+                    peers,
+                    progress: Progress::Gathering,
+                    ..
+                },
+            ) => reported_by(peers.as_slice(), node),
+            _ => None,
+        }
+    }
+
+    /// Begins a tenure in this turn, under an epoch above the own promise and all that were learnt.
+    pub fn begin(
+        &mut self,
+        turn: &Turn<'_>,
+        own: &FileHead,
+        members: &Members,
+    ) -> Result<Turned, OutOfMemory>
+        requires { turn.now.node ≡ self.old.place.node }
+        ensures state { IfOk result (λ led. self.new ≡ record self.old { state = (epoch_drawn self.old.place self.old.state.learnt own.now members.now).primary }) }
+        ensures led { IfOk result (λ led. led ≡ (epoch_drawn self.old.place self.old.state.learnt own.now members.now).turned) }
+        ensures same { OnErr result (self.new ≡ self.old) }
+    {
+        let _turn = turn;
+        let drawn = epoch_drawn(
+            self.alloc,
+            &self.place,
+            self.state.learnt,
+            own,
+            members.as_slice(),
+        )?;
+        self.state.tenure = drawn.tenure;
+        Ok(drawn.turned)
+    }
+
+    /// What a wake sends again to whoever hasn't answered. The primary stays as it is.
+    pub fn wake(&self, turn: &Turn<'_>) -> Result<Turned, OutOfMemory>
+        requires { turn.now.node ≡ self.now.place.node }
+        ensures { IfOk result (λ led. led ≡ wakes self.now.place self.now.state) }
+    {
+        let _turn = turn;
+        wakes(self.alloc, &self.place, &self.state)
+    }
+}
