@@ -228,14 +228,14 @@ fn renewing(held: &mut Held, members: &Members) -> Option<Ballot> {
     Some(held.renew(5500, members))
 }
 
-/// The lease's end behind an answer of this node to the renewal, a promise or an acceptance, at 5501.
-fn end_behind(held: &mut Held, ballot: Ballot, from: u32, promises: bool) -> u64 {
+/// A promise of this renewal, or an acceptance.
+fn answer(ballot: Ballot, promises: bool) -> Payload {
     let file = FileId {
         volume: uuid::Uuid::nil(),
         number: 1,
     };
     let boot = FIRST;
-    let payload = if promises {
+    if promises {
         Payload::Promise {
             file,
             ballot,
@@ -244,9 +244,13 @@ fn end_behind(held: &mut Held, ballot: Ballot, from: u32, promises: bool) -> u64
         }
     } else {
         Payload::Accepted { file, ballot, boot }
-    };
+    }
+}
+
+/// The lease's end behind an answer of this node to the renewal, at 5501.
+fn end_behind(held: &mut Held, from: u32, payload: &Payload) -> u64 {
     if held.turn(5501).is_some() {
-        held.renewal(5501, NodeId(from), &payload);
+        held.renewal(5501, NodeId(from), payload);
     }
     held.end()
 }
@@ -268,7 +272,7 @@ fn a_lease_is_renewed(rt: HostRuntime) {
     let ballot = renewing(&mut held, &members(&rt)).expect(&rt, "there is a turn");
     assert!(rt; ballot.count == 2 && held.renewing() == Some(5500));
     for (from, promises, end) in RENEWED {
-        assert!(rt; end_behind(&mut held, ballot, from, promises) == end);
+        assert!(rt; end_behind(&mut held, from, &answer(ballot, promises)) == end);
     }
     assert!(rt; held.renewing().is_none());
 }

@@ -62,28 +62,28 @@ fn write(round: &mut Round, from: u32, acceptor: &mut Acceptor) -> Came {
     }
 }
 
-/// The proposer, whether it sends a Write, the place of the acceptor from 0, and what came of it.
-type Exchange = (usize, bool, usize, Came);
+/// The place of the proposer from 0, whether it sends a Write, the acceptor's node, and what came of it.
+type Exchange = (usize, bool, u32, Came);
 
 /// Node 1 hears of itself, 4 and 5; node 2 of itself, 3 and 4.
 const BEFORE: [Exchange; 8] = [
-    (0, false, 0, Came::Counted),
-    (1, false, 1, Came::Counted),
-    (0, false, 3, Came::Counted),
-    (0, false, 4, Came::Written(3)),
-    (0, true, 0, Came::Accepted),
+    (0, false, 1, Came::Counted),
     (1, false, 2, Came::Counted),
-    (1, false, 3, Came::Written(3)),
-    (1, true, 1, Came::Accepted),
+    (0, false, 4, Came::Counted),
+    (0, false, 5, Came::Written(3)),
+    (0, true, 1, Came::Accepted),
+    (1, false, 3, Came::Counted),
+    (1, false, 4, Came::Written(3)),
+    (1, true, 2, Came::Accepted),
 ];
 
 /// With a new boot of node 3. Node 5 reports node 1's lease, and gets no Write.
 const BEHIND: [Exchange; 5] = [
-    (0, true, 4, Came::Accepted),
-    (1, true, 3, Came::Accepted),
-    (0, true, 3, Came::Outrun),
-    (1, true, 2, Came::OtherBoot),
-    (1, false, 4, Came::Ignored),
+    (0, true, 5, Came::Accepted),
+    (1, true, 4, Came::Accepted),
+    (0, true, 4, Came::Outrun),
+    (1, true, 3, Came::OtherBoot),
+    (1, false, 5, Came::Ignored),
 ];
 
 fn exchange(
@@ -92,18 +92,18 @@ fn exchange(
     acceptors: &mut [Acceptor],
     exchanges: &[Exchange],
 ) {
-    for (proposer, writes, place, came) in exchanges {
-        let from = *place as u32 + 1;
+    for (proposer, writes, from, came) in exchanges {
+        let place = from.saturating_sub(1) as usize;
         let round = rounds
             .get_mut(*proposer)
             .expect(rt, "there is such a proposer");
         let acceptor = acceptors
-            .get_mut(*place)
+            .get_mut(place)
             .expect(rt, "there is such an acceptor");
         let is = if *writes {
-            write(round, from, acceptor)
+            write(round, *from, acceptor)
         } else {
-            read(round, from, acceptor)
+            read(round, *from, acceptor)
         };
         assert!(rt; is == *came);
     }

@@ -14,7 +14,7 @@ ghost use Rattle.capabilities.specs.declared.CapErr.TheVariants.{OutOfMemory as 
 use sha2::{Digest, Sha256};
 use std::alloc::{AllocError, Global};
 use xt_base::{Capability, Denial, FileId, OutOfMemory};
-use xt_wire::FieldWriter;
+use xt_wire::{FieldWriter, WriteFiles};
 
 /// The bytes of a block of SHA-256.
 const BLOCK: usize = 64;

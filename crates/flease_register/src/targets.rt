@@ -4,7 +4,7 @@ use std::marker::Model;
 use xt_base::{Boot, NodeId};
 
 /// At most nine boots of nodes, to which a Write goes. Contracts see the list.
-#[derive(Clone, Copy)]
+#[derive(Clone, Copy, PartialEq, Eq)]
 pub struct Targets {
     places: [(NodeId, Boot); 9],
     count: usize,
