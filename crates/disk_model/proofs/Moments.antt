@@ -1,5 +1,5 @@
 -- How a run of device calls goes on.
-use Rattle.std.proofs.Common.{◌≤◌, inl, inr, ⊎_elim, ℕ, List, arith}
+use Rattle.std.proofs.Common.{◌≡◌, ◌≤◌, subst, inl, inr, ⊎_elim, ℕ, List, arith}
 use Rattle.disk_model.specs.Disk.{Kept, IsImage, Elapses, LeavesOnly}
 
 module _ {D : Type 0} (moment : D → ℕ) (left_since : D → ℕ → List ℕ → Type 0) where
@@ -15,6 +15,11 @@ module _ {D : Type 0} (moment : D → ℕ) (left_since : D → ℕ → List ℕ 
     each = λ image left. ⊎_elim (here image) (now image) (time.nothing_else (moment old) image (omega arith) left);
     before = λ t image le left. ⊎_elim (λ was. inl was) (λ is. inr (now image is)) (time.nothing_else t image le left);
   }
+
+  -- one call that leaves what is kept
+  pub unchanged : (old new : D) (kept same : Kept) → same ≡ kept → ((image : List ℕ) → left_since old (moment old) image → IsImage kept image)
+      → Elapses (moment old) (moment new) (left_since old) (left_since new) same → LeavesOnly moment left_since old new (IsImage kept)
+  unchanged old new kept same is only time = elapsed old new same (IsImage kept) only time (λ image was. subst (λ (k : Kept). IsImage k image) is was)
 
   -- one run after another
   pub joined : (old mid new : D) (P Q R : List ℕ → Type 0) → LeavesOnly moment left_since old mid P → LeavesOnly moment left_since mid new Q

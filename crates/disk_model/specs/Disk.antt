@@ -2,6 +2,7 @@
 use Rattle.std.specs.Prelude.{ℕ, suc, ◌+◌, ◌-◌, ◌^◌, ◌<◌, ◌≤◌, ◌≡◌, ◌⊎◌, Bool, true, false, not, ◌&&◌, nat_le, nat_lt, min, max, List, [], ◌∷◌, ◌++◌, length, take, drop, replicate, slice_index, Result, is_err, OnOk, OnErr, IsTrue}
 use Rattle.std.specs.List.{list_any}
 use Rattle.xt_base.specs.declared.outside.Failed.{Failed}
+use Rattle.xt_base.specs.Overlay.{overlay}
 
 -- the places from start up to end, which is outside
 pub record Range : Type 0 where
@@ -46,17 +47,12 @@ pub record IsFilled (fill : ℕ) (kept : Kept) (image : List ℕ) : Type 0 where
   pub same : (place : ℕ) → is_synced kept place ≡ true → slice_index image place ≡ slice_index kept.synced place
   pub filled : (place : ℕ) → place < reach kept → is_synced kept place ≡ false → slice_index image place ≡ fill
 
--- bytes with a piece written over them from a place on, and zeros between an end before it and that place
-abbrev pub overwritten : ℕ → List ℕ → List ℕ → List ℕ
-overwritten place piece bytes =
-    take place (bytes ++ replicate (place - length bytes) 0) ++ piece ++ drop (place + length piece) bytes
-
 abbrev pub range_of : ℕ → List ℕ → Range
 range_of place piece = record { start = place; end = place + length piece }
 
 abbrev pub after_write : ℕ → List ℕ → Kept → Kept
 after_write place piece kept = record {
-  read = overwritten place piece kept.read;
+  read = overlay kept.read place piece;
   synced = kept.synced;
   written = kept.written ++ range_of place piece ∷ [];
 }

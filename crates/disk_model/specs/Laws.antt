@@ -1,39 +1,41 @@
 -- The laws of a disk in memory: its images are those of its record, and a read gives one of them.
 use Rattle.std.specs.Prelude.{ℕ, ◌+◌, ◌-◌, ◌<◌, ◌≤◌, ◌≡◌, ◌⊎◌, Bool, true, false, not, ◌&&◌, ◌||◌, nat_le, nat_lt, max, List, [], ◌∷◌, ◌++◌, length, take, drop, replicate, refl}
 use Rattle.std.specs.List.{list_any}
-use Rattle.std.proofs.Common.{get_or, sym, ◌∙◌, ap, subst, inl, inr, ⊎_elim, arith, length-append, length-drop}
+use Rattle.std.proofs.Common.{get_or, sym, ◌∙◌, ap, subst, inl, inr, ⊎_elim, arith, length-append, length-drop, length-take}
 use Rattle.std.proofs.lemmas.List.{get_or_append_left, get_or-append_right, get_or-take, get_or-drop, length-take-le, length-replicate, take_all}
 use Rattle.std.proofs.lemmas.List.Folds.{list_any-append}
 use Rattle.std.proofs.lemmas.Bool.{and_parts, and_from, or_parts, and_cases, not-true, not_from_false, ltb-true, ltb-false, leb-false}
 use Rattle.std.proofs.Math.Bool.{or-false}
-use Rattle.disk_model.specs.Disk.{Range, Kept, IsImage, at_rest, is_inside, is_synced, greatest_end, reach, overwritten, range_of, after_write, after_sync}
+use Rattle.disk_model.specs.Disk.{Range, Kept, IsImage, at_rest, is_inside, is_synced, greatest_end, reach, range_of, after_write, after_sync}
+use Rattle.xt_base.specs.Overlay.{overlay, zeros}
 use Rattle.disk_model.specs.Changes.{Change, Write, Sync, Memory, memory_kept, kept_after, MightHaveLeft}
 
-abbrev padded : ℕ → List ℕ → List ℕ
-padded place bytes = bytes ++ replicate (place - length bytes) 0
+-- what an overlay begins with: the bytes up to its place, with zeros where they end before it
+abbrev start : ℕ → List ℕ → List ℕ
+start place bytes = take place bytes ++ zeros (place - length bytes)
 
-front_length : (place : ℕ) (bytes : List ℕ) → length (take place (padded place bytes)) ≡ place
-front_length place bytes =
-    length-take-le place (padded place bytes) (omega (arith, length-append bytes (replicate (place - length bytes) 0), length-replicate {A = ℕ} (place - length bytes) 0))
+start_length : (place : ℕ) (bytes : List ℕ) → length (start place bytes) ≡ place
+start_length place bytes =
+    omega (arith, length-append (take place bytes) (zeros (place - length bytes)), length-take place bytes, length-replicate {A = ℕ} (place - length bytes) 0)
 
-start_length : (place : ℕ) (piece bytes : List ℕ) → length (take place (padded place bytes) ++ piece) ≡ place + length piece
-start_length place piece bytes = omega (arith, front_length place bytes, length-append (take place (padded place bytes)) piece)
+written_length : (place : ℕ) (piece bytes : List ℕ) → length (start place bytes ++ piece) ≡ place + length piece
+written_length place piece bytes = omega (arith, start_length place bytes, length-append (start place bytes) piece)
 
-pub length-overwritten : (place : ℕ) (piece bytes : List ℕ) → length (overwritten place piece bytes) ≡ max (length bytes) (place + length piece)
-length-overwritten place piece bytes =
-    omega (arith, start_length place piece bytes, length-append (take place (padded place bytes) ++ piece) (drop (place + length piece) bytes), length-drop (place + length piece) bytes)
+pub length-overlay : (place : ℕ) (piece bytes : List ℕ) → length (overlay bytes place piece) ≡ max (length bytes) (place + length piece)
+length-overlay place piece bytes =
+    omega (arith, written_length place piece bytes, length-append (start place bytes ++ piece) (drop (place + length piece) bytes), length-drop (place + length piece) bytes)
 
 -- a byte outside the range stays
-pub overwritten_outside : (place : ℕ) (piece bytes : List ℕ) (i : ℕ) → i < length bytes → (i < place) ⊎ (place + length piece ≤ i) → get_or (overwritten place piece bytes) i 0 ≡ get_or bytes i 0
-overwritten_outside place piece bytes i inside (inl below) =
-    get_or_append_left (take place (padded place bytes) ++ piece) (drop (place + length piece) bytes) 0 i (omega (arith, start_length place piece bytes))
-    ∙ get_or_append_left (take place (padded place bytes)) piece 0 i (omega (arith, front_length place bytes))
-    ∙ get_or-take place (padded place bytes) i 0 below
-    ∙ get_or_append_left bytes (replicate (place - length bytes) 0) 0 i inside
-overwritten_outside place piece bytes i inside (inr above) =
+pub overlay_outside : (place : ℕ) (piece bytes : List ℕ) (i : ℕ) → i < length bytes → (i < place) ⊎ (place + length piece ≤ i) → get_or (overlay bytes place piece) i 0 ≡ get_or bytes i 0
+overlay_outside place piece bytes i inside (inl below) =
+    get_or_append_left (start place bytes ++ piece) (drop (place + length piece) bytes) 0 i (omega (arith, written_length place piece bytes))
+    ∙ get_or_append_left (start place bytes) piece 0 i (omega (arith, start_length place bytes))
+    ∙ get_or_append_left (take place bytes) (zeros (place - length bytes)) 0 i (omega (arith, length-take place bytes))
+    ∙ get_or-take place bytes i 0 below
+overlay_outside place piece bytes i inside (inr above) =
     let end = place + length piece in
     let at : end + (i - end) ≡ i = omega arith in
-    get_or-append_right (take place (padded place bytes) ++ piece) (drop end bytes) end i 0 (start_length place piece bytes) above
+    get_or-append_right (start place bytes ++ piece) (drop end bytes) end i 0 (written_length place piece bytes) above
     ∙ get_or-drop end bytes (i - end) 0 ∙ ap (λ (k : ℕ). get_or bytes k 0) at
 
 pub greatest_end-append : (ranges : List Range) (range : Range) → greatest_end (ranges ++ range ∷ []) ≡ max (greatest_end ranges) range.end
@@ -55,16 +57,16 @@ synced_before kept at piece place synced =
 rest_image : (bytes : List ℕ) → IsImage (at_rest bytes) bytes
 rest_image bytes = record { no_shorter = omega arith; no_longer = omega arith; same = λ place synced. refl }
 
-write_image : (at : ℕ) (piece : List ℕ) (kept : Kept) → IsImage kept kept.read → IsImage (after_write at piece kept) (overwritten at piece kept.read)
+write_image : (at : ℕ) (piece : List ℕ) (kept : Kept) → IsImage kept kept.read → IsImage (after_write at piece kept) (overlay kept.read at piece)
 write_image at piece kept image =
-    let size = length-overwritten at piece kept.read in
+    let size = length-overlay at piece kept.read in
     let far = greatest_end-append kept.written (range_of at piece) in
     record {
       no_shorter = omega (arith, size, image.no_shorter);
       no_longer = omega (arith, size, far, image.no_longer);
       same = λ place synced.
           let before = synced_before kept at piece place synced in
-          overwritten_outside at piece kept.read place (omega (arith, image.no_shorter, before.1)) before.2 ∙ image.same place before.0;
+          overlay_outside at piece kept.read place (omega (arith, image.no_shorter, before.1)) before.2 ∙ image.same place before.0;
     }
 
 kept_image : (changes : List Change) (kept : Kept) → IsImage kept kept.read → IsImage (kept_after changes kept) (kept_after changes kept).read
@@ -88,8 +90,8 @@ memory_only_now disk image left =
     let whole : take left.moment disk.changes ≡ disk.changes = take_all left.moment disk.changes left.since in
     subst (λ (changes : List Change). IsImage (kept_after changes (at_rest disk.first)) image) whole left.is_image
 
-write_reach : (at : ℕ) (piece : List ℕ) (kept : Kept) → length kept.read ≡ reach kept → length (overwritten at piece kept.read) ≡ reach (after_write at piece kept)
-write_reach at piece kept is = omega (arith, is, length-overwritten at piece kept.read, greatest_end-append kept.written (range_of at piece))
+write_reach : (at : ℕ) (piece : List ℕ) (kept : Kept) → length kept.read ≡ reach kept → length (overlay kept.read at piece) ≡ reach (after_write at piece kept)
+write_reach at piece kept is = omega (arith, is, length-overlay at piece kept.read, greatest_end-append kept.written (range_of at piece))
 
 kept_reach : (changes : List Change) (kept : Kept) → length kept.read ≡ reach kept → length (kept_after changes kept).read ≡ reach (kept_after changes kept)
 kept_reach [] kept is = is

@@ -1,5 +1,6 @@
 pub mod Changes
 pub mod Disk
+pub mod Gate
 pub mod Laws
 pub mod Memory
 pub mod Notes

@@ -1,4 +1,4 @@
-ghost use Rattle.std.specs.Prelude.{◌≡◌, ◌≤◌, ◌+◌, ◌*◌, ℕ, List, Bool, length, take, drop, IsTrue, IfOk, OnOk, OnErr, is_err};
+ghost use Rattle.std.specs.Prelude.{◌≡◌, ◌≤◌, ◌+◌, ◌*◌, max, ℕ, List, Bool, length, take, drop, IsTrue, IfOk, OnOk, OnErr, is_err};
 ghost use Rattle.disk_model.specs.Disk.{Kept, IsImage, Writes, Syncs, Elapses, GoesByPlan};
 ghost use Rattle.xt_base.specs.Faults.{fault_count_after};
 
@@ -16,7 +16,7 @@ pub trait Disk: Drop {
     /// Whether contracts know the contents. Those of a real file aren't known.
     ghost is_told: { Bool };
 
-    /// What the disk keeps, since its last `attach` or, where there was none, its making.
+    /// What the disk keeps. Where contracts know it, that is one file, and `attach` changes nothing of it.
     ghost kept: { Self → Kept };
 
     /// The moment, as a number that doesn't fall.
@@ -41,10 +41,15 @@ pub trait Disk: Drop {
     fn faults(&self) -> u64
         ensures { result ≡ fault_count self.now };
 
-    /// Chooses the file that the later calls work on, and makes it where there is none.
+    /// Chooses the file that the later calls work on, and makes it where there is none. What was reserved is gone,
+    /// also where it fails.
     fn attach(&mut self, name: &str) -> Result<(), Failed>
+        ensures same { IsTrue is_told → kept self.new ≡ kept self.old }
         ensures reserved { reserved self.new ≡ 0 }
         ensures room { room self.new ≡ 0 }
+        ensures time { IsTrue is_told →
+            Elapses (moment self.old) (moment self.new) (left_since self.old) (left_since self.new)
+            (kept self.new) }
         ensures plan { IsTrue is_told →
             GoesByPlan 1 0 (fails self.old) (fails self.new) (is_err result) }
         ensures count { fault_count self.new ≡
@@ -112,11 +117,12 @@ pub trait Disk: Drop {
             fault_count_after (is_err result) (fault_count self.old) };
 
     /// Lets writes end at `end`, and makes room for the record of calls. It is no device call and changes no byte.
+    /// Where memory runs out, nothing more is reserved than before.
     fn reserve(&mut self, end: u64) -> Result<(), OutOfMemory>
-        ensures end { OnOk result (end ≤ reserved self.new) }
-        ensures made { OnOk result (2 * end + 4096 ≤ room self.new) }
-        ensures reserved { reserved self.old ≤ reserved self.new }
-        ensures room { room self.old ≤ room self.new }
+        ensures reserved { OnOk result (reserved self.new ≡ max (reserved self.old) end) }
+        ensures room { OnOk result (room self.new ≡ max (room self.old) (2 * end + 4096)) }
+        ensures unchanged { OnErr result
+            ((reserved self.new ≡ reserved self.old) × (room self.new ≡ room self.old)) }
         ensures same { kept self.new ≡ kept self.old }
         ensures time { IsTrue is_told →
             Elapses (moment self.old) (moment self.new) (left_since self.old) (left_since self.new)

@@ -1,4 +1,4 @@
-ghost use Rattle.std.specs.Prelude.{◌≡◌, is_err, ℕ};
+ghost use Rattle.std.specs.Prelude.{◌≡◌, is_err, None, ℕ};
 ghost use Rattle.xt_base.specs.Faults.{fault_count_after};
 
 use crate::Disk;
@@ -20,8 +20,10 @@ pub struct FileDisk<R: Files> {
 }
 
 impl<R: Files> FileDisk<R> {
-    /// A disk with no file yet.
-    pub fn new(rt: R) -> FileDisk<R> {
+    /// A disk with no file yet, no failure counted, and nothing reserved.
+    pub fn new(rt: R) -> FileDisk<R>
+        ensures { result ≡ record { rt = rt; file = None; faults = 0; reserved = 0; room = 0 } }
+    {
         FileDisk {
             rt,
             file: None,

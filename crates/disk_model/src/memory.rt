@@ -1,6 +1,6 @@
 ghost use Rattle.std.specs.Prelude.{◌≡◌, ◌≤◌, ◌<◌, ◌+◌, ◌-◌, ◌*◌, ◌++◌, ◌∷◌, [], min, IfOk, OnOk, OnErr, is_err, true, IsTrue, length, take, drop, replicate, Option, None, ℕ};
 ghost use Rattle.std.specs.Vec.{vec_capacity, vec_len};
-ghost use Rattle.disk_model.specs.Disk.{overwritten};
+ghost use Rattle.xt_base.specs.Overlay.{overlay};
 
 use crate::Disk;
 use crate::filling::fill_unsynced;
@@ -204,7 +204,7 @@ impl Disk for MemoryDisk {
 /// Puts a piece over the bytes from a place on, inside their capacity.
 fn overwrite(content: &mut Vec<u8>, at: usize, piece: &[u8])
     requires { at + length piece.now ≤ vec_capacity content.old }
-    ensures bytes { content.new.items ≡ overwritten at piece.now content.old.items }
+    ensures bytes { content.new.items ≡ overlay content.old.items at piece.now }
     ensures capacity { vec_capacity content.old ≤ vec_capacity content.new }
 {
     if content.len() < at {

@@ -1,6 +1,7 @@
 pub mod Outcomes
 pub mod Push
 pub mod Records
+pub mod Ready
 pub mod Taken
 pub mod Found
 pub mod Unique

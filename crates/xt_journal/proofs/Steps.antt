@@ -1,14 +1,19 @@
 -- What a crash leaves in each half of an append.
-use Rattle.std.proofs.Common.{◌≡◌, ◌≢◌, ◌⊎◌, inl, inr, ⊎_elim, ℕ, ◌+◌, ◌-◌, ◌<◌, ◌≤◌, ◌&&◌, ◌==◌, nat_le, if◌then◌else◌, true, false, Bool, List, [], ◌∷◌, ◌++◌, length, get_or, take, drop, replicate, refl, sym, ◌∙◌, ap, subst, arith, append_assoc, length-append, take-append-drop}
+use Rattle.std.proofs.Common.{◌≡◌, ◌≢◌, ◌⊎◌, inl, inr, ⊎_elim, ℕ, ◌+◌, ◌-◌, ◌^◌, ◌<◌, ◌≤◌, ◌&&◌, ◌==◌, nat_le, if◌then◌else◌, true, false, Bool, List, [], ◌∷◌, ◌++◌, length, get_or, take, drop, replicate, refl, sym, ◌∙◌, ap, subst, arith, append_assoc, length-append, take-append-drop, Err}
 use Rattle.std.specs.List.{All, list_any}
-use Rattle.std.proofs.lemmas.List.{take_at, drop_at, take-append-le, drop_more}
+use Rattle.std.proofs.lemmas.List.{append-nil, take_at, drop_at, drop_more}
 use Rattle.std.proofs.lemmas.List.Elements.{All-push}
 use Rattle.std.proofs.lemmas.Bool.{cases_eq, cond-true, cond-false, eq-eqb, ne_eqb, and_from, and_left, and_right, le-leb, lt-leb, lt-ltb, not_from_true, or_left}
 use Rattle.std.proofs.Math.Seq.{drop-append-add}
-use Rattle.disk_model.specs.Disk.{Kept, IsImage, IsFilled, at_rest, overwritten, after_write, range_of, is_inside, is_synced, reach, greatest_end}
+use Rattle.disk_model.specs.Disk.{Kept, IsImage, IsFilled, Elapses, LeavesOnly, at_rest, after_write, range_of, is_inside, is_synced, reach, greatest_end}
+use Rattle.xt_base.specs.Overlay.{overlay, zeros}
 use Rattle.disk_model.proofs.Filled.{filled_is_image}
+use Rattle.disk_model.proofs.Moments.{elapsed}
 use Rattle.disk_model.proofs.Images.{front_stays, back_stays, rest_stays, size_stays, same_images}
-use Rattle.xt_journal.specs.Append.{IsTurn, IsWithOrWithout, IsStopped, payloads_after_stop}
+use Rattle.xt_journal.specs.declared.append.Refusal.{Refusal}
+use Rattle.xt_journal.specs.declared.append.Refusal.TheVariants.{Broken, OutOfMemory}
+use Rattle.xt_journal.specs.Appended.{Appends}
+use Rattle.xt_journal.specs.Append.{GoesAt, IsTurn, IsWithOrWithout, IsStopped, payloads_after_stop}
 use Rattle.xt_journal.specs.Calls.{MayBeTorn, IsTornAt}
 use Rattle.xt_journal.specs.Format.{header, open_gate, record_of, records, end_of, IsPayload, IsJournal, KeepsJournal, EndsAt, StandsFor}
 use Rattle.xt_journal.proofs.Push.{records-push, end_of-push}
@@ -17,11 +22,12 @@ use Rattle.std.proofs.Math.Logic.{∥∥₁_elim, ∥∥₁_map}
 use Rattle.std.proofs.Props.{props}
 
 -- a piece over the bytes behind a front
-over : (place : ℕ) (front piece tail : List ℕ) → length front ≡ place → overwritten place piece (front ++ tail) ≡ front ++ (piece ++ drop (length piece) tail)
+over : (place : ℕ) (front piece tail : List ℕ) → length front ≡ place → overlay (front ++ tail) place piece ≡ front ++ (piece ++ drop (length piece) tail)
 over place front piece tail size =
     let bytes = front ++ tail in
-    let whole : take place (bytes ++ replicate (place - length bytes) 0) ≡ front =
-    take-append-le place bytes (replicate (place - length bytes) 0) (omega (arith, size, length-append front tail)) ∙ take_at front tail place size in
+    let none : place - length bytes ≡ 0 = omega (arith, size, length-append front tail) in
+    let whole : take place bytes ++ zeros (place - length bytes) ≡ front =
+    ap (λ (n : ℕ). take place bytes ++ zeros n) none ∙ append-nil (take place bytes) ∙ take_at front tail place size in
     let rest : drop (place + length piece) bytes ≡ drop (length piece) tail =
     ap (λ (n : ℕ). drop (n + length piece) bytes) (sym size) ∙ drop-append-add front tail (length piece) in
     ap (λ (l : List ℕ). (l ++ piece) ++ drop (place + length piece) bytes) whole ∙ ap (λ (l : List ℕ). (front ++ piece) ++ l) rest
@@ -78,9 +84,9 @@ module _ (payloads : List (List ℕ)) (payload : List ℕ) (fit : All IsPayload 
         closed gate (drop (end + 1) image) image shut
         (sym (take-append-drop (end + 1) image) ∙ ap (λ (l : List ℕ). l ++ drop (end + 1) image) start ∙ append_assoc front (gate ∷ []) (drop (end + 1) image))
 
-    staged : (piece : List ℕ) → piece ≡ record_of payload ++ 0 ∷ [] → overwritten (end + 1) piece bytes ≡ front ++ gate ∷ (record_of payload ++ 0 ∷ drop (length piece) rest)
+    staged : (piece : List ℕ) → piece ≡ record_of payload ++ 0 ∷ [] → overlay bytes (end + 1) piece ≡ front ++ gate ∷ (record_of payload ++ 0 ∷ drop (length piece) rest)
     staged piece is =
-        ap (overwritten (end + 1) piece) split ∙ over (end + 1) (front ++ gate ∷ []) piece rest one_more
+        ap (λ (l : List ℕ). overlay l (end + 1) piece) split ∙ over (end + 1) (front ++ gate ∷ []) piece rest one_more
         ∙ append_assoc front (gate ∷ []) (piece ++ drop (length piece) rest)
         ∙ ap (λ (l : List ℕ). front ++ gate ∷ (l ++ drop (length piece) rest)) is
         ∙ ap (λ (l : List ℕ). front ++ gate ∷ l) (append_assoc (record_of payload) (0 ∷ []) (drop (length piece) rest))
@@ -101,8 +107,8 @@ module _ (payloads : List (List ℕ)) (payload : List ℕ) (fit : All IsPayload 
         sym (take-append-drop end image) ∙ ap (λ (l : List ℕ). l ++ drop end image) start
         ∙ ap (λ (l : List ℕ). front ++ l) (drop_more image end 0 more ∙ ap (λ (l : List ℕ). get_or image end 0 ∷ l) behind)
 
-    gate_written : overwritten end (open_gate ∷ []) bytes ≡ front ++ open_gate ∷ tail
-    gate_written = ap (overwritten end (open_gate ∷ [])) are ∙ over end front (open_gate ∷ []) (gate ∷ tail) size
+    gate_written : overlay bytes end (open_gate ∷ []) ≡ front ++ open_gate ∷ tail
+    gate_written = ap (λ (l : List ℕ). overlay l end (open_gate ∷ [])) are ∙ over end front (open_gate ∷ []) (gate ∷ tail) size
 
 -- the images of a disk on which a write of this piece is torn
 torn_image : (at : ℕ) (piece bytes : List ℕ) (kept : Kept) (image : List ℕ) → IsTornAt at piece bytes kept → IsImage kept image → MayBeTorn at piece bytes image
@@ -119,7 +125,7 @@ stop_shut call fill payloads payload shut = cond-false _ _ _ (and_right _ _ (ne_
 
 module _ (kept : Kept) (end : ℕ) (piece : List ℕ) (payloads : List (List ℕ)) (payload : List ℕ) (turn : IsTurn kept end piece payloads payload) where
   was : IsJournal kept.read payloads
-  was = turn.keeps.journal
+  was = turn.goes.keeps.journal
 
   more : List ℕ
   more = drop (length piece) was.rest
@@ -127,32 +133,32 @@ module _ (kept : Kept) (end : ℕ) (piece : List ℕ) (payloads : List (List ℕ
   tail : List ℕ
   tail = record_of payload ++ 0 ∷ more
 
-  before : kept.read ≡ front payloads payload was.fit turn.is_payload end turn.place ++ was.gate ∷ was.rest
-  before = was.are ∙ regroup payloads payload was.fit turn.is_payload end turn.place (was.gate ∷ was.rest)
+  before : kept.read ≡ front payloads payload was.fit turn.goes.is_payload end turn.goes.place ++ was.gate ∷ was.rest
+  before = was.are ∙ regroup payloads payload was.fit turn.goes.is_payload end turn.goes.place (was.gate ∷ was.rest)
 
-  behind : overwritten (end + 1) piece kept.read ≡ front payloads payload was.fit turn.is_payload end turn.place ++ was.gate ∷ tail
+  behind : overlay kept.read (end + 1) piece ≡ front payloads payload was.fit turn.goes.is_payload end turn.goes.place ++ was.gate ∷ tail
   unfolding tail more
-  behind = staged payloads payload was.fit turn.is_payload end turn.place was.gate was.rest kept.read was.shut before piece turn.is_piece
+  behind = staged payloads payload was.fit turn.goes.is_payload end turn.goes.place was.gate was.rest kept.read was.shut before piece turn.is_piece
 
   -- while the record is written and synced, a crash leaves the old payloads
   pub first_half : (image : List ℕ) → MayBeTorn (end + 1) piece kept.read image → StandsFor image payloads
-  first_half image torn = inr (stage_image payloads payload was.fit turn.is_payload end turn.place was.gate was.rest kept.read was.shut before piece image torn)
+  first_half image torn = inr (stage_image payloads payload was.fit turn.goes.is_payload end turn.goes.place was.gate was.rest kept.read was.shut before piece image torn)
 
-  with_gate : (image : List ℕ) → MayBeTorn end (open_gate ∷ []) (overwritten (end + 1) piece kept.read) image
-      → image ≡ front payloads payload was.fit turn.is_payload end turn.place ++ get_or image end 0 ∷ tail
-  with_gate image torn = gate_image payloads payload was.fit turn.is_payload end turn.place was.gate tail (overwritten (end + 1) piece kept.read) behind image torn
+  with_gate : (image : List ℕ) → MayBeTorn end (open_gate ∷ []) (overlay kept.read (end + 1) piece) image
+      → image ≡ front payloads payload was.fit turn.goes.is_payload end turn.goes.place ++ get_or image end 0 ∷ tail
+  with_gate image torn = gate_image payloads payload was.fit turn.goes.is_payload end turn.goes.place was.gate tail (overlay kept.read (end + 1) piece) behind image torn
 
   -- while its gate is written and synced, these and the new one, or not the new one
-  pub second_half : (image : List ℕ) → MayBeTorn end (open_gate ∷ []) (overwritten (end + 1) piece kept.read) image → IsWithOrWithout payloads payload image
+  pub second_half : (image : List ℕ) → MayBeTorn end (open_gate ∷ []) (overlay kept.read (end + 1) piece) image → IsWithOrWithout payloads payload image
   unfolding tail
-  second_half image torn = any_gate payloads payload was.fit turn.is_payload end turn.place (get_or image end 0) more image (with_gate image torn)
+  second_half image torn = any_gate payloads payload was.fit turn.goes.is_payload end turn.goes.place (get_or image end 0) more image (with_gate image torn)
 
   -- and then these and the new one
-  pub finished : IsJournal (overwritten end (open_gate ∷ []) (overwritten (end + 1) piece kept.read)) (payloads ++ payload ∷ [])
+  pub finished : IsJournal (overlay (overlay kept.read (end + 1) piece) end (open_gate ∷ [])) (payloads ++ payload ∷ [])
   unfolding tail
   finished =
-      opened payloads payload was.fit turn.is_payload end turn.place more _
-      (gate_written payloads payload was.fit turn.is_payload end turn.place was.gate tail (overwritten (end + 1) piece kept.read) behind)
+      opened payloads payload was.fit turn.goes.is_payload end turn.goes.place more _
+      (gate_written payloads payload was.fit turn.goes.is_payload end turn.goes.place was.gate tail (overlay kept.read (end + 1) piece) behind)
 
   pub first_stop : (left : Kept) (call fill : ℕ) (bytes : List ℕ) → call ≤ 2 → IsTornAt (end + 1) piece kept.read left → IsFilled fill left bytes
       → StandsFor bytes (payloads_after_stop call fill payloads payload)
@@ -160,9 +166,9 @@ module _ (kept : Kept) (end : ℕ) (piece : List ℕ) (payloads : List (List ℕ
       subst (StandsFor bytes) (sym (stop_early call fill payloads payload early))
       (first_half bytes (torn_image (end + 1) piece kept.read left bytes torn (filled_is_image fill left bytes filled)))
 
-  module _ (left : Kept) (fill : ℕ) (bytes : List ℕ) (torn : IsTornAt end (open_gate ∷ []) (overwritten (end + 1) piece kept.read) left) (filled : IsFilled fill left bytes) where
-    image : bytes ≡ front payloads payload was.fit turn.is_payload end turn.place ++ get_or bytes end 0 ∷ tail
-    image = with_gate bytes (torn_image end (open_gate ∷ []) (overwritten (end + 1) piece kept.read) left bytes torn (filled_is_image fill left bytes filled))
+  module _ (left : Kept) (fill : ℕ) (bytes : List ℕ) (torn : IsTornAt end (open_gate ∷ []) (overlay kept.read (end + 1) piece) left) (filled : IsFilled fill left bytes) where
+    image : bytes ≡ front payloads payload was.fit turn.goes.is_payload end turn.goes.place ++ get_or bytes end 0 ∷ tail
+    image = with_gate bytes (torn_image end (open_gate ∷ []) (overlay kept.read (end + 1) piece) left bytes torn (filled_is_image fill left bytes filled))
 
     far : end + 1 ≤ reach left
     far = omega (arith, ap greatest_end torn.written)
@@ -178,13 +184,13 @@ module _ (kept : Kept) (end : ℕ) (piece : List ℕ) (payloads : List (List ℕ
     pub second_stop : (call : ℕ) → 3 ≤ call → StandsFor bytes (payloads_after_stop call fill payloads payload)
     unfolding tail
     second_stop call late =
-        let is = image ∙ ap (λ (g : ℕ). front payloads payload was.fit turn.is_payload end turn.place ++ g ∷ (record_of payload ++ 0 ∷ more)) gate_is in
+        let is = image ∙ ap (λ (g : ℕ). front payloads payload was.fit turn.goes.is_payload end turn.goes.place ++ g ∷ (record_of payload ++ 0 ∷ more)) gate_is in
         elim (cases_eq fill open_gate) [
           | inl open_fill ↦ subst (StandsFor bytes) (sym (stop_open call fill payloads payload late open_fill))
-              (inr (opened payloads payload was.fit turn.is_payload end turn.place more bytes
-              (is ∙ ap (λ (g : ℕ). front payloads payload was.fit turn.is_payload end turn.place ++ g ∷ (record_of payload ++ 0 ∷ more)) open_fill)))
+              (inr (opened payloads payload was.fit turn.goes.is_payload end turn.goes.place more bytes
+              (is ∙ ap (λ (g : ℕ). front payloads payload was.fit turn.goes.is_payload end turn.goes.place ++ g ∷ (record_of payload ++ 0 ∷ more)) open_fill)))
           | inr shut ↦ subst (StandsFor bytes) (sym (stop_shut call fill payloads payload shut))
-              (inr (closed payloads payload was.fit turn.is_payload end turn.place fill (record_of payload ++ 0 ∷ more) bytes shut is))
+              (inr (closed payloads payload was.fit turn.goes.is_payload end turn.goes.place fill (record_of payload ++ 0 ∷ more) bytes shut is))
         ]
 
 -- a disk has one journal, and so one place where it ends
@@ -192,13 +198,20 @@ pub place_of_end : (kept : Kept) (end : ℕ) (payloads : List (List ℕ)) → �
 place_of_end kept end payloads ends keeps =
     ∥∥₁_elim ends (hlevel props) (λ is. is.place ∙ ap end_of (stands_for_one kept.read is.payloads payloads (inr is.keeps.journal) (inr keeps.journal)))
 
--- the payload's turn
-pub turn_of : (kept same : Kept) (end : ℕ) (piece : List ℕ) (payloads : List (List ℕ)) (payload : List ℕ) → same ≡ kept → ∥ EndsAt kept end ∥₁ → KeepsJournal kept payloads
-    → IsPayload payload → piece ≡ record_of payload ++ 0 ∷ [] → IsTurn same end piece payloads payload
-turn_of kept same end piece payloads payload is ends keeps is_payload is_piece = record {
-  keeps = subst (λ (k : Kept). KeepsJournal k payloads) (sym is) keeps;
+-- a payload goes where the journal ends
+pub goes_at : (kept : Kept) (end : ℕ) (payloads : List (List ℕ)) (payload : List ℕ) → ∥ EndsAt kept end ∥₁ → 1 ≤ length payload → length payload < 2 ^ 32
+    → KeepsJournal kept payloads → GoesAt kept end payloads payload
+goes_at kept end payloads payload ends some fits keeps = record {
+  keeps = keeps;
   place = place_of_end kept end payloads ends keeps;
-  is_payload = is_payload;
+  is_payload = record { some = some; fits = fits };
+}
+
+-- also once the disk has reserved what that takes
+pub turn_of : (kept same : Kept) (end : ℕ) (piece : List ℕ) (payloads : List (List ℕ)) (payload : List ℕ) → same ≡ kept → GoesAt kept end payloads payload
+    → piece ≡ record_of payload ++ 0 ∷ [] → IsTurn same end piece payloads payload
+turn_of kept same end piece payloads payload is goes is_piece = record {
+  goes = subst (λ (k : Kept). GoesAt k end payloads payload) (sym is) goes;
   is_piece = is_piece;
 }
 
@@ -220,6 +233,21 @@ each_stands kept payloads image keeps is =
 
 pub rests_with : (kept : Kept) (payloads : List (List ℕ)) (payload image : List ℕ) → KeepsJournal kept payloads → IsImage kept image → IsWithOrWithout payloads payload image
 rests_with kept payloads payload image keeps is = inl (each_stands kept payloads image keeps is)
+
+-- a run that begins with a reservation, on a disk with a journal
+pub reserved_first : {D : Type 0} (moment : D → ℕ) (left_since : D → ℕ → List ℕ → Type 0) (old mid : D) (kept same : Kept) (payloads : List (List ℕ)) (payload : List ℕ)
+    → KeepsJournal kept payloads → same ≡ kept → ((image : List ℕ) → left_since old (moment old) image → IsImage kept image)
+    → Elapses (moment old) (moment mid) (left_since old) (left_since mid) same → LeavesOnly moment left_since old mid (IsWithOrWithout payloads payload)
+reserved_first moment left_since old mid kept same payloads payload keeps is only time =
+    let here : (image : List ℕ) → IsImage kept image → IsWithOrWithout payloads payload image = λ image was. rests_with kept payloads payload image keeps was in
+    elapsed moment left_since old mid same (IsWithOrWithout payloads payload) (λ image left. here image (only image left)) time
+    (λ image was. here image (subst (λ (k : Kept). IsImage k image) is was))
+
+-- an append that broke was stopped
+pub stopped_at : (fails : ℕ → ℕ → Bool) (kept : Kept) (payloads : List (List ℕ)) (payload : List ℕ) (why : Refusal) → why ≡ Broken
+    → Appends {T = Unit {0}} fails kept payloads payload (Err why) → IsStopped fails kept payloads payload
+stopped_at fails kept payloads payload Broken is stopped = stopped
+stopped_at fails kept payloads payload OutOfMemory is stopped = absurd cc
 
 -- the same calls are to fail
 pub same_plan : (fails same : ℕ → ℕ → Bool) (left : Kept) (payloads : List (List ℕ)) (payload : List ℕ) → ((l c : ℕ) → same l c ≡ fails l c)

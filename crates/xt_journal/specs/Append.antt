@@ -21,9 +21,13 @@ pub record IsStopped (fails : ℕ → ℕ → Bool) (kept : Kept) (payloads : Li
   pub first : IsFirstFailure fails call
   pub image : (fill : ℕ) (bytes : List ℕ) → IsFilled fill kept bytes → StandsFor bytes (payloads_after_stop call fill payloads payload)
 
--- the disk has a journal of these payloads, and a piece is the payload's record with the next gate, closed
-pub record IsTurn (kept : Kept) (end : ℕ) (piece : List ℕ) (payloads : List (List ℕ)) (payload : List ℕ) : Type 0 where
+-- a payload goes to this place, where the records of the disk's journal end
+pub record GoesAt (kept : Kept) (end : ℕ) (payloads : List (List ℕ)) (payload : List ℕ) : Type 0 where
   pub keeps : KeepsJournal kept payloads
   pub place : end ≡ end_of payloads
   pub is_payload : IsPayload payload
+
+-- a payload goes there, and a piece is its record with the next gate, closed
+pub record IsTurn (kept : Kept) (end : ℕ) (piece : List ℕ) (payloads : List (List ℕ)) (payload : List ℕ) : Type 0 where
+  pub goes : GoesAt kept end payloads payload
   pub is_piece : piece ≡ record_of payload ++ 0 ∷ []

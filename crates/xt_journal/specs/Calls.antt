@@ -1,6 +1,6 @@
 -- What a few device calls do.
 use Rattle.std.specs.Prelude.{ℕ, ◌+◌, ◌<◌, ◌≤◌, ◌≡◌, Bool, true, false, List, [], ◌∷◌, ◌++◌, length}
-use Rattle.disk_model.specs.Disk.{Kept, IsImage, at_rest, after_write, overwritten, range_of}
+use Rattle.disk_model.specs.Disk.{Kept, IsImage, at_rest, after_write, range_of}
 
 -- The plan goes on behind this many calls that look and this many that change.
 abbrev pub GoesOn : ℕ → ℕ → (ℕ → ℕ → Bool) → (ℕ → ℕ → Bool) → Type 0

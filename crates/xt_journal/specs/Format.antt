@@ -3,6 +3,7 @@ use Rattle.std.specs.Prelude.{ℕ, ◌+◌, ◌^◌, ◌<◌, ◌≤◌, ◌≡�
 use Rattle.std.specs.List.{All}
 use Rattle.byteorder.specs.Endian.{big_bytes}
 use Rattle.disk_model.specs.Disk.{Kept, at_rest}
+pub use Rattle.disk_model.specs.Gate.{open_gate}
 
 -- the text XTFSJRNL
 abbrev pub sign : List ℕ
@@ -11,10 +12,6 @@ sign = 0x58 ∷ 0x54 ∷ 0x46 ∷ 0x53 ∷ 0x4a ∷ 0x52 ∷ 0x4e ∷ 0x4c ∷ [
 -- the sign, and the number of the layout
 abbrev pub header : List ℕ
 header = sign ++ 0 ∷ 0 ∷ 0 ∷ 1 ∷ []
-
--- the gate of a record that stands
-abbrev pub open_gate : ℕ
-open_gate = 0xa5
 
 -- a payload behind its length
 abbrev pub record_of : List ℕ → List ℕ

@@ -1,6 +1,7 @@
 pub mod Access
 pub mod Answers
 pub mod Append
+pub mod Appended
 pub mod Calls
 pub mod Format
 pub mod Reading

@@ -1,15 +1,29 @@
 -- What loading does to a disk.
-use Rattle.std.specs.Prelude.{ℕ, ◌+◌, ◌≤◌, ◌≡◌, ◌⊎◌, ◌<◌, Bool, true, List, [], length, Result}
-use Rattle.disk_model.specs.Disk.{Kept, IsImage}
+use Rattle.std.specs.Prelude.{ℕ, ◌+◌, ◌≤◌, ◌≡◌, ◌≢◌, ◌⊎◌, ◌<◌, Bool, true, false, List, [], length}
+use Rattle.disk_model.specs.Disk.{Kept, IsImage, at_rest}
+use Rattle.xt_journal.specs.Calls.{MayBeTorn, IsTornAt}
 use Rattle.xt_journal.specs.Format.{journal_of}
-
--- a crash leaves what it might have left before, or 13 bytes at most where a read gave no more
-abbrev pub LeavesAsBefore : Kept → List ℕ → Type 0
-LeavesAsBefore old image = IsImage old image ⊎ ((length image ≤ 13) × (length old.read ≤ 13))
 
 -- the disk isn't written anew: it has more than 13 bytes, or is a journal with no record
 abbrev pub IsReady : List ℕ → Type 0
 IsReady bytes = (13 < length bytes) ⊎ (bytes ≡ journal_of [])
+
+-- it is: it has at most 13 bytes and isn't a journal
+abbrev pub IsUnready : List ℕ → Type 0
+IsUnready bytes = (length bytes ≤ 13) × (bytes ≢ journal_of [])
+
+-- a crash leaves what it might have left before, or a torn write where the disk is made a journal with no record
+abbrev pub LeavesAsBefore : Kept → List ℕ → Type 0
+LeavesAsBefore old image = IsImage old image ⊎ (IsUnready old.read × MayBeTorn 0 (journal_of []) old.read image)
+
+-- A load that gives no journal leaves the disk as it was, or with its sync done, or torn where it was made a journal.
+abbrev pub LeavesDisk : Kept → Kept → Type 0
+LeavesDisk old new = (new ≡ old) ⊎ ((new ≡ at_rest old.read) ⊎ (IsUnready old.read × IsTornAt 0 (journal_of []) old.read new))
+
+-- whether these bytes are a journal with no record
+abbrev pub TellsFresh : List ℕ → Bool → Type 0
+TellsFresh bytes true = bytes ≡ journal_of []
+TellsFresh bytes false = bytes ≢ journal_of []
 
 -- one of the calls failed: of at most two that look and three that change, or one that changes on a ready disk
 pub record FailedCall (fails : ℕ → ℕ → Bool) (bytes : List ℕ) : Type 0 where

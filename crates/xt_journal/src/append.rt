@@ -1,15 +1,15 @@
 ghost use Rattle.std.specs.Prelude.{◌≡◌, ◌≤◌, ◌<◌, ◌+◌, ◌-◌, ◌^◌, ◌++◌, ◌∷◌, [], ℕ, List, IsTrue, IfOk, OnOk, OnErr, IsErrOf, MatchResult, is_err, length};
 ghost use Rattle.disk_model.specs.Disk.{IsImage, LeavesOnly};
 ghost use Rattle.xt_base.specs.Faults.{counted, fault_count_after};
-ghost use Rattle.xt_journal.specs.Append.{IsTurn, IsWithOrWithout, IsStopped};
+ghost use Rattle.xt_journal.specs.Append.{GoesAt, IsTurn, IsWithOrWithout, IsStopped};
+ghost use Rattle.xt_journal.specs.Appended.{Appends, MakesCalls};
 ghost use Rattle.xt_journal.specs.Calls.{GoesOn, AllSucceed};
 ghost use Rattle.xt_journal.specs.Format.{record_of, EndsAt, KeepsJournal, StandsFor};
 ghost use Rattle.xt_journal.specs.Refused.{is_broken};
 
 use crate::calls::write_synced;
-use crate::format::OPEN_GATE;
 use byteorder::{BigEndian, ByteOrder};
-use disk_model::Disk;
+use disk_model::{Disk, OPEN_GATE};
 use std::alloc::Global;
 use xt_base::{Failed, OutOfMemory};
 
@@ -57,35 +57,18 @@ pub fn append_to<D: Disk>(
     need: u64,
     payload: &[u8],
 ) -> Result<(), Refusal>
-    requires ends { IsTrue D.is_told → ∥ EndsAt (D.kept disk.old) end ∥₁ }
     requires needed { need ≡ end + (6 + length payload.now) }
-    requires some { 1 ≤ length payload.now }
     requires fits { length payload.now < 2 ^ 32 }
-    ensures ends { IsTrue D.is_told → OnOk result (∥ EndsAt (D.kept disk.new) (need - 1) ∥₁) }
-    ensures done { IsTrue D.is_told → (payloads : List (List ℕ)) →
-        KeepsJournal (D.kept disk.old) payloads →
-        OnOk result (KeepsJournal (D.kept disk.new) (payloads ++ payload.now ∷ [])) }
-    ensures acknowledged { IsTrue D.is_told → (payloads : List (List ℕ)) →
-        KeepsJournal (D.kept disk.old) payloads →
-        OnOk result ((image : List ℕ) → IsImage (D.kept disk.new) image →
-        StandsFor image (payloads ++ payload.now ∷ [])) }
+    ensures turn { IsTrue D.is_told → (payloads : List (List ℕ)) →
+        GoesAt (D.kept disk.old) end payloads payload.now →
+        Appends (D.fails disk.old) (D.kept disk.new) payloads payload.now result }
     ensures any_moment { IsTrue D.is_told → (payloads : List (List ℕ)) →
-        KeepsJournal (D.kept disk.old) payloads →
+        GoesAt (D.kept disk.old) end payloads payload.now →
         LeavesOnly D.moment D.left_since disk.old disk.new (IsWithOrWithout payloads payload.now) }
-    ensures now { IsTrue D.is_told → (payloads : List (List ℕ)) →
-        KeepsJournal (D.kept disk.old) payloads →
-        (image : List ℕ) → IsImage (D.kept disk.new) image → IsWithOrWithout payloads payload.now image }
-    ensures stopped { IsTrue D.is_told → (payloads : List (List ℕ)) →
-        KeepsJournal (D.kept disk.old) payloads →
-        IsErrOf result Refusal.Broken → IsStopped (D.fails disk.old) (D.kept disk.new) payloads payload.now }
-    ensures succeeded { IsTrue D.is_told → OnOk result (AllSucceed (D.fails disk.old) 4) }
-    ensures plan { IsTrue D.is_told →
-        OnOk result (GoesOn 0 4 (D.fails disk.old) (D.fails disk.new)) }
+    ensures calls { IsTrue D.is_told → MakesCalls (D.fails disk.old) (D.fails disk.new) result }
     ensures count { D.fault_count disk.new ≡
         fault_count_after (is_broken result) (D.fault_count disk.old) }
     ensures same { IsErrOf result Refusal.OutOfMemory → D.kept disk.new ≡ D.kept disk.old }
-    ensures no_call { IsTrue D.is_told → IsErrOf result Refusal.OutOfMemory →
-        GoesOn 0 0 (D.fails disk.old) (D.fails disk.new) }
 {
     if disk.reserve(need).is_err() {
         return Err(Refusal::OutOfMemory);

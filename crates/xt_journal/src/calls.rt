@@ -1,5 +1,6 @@
 ghost use Rattle.std.specs.Prelude.{◌≡◌, ◌≤◌, ◌+◌, ℕ, IsTrue, OnOk, OnErr, is_err, length};
-ghost use Rattle.disk_model.specs.Disk.{at_rest, overwritten, LeavesOnly};
+ghost use Rattle.disk_model.specs.Disk.{at_rest, LeavesOnly};
+ghost use Rattle.xt_base.specs.Overlay.{overlay};
 ghost use Rattle.xt_base.specs.Faults.{fault_count_after};
 ghost use Rattle.xt_journal.specs.Calls.{GoesOn, IsFirstFailure, AllSucceed, MayBeTorn, IsTornAt};
 
@@ -11,7 +12,7 @@ pub fn write_synced<D: Disk>(disk: &mut D, at: u64, piece: &[u8]) -> Result<(), 
     requires inside { at + length piece.now ≤ D.reserved disk.old }
     requires noted { length piece.now + 128 ≤ D.room disk.old }
     ensures done { IsTrue D.is_told → D.kept disk.old ≡ at_rest (D.kept disk.old).read →
-        OnOk result (D.kept disk.new ≡ at_rest (overwritten at piece.now (D.kept disk.old).read)) }
+        OnOk result (D.kept disk.new ≡ at_rest (overlay (D.kept disk.old).read at piece.now)) }
     ensures torn { IsTrue D.is_told → D.kept disk.old ≡ at_rest (D.kept disk.old).read →
         OnErr result (IsTornAt at piece.now (D.kept disk.old).read (D.kept disk.new)) }
     ensures any_moment { IsTrue D.is_told → D.kept disk.old ≡ at_rest (D.kept disk.old).read →

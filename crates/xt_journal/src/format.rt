@@ -6,6 +6,7 @@ ghost use Rattle.xt_journal.specs.Reading.{payloads_of, placed_from};
 
 use crate::placed::Placed;
 use byteorder::{BigEndian, ByteOrder};
+use disk_model::OPEN_GATE;
 use std::alloc::{AllocError, AllocFailed, Global};
 use xt_base::{Octets, OutOfMemory};
 
@@ -14,9 +15,6 @@ pub const SIGN: [u8; 8] = *b"XTFSJRNL";
 
 /// The one layout that is known.
 pub const LAYOUT: u32 = 1;
-
-/// The gate of a record that stands. Any other byte is a closed gate.
-pub const OPEN_GATE: u8 = 0xa5;
 
 /// The header, and a closed gate.
 pub const FRESH: [u8; 13] = [

@@ -19,7 +19,7 @@ pub struct Journal<D: Disk> {
 }
 
 impl<D: Disk> Journal<D> {
-    ghost use Rattle.std.specs.Prelude.{◌≡◌, ◌≤◌, ◌<◌, ◌+◌, ◌^◌, ◌++◌, ◌∷◌, [], ℕ, List, IfOk, IfSome, OnOk, IsSome, is_some, length};
+    ghost use Rattle.std.specs.Prelude.{◌≡◌, ◌≤◌, ◌<◌, ◌+◌, ◌^◌, ◌++◌, ◌∷◌, [], ℕ, List, IfOk, IfSome, OnOk, OnErr, IsSome, is_some, length};
     ghost use Rattle.disk_model.specs.Disk.{IsImage, LeavesOnly, at_rest};
     ghost use Rattle.xt_base.specs.Faults.{fault_count_after};
     ghost use Rattle.xt_journal.specs.Access.{disk_of, place_of, limit_of};
@@ -27,7 +27,7 @@ impl<D: Disk> Journal<D> {
     ghost use Rattle.xt_journal.specs.Append.{IsStopped, IsWithOrWithout};
     ghost use Rattle.xt_journal.specs.Calls.{AllSucceed, GoesOn};
     ghost use Rattle.xt_journal.specs.Format.{KeepsJournal, StandsFor, end_of, journal_of};
-    ghost use Rattle.xt_journal.specs.Loaded.{LeavesAsBefore, IsReady, FailedCall, MadeCalls};
+    ghost use Rattle.xt_journal.specs.Loaded.{LeavesAsBefore, LeavesDisk, FailedCall, MadeCalls};
     ghost use Rattle.xt_journal.specs.Reading.{IsTheReading, payloads_of};
 
     /// Loads what stands on a disk: the payloads whose gates are open, from the first up to the first that isn't.
@@ -46,8 +46,11 @@ impl<D: Disk> Journal<D> {
             IfOk result (λ loaded. D.kept (disk_of loaded.0) ≡ at_rest (journal_of [])) }
         ensures same { IsTrue D.is_told → 13 < length (D.kept disk).read →
             (D.kept (disk_after_load result)).read ≡ (D.kept disk).read }
+        ensures left { IsTrue D.is_told → OnErr result
+            (LeavesDisk (D.kept disk) (D.kept (disk_after_load result))) }
 
-        // A crash at any moment leaves what it might have left before, or too few bytes for a record.
+        // A crash at any moment leaves what it might have left before. Where a short disk is made a journal, it may leave
+        // any bytes in the place of those 13 that it has, and of those up to 13 that it gets.
         ensures any_moment { IsTrue D.is_told →
             LeavesOnly D.moment D.left_since disk (disk_after_load result) (LeavesAsBefore (D.kept disk)) }
 

@@ -1,9 +1,9 @@
-ghost use Rattle.std.specs.Prelude.{◌≡◌, ◌≤◌, ◌<◌, ◌+◌, [], ℕ, true, IsTrue, IfOk, IfSome, OnOk, OnErr, IsErrOf, is_err, length};
-ghost use Rattle.disk_model.specs.Disk.{IsImage, LeavesOnly, at_rest};
+ghost use Rattle.std.specs.Prelude.{◌≡◌, ◌⊎◌, ◌≤◌, ◌<◌, ◌+◌, [], ℕ, true, IsTrue, IfOk, IfSome, OnOk, OnErr, IsErrOf, is_err, length};
+ghost use Rattle.disk_model.specs.Disk.{GoesByPlan, IsImage, LeavesOnly, at_rest};
 ghost use Rattle.xt_base.specs.Faults.{fault_count_after};
 ghost use Rattle.xt_journal.specs.Calls.{GoesOn};
 ghost use Rattle.xt_journal.specs.Format.{end_of, journal_of, KeepsJournal};
-ghost use Rattle.xt_journal.specs.Loaded.{LeavesAsBefore, IsReady, FailedCall, MadeCalls};
+ghost use Rattle.xt_journal.specs.Loaded.{LeavesAsBefore, LeavesDisk, TellsFresh, FailedCall, MadeCalls};
 ghost use Rattle.xt_journal.specs.Parsed.{Gives, is_fault, reading_found};
 ghost use Rattle.xt_journal.specs.Reading.{IsTheReading, payloads_of};
 
@@ -20,7 +20,8 @@ fn settle<D: Disk>(disk: &mut D) -> Result<u64, Failed>
     ensures value { IsTrue D.is_told → IfOk result (λ len. len ≡ length (D.kept disk.old).read) }
     ensures rests { IsTrue D.is_told →
         OnOk result (D.kept disk.new ≡ at_rest (D.kept disk.old).read) }
-    ensures same { IsTrue D.is_told → (D.kept disk.new).read ≡ (D.kept disk.old).read }
+    ensures left { IsTrue D.is_told → OnErr result ((D.kept disk.new ≡ D.kept disk.old)
+        ⊎ (D.kept disk.new ≡ at_rest (D.kept disk.old).read)) }
     ensures any_moment { IsTrue D.is_told →
         LeavesOnly D.moment D.left_since disk.old disk.new (IsImage (D.kept disk.old)) }
     ensures reserved { D.reserved disk.new ≡ D.reserved disk.old }
@@ -36,6 +37,27 @@ fn settle<D: Disk>(disk: &mut D) -> Result<u64, Failed>
     disk.length()
 }
 
+/// Whether a disk of at most 13 bytes is a journal with no record.
+fn is_fresh<D: Disk>(disk: &mut D, len: u64) -> Result<bool, Failed>
+    requires short { len ≤ 13 }
+    requires whole { IsTrue D.is_told → len ≡ length (D.kept disk.old).read }
+    ensures value { IsTrue D.is_told → IfOk result (TellsFresh (D.kept disk.old).read) }
+    ensures same { D.kept disk.new ≡ D.kept disk.old }
+    ensures reserved { D.reserved disk.new ≡ D.reserved disk.old }
+    ensures room { D.room disk.new ≡ D.room disk.old }
+    ensures any_moment { IsTrue D.is_told →
+        LeavesOnly D.moment D.left_since disk.old disk.new (IsImage (D.kept disk.old)) }
+    ensures plan { IsTrue D.is_told →
+        GoesByPlan 1 0 (D.fails disk.old) (D.fails disk.new) (is_err result) }
+    ensures count { D.fault_count disk.new ≡
+        fault_count_after (is_err result) (D.fault_count disk.old) }
+{
+    let mut bytes = [0; FRESH.len()];
+    let held = &mut bytes[..len as usize];
+    disk.read(0, held)?;
+    Ok(&*held == FRESH.as_slice())
+}
+
 /// Makes a disk of at most 13 bytes a journal with no record, where it isn't one.
 fn make_ready<D: Disk>(disk: &mut D, len: u64) -> Result<(), Failed>
     requires short { len ≤ 13 }
@@ -44,8 +66,9 @@ fn make_ready<D: Disk>(disk: &mut D, len: u64) -> Result<(), Failed>
     requires inside { 13 ≤ D.reserved disk.old }
     requires noted { 200 ≤ D.room disk.old }
     ensures ready { IsTrue D.is_told → OnOk result (D.kept disk.new ≡ at_rest (journal_of [])) }
-    ensures any_moment { IsTrue D.is_told → LeavesOnly D.moment D.left_since disk.old disk.new
-        (λ image. length image ≤ 13) }
+    ensures left { IsTrue D.is_told → OnErr result (LeavesDisk (D.kept disk.old) (D.kept disk.new)) }
+    ensures any_moment { IsTrue D.is_told →
+        LeavesOnly D.moment D.left_since disk.old disk.new (LeavesAsBefore (D.kept disk.old)) }
     ensures plan { IsTrue D.is_told → OnOk result ((changes : ℕ) × (changes ≤ 2)
         × ((D.kept disk.old).read ≡ journal_of [] → changes ≡ 0)
         × GoesOn 1 changes (D.fails disk.old) (D.fails disk.new)) }
@@ -54,10 +77,7 @@ fn make_ready<D: Disk>(disk: &mut D, len: u64) -> Result<(), Failed>
     ensures count { D.fault_count disk.new ≡
         fault_count_after (is_err result) (D.fault_count disk.old) }
 {
-    let mut bytes = [0; FRESH.len()];
-    let held = &mut bytes[..len as usize];
-    disk.read(0, held)?;
-    if &*held == FRESH.as_slice() {
+    if is_fresh(disk, len)? {
         return Ok(());
     }
     write_synced(disk, 0, &FRESH)
@@ -83,6 +103,7 @@ pub fn load_from<D: Disk>(alloc: Global, disk: &mut D) -> Result<(u64, Vec<Place
         IfOk result (λ found. D.kept disk.new ≡ at_rest (journal_of [])) }
     ensures same { IsTrue D.is_told → 13 < length (D.kept disk.old).read →
         (D.kept disk.new).read ≡ (D.kept disk.old).read }
+    ensures left { IsTrue D.is_told → OnErr result (LeavesDisk (D.kept disk.old) (D.kept disk.new)) }
     ensures any_moment { IsTrue D.is_told →
         LeavesOnly D.moment D.left_since disk.old disk.new (LeavesAsBefore (D.kept disk.old)) }
     ensures plan { IsTrue D.is_told →
@@ -110,6 +131,7 @@ fn read_journal<D: Disk>(alloc: Global, disk: &mut D) -> Result<(u64, Vec<Placed
         OnOk result (D.kept disk.new ≡ at_rest (journal_of [])) }
     ensures same { IsTrue D.is_told → 13 < length (D.kept disk.old).read →
         (D.kept disk.new).read ≡ (D.kept disk.old).read }
+    ensures left { IsTrue D.is_told → OnErr result (LeavesDisk (D.kept disk.old) (D.kept disk.new)) }
     ensures any_moment { IsTrue D.is_told →
         LeavesOnly D.moment D.left_since disk.old disk.new (LeavesAsBefore (D.kept disk.old)) }
     ensures plan { IsTrue D.is_told →

@@ -1,5 +1,6 @@
 use Rattle.std.proofs.Common.{◌≡◌, ◌⊎◌, inl, inr, ℕ, ◌+◌, ◌-◌, ◌≤◌, ◌<◌, Bool, true, false, List, [], ◌∷◌, ◌++◌, refl, sym, ◌∙◌, ap, subst, arith}
-use Rattle.disk_model.specs.Disk.{Kept, LeavesOnly, at_rest, overwritten}
+use Rattle.disk_model.specs.Disk.{Kept, LeavesOnly, at_rest}
+use Rattle.xt_base.specs.Overlay.{overlay}
 use Rattle.disk_model.proofs.Moments.{joined, weaker}
 use Rattle.xt_journal.specs.Append.{IsTurn, IsWithOrWithout, IsStopped}
 use Rattle.xt_journal.specs.Calls.{IsTornAt, IsFirstFailure, MayBeTorn, GoesOn, AllSucceed}
@@ -12,12 +13,12 @@ pub returns-in_err-write_synced-clause-any_moment : goal.returns-in_err-write_sy
 returns-in_err-write_synced-clause-any_moment g c told payloads payload turn =
     let D = g.D.Disk in
     weaker D.moment D.left_since c.args.disk.now c.write_synced.new.disk (MayBeTorn (c.args.end + 1) c.args.piece.now (D.kept c.args.disk.now).read) (IsWithOrWithout payloads payload)
-    (c.write_synced.ensures.any_moment told turn.keeps.rests)
+    (c.write_synced.ensures.any_moment told turn.goes.keeps.rests)
     (λ image torn. inl (first_half (D.kept c.args.disk.now) c.args.end c.args.piece.now payloads payload turn image torn))
 
 pub returns-in_err-write_synced-clause-stopped : goal.returns-in_err-write_synced-clause-stopped
 returns-in_err-write_synced-clause-stopped g c told payloads payload turn =
-    let torn = c.in_err-write_synced.ensures.torn told turn.keeps.rests in
+    let torn = c.in_err-write_synced.ensures.torn told turn.goes.keeps.rests in
     let failed = c.in_err-write_synced.ensures.failed told in
     an_err c.from_residual.result (record {
       call = failed.0;
@@ -32,12 +33,12 @@ pub returns-clause-done : goal.returns-clause-done
 returns-clause-done g c told payloads payload turn =
     let D = g.D.Disk in
     let kept = D.kept c.args.disk.now in
-    let mid = c.in_ok-write_synced.ensures.done told turn.keeps.rests in
-    let staged = overwritten (c.args.end + 1) c.args.piece.now kept.read in
+    let mid = c.in_ok-write_synced.ensures.done told turn.goes.keeps.rests in
+    let staged = overlay kept.read (c.args.end + 1) c.args.piece.now in
     on_ok c.write_synced-2.result (c.write_synced-2.ensures.done told (mid ∙ ap at_rest (ap (λ (k : Kept). k.read) (sym mid))))
     (λ done.
-    let is : D.kept c.write_synced-2.new.disk ≡ at_rest (overwritten c.args.end (open_gate ∷ []) staged) =
-    done ∙ ap (λ (k : Kept). at_rest (overwritten c.args.end (open_gate ∷ []) k.read)) mid in
+    let is : D.kept c.write_synced-2.new.disk ≡ at_rest (overlay staged c.args.end (open_gate ∷ [])) =
+    done ∙ ap (λ (k : Kept). at_rest (overlay k.read c.args.end (open_gate ∷ []))) mid in
     subst (λ (k : Kept). KeepsJournal k (payloads ++ payload ∷ [])) (sym is)
     (record { rests = refl; journal = finished kept c.args.end c.args.piece.now payloads payload turn }))
 
@@ -45,14 +46,14 @@ pub returns-clause-any_moment : goal.returns-clause-any_moment
 returns-clause-any_moment g c told payloads payload turn =
     let D = g.D.Disk in
     let kept = D.kept c.args.disk.now in
-    let mid = c.in_ok-write_synced.ensures.done told turn.keeps.rests in
-    let staged = overwritten (c.args.end + 1) c.args.piece.now kept.read in
+    let mid = c.in_ok-write_synced.ensures.done told turn.goes.keeps.rests in
+    let staged = overlay kept.read (c.args.end + 1) c.args.piece.now in
     let second = c.write_synced-2.ensures.any_moment told (mid ∙ ap at_rest (ap (λ (k : Kept). k.read) (sym mid))) in
     joined D.moment D.left_since c.args.disk.now c.write_synced.new.disk c.write_synced-2.new.disk
     (MayBeTorn (c.args.end + 1) c.args.piece.now kept.read)
     (MayBeTorn c.args.end (open_gate ∷ []) (D.kept c.write_synced.new.disk).read)
     (IsWithOrWithout payloads payload)
-    (c.write_synced.ensures.any_moment told turn.keeps.rests) second
+    (c.write_synced.ensures.any_moment told turn.goes.keeps.rests) second
     (λ image torn. inl (first_half kept c.args.end c.args.piece.now payloads payload turn image torn))
     (λ image torn. second_half kept c.args.end c.args.piece.now payloads payload turn image
     (subst (λ (k : Kept). MayBeTorn c.args.end (open_gate ∷ []) k.read image) mid torn))
@@ -63,11 +64,11 @@ returns-clause-stopped g c told payloads payload turn =
     let kept = D.kept c.args.disk.now in
     let left = D.kept c.write_synced-2.new.disk in
     let first = c.in_ok-write_synced.ensures in
-    let mid = first.done told turn.keeps.rests in
+    let mid = first.done told turn.goes.keeps.rests in
     let torn = c.write_synced-2.ensures.torn told (mid ∙ ap at_rest (ap (λ (k : Kept). k.read) (sym mid))) in
     both_err c.write_synced-2.result torn (c.write_synced-2.ensures.failed told)
     (λ torn failed.
-    let here : IsTornAt c.args.end (open_gate ∷ []) (overwritten (c.args.end + 1) c.args.piece.now kept.read) left =
+    let here : IsTornAt c.args.end (open_gate ∷ []) (overlay kept.read (c.args.end + 1) c.args.piece.now) left =
     subst (λ (k : Kept). IsTornAt c.args.end (open_gate ∷ []) k.read left) mid torn in
     record {
       call = 2 + failed.0;

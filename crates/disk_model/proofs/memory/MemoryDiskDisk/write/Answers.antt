@@ -2,7 +2,8 @@ use Rattle.std.proofs.Common.{◌≡◌, ◌+◌, ◌<◌, ◌≤◌, ◌++◌, 
 use Rattle.std.proofs.lemmas.Bool.{cond-true}
 use Rattle.std.proofs.lemmas.List.{drop-append-le}
 use Rattle.disk_model.specs.declared.note.Note.TheVariants.{Wrote, Synced}
-use Rattle.disk_model.specs.Disk.{Kept, Range, Elapses, at_rest, after_write, range_of, overwritten}
+use Rattle.disk_model.specs.Disk.{Kept, Range, Elapses, at_rest, after_write, range_of}
+use Rattle.xt_base.specs.Overlay.{overlay}
 use Rattle.disk_model.specs.Changes.{Change, Write, Memory, kept_after, memory_kept, MightHaveLeft}
 use Rattle.disk_model.specs.Notes.{changes_of, pieces_length, ranges_of}
 use Rattle.disk_model.specs.Memory.{seen}
@@ -57,7 +58,7 @@ invariant_of-self c =
         pieces_length-append c.self.inside.notes.items (Wrote c.args.at (length c.args.piece.now)),
       );
       content = λ copied.
-          c.overwrite.ensures.bytes ∙ ap (λ (bytes : List ℕ). overwritten c.args.at c.args.piece.now bytes) (old.content copied) ∙ ap (λ (k : Kept). k.read) (sym (kept c));
+          c.overwrite.ensures.bytes ∙ ap (λ (bytes : List ℕ). overlay bytes c.args.at c.args.piece.now) (old.content copied) ∙ ap (λ (k : Kept). k.read) (sym (kept c));
       bare = λ bare. absurd (omega (arith, room_left c, (old.bare bare).2));
       synced_notes = omega (arith, old.synced_notes, ap length (notes c), size);
       written =

@@ -1,0 +1,6 @@
+-- The one byte that tells whether a record of a journal stands.
+use Rattle.std.specs.Prelude.{ℕ}
+
+-- the gate of a record that stands
+abbrev pub open_gate : ℕ
+open_gate = 0xa5

@@ -1,0 +1,20 @@
+-- What an append has done, by its answer.
+use Rattle.std.specs.Prelude.{ℕ, Bool, List, [], ◌∷◌, ◌++◌, Result, Ok, Err}
+use Rattle.disk_model.specs.Disk.{Kept}
+use Rattle.xt_journal.specs.declared.append.Refusal.{Refusal}
+use Rattle.xt_journal.specs.declared.append.Refusal.TheVariants.{Broken, OutOfMemory}
+use Rattle.xt_journal.specs.Append.{IsStopped}
+use Rattle.xt_journal.specs.Calls.{GoesOn, AllSucceed}
+use Rattle.xt_journal.specs.Format.{KeepsJournal}
+
+-- the disk has the payload in its journal, or was stopped at it
+abbrev pub Appends : {T : Type 0} → (ℕ → ℕ → Bool) → Kept → List (List ℕ) → List ℕ → Result T Refusal → Type 0
+Appends fails kept payloads payload (Ok value) = KeepsJournal kept (payloads ++ payload ∷ [])
+Appends fails kept payloads payload (Err Broken) = IsStopped fails kept payloads payload
+Appends fails kept payloads payload (Err OutOfMemory) = Unit {0}
+
+-- all four calls were made, or none was where memory ran out
+abbrev pub MakesCalls : {T : Type 0} → (ℕ → ℕ → Bool) → (ℕ → ℕ → Bool) → Result T Refusal → Type 0
+MakesCalls old new (Ok value) = AllSucceed old 4 × GoesOn 0 4 old new
+MakesCalls old new (Err Broken) = Unit {0}
+MakesCalls old new (Err OutOfMemory) = GoesOn 0 0 old new
