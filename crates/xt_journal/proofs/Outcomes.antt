@@ -7,6 +7,10 @@ pub on_ok : {T E P Q : Type 0} (r : Result T E) → OnOk r P → (P → Q) → O
 on_ok (Ok x) p f = f p
 on_ok (Err e) p f = p
 
+pub an_ok : {T E P : Type 0} (r : Result T E) → P → OnOk r P
+an_ok (Ok x) p = p
+an_ok (Err e) p = tt
+
 pub both_err : {T E P Q R : Type 0} (r : Result T E) → OnErr r P → OnErr r Q → (P → Q → R) → OnErr r R
 both_err (Ok x) p q f = p
 both_err (Err e) p q f = f p q
@@ -45,3 +49,13 @@ all_succeed old mid goes two more = λ c some four. ⊎_elim (λ past. behind c 
     behind c past four =
         let is : 2 + (c - 2) ≡ c = omega arith in
         sym (ap (λ (n : ℕ). old 0 n) is) ∙ sym (goes 0 (c - 2)) ∙ more (c - 2) (omega arith) (omega arith)
+
+-- the same calls come once more is reserved
+pub same_calls : (old mid new : ℕ → ℕ → Bool) → ((l c : ℕ) → mid l c ≡ old l c) → AllSucceed mid 4 → GoesOn 0 4 mid new → AllSucceed old 4 × GoesOn 0 4 old new
+same_calls old mid new is all goes = (λ c some four. sym (is 0 c) ∙ all c some four, λ l c. goes l c ∙ is (0 + l) (4 + c))
+
+pub no_calls : (old new : ℕ → ℕ → Bool) → ((l c : ℕ) → new l c ≡ old l c) → GoesOn 0 0 old new
+no_calls old new is = λ l c.
+    let looks : l ≡ 0 + l = omega arith in
+    let changes : c ≡ 0 + c = omega arith in
+    is l c ∙ ap (λ (n : ℕ). old n c) looks ∙ ap (λ (n : ℕ). old (0 + l) n) changes

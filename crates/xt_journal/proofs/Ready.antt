@@ -1,11 +1,14 @@
 -- What a load leaves of a disk that it makes ready.
-use Rattle.std.proofs.Common.{◌≡◌, ◌≢◌, Bool, true, false, ◌⊎◌, inl, inr, ⊎_elim, ◌<◌, ◌≤◌, ℕ, List, [], length, sym, ◌∙◌, ap, subst, arith, take, drop}
+use Rattle.std.proofs.Common.{◌≡◌, ◌≢◌, ◌+◌, Bool, true, false, ◌⊎◌, inl, inr, ⊎_elim, ◌<◌, ◌≤◌, ℕ, List, [], length, sym, ◌∙◌, ap, subst, arith, take, drop, refl, Result, Ok, Err, IsErrOf}
 use Rattle.std.proofs.lemmas.List.{take_all}
 use Rattle.disk_model.specs.Disk.{Kept, IsImage, at_rest}
 use Rattle.disk_model.proofs.Images.{rest_stays}
-use Rattle.xt_journal.specs.Calls.{MayBeTorn, IsTornAt}
+use Rattle.xt_journal.specs.declared.format.Trouble.{Trouble}
+use Rattle.xt_journal.specs.declared.format.Trouble.TheVariants.{DiskFault, NotOurs, Layout, Damaged, OutOfMemory}
+use Rattle.xt_journal.specs.Calls.{GoesOn, MayBeTorn, IsTornAt}
+use Rattle.xt_journal.specs.Parsed.{is_fault}
 use Rattle.xt_journal.specs.Format.{journal_of}
-use Rattle.xt_journal.specs.Loaded.{IsUnready, LeavesAsBefore, LeavesDisk, TellsFresh}
+use Rattle.xt_journal.specs.Loaded.{IsReady, IsUnready, FailedCall, LeavesAsBefore, LeavesDisk, MadeCalls, TellsFresh}
 
 -- a buffer of a disk's length takes all of it
 pub all_read : (len size : ℕ) (read buf : List ℕ) → size ≡ len → len ≡ length read → buf ≡ take size read → buf ≡ read
@@ -29,3 +32,66 @@ image_later old mid image rests is left =
 pub not_fresh : (bytes : List ℕ) (fresh : Bool) → TellsFresh bytes fresh → fresh ≡ false → bytes ≢ journal_of []
 not_fresh bytes true tells is = absurd cc
 not_fresh bytes false tells is = tells
+
+-- behind a reservation, which leaves what is kept and which calls fail
+module _ (old mid : ℕ → ℕ → Bool) (is : (l c : ℕ) → mid l c ≡ old l c) (bytes same : List ℕ) (are : same ≡ bytes) where
+  pub made_first : (new : ℕ → ℕ → Bool) → MadeCalls mid new same → MadeCalls old new bytes
+  made_first new made = record {
+    changes = made.changes;
+    three = made.three;
+    one = λ ready. made.one (subst IsReady (sym are) ready);
+    goes_on = λ l c. made.goes_on l c ∙ is (2 + l) (made.changes + c);
+  }
+
+  pub failed_first : FailedCall mid same → FailedCall old bytes
+  failed_first failed = record {
+    looks = failed.looks;
+    changes = failed.changes;
+    two = failed.two;
+    three = failed.three;
+    one = λ ready. failed.one (subst IsReady (sym are) ready);
+    fails_there = sym (is failed.looks failed.changes) ∙ failed.fails_there;
+  }
+
+-- the sync or the length failed
+pub read_left : (old new : Kept) → (new ≡ old) ⊎ (new ≡ at_rest old.read) → new.read ≡ old.read
+read_left old new left = ⊎_elim (ap (λ (k : Kept). k.read)) (ap (λ (k : Kept). k.read)) left
+
+pub not_fault : {T : Type 0} (result : Result T Trouble) → (IsErrOf result DiskFault → ⊥) → is_fault result ≡ false
+not_fault (Ok value) never = refl
+not_fault (Err DiskFault) never = absurd (never refl)
+not_fault (Err (NotOurs first)) never = refl
+not_fault (Err (Layout version)) never = refl
+not_fault (Err (Damaged place)) never = refl
+not_fault (Err OutOfMemory) never = refl
+
+pub settle_failed : (fails : ℕ → ℕ → Bool) (bytes : List ℕ) → ((l : ℕ) × (l ≤ 1) × (fails l 1 ≡ true)) → FailedCall fails bytes
+settle_failed fails bytes failed = record {
+  looks = failed.0;
+  changes = 1;
+  two = omega (arith, failed.1);
+  three = omega arith;
+  one = λ ready. omega arith;
+  fails_there = failed.2;
+}
+
+pub reading_failed : (fails later : ℕ → ℕ → Bool) (bytes : List ℕ) → GoesOn 1 1 fails later → later 1 0 ≡ true → FailedCall fails bytes
+reading_failed fails later bytes goes failed = record {
+  looks = 2;
+  changes = 1;
+  two = omega arith;
+  three = omega arith;
+  one = λ ready. omega arith;
+  fails_there = sym (goes 1 0) ∙ failed;
+}
+
+pub making_failed : (fails later : ℕ → ℕ → Bool) (bytes same : List ℕ) → same ≡ bytes → length bytes ≤ 13 → GoesOn 1 1 fails later
+    → ((c : ℕ) × (c ≤ 2) × (same ≡ journal_of [] → c ≡ 0) × (later 1 c ≡ true)) → FailedCall fails bytes
+making_failed fails later bytes same are short goes failed = record {
+  looks = 2;
+  changes = 1 + failed.0;
+  two = omega arith;
+  three = omega (arith, failed.1);
+  one = λ ready. ⊎_elim (λ long. absurd (omega (arith, long, short))) (λ fresh. omega (arith, failed.2 (are ∙ fresh))) ready;
+  fails_there = sym (goes 1 failed.0) ∙ failed.3;
+}

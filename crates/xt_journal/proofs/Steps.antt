@@ -16,6 +16,7 @@ use Rattle.xt_journal.specs.Appended.{Appends}
 use Rattle.xt_journal.specs.Append.{GoesAt, IsTurn, IsWithOrWithout, IsStopped, payloads_after_stop}
 use Rattle.xt_journal.specs.Calls.{MayBeTorn, IsTornAt}
 use Rattle.xt_journal.specs.Format.{header, open_gate, record_of, records, end_of, IsPayload, IsJournal, KeepsJournal, EndsAt, StandsFor}
+use Rattle.xt_journal.proofs.Records.{length-record}
 use Rattle.xt_journal.proofs.Push.{records-push, end_of-push}
 use Rattle.xt_journal.proofs.Unique.{stands_for_one}
 use Rattle.std.proofs.Math.Logic.{∥∥₁_elim, ∥∥₁_map}
@@ -214,6 +215,9 @@ turn_of kept same end piece payloads payload is goes is_piece = record {
   goes = subst (λ (k : Kept). GoesAt k end payloads payload) (sym is) goes;
   is_piece = is_piece;
 }
+
+pub length-piece : (payload piece : List ℕ) → piece ≡ record_of payload ++ 0 ∷ [] → length piece ≡ 5 + length payload
+length-piece payload piece is = omega (arith, ap length is, length-append (record_of payload) (0 ∷ []), length-record payload)
 
 -- and it ends behind the new record
 pub ends_later : (kept new : Kept) (end later : ℕ) (payload : List ℕ) → later ≡ end + (5 + length payload) → ∥ EndsAt kept end ∥₁

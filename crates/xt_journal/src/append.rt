@@ -70,9 +70,9 @@ pub fn append_to<D: Disk>(
         fault_count_after (is_broken result) (D.fault_count disk.old) }
     ensures same { IsErrOf result Refusal.OutOfMemory → D.kept disk.new ≡ D.kept disk.old }
 {
-    if disk.reserve(need).is_err() {
+    let Ok(()) = disk.reserve(need) else {
         return Err(Refusal::OutOfMemory);
-    }
+    };
     let Ok(piece) = piece_of(alloc, payload) else {
         return Err(Refusal::OutOfMemory);
     };

@@ -113,10 +113,10 @@ pub fn load_from<D: Disk>(alloc: Global, disk: &mut D) -> Result<(u64, Vec<Place
     ensures count { D.fault_count disk.new ≡
         fault_count_after (is_fault result) (D.fault_count disk.old) }
 {
-    if disk.reserve(FRESH.len() as u64).is_err() {
-        return Err(Trouble::OutOfMemory);
+    match disk.reserve(FRESH.len() as u64) {
+        Ok(()) => read_journal(alloc, disk),
+        Err(_) => Err(Trouble::OutOfMemory),
     }
-    read_journal(alloc, disk)
 }
 
 /// Reads the whole of a disk, and makes it a journal where it has at most 13 bytes and isn't one.

@@ -1,9 +1,11 @@
-use Rattle.std.proofs.Common.{◌⊎◌, ⊎_elim, inl, ◌+◌, ◌<◌, length, ◌∙◌, ap, arith}
+use Rattle.std.proofs.Common.{◌⊎◌, ⊎_elim, inl, inr, ◌+◌, ◌<◌, ◌≤◌, length, subst, ◌∙◌, ap, arith, true, false}
 use Rattle.disk_model.specs.Disk.{Kept, IsImage}
-use Rattle.disk_model.proofs.Moments.{joined}
+use Rattle.disk_model.proofs.Moments.{joined, weaker}
+use Rattle.xt_base.specs.Faults.{fault_count_after}
 use Rattle.xt_journal.specs.Loaded.{LeavesAsBefore}
-use Rattle.xt_journal.proofs.Outcomes.{follows, on_ok}
-use Rattle.xt_journal.proofs.Ready.{image_later}
+use Rattle.xt_journal.specs.Parsed.{Gives, is_fault}
+use Rattle.xt_journal.proofs.Outcomes.{an_err, follows, on_ok}
+use Rattle.xt_journal.proofs.Ready.{image_later, left_later, making_failed, read_left, reading_failed, settle_failed}
 use Rattle.xt_journal.proofs.load.read_journal.Goals as goal
 
 pub returns-then-len-clause-plan : goal.returns-then-len-clause-plan
@@ -39,3 +41,108 @@ returns-in-Err-make_ready-clause-any_moment g c told =
     (c.settle.ensures.any_moment told) (c.make_ready.ensures.any_moment told)
     (λ image was. inl was)
     (λ image left. image_later old mid image (c.in-Ok.ensures.rests told) (g.met.D.Disk.read_is_image c.args.disk.now told) left)
+
+pub returns-in-Err-clause-same : goal.returns-in-Err-clause-same
+returns-in-Err-clause-same g c told long =
+    let D = g.D.Disk in
+    read_left (D.kept c.args.disk.now) (D.kept c.settle.new.disk) (c.in-Err.ensures.left told)
+
+pub returns-in-Err-clause-left : goal.returns-in-Err-clause-left
+returns-in-Err-clause-left g c told =
+    let D = g.D.Disk in
+    ⊎_elim (λ same. inl same) (λ rests. inr (inl rests)) (c.in-Err.ensures.left told)
+
+pub returns-in-Err-clause-any_moment : goal.returns-in-Err-clause-any_moment
+returns-in-Err-clause-any_moment g c told =
+    let D = g.D.Disk in
+    weaker D.moment D.left_since c.args.disk.now c.settle.new.disk (IsImage (D.kept c.args.disk.now)) (LeavesAsBefore (D.kept c.args.disk.now)) (c.settle.ensures.any_moment told) (λ image was. inl was)
+
+pub returns-in-Err-clause-failed : goal.returns-in-Err-clause-failed
+returns-in-Err-clause-failed g c told fault =
+    let D = g.D.Disk in
+    settle_failed (D.fails c.args.disk.now) (D.kept c.args.disk.now).read (c.in-Err.ensures.failed told)
+
+pub returns-in-Err-clause-count : goal.returns-in-Err-clause-count
+returns-in-Err-clause-count g c = c.in-Err.ensures.count
+
+pub returns-then-len-clause-gives : goal.returns-then-len-clause-gives
+returns-then-len-clause-gives g c told =
+    let D = g.D.Disk in
+    subst (λ (k : Kept). Gives k.read c.read_long.result) (c.in-Ok.ensures.rests told) (c.read_long.ensures.gives told)
+
+pub returns-then-len-clause-keeps : goal.returns-then-len-clause-keeps
+returns-then-len-clause-keeps g c = c.read_long.ensures.keeps
+
+pub returns-then-len-clause-fresh : goal.returns-then-len-clause-fresh
+returns-then-len-clause-fresh g c told short =
+    let D = g.D.Disk in
+    absurd (omega (arith, short, c.in-Ok.ensures.value told, c.if-len.true))
+
+pub returns-then-len-clause-same : goal.returns-then-len-clause-same
+returns-then-len-clause-same g c told long =
+    let D = g.D.Disk in
+    ap (λ (k : Kept). k.read) (c.read_long.ensures.same ∙ c.in-Ok.ensures.rests told)
+
+pub returns-then-len-clause-left : goal.returns-then-len-clause-left
+returns-then-len-clause-left g c told =
+    let D = g.D.Disk in
+    an_err c.read_long.result (inr (inl (c.read_long.ensures.same ∙ c.in-Ok.ensures.rests told)))
+
+pub returns-then-len-clause-any_moment : goal.returns-then-len-clause-any_moment
+returns-then-len-clause-any_moment g c told =
+    let D = g.D.Disk in
+    let old = D.kept c.args.disk.now in
+    let mid = D.kept c.settle.new.disk in
+    joined D.moment D.left_since c.args.disk.now c.settle.new.disk c.read_long.new.disk (IsImage old) (IsImage mid) (LeavesAsBefore old)
+    (c.settle.ensures.any_moment told) (c.read_long.ensures.any_moment told)
+    (λ image was. inl was)
+    (λ image left. image_later old mid image (c.in-Ok.ensures.rests told) (g.met.D.Disk.read_is_image c.args.disk.now told) (inl left))
+
+pub returns-then-len-clause-failed : goal.returns-then-len-clause-failed
+returns-then-len-clause-failed g c told fault =
+    let D = g.D.Disk in
+    reading_failed (D.fails c.args.disk.now) (D.fails c.settle.new.disk) (D.kept c.args.disk.now).read (c.in-Ok.ensures.plan told) (c.read_long.ensures.failed told fault)
+
+pub returns-then-len-clause-count : goal.returns-then-len-clause-count
+returns-then-len-clause-count g c = c.read_long.ensures.count ∙ ap (fault_count_after (is_fault c.read_long.result)) c.in-Ok.ensures.count
+
+pub returns-in-Ok-make_ready-clause-fresh : goal.returns-in-Ok-make_ready-clause-fresh
+returns-in-Ok-make_ready-clause-fresh g c told short = c.in-Ok-make_ready.ensures.ready told
+
+pub returns-in-Ok-make_ready-clause-same : goal.returns-in-Ok-make_ready-clause-same
+returns-in-Ok-make_ready-clause-same g c told long =
+    let D = g.D.Disk in
+    absurd (omega (arith, long, c.in-Ok.ensures.value told, c.if-len.false))
+
+pub returns-in-Err-make_ready-clause-same : goal.returns-in-Err-make_ready-clause-same
+returns-in-Err-make_ready-clause-same g c told long =
+    let D = g.D.Disk in
+    absurd (omega (arith, long, c.in-Ok.ensures.value told, c.if-len.false))
+
+pub returns-in-Ok-make_ready-clause-any_moment : goal.returns-in-Ok-make_ready-clause-any_moment
+returns-in-Ok-make_ready-clause-any_moment g c told =
+    let D = g.D.Disk in
+    let old = D.kept c.args.disk.now in
+    let mid = D.kept c.settle.new.disk in
+    joined D.moment D.left_since c.args.disk.now c.settle.new.disk c.make_ready.new.disk (IsImage old) (LeavesAsBefore mid) (LeavesAsBefore old)
+    (c.settle.ensures.any_moment told) (c.make_ready.ensures.any_moment told)
+    (λ image was. inl was)
+    (λ image left. image_later old mid image (c.in-Ok.ensures.rests told) (g.met.D.Disk.read_is_image c.args.disk.now told) left)
+
+pub returns-in-Err-make_ready-clause-left : goal.returns-in-Err-make_ready-clause-left
+returns-in-Err-make_ready-clause-left g c told =
+    let D = g.D.Disk in
+    left_later (D.kept c.args.disk.now) (D.kept c.settle.new.disk) (D.kept c.make_ready.new.disk) (c.in-Ok.ensures.rests told) (c.in-Err-make_ready.ensures.left told)
+
+pub returns-in-Err-make_ready-clause-failed : goal.returns-in-Err-make_ready-clause-failed
+returns-in-Err-make_ready-clause-failed g c told fault =
+    let D = g.D.Disk in
+    making_failed (D.fails c.args.disk.now) (D.fails c.settle.new.disk) (D.kept c.args.disk.now).read (D.kept c.settle.new.disk).read
+    (ap (λ (k : Kept). k.read) (c.in-Ok.ensures.rests told)) (omega (arith, c.in-Ok.ensures.value told, c.if-len.false)) (c.in-Ok.ensures.plan told)
+    (c.in-Err-make_ready.ensures.failed told)
+
+pub returns-in-Ok-make_ready-clause-count : goal.returns-in-Ok-make_ready-clause-count
+returns-in-Ok-make_ready-clause-count g c = c.in-Ok-make_ready.ensures.count ∙ ap (fault_count_after false) c.in-Ok.ensures.count
+
+pub returns-in-Err-make_ready-clause-count : goal.returns-in-Err-make_ready-clause-count
+returns-in-Err-make_ready-clause-count g c = c.in-Err-make_ready.ensures.count ∙ ap (fault_count_after true) c.in-Ok.ensures.count
