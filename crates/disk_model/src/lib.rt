@@ -20,6 +20,3 @@ pub use plan::Stop;
 /// The gate of a journal's record that stands. Any other byte is a closed gate. So what an append that stopped at its
 /// gate leaves, is told by whether the stop's byte is this one.
 pub const OPEN_GATE: u8 = 0xa5;
-
-#[cfg(test)]
-mod tests;

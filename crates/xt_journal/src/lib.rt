@@ -17,6 +17,3 @@ mod placed;
 pub use errors::{AppendErr, LoadErr};
 pub use journal::Journal;
 pub use placed::Placed;
-
-#[cfg(test)]
-mod tests;

@@ -1,0 +1,60 @@
+//! What the tests of journals share.
+
+use disk_model::{Disk, MemoryDisk, Stop};
+use std::alloc::Global;
+use std::test::Fail;
+use xt_base::{CallList, Octets};
+use xt_journal::{AppendErr, Journal, LoadErr};
+
+/// A journal with one record, of a node's first start.
+pub const ONE: [u8; 27] = [
+    0x58, 0x54, 0x46, 0x53, 0x4a, 0x52, 0x4e, 0x4c, 0, 0, 0, 1, 0xa5, 0, 0, 0, 9, 1, 0, 0, 0, 0, 0,
+    0, 0, 1, 0,
+];
+
+/// The payload of that record.
+pub const START: [u8; 9] = [1, 0, 0, 0, 0, 0, 0, 0, 1];
+
+/// More bytes than any journal here has.
+pub const LIMIT: u64 = 1 << 30;
+
+/// A journal, and how many payloads stood in it.
+#[derive(Drop)]
+pub struct Loaded<D: Disk> {
+    pub journal: Journal<D>,
+    pub count: usize,
+}
+
+/// What a call answered that was to answer otherwise.
+#[derive(Debug, Drop)]
+pub struct Otherwise;
+
+/// A disk with these bytes, of whose calls those of these numbers fail.
+pub fn disk(
+    alloc: Global,
+    bytes: &[u8],
+    failing: &[u64],
+    stop: Option<Stop>,
+) -> Result<MemoryDisk, Fail> {
+    let mut calls = CallList::new(alloc);
+    for number in failing {
+        calls.push(*number)?;
+    }
+    Ok(MemoryDisk::new(alloc, Octets::of(alloc, bytes)?, calls, stop))
+}
+
+/// The journal on a disk and its payloads. The tests take from the call only what it answers.
+pub fn load<D: Disk>(alloc: Global, disk: D, limit: u64) -> Result<Loaded<D>, LoadErr<D>> {
+    match Journal::load(alloc, disk, limit) {
+        Ok((journal, payloads)) => Ok(Loaded {
+            journal,
+            count: payloads.len(),
+        }),
+        Err(error) => Err(error),
+    }
+}
+
+/// Appends the record of a node's first start, likewise.
+pub fn append<D: Disk>(alloc: Global, journal: Journal<D>) -> Result<Journal<D>, AppendErr<D>> {
+    journal.append(alloc, &START)
+}
