@@ -1,6 +1,6 @@
 -- what the steps of a file mark and record
 use Rattle.std.proofs.Common.{◌≡◌, ℕ, refl, ap, sym, subst, ◌∙◌, List, [], ◌∷◌, ◌++◌, Bool, true, false}
-use Rattle.std.specs.Prelude.{Option, Some, None, cond, not, ◌&&◌, ◌==◌, ◌+◌, nat_lt, nat_le, filter}
+use Rattle.std.specs.Prelude.{Option, Some, None, cond, not, ◌&&◌, ◌==◌, ◌+◌, nat_lt, nat_le}
 use Rattle.xt_base.specs.declared.ids.NodeId.{NodeId}
 use Rattle.xt_base.specs.declared.ids.FileId.{FileId}
 use Rattle.xt_base.specs.declared.ids.OpId.{OpId}
@@ -21,13 +21,11 @@ use Rattle.xt_base.specs.declared.message.Payload.TheVariants as payload
 use Rattle.xt_base.specs.declared.event.Mark.{Mark}
 use Rattle.xt_base.specs.declared.event.Mark.TheVariants as mark
 use Rattle.xt_base.specs.declared.record.Record.{Record}
-use Rattle.xt_base.specs.declared.record.Record.TheVariants as kept
 use Rattle.xt_base.specs.declared.record.FileRow.{FileRow}
 use Rattle.xt_protocol.specs.Heads.{head_after}
-use Rattle.xt_protocol.specs.Folds.{body_of}
 use Rattle.xt_protocol.specs.LeaseRows.{LeaseState, LeaseNews, Proposer, Held, free, asking, writing, held, sends_write, holds, finds, ends, lease_expired, on_answer, can_ask, is_renewal_due}
 use Rattle.xt_protocol.specs.LeaseRows as lease
-use Rattle.xt_protocol.specs.Stamps.{is_epoch, is_earlier, is_below, has_version}
+use Rattle.xt_protocol.specs.Stamps.{is_epoch, is_earlier, is_below}
 use Rattle.osd_rows.specs.declared.Acted.{Acted}
 use Rattle.osd_rows.specs.declared.Place.{Place}
 use Rattle.osd_rows.specs.declared.Progress.{Progress}
@@ -42,18 +40,19 @@ use Rattle.lease_runs.specs.LeaseWorld.{LeaseRow}
 use Rattle.osd_rows.specs.Primaries.{Led, is_active}
 use Rattle.osd_rows.specs.PrimaryRows.{epoch_drawn, epoch_above, hears}
 use Rattle.osd_rows.specs.Serving.{wakes, wakes_in, wakes_under}
-use Rattle.osd_rows.specs.Asks.{asked_already, waits, serves, asks_follow}
+use Rattle.osd_rows.specs.Asks.{asked_already, waits}
 use Rattle.osd_rows.specs.FileStates.{FileState, Site, FileStep, and_then, steps_to, ground_of, members_of}
 use Rattle.osd_rows.specs.Overdue.{expired, lease_became, deadlines_under}
-use Rattle.osd_rows.specs.AskRows.{ask_handled, ask_let_in, ask_rows, ask_under, ask_without_lease, round_for, refusal_of, elsewhere, view_record, waiting_ask}
+use Rattle.osd_rows.specs.AskRows.{ask_handled, ask_let_in, ask_rows, ask_under, ask_without_lease, refusal_of, elsewhere, view_record, waiting_ask}
+use Rattle.osd_rows.specs.OsdSteps.{each_file, woken}
 use Rattle.osd_rows.specs.FileLeases.{read_comes, write_comes, answer_comes, end_after_answer, lease_news, led_on, waiting_told}
-use Rattle.osd_rows.specs.FileSteps.{step_of_file, message_comes, ask_comes, primary_hears, replica_acts, renews, wakes_under_lease, wake_of_file}
-use Rattle.osd_invariants.proofs.Kept.{wake_keeps, expired_quiet}
-use Rattle.osd_lease_views.specs.LeaseView.{lease_row_of, settled_row}
+use Rattle.osd_rows.specs.FileSteps.{step_of_file, message_comes, ask_comes, primary_hears, renews, wakes_under_lease, wake_of_file}
+use Rattle.osd_invariants.proofs.Kept.{wake_keeps, wake_follows, expired_quiet}
+use Rattle.osd_lease_views.specs.LeaseView.{settled_row}
 use Rattle.osd_lease_views.specs.OsdView.{wake_step}
-use Rattle.osd_lease_views.specs.ActsView.{AreActs, MarksAre, no_marks, won, acting, ListAsked, RecordIs}
+use Rattle.osd_lease_views.specs.ActsView.{IsBusy, MarksAre, no_marks, won, acting, RecordIs}
 use Rattle.osd_lease_views.proofs.LeaseSteps.{expired_shows, expired_keeps}
-use Rattle.osd_lease_views.proofs.PrimaryActs.{IsData, drawn_acts, stage_data, one_data, served_acts, follow_acts, hears_acts}
+use Rattle.osd_lease_views.proofs.PrimaryActs.{IsData, drawn_acts, stage_data, served_acts, follow_acts, hears_acts}
 
 -- ---- overdue
 
@@ -76,7 +75,7 @@ became_marks site s (writing r) (writing q) = deadlines_marks site s s.primary.t
 became_marks site s (writing r) (held q) = deadlines_marks site s s.primary.tenure
 became_marks site s (free p) after = deadlines_marks site s s.primary.tenure
 
-expired_marks : (site : Site) (s : FileState) → (expired site s).turned.marks ≡ []
+pub expired_marks : (site : Site) (s : FileState) → (expired site s).turned.marks ≡ []
 unfolding expired
 expired_marks site s = let after = lease_expired s.lease site.now in became_marks site (record s { lease = after }) s.lease after
 
@@ -132,23 +131,33 @@ led_on_marks : (site : Site) (s : FileState) (t : Option Tenure) → (led_on sit
 led_on_marks site s (Some t) = refl
 led_on_marks site s None = drawn_marks (ground_of site s).place s.primary.learnt s.kept.head (members_of s.kept.location)
 
-news_marks : (site : Site) (s : FileState) (l : LeaseState) (news : LeaseNews) → Marked s l (lease_news site s news)
-news_marks site s l lease.nothing = no_marks refl
-news_marks site s l (sends_write ballot x targets) = no_marks refl
-news_marks site s l (holds end) = won end (ap (λ ms. lease_mark ∷ ms) (led_on_marks site (record s { last_end = end }) s.primary.tenure))
+news_marks : (site : Site) (s : FileState) (l : LeaseState) (news : LeaseNews) → IsBusy l → Marked s l (lease_news site s news)
+news_marks site s l lease.nothing busy = no_marks refl
+news_marks site s l (sends_write ballot x targets) busy = no_marks refl
+news_marks site s l (holds end) busy = won end busy (ap (λ ms. lease_mark ∷ ms) (led_on_marks site (record s { last_end = end }) s.primary.tenure))
   where
     lease_mark : Mark
     lease_mark = mark.Held s.kept.file.number end
-news_marks site s l (finds x) =
+news_marks site s l (finds x) busy =
     choice s.kept.file l (x.node.0 == site.node.0) (waiting_told site s (reply.NoLease s.last_end)) (waiting_told site s (reply.Elsewhere x.node x.end))
     (no_marks refl) (no_marks refl)
-news_marks site s l ends = no_marks refl
+news_marks site s l ends busy = no_marks refl
 
 answer_marks : (site : Site) (s : FileState) (from : NodeId) (content : Payload) → Marked s s.lease (answer_comes site s from content)
 unfolding answer_comes
-answer_marks site s from content =
-    let step = on_answer s.lease site.now from content in
-    news_marks site (record s { lease = step.state; last_end = end_after_answer site s from content }) s.lease step.news
+answer_marks site s from content = at s.lease refl
+  where
+    after : LeaseState → FileStep
+    after l = lease_news site (record s { lease = (on_answer l site.now from content).state; last_end = end_after_answer site s from content }) (on_answer l site.now from content).news
+
+    by_news : (l : LeaseState) → IsBusy l → Marked s l (after l)
+    by_news l busy = news_marks site (record s { lease = (on_answer l site.now from content).state; last_end = end_after_answer site s from content }) l (on_answer l site.now from content).news busy
+
+    at : (l : LeaseState) → s.lease ≡ l → Marked s l (after l)
+    at (free p) e = no_marks refl
+    at (asking r) e = by_news (asking r) tt
+    at (writing r) e = by_news (writing r) tt
+    at (held h) e = by_news (held h) tt
 
 primary_marks : (site : Site) (s : FileState) (l : LeaseState) (from : NodeId) (content : Payload) → Marked s l (primary_hears site s l from content)
 primary_marks site s (held h) from content =
@@ -347,9 +356,10 @@ renews_quiet site s h = one_of (is_renewal_due h site.now s.used) _ _ (refl, ref
 under_quiet : (site : Site) (s : FileState) (l : LeaseState) → ((wakes_under_lease site s l).turned.marks ≡ []) × ((wakes_under_lease site s l).turned.rec ≡ None)
 under_quiet site s (held h) =
     let woke = wakes (ground_of site s).place s.primary in
-    let q = renews_quiet site (steps_to s woke).state h in
-    (ap (λ (ms : List Mark). ms ++ (renews site (steps_to s woke).state h).turned.marks) (wakes_marks (ground_of site s).place s.primary) ∙ q.0,
-    ap (λ (r : Option Record). the_record r (renews site (steps_to s woke).state h).turned.rec) (wake_keeps (ground_of site s).place s.primary) ∙ q.1)
+    let q = renews_quiet site (steps_to s woke).state h in (
+      ap (λ (ms : List Mark). ms ++ (renews site (steps_to s woke).state h).turned.marks) (wakes_marks (ground_of site s).place s.primary) ∙ q.0,
+      ap (λ (r : Option Record). the_record r (renews site (steps_to s woke).state h).turned.rec) (wake_keeps (ground_of site s).place s.primary) ∙ q.1,
+    )
 under_quiet site s (free p) = (refl, refl)
 under_quiet site s (asking r) = (refl, refl)
 under_quiet site s (writing r) = (refl, refl)
@@ -367,3 +377,31 @@ pub wake_step_rec : (site : Site) (s : FileState) → (wake_step site s).turned.
 wake_step_rec site s =
     let first = expired site s in
     ap (λ (r : Option Record). the_record r (wake_of_file site first.state).turned.rec) (expired_quiet site s).0 ∙ (wake_quiet site first.state).1
+
+pub wake_step_kept : (site : Site) (s : FileState) → (wake_step site s).state.kept ≡ s.kept
+wake_step_kept site s =
+    let first = expired site s in
+    wake_follows site first.state ∙ ap (kept_after first.state.kept) (wake_quiet site first.state).1 ∙ expired_keeps site s
+
+-- ---- an OSD's Wake
+
+each_quiet : (step : FileState → FileStep) (files : List FileState) → ((s : FileState) → (step s).turned.marks ≡ []) → ((s : FileState) → (step s).turned.rec ≡ None)
+    → ((each_file step files).turned.marks ≡ []) × ((each_file step files).turned.rec ≡ None)
+unfolding each_file
+each_quiet step [] marks recs = (refl, refl)
+each_quiet step (s ∷ ss) marks recs =
+    let rest = each_quiet step ss marks recs in (
+      ap (λ (ms : List Mark). ms ++ (each_file step ss).turned.marks) (marks s) ∙ rest.0,
+      ap (λ (r : Option Record). the_record r (each_file step ss).turned.rec) (recs s) ∙ rest.1,
+    )
+
+-- it marks and records nothing
+pub woken_quiet : (site : Site) (files : List FileState) → ((woken site files).turned.marks ≡ []) × ((woken site files).turned.rec ≡ None)
+woken_quiet site files =
+    let settled = each_file (expired site) files in
+    let woke = each_file (wake_of_file site) settled.files in
+    let first = each_quiet (expired site) files (expired_marks site) (λ s. (expired_quiet site s).0) in
+    let second = each_quiet (wake_of_file site) settled.files (λ s. (wake_quiet site s).0) (λ s. (wake_quiet site s).1) in (
+      ap (λ (ms : List Mark). ms ++ woke.turned.marks) first.0 ∙ second.0,
+      ap (λ (r : Option Record). the_record r woke.turned.rec) first.1 ∙ second.1,
+    )

@@ -65,7 +65,7 @@ followed file site x l from content step (asks is stored p) =
 followed file site x l from content step (stays p) = sends_of (lease_setting site file step.state.kept.location) step _ p (λ m h. absurd h)
 
 woken : (file : FileId) (site : Site) (x : LeaseRow) (l : LeaseState) (step : FileStep) → Wakes file site x l step → SendsOfFile file step
-woken file site x l step (renewing p) =
+woken file site x l step (renewing is p) =
     let g = lease_setting site file step.state.kept.location in sends_of g step _ p (asks_of g site.node site.now x l)
 woken file site x l step (resting p) = sends_of (lease_setting site file step.state.kept.location) step _ p (λ m h. absurd h)
 

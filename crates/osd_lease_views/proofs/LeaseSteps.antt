@@ -33,16 +33,12 @@ use Rattle.lease_runs.specs.LeaseWorld.{LeaseRow, RowStep, row_handles, read_ans
 use Rattle.osd_rows.specs.declared.WaitingAsk.{WaitingAsk}
 use Rattle.osd_rows.specs.declared.Acted.{Acted}
 use Rattle.osd_rows.specs.declared.Tenure.{Tenure}
-use Rattle.osd_rows.specs.declared.Place.{Place}
-use Rattle.osd_rows.specs.declared.PrimaryState.{PrimaryState}
-use Rattle.osd_rows.specs.declared.Progress.{Progress}
-use Rattle.osd_rows.specs.declared.Progress.TheVariants as progress
 use Rattle.xt_protocol.specs.Stamps.{is_epoch, is_earlier, is_below, has_version}
 use Rattle.osd_rows.specs.Turns.{keeps, message, quiet}
 use Rattle.osd_rows.specs.ReplicaRows.{kept_after, gathered, staged, headed, updated, as_promised, head_taken, first_missing, fetched_from, head_fits}
 use Rattle.osd_rows.specs.Primaries.{is_active, if_any, idle, have_in, majority_among}
 use Rattle.osd_rows.specs.PrimaryRows.{hears}
-use Rattle.osd_rows.specs.Serving.{wakes, wakes_in, wakes_under}
+use Rattle.osd_rows.specs.Serving.{wakes}
 use Rattle.osd_rows.specs.Asks.{tells_each, tells_untold, asked_already, waits}
 use Rattle.osd_rows.specs.FileStates.{FileState, Site, FileStep, and_then, steps_to, ground_of, members_of}
 use Rattle.osd_rows.specs.Overdue.{expired, lease_became, deadlines_under, newly_due, is_due, no_lease_for_all}
@@ -415,7 +411,7 @@ choice_of_wake file site x l false first second p q = q
 renews_wakes : (site : Site) (s : FileState) (h : Held) → Wakes s.kept.file site (lease_row_of s) (held h) (renews site s h)
 renews_wakes site s h =
     choice_of_wake s.kept.file site (lease_row_of s) (held h) (is_renewal_due h site.now s.used) _ _
-    (renewing (record {
+    (renewing tt (record {
       row = refl;
       outs = map_all (λ to. message site.node to (payload.Read s.kept.file (round_starts h.proposer site.now (members_of s.kept.location)).ballot)) (members_of s.kept.location) (λ to. refl);
       ends = refl;
@@ -424,7 +420,7 @@ renews_wakes site s h =
 
 pub wake_after : (file : FileId) (site : Site) (x : LeaseRow) (l : LeaseState) (first : FileStep) (rows : FileState → FileStep)
     → IsBare first.turned → Wakes file site x l (rows first.state) → Wakes file site x l (and_then first rows)
-wake_after file site x l first rows bare (renewing p) = renewing (shown_after first rows _ bare p)
+wake_after file site x l first rows bare (renewing is p) = renewing is (shown_after first rows _ bare p)
 wake_after file site x l first rows bare (resting p) = resting (shown_after first rows _ bare p)
 
 under_wakes : (site : Site) (s : FileState) (l : LeaseState) → Wakes s.kept.file site (lease_row_of s) l (wakes_under_lease site s l)

@@ -46,7 +46,7 @@ over r row other file same =
     hides false = refl
 
 -- the state of a file after one was put: that one where it is the file's, else the one before
-file_at-with_file : (awake : Awake) (files : List FileState) (put : FileState) (file : FileId)
+pub file_at-with_file : (awake : Awake) (files : List FileState) (put : FileState) (file : FileId)
     → file_at awake (with_file files put) file ≡ cond (is_file put.kept.file file) put (file_at awake files file)
 unfolding file_at with_file
 file_at-with_file awake [] put file = refl
@@ -63,7 +63,7 @@ file_at-with_file awake (r ∷ rs) put file = at (file_at-with_file awake rs put
         ∙ apart r put (file_at awake rs file) file (is_file r.kept.file file) (is_file put.kept.file file) refl refl differ
 
 -- the state of a file is of that file
-at_file : (awake : Awake) (files : List FileState) (file : FileId) → (file_at awake files file).kept.file ≡ file
+pub at_file : (awake : Awake) (files : List FileState) (file : FileId) → (file_at awake files file).kept.file ≡ file
 unfolding file_at
 at_file awake [] file = refl
 at_file awake (r ∷ rs) file = one_of (at_file awake rs file) (is_file r.kept.file file) refl
@@ -83,19 +83,19 @@ record_keeps row (Some (kept.View file location)) = refl
 record_keeps row (Some (kept.Boot boot)) = refl
 record_keeps row (Some (kept.Meta from number now nodes request)) = refl
 
-step_keeps : (site : Site) (s : FileState) (from : NodeId) (content : Payload) → (step_of_file site s from content).state.kept.file ≡ s.kept.file
+pub step_keeps : (site : Site) (s : FileState) (from : NodeId) (content : Payload) → (step_of_file site s from content).state.kept.file ≡ s.kept.file
 step_keeps site s from content =
     ap (λ (row : FileRow). row.file) (kept_proofs.step_follows site s from content) ∙ record_keeps s.kept (step_of_file site s from content).turned.rec
 
 -- ---- a message
 
 -- what a message leaves
-abbrev handled : Outside → OsdState → ℕ → Awake → Msg → Option FileId → OsdStep
+abbrev pub handled : Outside → OsdState → ℕ → Awake → Msg → Option FileId → OsdStep
 handled outside osd now awake msg concerned =
     let step = message_handled (site_of outside awake now) awake osd.files msg concerned in
     record { osd = record { started = osd.started; last = now; files = step.files }; turned = step.turned }
 
-message_step : (outside : Outside) (osd : OsdState) (reading : ℕ) (msg : Msg) (file : FileId) (awake : Awake)
+pub message_step : (outside : Outside) (osd : OsdState) (reading : ℕ) (msg : Msg) (file : FileId) (awake : Awake)
     → awake_at osd.started (max reading osd.last) ≡ Some awake → file_concerned msg.payload ≡ Some file
     → step_of_osd outside osd reading (event.Deliver msg) ≡ handled outside osd (max reading osd.last) awake msg (Some file)
 unfolding step_of_osd
@@ -103,10 +103,10 @@ message_step outside osd reading msg file awake is_awake concerns =
     ap (λ a. handled_awake outside osd (max reading osd.last) (event.Deliver msg) a) is_awake
     ∙ ap (λ c. handled outside osd (max reading osd.last) awake msg c) concerns
 
-put_here : (put other : FileState) (file : FileId) → put.kept.file ≡ file → cond (is_file put.kept.file file) put other ≡ put
+pub put_here : (put other : FileState) (file : FileId) → put.kept.file ≡ file → cond (is_file put.kept.file file) put other ≡ put
 put_here put other file same = ap (λ b. cond b put other) (ap (λ f. is_file f file) same ∙ file-itself file)
 
-put_there : (put other : FileState) (file k : FileId) → put.kept.file ≡ file → is_file file k ≡ false → cond (is_file put.kept.file k) put other ≡ other
+pub put_there : (put other : FileState) (file k : FileId) → put.kept.file ≡ file → is_file file k ≡ false → cond (is_file put.kept.file k) put other ≡ other
 put_there put other file k same differ = ap (λ b. cond b put other) (ap (λ f. is_file f k) same ∙ differ)
 
 pub message_shows : (outside : Outside) (osd : OsdState) (reading : ℕ) (msg : Msg) (file : FileId) (awake : Awake)
@@ -140,7 +140,7 @@ no_end g node now x (asking r) = refl
 no_end g node now x (writing r) = refl
 no_end g node now x (held h) = refl
 
-abbrev woke_all : Outside → OsdState → ℕ → Awake → OsdStep
+abbrev pub woke_all : Outside → OsdState → ℕ → Awake → OsdStep
 woke_all outside osd now awake =
     let step = woken (site_of outside awake now) osd.files in
     record { osd = record { started = osd.started; last = now; files = step.files }; turned = step.turned }
@@ -201,10 +201,10 @@ wake_ends : (site : Site) (s : FileState) → held_ends (wake_of_file site s).tu
 wake_ends site s = of_wakes (wake_wakes site s)
   where
     of_wakes : Wakes s.kept.file site (lease_row_of s) s.lease (wake_of_file site s) → held_ends (wake_of_file site s).turned.marks ≡ []
-    of_wakes (renewing p) = p.ends ∙ no_end (lease_setting site s.kept.file (wake_of_file site s).state.kept.location) site.node site.now (lease_row_of s) s.lease
+    of_wakes (renewing is p) = p.ends ∙ no_end (lease_setting site s.kept.file (wake_of_file site s).state.kept.location) site.node site.now (lease_row_of s) s.lease
     of_wakes (resting p) = p.ends
 
-woken_step : (outside : Outside) (osd : OsdState) (reading : ℕ) (awake : Awake) → awake_at osd.started (max reading osd.last) ≡ Some awake
+pub woken_step : (outside : Outside) (osd : OsdState) (reading : ℕ) (awake : Awake) → awake_at osd.started (max reading osd.last) ≡ Some awake
     → step_of_osd outside osd reading event.Wake ≡ woke_all outside osd (max reading osd.last) awake
 unfolding step_of_osd
 woken_step outside osd reading awake is_awake = ap (λ a. handled_awake outside osd (max reading osd.last) event.Wake a) is_awake

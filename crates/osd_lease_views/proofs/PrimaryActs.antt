@@ -1,5 +1,5 @@
 -- what the rows of a primary mark: acts on its file
-use Rattle.std.proofs.Common.{◌≡◌, ℕ, refl, ap, ◌∙◌, List, [], ◌∷◌, ◌++◌, Bool, true, false}
+use Rattle.std.proofs.Common.{ℕ, refl, List, [], ◌∷◌, ◌++◌, Bool, true, false}
 use Rattle.std.specs.Prelude.{Option, Some, None, cond, not, ◌&&◌, ◌==◌, max, nat_lt, nat_le, is_some, fold}
 use Rattle.xt_base.specs.declared.ids.NodeId.{NodeId}
 use Rattle.xt_base.specs.declared.ids.FileId.{FileId}
@@ -14,7 +14,6 @@ use Rattle.xt_base.specs.declared.reply.Reply.{Reply}
 use Rattle.xt_base.specs.declared.reply.Reply.TheVariants as reply
 use Rattle.xt_base.specs.declared.message.Payload.{Payload}
 use Rattle.xt_base.specs.declared.message.Payload.TheVariants as payload
-use Rattle.xt_base.specs.MemberList.{has_node}
 use Rattle.xt_protocol.specs.declared.Turned.{Turned}
 use Rattle.xt_base.specs.declared.TheConstants.{COUNTS}
 use Rattle.osd_rows.specs.declared.Place.{Place}
@@ -27,14 +26,14 @@ use Rattle.osd_rows.specs.declared.Progress.{Progress}
 use Rattle.osd_rows.specs.declared.Progress.TheVariants as progress
 use Rattle.osd_rows.specs.declared.PrimaryState.{PrimaryState}
 use Rattle.osd_rows.specs.declared.Tenure.{Tenure}
-use Rattle.osd_rows.specs.Turns.{message, joined}
+use Rattle.osd_rows.specs.Turns.{joined}
 use Rattle.xt_protocol.specs.Stamps.{is_epoch, is_earlier, is_below, is_version, has_version}
 use Rattle.osd_rows.specs.Writes.{Standing, repeated, older, turned_away, fresh}
-use Rattle.osd_rows.specs.Primaries.{Ground, Led, carries, fed, if_any, is_unknown, is_ready, known_of_report, majority_among, nodes_of, peer_in, reports_of, statuses_counted, target_of, with_node}
-use Rattle.osd_rows.specs.PrimaryRows.{epoch_drawn, epoch_above, installs, peers_fed, fetches, head_chosen, chooses, status_counted, feeds, status_told, with_state, hears_status, body_fetched, body_beyond, hears_object, body_staged, body_missed, hears_missing, target_in, head_acked, update_acked, acked_below, hears_ack, makes_current, outpromised, hears_peer, hears_member, hears_epoch, hears_in, epoch_told, hears}
+use Rattle.osd_rows.specs.Primaries.{Ground, Led, carries, is_unknown, is_ready, known_of_report, majority_among, nodes_of, peer_in, reports_of, statuses_counted, target_of, with_node}
+use Rattle.osd_rows.specs.PrimaryRows.{epoch_drawn, epoch_above, installs, fetches, head_chosen, chooses, status_counted, feeds, status_told, with_state, hears_status, body_fetched, body_beyond, hears_object, body_staged, body_missed, hears_missing, target_in, head_acked, update_acked, acked_below, hears_ack, makes_current, outpromised, hears_peer, hears_member, hears_epoch, hears_in, epoch_told, hears}
 use Rattle.osd_rows.specs.ReplicaRows.{stage_record}
 use Rattle.xt_protocol.specs.Folds.{body_of}
-use Rattle.osd_rows.specs.Serving.{issues, issues_unless, write_stands, writes_in, writes_under, writes, next_update_of, current_others, reads, gather_unknown, unacked, sent_again, wakes_in, wakes_under, wakes}
+use Rattle.osd_rows.specs.Serving.{issues, issues_unless, write_stands, writes_in, writes_under, writes, next_update_of, reads}
 use Rattle.osd_rows.specs.Asks.{Served, asks_follow, is_read, read_answer, serves, serves_all, serves_waiting, stays, write_done}
 use Rattle.xt_base.specs.declared.event.Mark.{Mark}
 use Rattle.xt_base.specs.declared.record.Record.{Record}

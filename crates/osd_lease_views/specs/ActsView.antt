@@ -1,5 +1,5 @@
 -- what a step of a file marks: acts as the file's primary only while the lease is held
-use Rattle.std.specs.Prelude.{◌≡◌, ℕ, true, Bool, false, Option, Some, None, List, [], ◌∷◌}
+use Rattle.std.specs.Prelude.{◌≡◌, ℕ, Option, Some, None, List, [], ◌∷◌}
 use Rattle.xt_base.specs.declared.ids.NodeId.{NodeId}
 use Rattle.xt_base.specs.declared.ids.FileId.{FileId}
 use Rattle.xt_base.specs.declared.file.Location.{Location}
@@ -10,7 +10,6 @@ use Rattle.xt_base.specs.declared.event.Mark.TheVariants as mark
 use Rattle.xt_base.specs.declared.record.Record.{Record}
 use Rattle.xt_base.specs.declared.record.Record.TheVariants as kept
 use Rattle.xt_protocol.specs.LeaseRows.{LeaseState, free, asking, writing, held}
-use Rattle.xt_protocol.specs.declared.Turned.{Turned}
 use Rattle.osd_invariants.specs.Sound.{IsHeld}
 use Rattle.osd_rows.specs.FileStates.{FileState, Site}
 use Rattle.osd_rows.specs.FileSteps.{step_of_file}
@@ -30,10 +29,17 @@ abbrev pub AreActs : ℕ → List Mark → Type 0
 AreActs number [] = Unit {0}
 AreActs number (m ∷ ms) = (acted_on m ≡ Some number) × AreActs number ms
 
--- The marks of a step: none; a lease or a renewal was won; or acts, where the lease is held.
+-- a round runs, or the lease is held
+abbrev pub IsBusy : LeaseState → Type 0
+IsBusy (free p) = ⊥
+IsBusy (asking r) = Unit {0}
+IsBusy (writing r) = Unit {0}
+IsBusy (held h) = Unit {0}
+
+-- The marks of a step: none; a lease or a renewal was won, by the round that ran; or acts, where the lease is held.
 pub data MarksAre (file : FileId) (l : LeaseState) (marks : List Mark) : Type 0 where
   no_marks : marks ≡ [] → MarksAre file l marks
-  won : (end : ℕ) → marks ≡ mark.Held file.number end ∷ [] → MarksAre file l marks
+  won : (end : ℕ) → IsBusy l → marks ≡ mark.Held file.number end ∷ [] → MarksAre file l marks
   acting : IsHeld l → AreActs file.number marks → MarksAre file l marks
 
 -- the list that an ask's capability names
@@ -52,7 +58,7 @@ RecordIs file content (Some _) = Unit {0}
 -- What the steps of a file mark and record: a message, and a Wake.
 pub record ShowsActs : Type 0 where
   pub marks : (site : Site) (s : FileState) (from : NodeId) (content : Payload)
-    → MarksAre s.kept.file (settled_row site s).lease (step_of_file site s from content).turned.marks
+      → MarksAre s.kept.file (settled_row site s).lease (step_of_file site s from content).turned.marks
   pub rec : (site : Site) (s : FileState) (from : NodeId) (content : Payload) → RecordIs s.kept.file content (step_of_file site s from content).turned.rec
   pub wake_marks : (site : Site) (s : FileState) → (wake_step site s).turned.marks ≡ []
   pub wake_rec : (site : Site) (s : FileState) → (wake_step site s).turned.rec ≡ None

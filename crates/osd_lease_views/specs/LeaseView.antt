@@ -12,7 +12,7 @@ use Rattle.xt_protocol.specs.FileIds.{is_file}
 use Rattle.xt_protocol.specs.LeaseRows.{LeaseState}
 use Rattle.xt_protocol.specs.declared.Turned.{Turned}
 use Rattle.lease_runs.specs.LeaseWorld.{LeaseSetting, LeaseRow, RowStep, row_handles, row_asks, expired_row, lease_file}
-use Rattle.osd_invariants.specs.Sound.{IsStored}
+use Rattle.osd_invariants.specs.Sound.{IsHeld, IsStored}
 use Rattle.osd_rows.specs.FileStates.{FileState, Site, FileStep, members_of}
 use Rattle.osd_rows.specs.Overdue.{expired}
 use Rattle.osd_rows.specs.FileSteps.{step_of_file, wake_of_file}
@@ -78,9 +78,9 @@ pub data Follows (file : FileId) (site : Site) (x : LeaseRow) (l : LeaseState) (
   asks : is_ask content ≡ true → IsStored step.state.kept.location → ShowsRow step (row_asks (lease_setting site file step.state.kept.location) site.node site.now x l) → Follows file site x l from content step
   stays : ShowsRow step (stays_so x) → Follows file site x l from content step
 
--- and what a Wake may
+-- and what a Wake may: a renewal begins, where the lease is held; or the lease stays
 pub data Wakes (file : FileId) (site : Site) (x : LeaseRow) (l : LeaseState) (step : FileStep) : Type 0 where
-  renewing : ShowsRow step (row_asks (lease_setting site file step.state.kept.location) site.node site.now x l) → Wakes file site x l step
+  renewing : IsHeld l → ShowsRow step (row_asks (lease_setting site file step.state.kept.location) site.node site.now x l) → Wakes file site x l step
   resting : ShowsRow step (stays_so x) → Wakes file site x l step
 
 -- the lease once what is overdue is done with

@@ -1,0 +1,16 @@
+pub mod Lists
+pub mod Tables
+pub mod Standings
+pub mod Frame
+pub mod Rising
+pub mod Files
+pub mod Marks
+pub mod Woken
+pub mod OsdEvents
+pub mod Moments
+pub mod Fit
+pub mod NodeEvents
+pub mod Declares
+pub mod Clocks
+pub mod LineSteps
+pub mod Runs

@@ -1,0 +1,81 @@
+-- the tables of a world
+use Rattle.std.proofs.Common.{◌≡◌, ◌≢◌, ℕ, inl, inr, List, [], ◌∷◌, ◌++◌, map, refl, arith, Some, None, Bool, true, false, if◌then◌else◌}
+use Rattle.std.specs.Prelude.{◌⊎◌, ◌==◌}
+use Rattle.std.specs.Option.{option_map}
+use Rattle.std.proofs.lemmas.Bool.Decides.{nat_tests}
+use Rattle.std.proofs.lemmas.Bool.{cases_eq}
+use Rattle.xt_base.specs.declared.file.Location.{Location}
+use Rattle.cluster_runs.specs.declared.DeclaredFile.{DeclaredFile}
+use Rattle.cluster_runs.specs.World.{Node, node_in, with_node, file_in}
+use Rattle.cluster_runs.specs.Lines.{ticked}
+
+pub same : (a b : ℕ) → (a ≡ b) ⊎ (a ≢ b)
+same a b = grind arith
+
+pub node_in-new : (nodes : List Node) (node old : Node) → node_in nodes node.id.0 ≡ Some old → node_in (with_node nodes node) node.id.0 ≡ Some node
+unfolding node_in with_node
+node_in-new [] node old h = absurd cc
+node_in-new (x ∷ xs) node old h =
+    elim (cases_eq x.id.0 node.id.0) as (λ w. node_in (with_node (x ∷ xs) node) node.id.0 ≡ Some node) [
+      | inl e ↦ grind (arith, nat_tests)
+      | inr ne ↦ (let rest : node_in (with_node xs node) node.id.0 ≡ Some node = node_in-new xs node old (grind (arith, nat_tests)) in grind (arith, nat_tests))
+    ]
+
+pub node_in-other : (nodes : List Node) (node : Node) (id : ℕ) → id ≢ node.id.0 → node_in (with_node nodes node) id ≡ node_in nodes id
+unfolding node_in with_node
+node_in-other [] node id ne = refl
+node_in-other (x ∷ xs) node id ne = let rest : node_in (with_node xs node) id ≡ node_in xs id = node_in-other xs node id ne in grind (arith, nat_tests)
+
+pub node_in-id : (nodes : List Node) (id : ℕ) (node : Node) → node_in nodes id ≡ Some node → node.id.0 ≡ id
+unfolding node_in
+node_in-id [] id node h = absurd cc
+node_in-id (x ∷ xs) id node h =
+    elim (cases_eq x.id.0 id) as (λ w. node.id.0 ≡ id) [
+      | inl e ↦ grind (arith, nat_tests)
+      | inr ne ↦ node_in-id xs id node (grind (arith, nat_tests))
+    ]
+
+pub nobody : (id : ℕ) → node_in [] id ≡ None
+unfolding node_in
+nobody id = refl
+
+-- a node that is declared last
+pub node_in-last : (nodes : List Node) (node : Node) → node_in nodes node.id.0 ≡ None → node_in (nodes ++ node ∷ []) node.id.0 ≡ Some node
+unfolding node_in
+node_in-last [] node free = grind (arith, nat_tests)
+node_in-last (x ∷ xs) node free =
+    elim (cases_eq x.id.0 node.id.0) as (λ w. node_in ((x ∷ xs) ++ node ∷ []) node.id.0 ≡ Some node) [
+      | inl e ↦ grind (arith, nat_tests)
+      | inr ne ↦ (let rest : node_in (xs ++ node ∷ []) node.id.0 ≡ Some node = node_in-last xs node (grind (arith, nat_tests)) in grind (arith, nat_tests))
+    ]
+
+pub node_in-before : (nodes : List Node) (node : Node) (id : ℕ) → id ≢ node.id.0 → node_in (nodes ++ node ∷ []) id ≡ node_in nodes id
+unfolding node_in
+node_in-before [] node id ne = grind (arith, nat_tests)
+node_in-before (x ∷ xs) node id ne = let rest : node_in (xs ++ node ∷ []) id ≡ node_in xs id = node_in-before xs node id ne in grind (arith, nat_tests)
+
+pub node_in-ticked : (nodes : List Node) (count n : ℕ) → node_in (map (ticked count) nodes) n ≡ option_map (ticked count) (node_in nodes n)
+unfolding node_in
+node_in-ticked [] count n = refl
+node_in-ticked (x ∷ xs) count n = let rest : node_in (map (ticked count) xs) n ≡ option_map (ticked count) (node_in xs n) = node_in-ticked xs count n in at (x.id.0 == n) rest
+  where
+    at : (b : Bool) → node_in (map (ticked count) xs) n ≡ option_map (ticked count) (node_in xs n)
+        → (if b then Some (ticked count x) else node_in (map (ticked count) xs) n) ≡ option_map (ticked count) (if b then Some x else node_in xs n)
+    at true rest = refl
+    at false rest = rest
+
+-- a file that is declared last
+pub file_in-before : (files : List DeclaredFile) (file : DeclaredFile) (number : ℕ) → number ≢ file.number → file_in (files ++ file ∷ []) number ≡ file_in files number
+unfolding file_in
+file_in-before [] file number ne = grind (arith, nat_tests)
+file_in-before (x ∷ xs) file number ne = let rest : file_in (xs ++ file ∷ []) number ≡ file_in xs number = file_in-before xs file number ne in grind (arith, nat_tests)
+
+-- a declared file stays where it is
+pub file_in-stays : (files : List DeclaredFile) (file : DeclaredFile) (number : ℕ) (location : Location) → file_in files number ≡ Some location → file_in (files ++ file ∷ []) number ≡ Some location
+unfolding file_in
+file_in-stays [] file number location is = absurd (cc)
+file_in-stays (x ∷ xs) file number location is =
+    elim (cases_eq x.number number) as (λ w. file_in ((x ∷ xs) ++ file ∷ []) number ≡ Some location) [
+      | inl e ↦ grind (arith, nat_tests)
+      | inr ne ↦ (let rest : file_in (xs ++ file ∷ []) number ≡ Some location = file_in-stays xs file number location (grind (arith, nat_tests)) in grind (arith, nat_tests))
+    ]

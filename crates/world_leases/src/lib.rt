@@ -1,0 +1,28 @@
+//! Leases in the world: at no moment of a run do two nodes hold one file, and a node acts as a file's primary only while it
+//! holds the file.
+//!
+//! Each step of each line of a schedule is shown to be a few moves of the lease world of each file (`lease_runs`), whatever
+//! becomes of it: whole, stopped in its append, or cut in its sending. Both are said of the trace alone, of every list of
+//! lines and every room, and of a line that ended early.
+#![tactic(auto)]
+
+ghost use Rattle.std.specs.Prelude.{◌≡◌, ℕ, None, List, [], ◌∷◌, ◌++◌};
+ghost use Rattle.cluster_runs.specs.declared.Entry.{Entry};
+ghost use Rattle.cluster_runs.specs.declared.Line.{Line};
+ghost use Rattle.cluster_runs.specs.NodeSteps.{Room};
+ghost use Rattle.cluster_runs.specs.Rules.{refusal};
+ghost use Rattle.cluster_runs.specs.Bounds.{AreLines};
+ghost use Rattle.cluster_runs.specs.Runs.{run_of, IsRunInto};
+ghost use Rattle.cluster_runs.specs.Clauses.{AreApart, HoldersAct};
+
+/// At no moment of a run of any lines do two nodes hold a file; nor behind some steps of a line more.
+pub fn nodes_are_apart()
+    ensures whole { (room : Room) (lines : List Line) (file : ℕ) → AreLines lines → AreApart file (run_of room lines).entries }
+    ensures part { (room : Room) (lines : List Line) (l : Line) (file : ℕ) (entries : List Entry) → AreLines (lines ++ l ∷ []) → refusal (run_of room lines) l ≡ None → IsRunInto room lines l entries → AreApart file entries }
+{}
+
+/// A node that becomes active as a file's primary, issues, commits or answers holds the file at that moment.
+pub fn holders_act()
+    ensures whole { (room : Room) (lines : List Line) (file : ℕ) → AreLines lines → HoldersAct file (run_of room lines).entries }
+    ensures part { (room : Room) (lines : List Line) (l : Line) (file : ℕ) (entries : List Entry) → AreLines (lines ++ l ∷ []) → refusal (run_of room lines) l ≡ None → IsRunInto room lines l entries → HoldersAct file entries }
+{}
