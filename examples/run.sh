@@ -13,6 +13,10 @@ if [ "${1:-}" = --unproved ]; then
     shift
 fi
 schedule=$here/${1:-write-and-read}.schedule
+if [ ! -r "$schedule" ]; then
+    echo "run.sh: there is no schedule ${1:-write-and-read}" >&2
+    exit 2
+fi
 
 if [ "$proved" = yes ] && program=$(bash "$top/tests/built.sh"); then
     echo "run.sh: replayed by the proved program" >&2
