@@ -1,1 +1,2 @@
 pub mod PrimaryViews
+pub mod Written

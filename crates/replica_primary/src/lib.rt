@@ -8,6 +8,7 @@
 
 mod drawing;
 mod primary;
+mod serving;
 mod waking;
 
 pub use primary::Primary;

@@ -1,0 +1,40 @@
+-- what a write makes of a tenure
+use Rattle.std.specs.Prelude.{ℕ, Option, Some, None, List, []}
+use Rattle.xt_base.specs.declared.file.ObjectVersion.{ObjectVersion}
+use Rattle.xt_base.specs.declared.file.FileHead.{FileHead}
+use Rattle.xt_base.specs.declared.file.Update.{Update}
+use Rattle.xt_base.specs.declared.record.Record.{Record}
+use Rattle.xt_protocol.specs.SeenBodies.{body_by}
+use Rattle.osd_rows.specs.declared.Place.{Place}
+use Rattle.osd_rows.specs.declared.Progress.{Progress}
+use Rattle.osd_rows.specs.declared.Progress.TheVariants as progress
+use Rattle.osd_rows.specs.declared.Tenure.{Tenure}
+use Rattle.osd_rows.specs.Primaries.{Ground, Led}
+use Rattle.osd_rows.specs.PrimaryRows.{goes_on}
+use Rattle.version_lists.specs.Rising.{HeadRises}
+use Rattle.replica_primary.specs.declared.serving.Written.{Written}
+
+-- what a primary stands on that sees the bodies of these records
+abbrev pub ground : Place → List Record → FileHead → List ObjectVersion → Ground
+ground place records own held = record { place = place; own = own; held = held; body = body_by records place.file }
+
+-- the committed head's versions and sessions rise
+abbrev pub CommittedRises : Progress → Type 0
+CommittedRises (progress.Active committed issued) = HeadRises committed
+CommittedRises progress.Gathering = Unit {0}
+CommittedRises (progress.Fetching chosen source asked later) = Unit {0}
+CommittedRises (progress.Installing chosen acked) = Unit {0}
+
+-- this update is issued, and nobody has acknowledged it
+abbrev pub with_issued : Progress → Update → Progress
+with_issued (progress.Active committed issued) update = progress.Active committed (Some (record { update = update; acked = [] }))
+with_issued p update = p
+
+abbrev pub tenure_after : Tenure → Option Update → Tenure
+tenure_after t None = t
+tenure_after t (Some update) = record t { progress = with_issued t.progress update }
+
+-- what a write gives; none where it waits
+abbrev pub led_of : ℕ → Tenure → Option Written → Option Led
+led_of learnt t None = None
+led_of learnt t (Some written) = Some (goes_on learnt (tenure_after t written.issued) written.turned)

@@ -1,0 +1,186 @@
+ghost use Rattle.std.specs.Prelude.{◌≡◌, ◌∷◌, ◌≤◌, ◌&&◌, ◌==◌, not, [], ℕ, List, None, Some, IfOk};
+ghost use Rattle.xt_base.specs.declared.file.ObjectVersion.{ObjectVersion};
+ghost use Rattle.xt_base.specs.declared.file.FileHead.{FileHead};
+ghost use Rattle.xt_base.specs.declared.record.Record.{Record};
+ghost use Rattle.xt_base.specs.declared.reply.Reply.TheVariants as reply;
+ghost use Rattle.xt_base.specs.declared.event.Mark.TheVariants as mark;
+ghost use Rattle.xt_base.specs.declared.message.Payload.TheVariants as payload;
+ghost use Rattle.xt_base.specs.Limits.{FitsOp};
+ghost use Rattle.xt_protocol.specs.SeenBodies.{body_by};
+ghost use Rattle.osd_rows.specs.declared.Progress.TheVariants as progress;
+ghost use Rattle.osd_rows.specs.Turns.{to_each};
+ghost use Rattle.osd_rows.specs.Writes.{bytes_shown};
+ghost use Rattle.osd_rows.specs.PrimaryRows.{goes_on};
+ghost use Rattle.osd_rows.specs.Primaries.{is_current};
+ghost use Rattle.osd_rows.specs.Serving as rows;
+ghost use Rattle.kept_bodies.specs.KeptBodies.{fault_of, ReadsOnly};
+ghost use Rattle.version_lists.specs.Rising.{HeadRises};
+ghost use Rattle.replica_primary.specs.Written.{ground, tenure_after};
+
+use kept_bodies::{Bodies, StepErr};
+use osd_rows::{Nodes, Peer, PeerState, Place, Tenure};
+use osd_writes::{bytes_shown, update_of};
+use std::alloc::Global;
+use step_outputs::{message, quiet};
+use xt_base::{
+    COUNTS, Copies, FileHead, FileId, Mark, Msgs, NodeId, Op, OpId, OutOfMemory, Payload, Reply,
+    Seq, Stamp, Update,
+};
+use xt_protocol::Turned;
+
+/// What comes of a write: the update that it issues, if it issues one, and what is sent then.
+#[derive(Drop)]
+pub struct Written {
+    pub issued: Option<Update>,
+    pub turned: Turned,
+}
+
+/// Read served: what the committed head shows, its count and its mark.
+pub fn read_served<B: Bodies>(
+    bodies: &mut B,
+    alloc: Global,
+    place: &Place,
+    head: &FileHead,
+    op: &Op,
+) -> Result<Reply, StepErr>
+    requires { HeadRises head.now }
+    ensures value { IfOk result (λ answer. answer ≡ reply.Ok head.now.stamp.count head.now.mark (bytes_shown place.now.stripe (body_by (B.records bodies.old) place.now.file) head.now op.now)) }
+    ensures reads { ReadsOnly B.records B.fault_count bodies.old bodies.new (fault_of result) }
+{
+    let bytes = bytes_shown(bodies, alloc, &place.file, place.stripe, head, op)?;
+    Ok(Reply::Ok {
+        count: head.stamp.count,
+        mark: head.mark,
+        bytes,
+    })
+}
+
+/// Whether an update goes to this peer besides the own node.
+fn is_current_other(node: NodeId, peer: &Peer) -> bool
+    ensures { result ≡ (is_current peer.now.state && not (peer.now.node.0 == node.0)) }
+{
+    match peer.state {
+        PeerState::Current => peer.node.0 != node.0,
+        _ => false,
+    }
+}
+
+/// To whom an update goes: the node itself, and then each current peer.
+fn receivers(alloc: Global, place: &Place, peers: &[Peer]) -> Result<Nodes, OutOfMemory>
+    ensures { IfOk result (λ nodes. nodes ≡ place.now.node ∷ rows.current_others place.now peers.now) }
+{
+    let mut nodes = Seq::new(alloc);
+    nodes.push(place.node)?;
+    for peer in peers {
+        if is_current_other(place.node, peer) {
+            nodes.push(peer.node)?;
+        }
+    }
+    Ok(nodes)
+}
+
+/// The update to each of these nodes, in order.
+fn update_to_each(
+    alloc: Global,
+    node: NodeId,
+    file: &FileId,
+    nodes: &[NodeId],
+    update: &Update,
+) -> Result<Msgs, OutOfMemory>
+    ensures { IfOk result (λ outs. outs ≡ to_each node nodes.now (payload.Update file.now update.now)) }
+{
+    let mut outs = Seq::new(alloc);
+    for to in nodes {
+        let content = Payload::Update {
+            file: *file,
+            update: update.copy(alloc)?,
+        };
+        outs.push(message(node, *to, content))?;
+    }
+    Ok(outs)
+}
+
+/// What is sent and marked when an update is issued.
+fn issue_told(
+    alloc: Global,
+    place: &Place,
+    peers: &[Peer],
+    update: &Update,
+) -> Result<Turned, OutOfMemory>
+    ensures { IfOk result (λ turned. turned ≡ record { rec = None; outs = to_each place.now.node (place.now.node ∷ rows.current_others place.now peers.now) (payload.Update place.now.file update.now); marks = mark.Issue place.now.file.number update.now.stamp.count update.now.id ∷ [] }) }
+{
+    let nodes = receivers(alloc, place, peers)?;
+    let outs = update_to_each(alloc, place.node, &place.file, nodes.as_slice(), update)?;
+    let mut marks = Seq::new(alloc);
+    marks.push(Mark::Issue {
+        file: place.file.number,
+        count: update.stamp.count,
+        id: update.id,
+    })?;
+    Ok(Turned {
+        rec: None,
+        outs,
+        marks,
+    })
+}
+
+/// The next update, where there is a count left.
+fn next_update<B: Bodies>(
+    bodies: &mut B,
+    alloc: Global,
+    place: &Place,
+    tenure: &Tenure,
+    head: &FileHead,
+    id: OpId,
+    epoch: u64,
+    op: &Op,
+) -> Result<Option<Update>, StepErr>
+    requires some { 1024 ≤ place.now.stripe }
+    requires fits { FitsOp op.now }
+    requires rising { HeadRises head.now }
+    ensures value { IfOk result (λ update. (own : FileHead) (held : List ObjectVersion) → update ≡ rows.next_update_of (ground place.now (B.records bodies.old) own held) tenure.now head.now id epoch op.now) }
+    ensures reads { ReadsOnly B.records B.fault_count bodies.old bodies.new (fault_of result) }
+{
+    if head.stamp.count >= COUNTS - 1 {
+        return Ok(None);
+    }
+    let stamp = Stamp {
+        epoch: tenure.epoch,
+        count: head.stamp.count + 1,
+    };
+    update_of(
+        bodies,
+        alloc,
+        &place.file,
+        place.stripe,
+        head,
+        stamp,
+        id,
+        epoch,
+        op,
+    )
+}
+
+/// Issued: the update goes to the node itself, and then to each current peer.
+fn issues(
+    alloc: Global,
+    place: &Place,
+    tenure: &Tenure,
+    update: Option<Update>,
+) -> Result<Written, OutOfMemory>
+    ensures { IfOk result (λ written. (records : List Record) (learnt : ℕ) (own head : FileHead) (held : List ObjectVersion) → tenure.now.progress ≡ progress.Active head None → goes_on learnt (tenure_after tenure.now written.issued) written.turned ≡ rows.issues (ground place.now records own held) learnt tenure.now head update) }
+{
+    match update {
+        None => Ok(Written {
+            issued: None,
+            turned: quiet(alloc),
+        }),
+        Some(update) => {
+            let turned = issue_told(alloc, place, tenure.peers.as_slice(), &update)?;
+            Ok(Written {
+                issued: Some(update),
+                turned,
+            })
+        }
+    }
+}
