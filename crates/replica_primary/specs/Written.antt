@@ -11,19 +11,11 @@ use Rattle.osd_rows.specs.declared.Progress.TheVariants as progress
 use Rattle.osd_rows.specs.declared.Tenure.{Tenure}
 use Rattle.osd_rows.specs.Primaries.{Ground, Led}
 use Rattle.osd_rows.specs.PrimaryRows.{goes_on}
-use Rattle.version_lists.specs.Rising.{HeadRises}
 use Rattle.replica_primary.specs.declared.serving.Written.{Written}
 
 -- what a primary stands on that sees the bodies of these records
 abbrev pub ground : Place → List Record → FileHead → List ObjectVersion → Ground
 ground place records own held = record { place = place; own = own; held = held; body = body_by records place.file }
-
--- the committed head's versions and sessions rise
-abbrev pub CommittedRises : Progress → Type 0
-CommittedRises (progress.Active committed issued) = HeadRises committed
-CommittedRises progress.Gathering = Unit {0}
-CommittedRises (progress.Fetching chosen source asked later) = Unit {0}
-CommittedRises (progress.Installing chosen acked) = Unit {0}
 
 -- this update is issued, and nobody has acknowledged it
 abbrev pub with_issued : Progress → Update → Progress
@@ -38,3 +30,8 @@ tenure_after t (Some update) = record t { progress = with_issued t.progress upda
 abbrev pub led_of : ℕ → Tenure → Option Written → Option Led
 led_of learnt t None = None
 led_of learnt t (Some written) = Some (goes_on learnt (tenure_after t written.issued) written.turned)
+
+-- a tenure in which this update is issued, where there is one
+abbrev pub under_issued : Option Tenure → Option Update → Option Tenure
+under_issued None update = None
+under_issued (Some t) update = Some (tenure_after t update)

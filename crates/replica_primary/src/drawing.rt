@@ -1,5 +1,6 @@
 ghost use Rattle.std.specs.Prelude.{◌≡◌, IfOk};
 ghost use Rattle.osd_rows.specs.PrimaryRows as rows;
+ghost use Rattle.replica_primary.specs.Committed.{CommittedUnder};
 
 use osd_peers::unknown_peers;
 use osd_rows::{Place, Progress, Tenure};
@@ -24,7 +25,8 @@ pub fn epoch_drawn(
     own: &FileHead,
     members: &[NodeId],
 ) -> Result<Drawn, OutOfMemory>
-    ensures { IfOk result (λ drawn. record { primary = record { learnt = learnt; tenure = drawn.tenure }; turned = drawn.turned } ≡ rows.epoch_drawn place.now learnt own.now members.now) }
+    ensures row { IfOk result (λ drawn. record { primary = record { learnt = learnt; tenure = drawn.tenure }; turned = drawn.turned } ≡ rows.epoch_drawn place.now learnt own.now members.now) }
+    ensures rises { IfOk result (λ drawn. CommittedUnder drawn.tenure) }
 {
     let greatest = own.promised.number.max(learnt);
     if greatest >= COUNTS - 1 {

@@ -1,17 +1,24 @@
-ghost use Rattle.std.specs.Prelude.{◌≡◌, None, Some, MatchOption, IfOk, OnErr};
+ghost use Rattle.std.specs.Prelude.{◌≡◌, List, None, Some, MatchOption, IfOk, OnErr};
 ghost use Rattle.osd_rows.specs.Primaries as rows;
 ghost use Rattle.osd_rows.specs.PrimaryRows.{epoch_drawn};
-ghost use Rattle.osd_rows.specs.Serving.{wakes};
+ghost use Rattle.osd_rows.specs.Serving.{reads, wakes};
+ghost use Rattle.xt_base.specs.declared.file.FileHead.{FileHead};
+ghost use Rattle.xt_base.specs.declared.file.ObjectVersion.{ObjectVersion};
+ghost use Rattle.xt_base.specs.Limits.{FitsStripe};
+ghost use Rattle.kept_bodies.specs.KeptBodies.{fault_of, ReadsOnly};
+ghost use Rattle.replica_primary.specs.Written.{ground};
 ghost use Rattle.replica_primary.specs.PrimaryViews.{chosen_by, rests_by};
 
 use crate::drawing::epoch_drawn;
+use crate::serving::read_served;
 use crate::waking::wakes;
 use flease_lease::Turn;
+use kept_bodies::{Bodies, StepErr};
 use osd_peers::peer_in;
 use osd_rows::{Peer, PeerState, Place, PrimaryState, Progress, Tenure};
 use std::alloc::Global;
 use std::marker::Model;
-use xt_base::{FileHead, FileId, Members, NodeId, OutOfMemory};
+use xt_base::{FileHead, FileId, Members, NodeId, Op, OutOfMemory, Reply};
 use xt_protocol::Turned;
 
 /// The primary of one file at one node. Contracts see where it stands and its state.
@@ -28,6 +35,11 @@ impl Model for Primary {
     ghost Value = { PrimaryView };
 
     ghost view = { λ p. record { place = p.place; state = p.state } };
+
+    ghost use Rattle.xt_base.specs.Limits.{FitsStripe};
+    ghost use Rattle.replica_primary.specs.Committed.{CommittedUnder};
+
+    ghost invariant = { λ p. FitsStripe p.place.stripe × CommittedUnder p.state.tenure };
 }
 
 /// The head that this node has reported, where it is a peer.
@@ -43,6 +55,7 @@ fn reported_by(peers: &[Peer], node: NodeId) -> Option<&FileHead>
 impl Primary {
     /// An idle primary, of a file with objects of `stripe` bytes, that has learnt no epoch.
     pub fn new(alloc: Global, file: FileId, node: NodeId, stripe: u32) -> Primary
+        requires { FitsStripe stripe }
         ensures { result ≡ record { place = record { node = node; file = file; stripe = stripe }; state = rows.new_primary } }
     {
         Primary {
@@ -133,5 +146,29 @@ impl Primary {
     {
         let _turn = turn;
         wakes(self.alloc, &self.place, &self.state)
+    }
+
+    /// Read served: what the committed head shows, its count and its mark; none where the primary isn't active.
+    #[tactic(auto, unfolding(osd_rows::specs::Serving::reads))]
+    pub fn read<B: Bodies>(
+        &self,
+        turn: &Turn<'_>,
+        bodies: &mut B,
+        op: &Op,
+    ) -> Result<Option<Reply>, StepErr>
+        requires { turn.now.node ≡ self.now.place.node }
+        ensures value { IfOk result (λ answer. (own : FileHead) (held : List ObjectVersion) → answer ≡ reads (ground self.now.place (B.records bodies.old) own held) self.now.state op.now) }
+        ensures reads { ReadsOnly B.records B.fault_count bodies.old bodies.new (fault_of result) }
+    {
+        let _turn = turn;
+        match &self.state.tenure {
+            Some(
+                Tenure {
+                    progress: Progress::Active { committed, .. },
+                    ..
+                },
+            ) => Ok(Some(read_served(bodies, self.alloc, &self.place, committed, op)?)),
+            _ => Ok(None),
+        }
     }
 }

@@ -9,22 +9,23 @@ ghost use Rattle.xt_base.specs.Limits.{FitsOp};
 ghost use Rattle.xt_protocol.specs.SeenBodies.{body_by};
 ghost use Rattle.osd_rows.specs.declared.Progress.TheVariants as progress;
 ghost use Rattle.osd_rows.specs.Turns.{to_each};
-ghost use Rattle.osd_rows.specs.Writes.{bytes_shown};
+ghost use Rattle.osd_rows.specs.Writes.{bytes_shown, standing};
 ghost use Rattle.osd_rows.specs.PrimaryRows.{goes_on};
 ghost use Rattle.osd_rows.specs.Primaries.{is_current};
 ghost use Rattle.osd_rows.specs.Serving as rows;
 ghost use Rattle.kept_bodies.specs.KeptBodies.{fault_of, ReadsOnly};
 ghost use Rattle.version_lists.specs.Rising.{HeadRises};
-ghost use Rattle.replica_primary.specs.Written.{ground, tenure_after};
+ghost use Rattle.replica_primary.specs.Committed.{CommittedRises};
+ghost use Rattle.replica_primary.specs.Written.{ground, tenure_after, led_of};
 
 use kept_bodies::{Bodies, StepErr};
-use osd_rows::{Nodes, Peer, PeerState, Place, Tenure};
-use osd_writes::{bytes_shown, update_of};
+use osd_rows::{IssuedUpdate, Nodes, Peer, PeerState, Place, Progress, Tenure};
+use osd_writes::{Standing, bytes_shown, standing_of, update_of};
 use std::alloc::Global;
-use step_outputs::{message, quiet};
+use step_outputs::{answers, message, quiet, tells};
 use xt_base::{
-    COUNTS, Copies, FileHead, FileId, Mark, Msgs, NodeId, Op, OpId, OutOfMemory, Payload, Reply,
-    Seq, Stamp, Update,
+    COUNTS, Copies, FileHead, FileId, Mark, Msgs, NodeId, OBJECTS, Octets, Op, OpId, OutOfMemory,
+    Payload, Reply, Seq, Stamp, Update,
 };
 use xt_protocol::Turned;
 
@@ -182,5 +183,99 @@ fn issues(
                 turned,
             })
         }
+    }
+}
+
+/// What is told to a client without a change.
+fn told(turned: Turned) -> Written
+    ensures { result ≡ record { issued = None; turned = turned } }
+{
+    Written {
+        issued: None,
+        turned,
+    }
+}
+
+/// A fresh write is issued, unless another one is.
+fn fresh_write<B: Bodies>(
+    bodies: &mut B,
+    alloc: Global,
+    place: &Place,
+    tenure: &Tenure,
+    head: &FileHead,
+    issued: &Option<IssuedUpdate>,
+    id: OpId,
+    epoch: u64,
+    op: &Op,
+) -> Result<Option<Written>, StepErr>
+    requires some { 1024 ≤ place.now.stripe }
+    requires fits { FitsOp op.now }
+    requires rising { HeadRises head.now }
+    requires active { tenure.now.progress ≡ progress.Active head.now issued.now }
+    ensures value { IfOk result (λ written. (learnt : ℕ) (own : FileHead) (held : List ObjectVersion) → led_of learnt tenure.now written ≡ rows.issues_unless (ground place.now (B.records bodies.old) own held) learnt tenure.now head.now issued.now id epoch op.now) }
+    ensures reads { ReadsOnly B.records B.fault_count bodies.old bodies.new (fault_of result) }
+{
+    if issued.is_some() {
+        return Ok(None);
+    }
+    let update = next_update(bodies, alloc, place, tenure, head, id, epoch, op)?;
+    Ok(Some(issues(alloc, place, tenure, update)?))
+}
+
+/// A write by how it stands to the committed head: repeated, older, refused, or issued; none where another one is issued.
+fn write_stands<B: Bodies>(
+    bodies: &mut B,
+    alloc: Global,
+    place: &Place,
+    tenure: &Tenure,
+    head: &FileHead,
+    issued: &Option<IssuedUpdate>,
+    id: OpId,
+    epoch: u64,
+    op: &Op,
+) -> Result<Option<Written>, StepErr>
+    requires some { 1024 ≤ place.now.stripe }
+    requires fits { FitsOp op.now }
+    requires rising { HeadRises head.now }
+    requires active { tenure.now.progress ≡ progress.Active head.now issued.now }
+    ensures value { IfOk result (λ written. (learnt : ℕ) (own : FileHead) (held : List ObjectVersion) → led_of learnt tenure.now written ≡ rows.write_stands (ground place.now (B.records bodies.old) own held) learnt tenure.now head.now issued.now id epoch op.now (standing OBJECTS place.now.stripe head.now id epoch op.now)) }
+    ensures reads { ReadsOnly B.records B.fault_count bodies.old bodies.new (fault_of result) }
+{
+    let (node, file) = (place.node, &place.file);
+    match standing_of(OBJECTS, place.stripe, head, id, epoch, op) {
+        Standing::Repeated { count } => {
+            let none = Octets::new(alloc);
+            let turned = answers(alloc, node, file, id, count, head.mark, none)?;
+            Ok(Some(told(turned)))
+        }
+        Standing::Older => Ok(Some(told(quiet(alloc)))),
+        Standing::TurnedAway { reply } => Ok(Some(told(tells(alloc, node, file, id, reply)?))),
+        Standing::Fresh => {
+            fresh_write(bodies, alloc, place, tenure, head, issued, id, epoch, op)
+        }
+    }
+}
+
+/// What a write gives in a tenure; none where the primary isn't active, and where another one is issued.
+pub fn writes_in<B: Bodies>(
+    bodies: &mut B,
+    alloc: Global,
+    place: &Place,
+    tenure: &Tenure,
+    id: OpId,
+    epoch: u64,
+    op: &Op,
+) -> Result<Option<Written>, StepErr>
+    requires some { 1024 ≤ place.now.stripe }
+    requires fits { FitsOp op.now }
+    requires rising { CommittedRises tenure.now.progress }
+    ensures value { IfOk result (λ written. (learnt : ℕ) (own : FileHead) (held : List ObjectVersion) → led_of learnt tenure.now written ≡ rows.writes_in (ground place.now (B.records bodies.old) own held) learnt tenure.now tenure.now.progress id epoch op.now) }
+    ensures reads { ReadsOnly B.records B.fault_count bodies.old bodies.new (fault_of result) }
+{
+    match &tenure.progress {
+        Progress::Active { committed, issued } => write_stands(
+            bodies, alloc, place, tenure, committed, issued, id, epoch, op,
+        ),
+        _ => Ok(None),
     }
 }

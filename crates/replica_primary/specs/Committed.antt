@@ -1,0 +1,17 @@
+-- what always holds of a primary's committed head
+use Rattle.std.specs.Prelude.{Option, Some, None}
+use Rattle.osd_rows.specs.declared.Progress.{Progress}
+use Rattle.osd_rows.specs.declared.Progress.TheVariants as progress
+use Rattle.osd_rows.specs.declared.Tenure.{Tenure}
+use Rattle.version_lists.specs.Rising.{HeadRises}
+
+-- its versions and sessions rise
+abbrev pub CommittedRises : Progress → Type 0
+CommittedRises (progress.Active committed issued) = HeadRises committed
+CommittedRises progress.Gathering = Unit {0}
+CommittedRises (progress.Fetching chosen source asked later) = Unit {0}
+CommittedRises (progress.Installing chosen acked) = Unit {0}
+
+abbrev pub CommittedUnder : Option Tenure → Type 0
+CommittedUnder None = Unit {0}
+CommittedUnder (Some t) = CommittedRises t.progress
