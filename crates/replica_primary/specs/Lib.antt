@@ -1,3 +1,4 @@
 pub mod Committed
 pub mod PrimaryViews
+pub mod Phases
 pub mod Written

@@ -35,3 +35,9 @@ led_of learnt t (Some written) = Some (goes_on learnt (tenure_after t written.is
 abbrev pub under_issued : Option Tenure → Option Update → Option Tenure
 under_issued None update = None
 under_issued (Some t) update = Some (tenure_after t update)
+
+-- what a write gives under a tenure; none where it waits
+abbrev pub led_under : ℕ → Option Tenure → Option Written → Option Led
+led_under learnt tenure None = None
+led_under learnt tenure (Some written) =
+    Some (record { primary = record { learnt = learnt; tenure = under_issued tenure written.issued }; turned = written.turned })

@@ -11,5 +11,5 @@ mod primary;
 mod serving;
 mod waking;
 
-pub use primary::Primary;
+pub use primary::{Phase, Primary};
 pub use xt_protocol::Turned as Led;

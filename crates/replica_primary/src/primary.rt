@@ -1,24 +1,26 @@
-ghost use Rattle.std.specs.Prelude.{◌≡◌, List, None, Some, MatchOption, IfOk, OnErr};
+ghost use Rattle.std.specs.Prelude.{◌≡◌, List, None, Some, MatchOption, IfOk, IfNone, OnErr};
 ghost use Rattle.osd_rows.specs.Primaries as rows;
 ghost use Rattle.osd_rows.specs.PrimaryRows.{epoch_drawn};
-ghost use Rattle.osd_rows.specs.Serving.{reads, wakes};
+ghost use Rattle.osd_rows.specs.Serving.{reads, wakes, writes};
 ghost use Rattle.xt_base.specs.declared.file.FileHead.{FileHead};
 ghost use Rattle.xt_base.specs.declared.file.ObjectVersion.{ObjectVersion};
-ghost use Rattle.xt_base.specs.Limits.{FitsStripe};
+ghost use Rattle.xt_base.specs.Limits.{FitsOp, FitsStripe};
 ghost use Rattle.kept_bodies.specs.KeptBodies.{fault_of, ReadsOnly};
 ghost use Rattle.replica_primary.specs.Written.{ground};
+ghost use Rattle.replica_primary.specs.Phases.{phase_in, phase_of};
+ghost use Rattle.std.specs.Option.{option_map};
 ghost use Rattle.replica_primary.specs.PrimaryViews.{chosen_by, rests_by};
 
 use crate::drawing::epoch_drawn;
-use crate::serving::read_served;
+use crate::serving::{Written, put_issued, read_served, writes};
 use crate::waking::wakes;
 use flease_lease::Turn;
 use kept_bodies::{Bodies, StepErr};
-use osd_peers::peer_in;
+use osd_peers::{peer_in, statuses_counted};
 use osd_rows::{Peer, PeerState, Place, PrimaryState, Progress, Tenure};
 use std::alloc::Global;
 use std::marker::Model;
-use xt_base::{FileHead, FileId, Members, NodeId, Op, OutOfMemory, Reply};
+use xt_base::{FileHead, FileId, Members, NodeId, Op, OpId, OutOfMemory, Reply};
 use xt_protocol::Turned;
 
 /// The primary of one file at one node. Contracts see where it stands and its state.
@@ -27,6 +29,17 @@ pub struct Primary {
     alloc: Global,
     place: Place,
     state: PrimaryState,
+}
+
+/// How far a primary is, and how many have answered what it waits for: statuses while it gathers, acknowledgements of the head
+/// or of the issued update later.
+#[derive(Clone, Copy, PartialEq, Eq)]
+pub enum Phase {
+    Idle,
+    Gathering { have: usize },
+    Fetching,
+    Installing { have: usize },
+    Active { issued: Option<OpId>, have: usize },
 }
 
 impl Model for Primary {
@@ -170,5 +183,68 @@ impl Primary {
             ) => Ok(Some(read_served(bodies, self.alloc, &self.place, committed, op)?)),
             _ => Ok(None),
         }
+    }
+
+    /// A write or truncation: repeated, older, refused, or issued. None, with nothing changed, where another one is issued, and
+    /// where the primary isn't active.
+    pub fn issue<B: Bodies>(
+        &mut self,
+        turn: &Turn<'_>,
+        bodies: &mut B,
+        id: OpId,
+        epoch: u64,
+        op: &Op,
+    ) -> Result<Option<Turned>, StepErr>
+        requires turn { turn.now.node ≡ self.old.place.node }
+        requires fits { FitsOp op.now }
+        ensures value { IfOk result (λ led. (own : FileHead) (held : List ObjectVersion) → option_map (λ turned. record { primary = self.new.state; turned = turned }) led ≡ writes (ground self.old.place (B.records bodies.old) own held) self.old.state id epoch op.now) }
+        ensures place { IfOk result (λ led. self.new.place ≡ self.old.place) }
+        ensures waits { IfOk result (λ led. IfNone led (self.new ≡ self.old)) }
+        ensures same { OnErr result (self.new ≡ self.old) }
+        ensures reads { ReadsOnly B.records B.fault_count bodies.old bodies.new (fault_of result) }
+    {
+        let _turn = turn;
+        let (alloc, place) = (self.alloc, &self.place);
+        match writes(bodies, alloc, place, &self.state, id, epoch, op)? {
+            None => Ok(None),
+            Some(Written { issued, turned }) => {
+                put_issued(alloc, &mut self.state.tenure, issued);
+                Ok(Some(turned))
+            }
+        }
+    }
+
+    /// How far the primary is, and how many have answered what it waits for.
+    pub fn phase(&self) -> Phase
+        ensures { result ≡ phase_of self.now.state.tenure }
+    {
+        match &self.state.tenure {
+            None => Phase::Idle,
+            Some(tenure) => phase_in(tenure.peers.as_slice(), &tenure.progress),
+        }
+    }
+}
+
+/// How far a primary with these peers is.
+fn phase_in(peers: &[Peer], progress: &Progress) -> Phase
+    ensures { result ≡ phase_in peers.now progress.now }
+{
+    match progress {
+        Progress::Gathering => Phase::Gathering {
+            have: statuses_counted(peers),
+        },
+        Progress::Fetching { .. } => Phase::Fetching,
+        Progress::Installing { acked, .. } => Phase::Installing { have: acked.len() },
+        Progress::Active {
+            issued: Some(issued),
+            ..
+        } => Phase::Active {
+            issued: Some(issued.update.id),
+            have: issued.acked.len(),
+        },
+        Progress::Active { issued: None, .. } => Phase::Active {
+            issued: None,
+            have: 0,
+        },
     }
 }

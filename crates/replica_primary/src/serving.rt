@@ -15,11 +15,11 @@ ghost use Rattle.osd_rows.specs.Primaries.{is_current};
 ghost use Rattle.osd_rows.specs.Serving as rows;
 ghost use Rattle.kept_bodies.specs.KeptBodies.{fault_of, ReadsOnly};
 ghost use Rattle.version_lists.specs.Rising.{HeadRises};
-ghost use Rattle.replica_primary.specs.Committed.{CommittedRises};
-ghost use Rattle.replica_primary.specs.Written.{ground, tenure_after, led_of};
+ghost use Rattle.replica_primary.specs.Committed.{CommittedRises, CommittedUnder};
+ghost use Rattle.replica_primary.specs.Written.{ground, tenure_after, led_of, led_under, with_issued, under_issued};
 
 use kept_bodies::{Bodies, StepErr};
-use osd_rows::{IssuedUpdate, Nodes, Peer, PeerState, Place, Progress, Tenure};
+use osd_rows::{IssuedUpdate, Nodes, Peer, PeerState, Place, PrimaryState, Progress, Tenure};
 use osd_writes::{Standing, bytes_shown, standing_of, update_of};
 use std::alloc::Global;
 use step_outputs::{answers, message, quiet, tells};
@@ -277,5 +277,53 @@ pub fn writes_in<B: Bodies>(
             bodies, alloc, place, tenure, committed, issued, id, epoch, op,
         ),
         _ => Ok(None),
+    }
+}
+
+/// What a write gives; none where the primary isn't active, and where another one is issued.
+#[tactic(auto, unfolding(osd_rows::specs::Serving::writes))]
+pub fn writes<B: Bodies>(
+    bodies: &mut B,
+    alloc: Global,
+    place: &Place,
+    primary: &PrimaryState,
+    id: OpId,
+    epoch: u64,
+    op: &Op,
+) -> Result<Option<Written>, StepErr>
+    requires some { 1024 ≤ place.now.stripe }
+    requires fits { FitsOp op.now }
+    requires rising { CommittedUnder primary.now.tenure }
+    ensures value { IfOk result (λ written. (own : FileHead) (held : List ObjectVersion) → led_under primary.now.learnt primary.now.tenure written ≡ rows.writes (ground place.now (B.records bodies.old) own held) primary.now id epoch op.now) }
+    ensures reads { ReadsOnly B.records B.fault_count bodies.old bodies.new (fault_of result) }
+{
+    match &primary.tenure {
+        Some(tenure) => writes_in(bodies, alloc, place, tenure, id, epoch, op),
+        None => Ok(None),
+    }
+}
+
+/// An update is issued, where there is one and the primary is active.
+fn put_in_progress(alloc: Global, progress: &mut Progress, update: Update)
+    ensures value { progress.new ≡ with_issued progress.old update }
+    ensures rises { CommittedRises progress.old → CommittedRises progress.new }
+{
+    if let Progress::Active { issued, .. } = progress {
+        *issued = Some(IssuedUpdate {
+            update,
+            acked: Seq::new(alloc),
+        });
+    }
+}
+
+/// An update is issued in the tenure, where there is one.
+pub fn put_issued(alloc: Global, tenure: &mut Option<Tenure>, update: Option<Update>)
+    ensures value { tenure.new ≡ under_issued tenure.old update }
+    ensures rises { CommittedUnder tenure.old → CommittedUnder tenure.new }
+{
+    if let Some(update) = update {
+        if let Some(tenure) = tenure {
+            put_in_progress(alloc, &mut tenure.progress, update);
+        }
     }
 }
