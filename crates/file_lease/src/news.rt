@@ -2,7 +2,7 @@ use flease_register::Targets;
 use xt_base::{Ballot, Lease};
 
 /// What was overdue at a file's lease.
-#[derive(Clone, Copy, PartialEq, Eq)]
+#[derive(Clone, Copy)]
 pub enum Expiry {
     /// Nothing, or a renewal alone.
     Stands,
@@ -13,7 +13,7 @@ pub enum Expiry {
 }
 
 /// What an answer to the running round brings about.
-#[derive(Clone, Copy, PartialEq, Eq)]
+#[derive(Clone, Copy)]
 pub enum News {
     Nothing,
     /// A Write of this lease goes to these pairs of node and boot.
