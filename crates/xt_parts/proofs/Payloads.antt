@@ -4,7 +4,7 @@ use Rattle.std.specs.List.{list_all, flat_map}
 use Rattle.std.proofs.lemmas.Bool.{and_parts}
 use Rattle.std.proofs.lemmas.List.{append-nil, take_all, take_at, take-append-le, take-append-drop, take-take, drop_all, drop_at, drop-append-le, drop-take, drop-drop, length-take-le}
 use Rattle.xt_parts.specs.Joining.{bytes_of, has_payload}
-use Rattle.xt_parts.specs.Buffers.{payloads_in, overwritten}
+use Rattle.xt_parts.specs.Buffers.{payloads_in}
 
 abbrev pub flat : List (Option (List ℕ)) → List ℕ
 flat taken = flat_map (λ payload. unwrap_or payload []) taken
@@ -76,6 +76,10 @@ front_dropped width payload bytes long = by (nat_lt (length bytes) width) refl
         let most = ltb-false (length bytes) width full in
         let same : length payload ≡ width = omega arith in
         drop_at payload (drop (length payload) bytes) width same ∙ ap (λ n. drop n bytes) same
+
+-- the bytes with these in place of those from this place on
+abbrev pub overwritten : ℕ → List ℕ → List ℕ → List ℕ
+overwritten start payload bytes = take start bytes ++ (payload ++ drop (start + length payload) bytes)
 
 -- what lies before the place that is written over
 later_taken : (width at : ℕ) (payload bytes : List ℕ) → width + at ≤ length bytes →

@@ -1,8 +1,7 @@
-ghost use Rattle.std.specs.Prelude.{◌≡◌, ◌↔◌, ◌+◌, ◌++◌, ◌∷◌, ◌<◌, ◌≤◌, true, None, Some, [], length, is_some, position, slice_get, slice_set, IfOk, OnErr, OnOk, MatchOption, IsErrOf};
+ghost use Rattle.std.specs.Prelude.{◌≡◌, ◌↔◌, ◌+◌, ◌++◌, ◌∷◌, ◌<◌, ◌≤◌, true, None, Some, [], length, take, drop, is_some, position, slice_get, slice_set, IfOk, OnErr, OnOk, MatchOption, IsErrOf};
 ghost use Rattle.std.specs.List.{list_all};
 ghost use Rattle.xt_parts.specs.declared.joining.JoinErr.TheVariants.{BadPart, OutOfMemory};
 ghost use Rattle.xt_parts.specs.Part.{parts_in, bytes_in};
-ghost use Rattle.xt_parts.specs.Buffers.{overwritten};
 ghost use Rattle.xt_parts.specs.Places.{StandsAt};
 ghost use Rattle.xt_parts.specs.Joining.{HalfJoined, is_same, bytes_of, has_payload, none_taken, half_of, newest, begun, joined_to, after_part};
 
@@ -89,7 +88,8 @@ impl Model for Half {
 /// Writes these bytes over those from this place on.
 fn overwrite(bytes: &mut Vec<u8>, start: usize, payload: &[u8])
     requires { start + length payload.now ≤ length bytes.old.items }
-    ensures written { bytes.new.items ≡ overwritten start payload.now bytes.old.items }
+    ensures written { bytes.new.items ≡
+        take start bytes.old.items ++ (payload.now ++ drop (start + length payload.now) bytes.old.items) }
     ensures long { length bytes.new.items ≡ length bytes.old.items }
 {
     bytes.as_mut_slice()[start..start + payload.len()].copy_from_slice(payload);
