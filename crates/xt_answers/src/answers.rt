@@ -1,4 +1,4 @@
-ghost use Rattle.std.specs.Prelude.{◌≡◌, ◌<◌, ◌^◌, ◌++◌, length, OnOk, OnErr};
+ghost use Rattle.std.specs.Prelude.{◌≡◌, ◌++◌, OnOk, OnErr};
 ghost use Rattle.xt_base.specs.Limits.{FitsMetaAnswer, FitsNames, FitsRegistryAnswer, FitsRow, FitsRows};
 ghost use Rattle.xt_base.specs.declared.meta.MetaAnswer.TheVariants.{Refused};
 ghost use Rattle.xt_fields.specs.Reading.{Gives, made};
