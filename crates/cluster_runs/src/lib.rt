@@ -202,7 +202,7 @@ pub struct KnownFile {
 }
 
 /// A member that a call has asked, and what came of it, if anything yet.
-#[derive(Clone, Copy, PartialEq, Eq)]
+#[derive(Clone, Copy)]
 pub struct Tried {
     pub node: NodeId,
     pub outcome: Option<Retry>,

@@ -2,7 +2,7 @@ use std::alloc::AllocFailed;
 use xt_base::{Limited, OutOfMemory, Rule};
 
 /// Why a line wasn't done.
-#[derive(Clone, Copy, PartialEq, Eq)]
+#[derive(Clone, Copy)]
 pub enum WorldErr {
     /// The line breaks this rule, and the world is unchanged.
     Illegal { rule: Rule },

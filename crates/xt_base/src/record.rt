@@ -21,20 +21,20 @@ pub enum Logged {
 
 impl Copies for Logged {
     fn copy(&self, alloc: Global) -> Result<Logged, OutOfMemory> {
-        Ok(match self {
+        match self {
             Logged::Meta {
                 user,
                 group,
                 request,
-            } => Logged::Meta {
+            } => Ok(Logged::Meta {
                 user: *user,
                 group: *group,
                 request: request.copy(alloc)?,
-            },
-            Logged::Registry { request } => Logged::Registry {
+            }),
+            Logged::Registry { request } => Ok(Logged::Registry {
                 request: request.copy(alloc)?,
-            },
-        })
+            }),
+        }
     }
 }
 
@@ -84,49 +84,49 @@ pub enum Record {
 
 impl Copies for Record {
     fn copy(&self, alloc: Global) -> Result<Record, OutOfMemory> {
-        Ok(match self {
-            Record::Boot { boot } => Record::Boot { boot: *boot },
-            Record::Promise { file, epoch } => Record::Promise {
+        match self {
+            Record::Boot { boot } => Ok(Record::Boot { boot: *boot }),
+            Record::Promise { file, epoch } => Ok(Record::Promise {
                 file: *file,
                 epoch: *epoch,
-            },
-            Record::Update { file, update } => Record::Update {
+            }),
+            Record::Update { file, update } => Ok(Record::Update {
                 file: *file,
                 update: update.copy(alloc)?,
-            },
+            }),
             Record::Stage {
                 file,
                 object,
                 version,
                 bytes,
-            } => Record::Stage {
+            } => Ok(Record::Stage {
                 file: *file,
                 object: *object,
                 version: *version,
                 bytes: bytes.copy(alloc)?,
-            },
-            Record::Head { file, head } => Record::Head {
+            }),
+            Record::Head { file, head } => Ok(Record::Head {
                 file: *file,
                 head: head.copy(alloc)?,
-            },
-            Record::View { file, location } => Record::View {
+            }),
+            Record::View { file, location } => Ok(Record::View {
                 file: *file,
                 location: *location,
-            },
+            }),
             Record::Meta {
                 from,
                 number,
                 now,
                 nodes,
                 request,
-            } => Record::Meta {
+            } => Ok(Record::Meta {
                 from: *from,
                 number: *number,
                 now: *now,
                 nodes: *nodes,
                 request: request.copy(alloc)?,
-            },
-        })
+            }),
+        }
     }
 }
 
@@ -144,10 +144,11 @@ pub struct FileRow {
 
 impl Copies for FileRow {
     fn copy(&self, alloc: Global) -> Result<FileRow, OutOfMemory> {
+        let held = self.held.copy(alloc)?;
         Ok(FileRow {
             file: self.file,
             head: self.head.copy(alloc)?,
-            held: self.held.copy(alloc)?,
+            held,
             location: self.location,
         })
     }

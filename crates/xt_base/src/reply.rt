@@ -88,7 +88,7 @@ impl Copies for Reply {
 }
 
 /// The outcome of asking one node that doesn't end a call.
-#[derive(Clone, Copy, PartialEq, Eq)]
+#[derive(Clone, Copy)]
 pub enum Retry {
     NoLease { end: u64 },
     NoMajority { have: u8, need: u8 },

@@ -8,7 +8,7 @@ use crate::reply::{Answers, Denial};
 use std::alloc::Global;
 
 /// A rule that a line of a schedule breaks.
-#[derive(Clone, Copy, PartialEq, Eq)]
+#[derive(Clone, Copy)]
 pub enum Rule {
     /// Clock `a`, the new one, and clock `b` of a running node differ by more than the drift.
     Drift { a: u64, b: u64 },
