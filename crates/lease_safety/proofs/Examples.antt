@@ -49,36 +49,36 @@ move_under rules g s (Round_held round) may =
     record { boot = given rules.leases_are_of_the_present_boot _ may.boot; majority = given rules.majorities_accept _ may.majority }
 
 -- A history in the order of time: each move beside why it is legal.
-data Told (rules : Rules) : List Move → Type 0 where
+pub data Told (rules : Rules) : List Move → Type 0 where
   begin : Told rules []
   ◌▷◌ : {moves : List Move} {move : Move} → Told rules moves → IsLegalUnder rules trio (state_after moves) move → Told rules (move ∷ moves)
 
-history_of : (rules : Rules) (moves : List Move) → Told rules moves → IsHistoryUnder rules trio moves
+pub history_of : (rules : Rules) (moves : List Move) → Told rules moves → IsHistoryUnder rules trio moves
 history_of rules [] told = tt
 history_of rules (move ∷ moves) (before ▷ legal) = (legal, history_of rules moves before)
 
-two : {rules : Rules} {moves : List Move} → Told rules moves → Holds trio (state_after moves) 1 → Holds trio (state_after moves) 2 → TwoHold rules moves
+pub two : {rules : Rules} {moves : List Move} → Told rules moves → Holds trio (state_after moves) 1 → Holds trio (state_after moves) 2 → TwoHold rules moves
 two {rules} {moves} told one another = record { legal = history_of rules moves told; one = one; another = another }
 
-told_of : (rules : Rules) (moves : List Move) → IsHistory trio moves → Told rules moves
+pub told_of : (rules : Rules) (moves : List Move) → IsHistory trio moves → Told rules moves
 told_of rules [] h = begin
 told_of rules (move ∷ moves) h = told_of rules moves h.1 ▷ move_under rules trio (state_after moves) move h.0
 
 -- A round's count is above those of its boot's rounds.
-abbrev Fresh : Round → List Round → Type 0
+abbrev pub Fresh : Round → List Round → Type 0
 Fresh r rounds = (earlier : Round) → Has earlier rounds → IsSameProposer earlier.ballot r.ballot → earlier.ballot.count < r.ballot.count
 
-fresh_at_first : (r : Round) → Fresh r []
+pub fresh_at_first : (r : Round) → Fresh r []
 fresh_at_first r earlier h same = absurd h
 
-fresh_beside : (r e : Round) (rounds : List Round) → (IsSameProposer e.ballot r.ballot → e.ballot.count < r.ballot.count) → Fresh r rounds → Fresh r (e ∷ rounds)
+pub fresh_beside : (r e : Round) (rounds : List Round) → (IsSameProposer e.ballot r.ballot → e.ballot.count < r.ballot.count) → Fresh r rounds → Fresh r (e ∷ rounds)
 fresh_beside r e rounds one rest = each (λ (x : Round). IsSameProposer x.ballot r.ballot → x.ballot.count < r.ballot.count) e rounds one rest
 
 -- Two members, marked.
-abbrev marks : ℕ → ℕ → ℕ → Bool
+abbrev pub marks : ℕ → ℕ → ℕ → Bool
 marks a b = put (put (λ n. false) a true) b true
 
-marked : (a b : ℕ) (P : ℕ → Type 0) → P a → P b → (n : ℕ) → marks a b n ≡ true → P n
+pub marked : (a b : ℕ) (P : ℕ → Type 0) → P a → P b → (n : ℕ) → marks a b n ≡ true → P n
 marked a b P pa pb n is =
     elim (same_or_other n b) [
       | inl e ↦ subst P (sym e) pb

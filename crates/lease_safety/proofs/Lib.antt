@@ -5,3 +5,4 @@ pub mod Moments
 pub mod Turns
 pub mod Histories
 pub mod Examples
+pub mod Weaker

@@ -4,3 +4,4 @@ pub mod Moves
 pub mod Legal
 pub mod Leases
 pub mod Examples
+pub mod Weaker

@@ -6,7 +6,7 @@
 //! lines and every room, and of a line that ended early.
 #![tactic(auto)]
 
-ghost use Rattle.std.specs.Prelude.{◌≡◌, ℕ, None, List, [], ◌∷◌, ◌++◌};
+ghost use Rattle.std.specs.Prelude.{◌≡◌, ℕ, true, None, List, [], ◌∷◌, ◌++◌, take};
 ghost use Rattle.cluster_runs.specs.declared.Entry.{Entry};
 ghost use Rattle.cluster_runs.specs.declared.Line.{Line};
 ghost use Rattle.cluster_runs.specs.NodeSteps.{Room};
@@ -14,6 +14,8 @@ ghost use Rattle.cluster_runs.specs.Rules.{refusal};
 ghost use Rattle.cluster_runs.specs.Bounds.{AreLines};
 ghost use Rattle.cluster_runs.specs.Runs.{run_of, IsRunInto};
 ghost use Rattle.cluster_runs.specs.Clauses.{AreApart, HoldersAct};
+ghost use Rattle.cluster_runs.specs.TimeLine.{holds};
+ghost use Rattle.cluster_runs.specs.Examples.{node, trace_of, vanished};
 
 /// At no moment of a run of any lines do two nodes hold a file; nor behind some steps of a line more.
 pub fn nodes_are_apart()
@@ -25,4 +27,11 @@ pub fn nodes_are_apart()
 pub fn holders_act()
     ensures whole { (room : Room) (lines : List Line) (file : ℕ) → AreLines lines → HoldersAct file (run_of room lines).entries }
     ensures part { (room : Room) (lines : List Line) (l : Line) (file : ℕ) (entries : List Entry) → AreLines (lines ++ l ∷ []) → refusal (run_of room lines) l ≡ None → IsRunInto room lines l entries → HoldersAct file entries }
+{}
+
+/// Leases are held, and pass on: in a run of three replicas one holds the file, and when its lease is over another does.
+pub fn a_lease_passes_on()
+    ensures lines { AreLines vanished }
+    ensures first { holds (take 10 (trace_of vanished)) (node 1) 1 ≡ true }
+    ensures later { holds (trace_of vanished) (node 2) 1 ≡ true }
 {}
