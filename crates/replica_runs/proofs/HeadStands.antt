@@ -152,7 +152,7 @@ one_acked acked acks r counted m = by_node (λ b. (if b then true else acked m) 
 -- ---- majorities
 
 -- more pass a test that asks for less
-more_pass : (p q : ℕ → Bool) → ((m : ℕ) → p m ≡ true → q m ≡ true) → (ms : List ℕ) → count_by p ms ≤ count_by q ms
+pub more_pass : (p q : ℕ → Bool) → ((m : ℕ) → p m ≡ true → q m ≡ true) → (ms : List ℕ) → count_by p ms ≤ count_by q ms
 more_pass p q f [] = omega arith
 more_pass p q f (m ∷ ms) = go (p m) refl (q m) refl (more_pass p q f ms)
   where

@@ -1,0 +1,12 @@
+pub mod Peers
+pub mod Counts
+pub mod Choices
+pub mod Sending
+pub mod Feeding
+pub mod Choosing
+pub mod Hearing
+pub mod Serving
+pub mod Waiting
+pub mod Replicas
+pub mod Reaching
+pub mod Files
