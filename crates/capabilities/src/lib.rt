@@ -2,18 +2,19 @@
 //! these test before they serve an ask.
 //!
 //! `hmac` is HMAC-SHA-256. `seal` puts in the tag of all fields before it, and `check` says of a use whether it is
-//! denied, and by the first of four tests that it fails.
+//! denied, and by the first of four tests that it fails. `is_stop` tells the message that ends a served node.
 #![tactic(auto)]
 
 ghost use Rattle.std.specs.Prelude.{◌≡◌, ◌≤◌, ℕ, List, true, length, map, bit_xor, Ok, OnOk, IfOk, OnErr};
 ghost use Rattle.std.specs.Str.{bytes_eq};
 ghost use Rattle.capabilities.specs.Tags.{masked, hmac_of, tag_of, sealed, is_sealed};
 ghost use Rattle.capabilities.specs.Denials.{denial_of, Judges};
+ghost use Rattle.capabilities.specs.Stops.{is_stop};
 ghost use Rattle.capabilities.specs.declared.CapErr.TheVariants.{OutOfMemory as no_memory};
 
 use sha2::{Digest, Sha256};
 use std::alloc::{AllocError, Global};
-use xt_base::{Capability, Denial, FileId, OutOfMemory};
+use xt_base::{Capability, Denial, FileId, OutOfMemory, Payload};
 use xt_wire::{FieldWriter, WriteFiles};
 
 /// The bytes of a block of SHA-256.
@@ -137,6 +138,18 @@ pub fn check(
         return Ok(());
     };
     Err(CapErr::Denied { rule })
+}
+
+/// Whether a message ends a served node: a Stop whose tag is that of the word `stop` under the key, of 1 to 64 bytes.
+pub fn is_stop(key: &[u8], payload: &Payload) -> Result<bool, OutOfMemory>
+    requires some { 1 ≤ length key.now }
+    requires short { length key.now ≤ 64 }
+    ensures { result ≡ Ok (is_stop key.now payload.now) }
+{
+    match payload {
+        Payload::Stop { tag } => Ok(same_tag(tag, &hmac(key, b"stop")?)),
+        _ => Ok(false),
+    }
 }
 
 /// What was sealed has its tag, so that no check under the same key denies it for that.

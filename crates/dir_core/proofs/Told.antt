@@ -1,0 +1,47 @@
+-- each step's record tells its change
+use Rattle.std.proofs.Common.{◌≡◌, ◌∙◌, ℕ, List, ◌++◌, refl, sym, Bool, true, false, cond, nat_lt}
+use Rattle.std.specs.Prelude.{fold, Option, Some, None, ◌==◌}
+use Rattle.std.specs.Option.{option_to_list}
+use Rattle.std.proofs.lemmas.List.Sums.{fold-append}
+use Rattle.xt_base.specs.declared.ids.NodeId.{NodeId}
+use Rattle.xt_base.specs.declared.registry.RegistryReq.{RegistryReq}
+use Rattle.xt_base.specs.declared.message.Payload.{Payload}
+use Rattle.xt_base.specs.declared.message.Payload.TheVariants as payload
+use Rattle.xt_base.specs.declared.event.Event.{Event}
+use Rattle.xt_base.specs.declared.event.Event.TheVariants as event
+use Rattle.xt_base.specs.declared.record.Record.{Record}
+use Rattle.dir_core.specs.declared.directory.Kept.{Kept}
+use Rattle.dir_core.specs.Registry.{outcome_of, is_recorded, is_spent}
+use Rattle.dir_core.specs.Steps.{DirState, DirStep, dir_of, after_record, nothing, answered, recorded, fresh, by_number, kept_of, told_by, step_of_dir}
+
+-- the state after a step is the one before it with what the record tells
+abbrev IsTold : DirState → DirStep → Type 0
+IsTold dir step = step.dir ≡ fold after_record dir (option_to_list step.turned.rec)
+
+fresh_told : (dir : DirState) (client : NodeId) (number : ℕ) (request : RegistryReq) → IsTold dir (fresh dir client number request)
+fresh_told dir client number request = go (is_spent dir.rows request) (is_recorded request) where
+  go : (spent may_change : Bool) → IsTold dir (cond spent (nothing dir) (cond may_change (recorded dir client number request) (answered dir client number (outcome_of dir.rows request).answer)))
+  go true may_change = refl
+  go false true = refl
+  go false false = refl
+
+by_number_told : (dir : DirState) (client : NodeId) (number : ℕ) (request : RegistryReq) (last : Option Kept) → IsTold dir (by_number dir client number request last)
+by_number_told dir client number request None = fresh_told dir client number request
+by_number_told dir client number request (Some last) = go (number == last.number) (nat_lt number last.number) where
+  go : (same lower : Bool) → IsTold dir (cond same (answered dir client number last.answer) (cond lower (nothing dir) (fresh dir client number request)))
+  go true lower = refl
+  go false true = refl
+  go false false = fresh_told dir client number request
+
+payload_told : (dir : DirState) (from : NodeId) (content : Payload) → IsTold dir (told_by dir from content)
+payload_told dir from (payload.Registry number request) = by_number_told dir from number request (kept_of dir from)
+payload_told dir from _ = refl
+
+step_told : (dir : DirState) (happens : Event) → IsTold dir (step_of_dir dir happens)
+unfolding step_of_dir
+step_told dir (event.Deliver msg) = payload_told dir msg.from msg.payload
+step_told dir event.Wake = refl
+step_told dir (event.Call call) = refl
+
+pub told : (records : List Record) (happens : Event) → dir_of (records ++ option_to_list (step_of_dir (dir_of records) happens).turned.rec) ≡ (step_of_dir (dir_of records) happens).dir
+told records happens = fold-append after_record _ records (option_to_list (step_of_dir (dir_of records) happens).turned.rec) ∙ sym (step_told (dir_of records) happens)

@@ -1,0 +1,335 @@
+ghost use Rattle.std.specs.Prelude.{◌≡◌, ◌≤◌, ◌<◌, ◌+◌, ◌^◌, [], ◌∷◌, nat_eq, length, None, IfOk, OnOk, OnErr, Ok, All};
+ghost use Rattle.indexmap.specs.IndexMap.{insert_entry};
+ghost use Rattle.xt_base.specs.Limits.{FitsRecord};
+ghost use Rattle.capabilities.specs.Stops.{is_stop};
+ghost use Rattle.dir_core.specs.Registry.{row_of, version_in, row_set, row_removed, is_recorded, is_spent, outcome_of};
+ghost use Rattle.dir_core.specs.Steps.{dir_of, after_record, fresh, requested, step_of_dir, reply_to};
+ghost use Rattle.dir_core.specs.Plans.{applied, HasRoom};
+
+use crate::registry::{Change, Registered, Registry};
+use capabilities::is_stop;
+use indexmap::IndexMap;
+use std::alloc::Global;
+use std::marker::Model;
+use xt_base::{
+    COUNTS, Copies, DIR_NODE, Event, Logged, Msg, Name, NodeId, Octets, OutOfMemory, Payload,
+    Record, RegistryAnswer, RegistryReq, Seq,
+};
+use xt_protocol::Turned;
+
+/// The last recorded request of a client: its number, and what it was answered.
+#[derive(Drop)]
+pub struct Kept {
+    pub number: u64,
+    pub answer: RegistryAnswer,
+}
+
+/// What comes of a request: what it does to the registry, and what is answered.
+#[derive(Drop)]
+pub struct Plan {
+    change: Change,
+    answer: RegistryAnswer,
+}
+
+/// The directory service. Contracts see its secret and its state.
+#[derive(Drop)]
+pub struct Dir {
+    key: Octets,
+    registry: Registry,
+    clients: IndexMap<u32, Kept>,
+}
+
+impl Model for Dir {
+    ghost use Rattle.std.specs.Prelude.{◌≤◌, length};
+    ghost use Rattle.dir_core.specs.Steps.{DirNode};
+
+    ghost Value = { DirNode };
+
+    ghost view = { λ d. record { secret = d.key; state = record { rows = d.registry; clients = d.clients.entries } } };
+
+    ghost invariant = { λ d. (1 ≤ length d.key) × (length d.key ≤ 64) };
+}
+
+/// Nothing comes of an event.
+fn quiet(alloc: Global) -> Turned
+    ensures { result ≡ record { rec = None; outs = []; marks = [] } }
+{
+    Turned {
+        rec: None,
+        outs: Seq::new(alloc),
+        marks: Seq::new(alloc),
+    }
+}
+
+/// An answer to a client, behind the record on which it rests, if there is one.
+fn answer(
+    alloc: Global,
+    rec: Option<Record>,
+    client: NodeId,
+    number: u64,
+    answer: RegistryAnswer,
+) -> Result<Turned, OutOfMemory>
+    ensures { IfOk result (λ turned. turned ≡ record { rec = rec; outs = reply_to client number answer ∷ []; marks = [] }) }
+{
+    let mut outs = Seq::new(alloc);
+    outs.push(Msg {
+        from: DIR_NODE,
+        to: client,
+        list: 1,
+        payload: Payload::RegistryReply { number, answer },
+    })?;
+    Ok(Turned {
+        rec,
+        outs,
+        marks: Seq::new(alloc),
+    })
+}
+
+/// Whether a request is recorded: those that may change the registry are.
+fn is_recorded(request: &RegistryReq) -> bool
+    ensures { result ≡ is_recorded request.now }
+{
+    matches!(
+        request,
+        RegistryReq::Set { .. } | RegistryReq::Remove { .. }
+    )
+}
+
+impl Dir {
+    /// The service that the records tell, under a key of 1 to 64 bytes.
+    pub fn start(alloc: Global, key: &[u8], records: &[Record]) -> Result<Dir, OutOfMemory>
+        requires some { 1 ≤ length key.now }
+        requires short { length key.now ≤ 64 }
+        requires fit { All FitsRecord records.now }
+        ensures { IfOk result (λ dir. dir ≡ record { secret = key.now; state = dir_of records.now }) }
+    {
+        let mut dir = Dir {
+            key: Octets::of(alloc, key)?,
+            registry: Registry::new(alloc),
+            clients: IndexMap::new(alloc),
+        };
+        for rec in records {
+            dir.take(alloc, rec)?;
+        }
+        Ok(dir)
+    }
+
+    /// The node of the service.
+    pub fn id(&self) -> NodeId
+        ensures { result ≡ DIR_NODE }
+    {
+        DIR_NODE
+    }
+
+    /// Whether a message ends the service: a Stop with the right tag.
+    pub fn stops(&self, msg: &Msg) -> Result<bool, OutOfMemory>
+        ensures { result ≡ Ok (is_stop self.now.secret msg.now.payload) }
+    {
+        is_stop(self.key.as_slice(), &msg.payload)
+    }
+
+    /// Handles an event. The service is unchanged if memory runs out.
+    #[tactic(auto, unfolding(crate::specs::Steps::step_of_dir))]
+    pub fn step(&mut self, alloc: Global, event: &Event) -> Result<Turned, OutOfMemory>
+        ensures turned { IfOk result (λ turned. turned ≡ (step_of_dir self.old.state event.now).turned) }
+        ensures state { OnOk result (self.new ≡ record { secret = self.old.secret; state = (step_of_dir self.old.state event.now).dir }) }
+        ensures err { OnErr result (self.new ≡ self.old) }
+    {
+        let Event::Deliver(msg) = event else {
+            return Ok(quiet(alloc));
+        };
+        let Payload::Registry { number, request } = &msg.payload else {
+            return Ok(quiet(alloc));
+        };
+        self.requested(alloc, msg.from, *number, request)
+    }
+
+    /// Handles a request, by the client's last recorded number.
+    fn requested(
+        &mut self,
+        alloc: Global,
+        client: NodeId,
+        number: u64,
+        request: &RegistryReq,
+    ) -> Result<Turned, OutOfMemory>
+        ensures turned { IfOk result (λ turned. turned ≡ (requested self.old.state client number request.now).turned) }
+        ensures state { OnOk result (self.new ≡ record { secret = self.old.secret; state = (requested self.old.state client number request.now).dir }) }
+        ensures err { OnErr result (self.new ≡ self.old) }
+    {
+        if let Some(last) = self.clients.get(&client.0) {
+            if number == last.number {
+                return answer(alloc, None, client, number, last.answer.copy(alloc)?);
+            }
+            if number < last.number {
+                return Ok(quiet(alloc));
+            }
+        }
+        self.fresh(alloc, client, number, request)
+    }
+
+    /// Handles a request under a number above the client's last recorded one.
+    fn fresh(
+        &mut self,
+        alloc: Global,
+        client: NodeId,
+        number: u64,
+        request: &RegistryReq,
+    ) -> Result<Turned, OutOfMemory>
+        ensures turned { IfOk result (λ turned. turned ≡ (fresh self.old.state client number request.now).turned) }
+        ensures state { OnOk result (self.new ≡ record { secret = self.old.secret; state = (fresh self.old.state client number request.now).dir }) }
+        ensures err { OnErr result (self.new ≡ self.old) }
+    {
+        if self.is_spent(request) {
+            return Ok(quiet(alloc));
+        }
+        let plan = self.plan(alloc, request)?;
+        if !is_recorded(request) {
+            return answer(alloc, None, client, number, plan.answer);
+        }
+        let rec = Record::Meta {
+            from: client,
+            number,
+            now: 0,
+            nodes: None,
+            request: Logged::Registry {
+                request: request.copy(alloc)?,
+            },
+        };
+        let turned = answer(alloc, Some(rec), client, number, plan.answer.copy(alloc)?)?;
+        self.commit(client, number, plan)?;
+        Ok(turned)
+    }
+
+    /// Whether a Set would make a version past the last one.
+    fn is_spent(&self, request: &RegistryReq) -> bool
+        ensures { result ≡ is_spent self.now.state.rows request.now }
+    {
+        match request {
+            RegistryReq::Set { node, expected, .. } => {
+                self.registry.version(*node) == *expected && *expected >= COUNTS - 1
+            }
+            _ => false,
+        }
+    }
+
+    /// Works out what comes of a request.
+    fn plan(&self, alloc: Global, request: &RegistryReq) -> Result<Plan, OutOfMemory>
+        requires { HasRoom self.now.state.rows request.now }
+        ensures { IfOk result (λ plan. record { rows = applied self.now.state.rows plan.change; answer = plan.answer } ≡ outcome_of self.now.state.rows request.now) }
+    {
+        match request {
+            RegistryReq::Set {
+                node,
+                kind,
+                address,
+                expected,
+            } => self.plan_set(alloc, *node, *kind, address, *expected),
+            RegistryReq::Get { node } => Ok(Plan {
+                change: Change::Stay,
+                answer: match self.registry.row(alloc, *node)? {
+                    Some(row) => RegistryAnswer::Row { row },
+                    None => RegistryAnswer::Absent,
+                },
+            }),
+            RegistryReq::List { kind, after } => Ok(Plan {
+                change: Change::Stay,
+                answer: RegistryAnswer::Rows {
+                    rows: self.registry.page(alloc, *kind, *after)?,
+                },
+            }),
+            RegistryReq::Remove { node, expected } => Ok(self.plan_remove(*node, *expected)),
+        }
+    }
+
+    /// Works out what comes of a Set.
+    fn plan_set(
+        &self,
+        alloc: Global,
+        node: NodeId,
+        kind: u8,
+        address: &Name,
+        expected: u64,
+    ) -> Result<Plan, OutOfMemory>
+        requires { version_in (row_of self.now.state.rows node.0) ≡ expected → expected + 1 < 2 ^ 64 }
+        ensures { IfOk result (λ plan. record { rows = applied self.now.state.rows plan.change; answer = plan.answer } ≡ row_set self.now.state.rows node.0 kind address.now expected (version_in (row_of self.now.state.rows node.0))) }
+    {
+        let version = self.registry.version(node);
+        if expected != version {
+            return Ok(Plan {
+                change: Change::Stay,
+                answer: RegistryAnswer::Changed { version },
+            });
+        }
+        let version = version + 1;
+        let row = Registered {
+            kind,
+            address: address.copy(alloc)?,
+            version,
+        };
+        Ok(Plan {
+            change: Change::Put { node, row },
+            answer: RegistryAnswer::Done { version },
+        })
+    }
+
+    /// Works out what comes of a Remove.
+    fn plan_remove(&self, node: NodeId, expected: u64) -> Plan
+        ensures { record { rows = applied self.now.state.rows result.change; answer = result.answer } ≡ row_removed self.now.state.rows node.0 expected (version_in (row_of self.now.state.rows node.0)) }
+    {
+        let version = self.registry.version(node);
+        if version != expected {
+            Plan {
+                change: Change::Stay,
+                answer: RegistryAnswer::Changed { version },
+            }
+        } else if version == 0 {
+            Plan {
+                change: Change::Stay,
+                answer: RegistryAnswer::Absent,
+            }
+        } else {
+            Plan {
+                change: Change::Remove { node },
+                answer: RegistryAnswer::Done { version: 0 },
+            }
+        }
+    }
+
+    /// Makes a planned change, and keeps the number and the answer for the client. Nothing changes if memory runs out.
+    fn commit(&mut self, client: NodeId, number: u64, plan: Plan) -> Result<(), OutOfMemory>
+        ensures ok { OnOk result (self.new ≡ record { secret = self.old.secret; state = record { rows = applied self.old.state.rows plan.change; clients = insert_entry nat_eq self.old.state.clients client.0 (record { number = number; answer = plan.answer }) } }) }
+        ensures err { OnErr result (self.new ≡ self.old) }
+    {
+        self.clients.reserve(1)?;
+        self.registry.apply(plan.change)?;
+        let kept = Kept {
+            number,
+            answer: plan.answer,
+        };
+        match self.clients.insert(client.0, kept) {
+            Ok(_) => Ok(()),
+            // there is room
+            Err(_) => unreachable!(),
+        }
+    }
+
+    /// Takes what a record tells.
+    fn take(&mut self, alloc: Global, rec: &Record) -> Result<(), OutOfMemory>
+        requires { FitsRecord rec.now }
+        ensures ok { OnOk result (self.new ≡ record { secret = self.old.secret; state = after_record self.old.state rec.now }) }
+        ensures err { OnErr result (self.new ≡ self.old) }
+    {
+        match rec {
+            Record::Meta {
+                from,
+                number,
+                request: Logged::Registry { request },
+                ..
+            } => {
+                let plan = self.plan(alloc, request)?;
+                self.commit(*from, *number, plan)
+            }
+            _ => Ok(()),
+        }
+    }
+}
