@@ -3,7 +3,7 @@ ghost use Rattle.indexmap.specs.IndexMap.{insert_entry};
 ghost use Rattle.xt_base.specs.Limits.{FitsRecord};
 ghost use Rattle.capabilities.specs.Stops.{is_stop};
 ghost use Rattle.dir_core.specs.Registry.{row_of, version_in, row_set, row_removed, is_recorded, is_spent, outcome_of};
-ghost use Rattle.dir_core.specs.Steps.{dir_of, after_record, fresh, requested, step_of_dir, reply_to};
+ghost use Rattle.dir_core.specs.Steps.{dir_of, after_record, fresh, recorded, record_of, requested, step_of_dir, reply_to};
 ghost use Rattle.dir_core.specs.Plans.{applied, HasRoom};
 
 use crate::registry::{Change, Registered, Registry};
@@ -82,6 +82,25 @@ fn answer(
         rec,
         outs,
         marks: Seq::new(alloc),
+    })
+}
+
+/// The record of a request.
+fn record_of(
+    alloc: Global,
+    client: NodeId,
+    number: u64,
+    request: &RegistryReq,
+) -> Result<Record, OutOfMemory>
+    ensures { IfOk result (λ rec. rec ≡ record_of client number request.now) }
+{
+    let request = request.copy(alloc)?;
+    Ok(Record::Meta {
+        from: client,
+        number,
+        now: 0,
+        nodes: None,
+        request: Logged::Registry { request },
     })
 }
 
@@ -186,15 +205,24 @@ impl Dir {
         if !is_recorded(request) {
             return answer(alloc, None, client, number, plan.answer);
         }
-        let rec = Record::Meta {
-            from: client,
-            number,
-            now: 0,
-            nodes: None,
-            request: Logged::Registry {
-                request: request.copy(alloc)?,
-            },
-        };
+        self.record(alloc, client, number, request, plan)
+    }
+
+    /// Makes a planned change, with its record and its answer.
+    fn record(
+        &mut self,
+        alloc: Global,
+        client: NodeId,
+        number: u64,
+        request: &RegistryReq,
+        plan: Plan,
+    ) -> Result<Turned, OutOfMemory>
+        requires { record { rows = applied self.old.state.rows plan.change; answer = plan.answer } ≡ outcome_of self.old.state.rows request.now }
+        ensures turned { IfOk result (λ turned. turned ≡ (recorded self.old.state client number request.now).turned) }
+        ensures state { OnOk result (self.new ≡ record { secret = self.old.secret; state = (recorded self.old.state client number request.now).dir }) }
+        ensures err { OnErr result (self.new ≡ self.old) }
+    {
+        let rec = record_of(alloc, client, number, request)?;
         let turned = answer(alloc, Some(rec), client, number, plan.answer.copy(alloc)?)?;
         self.commit(client, number, plan)?;
         Ok(turned)
