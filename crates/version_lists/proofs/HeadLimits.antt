@@ -1,5 +1,5 @@
 -- heads and held versions still rise, and are within their limits, after an update
-use Rattle.std.proofs.Common.{◌≡◌, ◌==◌, ◌&&◌, ℕ, ◌+◌, ◌<◌, ◌≤◌, Bool, true, false, if◌then◌else◌, nat_lt, nat_le, List, [], ◌∷◌, length, map, refl, ap, subst, sym, ◌∙◌, arith}
+use Rattle.std.proofs.Common.{◌≡◌, ◌==◌, ℕ, ◌+◌, ◌≤◌, Bool, true, false, if◌then◌else◌, nat_lt, List, [], ◌∷◌, map, refl, subst, ◌∙◌, arith}
 use Rattle.std.specs.List.{AllByRecursion}
 use Rattle.std.proofs.lemmas.Bool.{and_parts, and_from}
 use Rattle.std.proofs.lemmas.Bool.Decides.{nat_tests}
@@ -9,7 +9,7 @@ use Rattle.xt_base.specs.declared.file.Session.{Session}
 use Rattle.xt_base.specs.Limits.{rise}
 use Rattle.xt_protocol.specs.Stamps.{comes_before, is_version, with_held}
 use Rattle.xt_protocol.specs.Heads.{with_version, versions_below, with_session}
-use Rattle.version_lists.specs.Rising.{rises, held_rise}
+use Rattle.version_lists.specs.Rising.{held_rise}
 use Rattle.version_lists.proofs.HeldVersions.{version_order}
 
 -- whichever of the two it is

@@ -1,18 +1,15 @@
 -- the versions and the sessions of a head, which rise
-use Rattle.std.proofs.Common.{◌≡◌, ◌==◌, ◌&&◌, ℕ, zero, suc, ◌+◌, ◌<◌, ◌≤◌, Bool, true, false, nat_lt, cond, List, [], ◌∷◌, length, map, get_or, set, take, drop, refl, ap, sym, subst, ◌∙◌, arith, drop-cons, Option, Some, None}
-use Rattle.std.proofs.lemmas.Bool.{and_parts, eqb-true}
+use Rattle.std.proofs.Common.{◌≡◌, ◌==◌, ◌&&◌, ℕ, zero, suc, ◌<◌, ◌≤◌, Bool, true, false, nat_lt, cond, List, [], ◌∷◌, length, map, get_or, take, drop, refl, ap, sym, subst, ◌∙◌, arith, drop-cons, Some, None}
 use Rattle.std.proofs.lemmas.Bool.Decides.{nat_tests}
 use Rattle.std.proofs.lemmas.List.{get_or_default}
-use Rattle.std.specs.List.{insert}
 use Rattle.std.specs.List.Sorted.{IsPartitionPoint, IsPartitionedBy}
-use Rattle.std.specs.Prelude.{Result, Ok, Err}
-use Rattle.xt_base.specs.declared.ids.Stamp.{Stamp}
+use Rattle.std.specs.Prelude.{Ok, Err}
 use Rattle.xt_base.specs.declared.file.ObjectVersion.{ObjectVersion}
 use Rattle.xt_base.specs.declared.file.Session.{Session}
 use Rattle.xt_base.specs.Limits.{rise}
 use Rattle.xt_protocol.specs.Heads.{version_of, with_version, versions_below, session_of, with_session}
 use Rattle.version_lists.specs.Rising.{rises, is_object_before, is_client_before, IsVersionPlace, IsSessionPlace}
-use Rattle.version_lists.proofs.Puts.{Orders, IsPlace, put, placed, partitioned, set_there, insert_there, found_at, none_same}
+use Rattle.version_lists.proofs.Puts.{Orders, IsPlace, put, partitioned, set_there, insert_there, found_at, none_same}
 
 abbrev pub same_object : ObjectVersion → ObjectVersion → Bool
 same_object a b = a.object == b.object

@@ -2,15 +2,14 @@
 use Rattle.std.proofs.Common.{◌≡◌, ◌==◌, ◌&&◌, ℕ, zero, suc, ◌<◌, ◌≤◌, Bool, true, false, cond, List, [], ◌∷◌, length, get_or, set, refl, ap, sym, subst, ◌∙◌, arith}
 use Rattle.std.proofs.lemmas.Bool.{and_parts, eqb-true}
 use Rattle.std.specs.Ordering.{is_eq, is_lt, ordering_reverse}
-use Rattle.std.specs.List.{insert}
 use Rattle.std.specs.List.Sorted.{IsPartitionPoint}
-use Rattle.std.specs.Prelude.{Result, Ok, Err}
+use Rattle.std.specs.Prelude.{Ok, Err}
 use Rattle.std.proofs.lemmas.List.{get_or_default}
 use Rattle.std.specs.declared.cmp.Ordering.{Ordering}
 use Rattle.std.specs.declared.cmp.Ordering.TheVariants.{Less, Equal, Greater}
 use Rattle.xt_base.specs.declared.file.ObjectVersion.{ObjectVersion}
-use Rattle.xt_protocol.specs.Stamps.{is_stamp, is_version, comes_before, with_held, has_version}
-use Rattle.version_lists.specs.Rising.{rises, held_rise, IsHeldPlace}
+use Rattle.xt_protocol.specs.Stamps.{is_stamp, is_version, comes_before, with_held}
+use Rattle.version_lists.specs.Rising.{held_rise, IsHeldPlace}
 use Rattle.version_lists.proofs.VersionOrder.{version_cmp, version_cmp_total, eq_version, lt_version}
 use Rattle.version_lists.proofs.Puts.{Orders, put, placed, set_there, insert_there, there, not_there}
 

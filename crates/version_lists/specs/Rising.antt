@@ -1,5 +1,5 @@
 -- lists that rise, and where an item stands in one
-use Rattle.std.specs.Prelude.{ℕ, Bool, true, false, ◌&&◌, ◌≡◌, ◌<◌, ◌≤◌, nat_lt, Option, Some, None, Result, Ok, Err, List, [], ◌∷◌, length, map, slice_index_or, slice_set, IsTrue}
+use Rattle.std.specs.Prelude.{ℕ, Bool, true, false, ◌&&◌, ◌≡◌, ◌<◌, ◌≤◌, nat_lt, Some, None, Result, Ok, Err, List, [], ◌∷◌, length, map, slice_index_or, slice_set, IsTrue}
 use Rattle.std.specs.List.{insert}
 use Rattle.xt_base.specs.declared.file.ObjectVersion.{ObjectVersion}
 use Rattle.xt_base.specs.declared.file.Session.{Session}

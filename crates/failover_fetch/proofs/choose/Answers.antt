@@ -1,5 +1,4 @@
-use Rattle.std.proofs.Common.{◌≡◌, true, false, ◌∙◌, sym, subst, arith, ◌+◌}
-use Rattle.osd_rows.specs.Choice.{is_better}
+use Rattle.std.proofs.Common.{◌∙◌, sym, subst, arith, ◌+◌}
 use Rattle.failover_fetch.proofs.Chosen.{Report, IsBest, takes, keeps, best_found}
 use Rattle.std.proofs.lemmas.List.{get_or_default}
 use Rattle.failover_fetch.proofs.choose.Goals as goal

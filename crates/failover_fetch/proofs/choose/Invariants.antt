@@ -1,4 +1,4 @@
-use Rattle.std.proofs.Common.{◌≡◌, ◌<◌, ◌≤◌, ◌-◌, length, get_or, take, drop}
+use Rattle.std.proofs.Common.{◌≡◌, ◌<◌, ◌-◌, get_or, take, drop}
 use Rattle.std.specs.List.{best_of}
 use Rattle.xt_base.specs.declared.ids.NodeId.{NodeId}
 use Rattle.xt_base.specs.declared.file.FileHead.{FileHead}

@@ -1,6 +1,5 @@
-use Rattle.std.proofs.Common.{◌≡◌, true, false, ◌∙◌, sym, rules, arith}
+use Rattle.std.proofs.Common.{◌∙◌, sym, rules, arith}
 use Rattle.std.proofs.lemmas.List.Sorted.{IsPartitionPoint-from_clause}
-use Rattle.std.specs.List.Sorted.{IsPartitionPoint}
 use Rattle.xt_base.specs.declared.file.ObjectVersion.{ObjectVersion}
 use Rattle.xt_protocol.specs.Stamps.{is_version, comes_before}
 use Rattle.version_lists.proofs.Puts.{partitioned}

@@ -1,4 +1,4 @@
-use Rattle.std.proofs.Common.{◌≡◌, ◌∙◌, sym, rules, arith, nat_lt}
+use Rattle.std.proofs.Common.{rules, arith, nat_lt}
 use Rattle.std.proofs.lemmas.List.Sorted.{IsPartitionPoint-from_clause}
 use Rattle.xt_base.specs.declared.file.Session.{Session}
 use Rattle.version_lists.proofs.HeadRows.{clients_partitioned, session_found, session_between, session_at_end}

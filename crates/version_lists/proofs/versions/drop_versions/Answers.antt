@@ -1,4 +1,4 @@
-use Rattle.std.proofs.Common.{◌∙◌, ap, sym, subst, List, true, ◌≡◌}
+use Rattle.std.proofs.Common.{◌∙◌, ap, List}
 use Rattle.xt_base.specs.declared.file.ObjectVersion.{ObjectVersion}
 use Rattle.xt_base.specs.Limits.{rise}
 use Rattle.version_lists.proofs.HeadLimits.{objects_of, below_still_rise}
