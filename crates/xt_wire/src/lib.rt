@@ -3,7 +3,7 @@
 //!
 //! Each value within the limits of `xt_base` has one spelling. What is written is that spelling, what is read is
 //! the value whose spelling stands there, and no second spelling is taken. The traits here give these fields to the
-//! reader and the writer of basic fields.
+//! reader and the writer of basic fields; what each call promises stands at their `impl`s.
 #![tactic(auto)]
 
 mod file;
