@@ -95,7 +95,7 @@ without_marks site s p ask None = choice s.kept.file (free p) (can_ask p) _ _ (n
 under_marks : (site : Site) (s : FileState) (l : LeaseState) (ask : WaitingAsk) → Marked s l (ask_under site s l ask)
 under_marks site s (held h) ask =
     choice s.kept.file (held h) (is_active s.primary.tenure) _ _
-    (acting tt (served_acts (ground_of site s) (record { primary = s.primary; asks = s.asks; turned = quiet }) ask (waits s.asks ask) (record { marks = tt; plain = λ f c. tt })).marks) (no_marks refl)
+    (acting tt (served_acts (ground_of site s) (record { primary = s.primary; asks = s.asks; turned = quiet }) ask (waits s.asks ask) (record { marks = tt; plain = λ c. tt })).marks) (no_marks refl)
 under_marks site s (asking r) ask = no_marks refl
 under_marks site s (writing r) ask = no_marks refl
 under_marks site s (free p) ask = without_marks site s p ask (elsewhere site s.acceptor.accepted)
@@ -203,59 +203,58 @@ either_is : (file : FileId) (content : Payload) (b : Bool) (x y : FileStep) → 
 either_is file content true x y p q = p
 either_is file content false x y p q = q
 
-either_data : (b : Bool) (x y : Acted) → IsData x.rec → IsData y.rec → IsData (cond b x y).rec
-either_data true x y p q = p
-either_data false x y p q = q
+either_data : (file : FileId) (b : Bool) (x y : Acted) → IsData file x.rec → IsData file y.rec → IsData file (cond b x y).rec
+either_data file true x y p q = p
+either_data file false x y p q = q
 
-promised_data : (file : FileId) (own : FileHead) (epoch : Epoch) (row : Acted) → IsData row.rec → IsData (as_promised file own epoch row).rec
+promised_data : (file : FileId) (own : FileHead) (epoch : Epoch) (row : Acted) → IsData file row.rec → IsData file (as_promised file own epoch row).rec
 promised_data file own epoch row p =
-    either_data (is_earlier epoch own.promised) _ _ (λ f c. tt) (either_data (is_earlier own.promised epoch) _ _ (λ f c. tt) p)
+    either_data file (is_earlier epoch own.promised) _ _ (λ c. tt) (either_data file (is_earlier own.promised epoch) _ _ (λ c. tt) p)
 
-gathered_data : (file : FileId) (own : FileHead) (epoch : Epoch) → IsData (gathered file own epoch).rec
+gathered_data : (file : FileId) (own : FileHead) (epoch : Epoch) → IsData file (gathered file own epoch).rec
 unfolding gathered
-gathered_data file own epoch = either_data (is_earlier epoch own.promised) _ _ (λ f c. tt) (either_data (is_earlier own.promised epoch) _ _ (λ f c. tt) (λ f c. tt))
+gathered_data file own epoch = either_data file (is_earlier epoch own.promised) _ _ (λ c. tt) (either_data file (is_earlier own.promised epoch) _ _ (λ c. refl) (λ c. tt))
 
-staged_data : (file : FileId) (own : FileHead) (here : List ObjectVersion) (epoch : Epoch) (object : ℕ) (version : Stamp) (bytes : List ℕ) → IsData (staged file own here epoch object version bytes).rec
+staged_data : (file : FileId) (own : FileHead) (here : List ObjectVersion) (epoch : Epoch) (object : ℕ) (version : Stamp) (bytes : List ℕ) → IsData file (staged file own here epoch object version bytes).rec
 unfolding staged
 staged_data file own here epoch object version bytes =
     promised_data file own epoch (record { rec = stage_record file here object version bytes; answer = Some (payload.Staged file epoch object version) })
     (stage_data file here object version bytes)
 
-taken_data : (file : FileId) (epoch : Epoch) (head : FileHead) (lacks : Option ObjectVersion) → IsData (head_taken file epoch head lacks).rec
-taken_data file epoch head None = λ f c. tt
-taken_data file epoch head (Some v) = λ f c. tt
+taken_data : (file : FileId) (epoch : Epoch) (head : FileHead) (lacks : Option ObjectVersion) → IsData file (head_taken file epoch head lacks).rec
+taken_data file epoch head None = λ c. refl
+taken_data file epoch head (Some v) = λ c. tt
 
-headed_data : (file : FileId) (own : FileHead) (here : List ObjectVersion) (epoch : Epoch) (head : FileHead) → IsData (headed file own here epoch head).rec
+headed_data : (file : FileId) (own : FileHead) (here : List ObjectVersion) (epoch : Epoch) (head : FileHead) → IsData file (headed file own here epoch head).rec
 unfolding headed
 headed_data file own here epoch head =
-    either_data (is_epoch head.promised epoch && is_epoch head.stamp.epoch epoch) _ _
+    either_data file (is_epoch head.promised epoch && is_epoch head.stamp.epoch epoch) _ _
     (promised_data file own epoch (head_offered file own here epoch head)
-    (either_data (is_below own.stamp head.stamp) _ _ (taken_data file epoch head (first_missing here head.versions)) (λ f c. tt))) (λ f c. tt)
+    (either_data file (is_below own.stamp head.stamp) _ _ (taken_data file epoch head (first_missing here head.versions)) (λ c. tt))) (λ c. tt)
 
-updated_data : (file : FileId) (own : FileHead) (update : Update) → IsData (updated file own update).rec
+updated_data : (file : FileId) (own : FileHead) (update : Update) → IsData file (updated file own update).rec
 unfolding updated
 updated_data file own update =
     promised_data file own update.stamp.epoch (update_offered file own update)
-    (either_data (not (is_epoch own.stamp.epoch update.stamp.epoch)) _ _ (λ f c. tt)
-    (either_data (nat_le update.stamp.count own.stamp.count) _ _ (λ f c. tt)
-    (either_data (update.stamp.count == own.stamp.count + 1) _ _
-    (either_data (head_fits (head_after own update)) _ _ (λ f c. tt) (λ f c. tt)) (λ f c. tt))))
+    (either_data file (not (is_epoch own.stamp.epoch update.stamp.epoch)) _ _ (λ c. tt)
+    (either_data file (nat_le update.stamp.count own.stamp.count) _ _ (λ c. tt)
+    (either_data file (update.stamp.count == own.stamp.count + 1) _ _
+    (either_data file (head_fits (head_after own update)) _ _ (λ c. refl) (λ c. tt)) (λ c. tt))))
 
 -- the asks of a file
-without_rec : (site : Site) (s : FileState) (p : Proposer) (ask : WaitingAsk) (answer : Option Reply) → IsData (ask_without_lease site s p ask answer).turned.rec
-without_rec site s p ask (Some answer) f c = tt
-without_rec site s p ask None f c = either_is f c (can_ask p) _ _ tt tt
+without_rec : (site : Site) (s : FileState) (p : Proposer) (ask : WaitingAsk) (answer : Option Reply) → IsData s.kept.file (ask_without_lease site s p ask answer).turned.rec
+without_rec site s p ask (Some answer) c = tt
+without_rec site s p ask None c = either_is s.kept.file c (can_ask p) _ _ tt tt
 
-under_rec : (site : Site) (s : FileState) (l : LeaseState) (ask : WaitingAsk) → IsData (ask_under site s l ask).turned.rec
-under_rec site s (held h) ask f c =
-    either_is f c (is_active s.primary.tenure) _ _
-    ((served_acts (ground_of site s) (record { primary = s.primary; asks = s.asks; turned = quiet }) ask (waits s.asks ask) (record { marks = tt; plain = λ f c. tt })).plain f c) tt
-under_rec site s (asking r) ask f c = tt
-under_rec site s (writing r) ask f c = tt
-under_rec site s (free p) ask f c = without_rec site s p ask (elsewhere site s.acceptor.accepted) f c
+under_rec : (site : Site) (s : FileState) (l : LeaseState) (ask : WaitingAsk) → IsData s.kept.file (ask_under site s l ask).turned.rec
+under_rec site s (held h) ask c = either_is s.kept.file c (is_active s.primary.tenure) _ _
+    ((served_acts (ground_of site s) (record { primary = s.primary; asks = s.asks; turned = quiet }) ask (waits s.asks ask) (record { marks = tt; plain = λ c. tt })).plain c) tt
+under_rec site s (asking r) ask c = tt
+under_rec site s (writing r) ask c = tt
+under_rec site s (free p) ask c = without_rec site s p ask (elsewhere site s.acceptor.accepted) c
 
-rows_rec : (site : Site) (s : FileState) (ask : WaitingAsk) → IsData (ask_rows site s ask).turned.rec
-rows_rec site s ask f c = either_is f c (asked_already s.asks ask.id) _ _ tt (under_rec site s s.lease ask f c)
+rows_rec : (site : Site) (s : FileState) (ask : WaitingAsk) → IsData s.kept.file (ask_rows site s ask).turned.rec
+rows_rec site s ask c = either_is s.kept.file c (asked_already s.asks ask.id) _ _ tt (under_rec site s s.lease ask c)
 
 let_in_rec : (site : Site) (s : FileState) (number : ℕ) (id : OpId) (capability : Capability) (asked : Op) (refusal : Option Reply)
     → RecordIs s.kept.file (payload.Ask number capability asked) (ask_let_in site s id capability asked refusal).turned.rec
@@ -269,7 +268,7 @@ let_in_rec site s number id capability asked None = stored s.kept.location refl
         → RecordIs s.kept.file (payload.Ask number capability asked)
         (and_then (steps_to (record s { used = site.now }) (keeps (view_record s capability.location was))) (λ state. ask_rows site state ask)).turned.rec
     stored None is = (refl, refl)
-    stored (Some location) is = rows_rec site (steps_to (record s { used = site.now }) (keeps None)).state ask s.kept.file (payload.Ask number capability asked)
+    stored (Some location) is = rows_rec site (steps_to (record s { used = site.now }) (keeps None)).state ask (payload.Ask number capability asked)
 
 kind_rec : (site : Site) (s : FileState) (k : Kind) (number : ℕ) (id : OpId) (capability : Capability) (asked : Op)
     → RecordIs s.kept.file (payload.Ask number capability asked) (ask_comes site s k id capability asked).turned.rec
@@ -277,49 +276,48 @@ unfolding ask_handled
 kind_rec site s kind.Replicated number id capability asked = let_in_rec site s number id capability asked (refusal_of site s.kept.location capability asked)
 kind_rec site s kind.Striped number id capability asked = tt
 
-drawn_data : (place : Place) (learnt : ℕ) (own : FileHead) (members : List NodeId) → IsData (epoch_drawn place learnt own members).turned.rec
+drawn_data : (place : Place) (learnt : ℕ) (own : FileHead) (members : List NodeId) → IsData place.file (epoch_drawn place learnt own members).turned.rec
 drawn_data place learnt own members = (drawn_acts place learnt own members).plain
 
-led_on_data : (site : Site) (s : FileState) (t : Option Tenure) → IsData (led_on site s t).turned.rec
-led_on_data site s (Some t) f c = tt
-led_on_data site s None f c = drawn_data (ground_of site s).place s.primary.learnt s.kept.head (members_of s.kept.location) f c
+led_on_data : (site : Site) (s : FileState) (t : Option Tenure) → IsData s.kept.file (led_on site s t).turned.rec
+led_on_data site s (Some t) c = tt
+led_on_data site s None c = drawn_data (ground_of site s).place s.primary.learnt s.kept.head (members_of s.kept.location) c
 
-news_data : (site : Site) (s : FileState) (news : LeaseNews) → IsData (lease_news site s news).turned.rec
-news_data site s lease.nothing f c = tt
-news_data site s (sends_write ballot x targets) f c = tt
-news_data site s (holds end) f c = led_on_data site (record s { last_end = end }) s.primary.tenure f c
-news_data site s (finds x) f c =
-    either_is f c (x.node.0 == site.node.0) (waiting_told site s (reply.NoLease s.last_end)) (waiting_told site s (reply.Elsewhere x.node x.end)) tt tt
-news_data site s ends f c = tt
+news_data : (site : Site) (s : FileState) (news : LeaseNews) → IsData s.kept.file (lease_news site s news).turned.rec
+news_data site s lease.nothing c = tt
+news_data site s (sends_write ballot x targets) c = tt
+news_data site s (holds end) c = led_on_data site (record s { last_end = end }) s.primary.tenure c
+news_data site s (finds x) c = either_is s.kept.file c (x.node.0 == site.node.0) (waiting_told site s (reply.NoLease s.last_end)) (waiting_told site s (reply.Elsewhere x.node x.end)) tt tt
+news_data site s ends c = tt
 
-answer_data : (site : Site) (s : FileState) (from : NodeId) (content : Payload) → IsData (answer_comes site s from content).turned.rec
+answer_data : (site : Site) (s : FileState) (from : NodeId) (content : Payload) → IsData s.kept.file (answer_comes site s from content).turned.rec
 unfolding answer_comes
 answer_data site s from content =
     let step = on_answer s.lease site.now from content in
     news_data site (record s { lease = step.state; last_end = end_after_answer site s from content }) step.news
 
-primary_data : (site : Site) (s : FileState) (l : LeaseState) (from : NodeId) (content : Payload) → IsData (primary_hears site s l from content).turned.rec
+primary_data : (site : Site) (s : FileState) (l : LeaseState) (from : NodeId) (content : Payload) → IsData s.kept.file (primary_hears site s l from content).turned.rec
 primary_data site s (held h) from content =
     let g = ground_of site s in
     (follow_acts g s.primary.tenure s.asks (hears g s.primary from content) (hears_acts g s.primary from content)).plain
-primary_data site s (free p) from content = λ f c. tt
-primary_data site s (asking r) from content = λ f c. tt
-primary_data site s (writing r) from content = λ f c. tt
+primary_data site s (free p) from content = λ c. tt
+primary_data site s (asking r) from content = λ c. tt
+primary_data site s (writing r) from content = λ c. tt
 
 message_rec : (site : Site) (s : FileState) (from : NodeId) (content : Payload) → RecordIs s.kept.file content (message_comes site s from content).turned.rec
 unfolding read_comes write_comes
 message_rec site s from (payload.Ask number capability asked) = kind_rec site s capability.location.kind number (record { client = from; number = number }) capability asked
 message_rec site s from (payload.Read file ballot) = tt
 message_rec site s from (payload.Write file ballot boot l) = tt
-message_rec site s from (payload.Promise file ballot boot report) = answer_data site s from (payload.Promise file ballot boot report) s.kept.file (payload.Promise file ballot boot report)
-message_rec site s from (payload.Accepted file ballot boot) = answer_data site s from (payload.Accepted file ballot boot) s.kept.file (payload.Accepted file ballot boot)
-message_rec site s from (payload.Outrun file ballot seen) = answer_data site s from (payload.Outrun file ballot seen) s.kept.file (payload.Outrun file ballot seen)
-message_rec site s from (payload.Gather file epoch) = gathered_data s.kept.file s.kept.head epoch s.kept.file (payload.Gather file epoch)
+message_rec site s from (payload.Promise file ballot boot report) = answer_data site s from (payload.Promise file ballot boot report) (payload.Promise file ballot boot report)
+message_rec site s from (payload.Accepted file ballot boot) = answer_data site s from (payload.Accepted file ballot boot) (payload.Accepted file ballot boot)
+message_rec site s from (payload.Outrun file ballot seen) = answer_data site s from (payload.Outrun file ballot seen) (payload.Outrun file ballot seen)
+message_rec site s from (payload.Gather file epoch) = gathered_data s.kept.file s.kept.head epoch (payload.Gather file epoch)
 message_rec site s from (payload.Fetch file epoch object version) = tt
-message_rec site s from (payload.Stage file epoch object version bytes) = staged_data s.kept.file s.kept.head s.kept.held epoch object version bytes s.kept.file (payload.Stage file epoch object version bytes)
-message_rec site s from (payload.Head file epoch head) = headed_data s.kept.file s.kept.head s.kept.held epoch head s.kept.file (payload.Head file epoch head)
-message_rec site s from (payload.Update file update) = updated_data s.kept.file s.kept.head update s.kept.file (payload.Update file update)
-message_rec site s from content = primary_data site s s.lease from content s.kept.file content
+message_rec site s from (payload.Stage file epoch object version bytes) = staged_data s.kept.file s.kept.head s.kept.held epoch object version bytes (payload.Stage file epoch object version bytes)
+message_rec site s from (payload.Head file epoch head) = headed_data s.kept.file s.kept.head s.kept.held epoch head (payload.Head file epoch head)
+message_rec site s from (payload.Update file update) = updated_data s.kept.file s.kept.head update (payload.Update file update)
+message_rec site s from content = primary_data site s s.lease from content content
 
 pub step_rec : (site : Site) (s : FileState) (from : NodeId) (content : Payload) → RecordIs s.kept.file content (step_of_file site s from content).turned.rec
 unfolding step_of_file

@@ -41,25 +41,25 @@ use Rattle.xt_base.specs.declared.record.Record.TheVariants as kept
 use Rattle.osd_rows.specs.Turns.{the_record}
 use Rattle.osd_lease_views.specs.ActsView.{AreActs, RecordIs}
 
--- a record that stores no list, and is of no start
-abbrev pub IsData : Option Record → Type 0
-IsData rec = (file : FileId) (content : Payload) → RecordIs file content rec
+-- a record of the file, that stores no list
+abbrev pub IsData : FileId → Option Record → Type 0
+IsData file rec = (content : Payload) → RecordIs file content rec
 
 -- what a row gives: its marks are acts on the file, and its record stores no list
 pub record Acts (file : FileId) (t : Turned) : Type 0 where
   pub marks : AreActs file.number t.marks
-  pub plain : IsData t.rec
+  pub plain : IsData file t.rec
 
 either : {file : FileId} (b : Bool) (x y : Led) → Acts file x.turned → Acts file y.turned → Acts file (cond b x y).turned
 either true x y p q = p
 either false x y p q = q
 
-pub stage_data : (file : FileId) (here : List ObjectVersion) (object : ℕ) (version : Stamp) (bytes : List ℕ) → IsData (stage_record file here object version bytes)
-stage_data file here object version bytes f c = one_of (has_version here (body_of object version))
+pub stage_data : (file : FileId) (here : List ObjectVersion) (object : ℕ) (version : Stamp) (bytes : List ℕ) → IsData file (stage_record file here object version bytes)
+stage_data file here object version bytes c = one_of (has_version here (body_of object version))
   where
-    one_of : (b : Bool) → RecordIs f c (cond b None (Some (kept.Stage file object version bytes)))
+    one_of : (b : Bool) → RecordIs file c (cond b None (Some (kept.Stage file object version bytes)))
     one_of true = tt
-    one_of false = tt
+    one_of false = refl
 
 -- A tenure begins.
 
@@ -67,44 +67,44 @@ pub drawn_acts : (place : Place) (learnt : ℕ) (own : FileHead) (members : List
 unfolding epoch_drawn
 drawn_acts place learnt own members =
     either (nat_lt (epoch_above place learnt own).number COUNTS) _ _
-    (record { marks = tt; plain = λ f c. tt })
-    (record { marks = tt; plain = λ f c. tt })
+    (record { marks = tt; plain = λ c. refl })
+    (record { marks = tt; plain = λ c. tt })
 
 installs_acts : (g : Ground) (learnt : ℕ) (t : Tenure) (chosen : FileHead) → Acts g.place.file (installs g learnt t chosen).turned
 installs_acts g learnt t chosen =
-    (record { marks = tt; plain = λ f c. tt })
+    (record { marks = tt; plain = λ c. tt })
 
 fetches_acts : (g : Ground) (learnt : ℕ) (t : Tenure) (chosen : FileHead) (source : NodeId) (wanted : List ObjectVersion)
     → Acts g.place.file (fetches g learnt t chosen source wanted).turned
 fetches_acts g learnt t chosen source [] = installs_acts g learnt t chosen
-fetches_acts g learnt t chosen source (v ∷ later) = record { marks = tt; plain = λ f c. tt }
+fetches_acts g learnt t chosen source (v ∷ later) = record { marks = tt; plain = λ c. tt }
 
 chosen_acts : (g : Ground) (learnt : ℕ) (t : Tenure) (best : NodeId × FileHead) → Acts g.place.file (head_chosen g learnt t best).turned
 chosen_acts g learnt t best =
     either (best.0.0 == g.place.node.0) _ _ (installs_acts g learnt t best.1) (fetches_acts g learnt t best.1 best.0 _)
 
 chooses_acts : (g : Ground) (learnt : ℕ) (t : Tenure) (reports : List (NodeId × FileHead)) → Acts g.place.file (chooses g learnt t reports).turned
-chooses_acts g learnt t [] = record { marks = tt; plain = λ f c. tt }
+chooses_acts g learnt t [] = record { marks = tt; plain = λ c. tt }
 chooses_acts g learnt t (first ∷ others) = chosen_acts g learnt t _
 
 -- Statuses.
 
 counted_acts : (g : Ground) (learnt : ℕ) (t : Tenure) → Acts g.place.file (status_counted g learnt t).turned
 counted_acts g learnt t =
-    either (nat_le (majority_among t.peers) (statuses_counted t.peers)) _ _ (chooses_acts g learnt t (reports_of t.peers)) (record { marks = tt; plain = λ f c. tt })
+    either (nat_le (majority_among t.peers) (statuses_counted t.peers)) _ _ (chooses_acts g learnt t (reports_of t.peers)) (record { marks = tt; plain = λ c. tt })
 
 feeds_acts : (g : Ground) (learnt : ℕ) (t : Tenure) (node : NodeId) (target : FileHead) (known : List ObjectVersion)
     → Acts g.place.file (feeds g learnt t node target known).turned
-feeds_acts g learnt t node target known = record { marks = tt; plain = λ f c. tt }
+feeds_acts g learnt t node target known = record { marks = tt; plain = λ c. tt }
 
 told_acts : (g : Ground) (learnt : ℕ) (t : Tenure) (p : Progress) (from : NodeId) (head : FileHead) → Acts g.place.file (status_told g learnt t p from head).turned
 told_acts g learnt t progress.Gathering from head = counted_acts g learnt (with_state t from (peer.Reported head))
-told_acts g learnt t (progress.Fetching chosen source asked later) from head = record { marks = tt; plain = λ f c. tt }
+told_acts g learnt t (progress.Fetching chosen source asked later) from head = record { marks = tt; plain = λ c. tt }
 told_acts g learnt t (progress.Installing chosen acked) from head = feeds_acts g learnt t from (target_of g.own t.epoch chosen) (known_of_report head)
 told_acts g learnt t (progress.Active committed issued) from head = feeds_acts g learnt t from g.own (known_of_report head)
 
 status_acts : (g : Ground) (learnt : ℕ) (t : Tenure) (from : NodeId) (state : PeerState) (head : FileHead) → Acts g.place.file (hears_status g learnt t from state head).turned
-status_acts g learnt t from state head = either (is_unknown state) _ _ (told_acts g learnt t t.progress from head) (record { marks = tt; plain = λ f c. tt })
+status_acts g learnt t from state head = either (is_unknown state) _ _ (told_acts g learnt t t.progress from head) (record { marks = tt; plain = λ c. tt })
 
 -- Fetching and feeding.
 
@@ -118,52 +118,52 @@ object_acts : (g : Ground) (learnt : ℕ) (t : Tenure) (p : Progress) (from : No
     → Acts g.place.file (hears_object g learnt t p from object version bytes).turned
 object_acts g learnt t (progress.Fetching chosen source asked later) from object version bytes =
     either (from.0 == source.0 && is_version asked (body_of object version)) _ _ (fetched_acts g learnt t chosen source later object version bytes)
-    (record { marks = tt; plain = λ f c. tt })
-object_acts g learnt t _ from object version bytes = record { marks = tt; plain = λ f c. tt }
+    (record { marks = tt; plain = λ c. tt })
+object_acts g learnt t _ from object version bytes = record { marks = tt; plain = λ c. tt }
 
 staged_acts : (g : Ground) (learnt : ℕ) (t : Tenure) (target : Option FileHead) (from : NodeId) (state : PeerState) (v : ObjectVersion)
     → Acts g.place.file (body_staged g learnt t target from state v).turned
 staged_acts g learnt t (Some target) from (peer.Feeding known object version body) v = feeds_acts g learnt t from target _
 staged_acts g learnt t (Some target) from (peer.Heading known head) v = feeds_acts g learnt t from target _
-staged_acts g learnt t _ from _ v = record { marks = tt; plain = λ f c. tt }
+staged_acts g learnt t _ from _ v = record { marks = tt; plain = λ c. tt }
 
 missed_acts : (g : Ground) (learnt : ℕ) (t : Tenure) (target : Option FileHead) (from : NodeId) (state : PeerState) (v : ObjectVersion)
     → Acts g.place.file (body_missed g learnt t target from state v).turned
 missed_acts g learnt t (Some target) from (peer.Heading known head) v = feeds_acts g learnt t from target _
-missed_acts g learnt t _ from _ v = record { marks = tt; plain = λ f c. tt }
+missed_acts g learnt t _ from _ v = record { marks = tt; plain = λ c. tt }
 
 missing_acts : (g : Ground) (learnt : ℕ) (t : Tenure) (p : Progress) (from : NodeId) (state : PeerState) (v : ObjectVersion)
     → Acts g.place.file (hears_missing g learnt t p from state v).turned
 missing_acts g learnt t (progress.Fetching chosen source asked later) from state v =
-    either (from.0 == source.0) _ _ (drawn_acts g.place learnt g.own (nodes_of t.peers)) (record { marks = tt; plain = λ f c. tt })
+    either (from.0 == source.0) _ _ (drawn_acts g.place learnt g.own (nodes_of t.peers)) (record { marks = tt; plain = λ c. tt })
 missing_acts g learnt t p from state v = missed_acts g learnt t (target_in g.own t.epoch p) from state v
 
 -- Acknowledgements.
 
 head_acked_acts : (g : Ground) (learnt : ℕ) (t : Tenure) (chosen : FileHead) (acked : List NodeId) → Acts g.place.file (head_acked g learnt t chosen acked).turned
-head_acked_acts g learnt t chosen acked = either (carries g.place t.peers acked) _ _ (record { marks = (refl, tt); plain = λ f c. tt }) (record { marks = tt; plain = λ f c. tt })
+head_acked_acts g learnt t chosen acked = either (carries g.place t.peers acked) _ _ (record { marks = (refl, tt); plain = λ c. tt }) (record { marks = tt; plain = λ c. tt })
 
 update_acked_acts : (g : Ground) (learnt : ℕ) (t : Tenure) (head : FileHead) (update : Update) (acked : List NodeId)
     → Acts g.place.file (update_acked g learnt t head update acked).turned
 update_acked_acts g learnt t head update acked =
-    either (carries g.place t.peers acked) _ _ (record { marks = (refl, (refl, tt)); plain = λ f c. tt }) (record { marks = tt; plain = λ f c. tt })
+    either (carries g.place t.peers acked) _ _ (record { marks = (refl, (refl, tt)); plain = λ c. tt }) (record { marks = tt; plain = λ c. tt })
 
 acked_below_acts : (g : Ground) (learnt : ℕ) (t : Tenure) (head : FileHead) (from : NodeId) (stamp : Stamp) (newly : Bool) (issued : Option IssuedUpdate)
     → Acts g.place.file (acked_below g learnt t head from stamp newly issued).turned
-acked_below_acts g learnt t head from stamp newly None = record { marks = tt; plain = λ f c. tt }
+acked_below_acts g learnt t head from stamp newly None = record { marks = tt; plain = λ c. tt }
 acked_below_acts g learnt t head from stamp newly (Some issued) =
     either (not (is_below stamp issued.update.stamp)) _ _ (update_acked_acts g learnt t head issued.update (with_node issued.acked from))
-    (either newly _ _ (record { marks = tt; plain = λ f c. tt }) (record { marks = tt; plain = λ f c. tt }))
+    (either newly _ _ (record { marks = tt; plain = λ c. tt }) (record { marks = tt; plain = λ c. tt }))
 
 ack_acts : (g : Ground) (learnt : ℕ) (t : Tenure) (p : Progress) (from : NodeId) (newly : Bool) (stamp : Stamp) → Acts g.place.file (hears_ack g learnt t p from newly stamp).turned
 ack_acts g learnt t (progress.Installing chosen acked) from newly stamp =
-    either newly _ _ (head_acked_acts g learnt (with_state t from peer.Current) chosen (with_node acked from)) (record { marks = tt; plain = λ f c. tt })
+    either newly _ _ (head_acked_acts g learnt (with_state t from peer.Current) chosen (with_node acked from)) (record { marks = tt; plain = λ c. tt })
 ack_acts g learnt t (progress.Active head issued) from newly stamp = acked_below_acts g learnt _ head from stamp newly issued
-ack_acts g learnt t _ from newly stamp = record { marks = tt; plain = λ f c. tt }
+ack_acts g learnt t _ from newly stamp = record { marks = tt; plain = λ c. tt }
 
 outpromised_acts : (g : Ground) (learnt : ℕ) (t : Tenure) (promised : Epoch) → Acts g.place.file (outpromised g learnt t promised).turned
 outpromised_acts g learnt t promised =
-    either (is_earlier t.epoch promised) _ _ (drawn_acts g.place (max learnt promised.number) g.own (nodes_of t.peers)) (record { marks = tt; plain = λ f c. tt })
+    either (is_earlier t.epoch promised) _ _ (drawn_acts g.place (max learnt promised.number) g.own (nodes_of t.peers)) (record { marks = tt; plain = λ c. tt })
 
 -- A message to a primary.
 
@@ -173,22 +173,22 @@ peer_acts g learnt t from state (payload.Object file epoch object version bytes)
 peer_acts g learnt t from state (payload.Staged file epoch object version) = staged_acts g learnt t (target_in g.own t.epoch t.progress) from state _
 peer_acts g learnt t from state (payload.Missing file epoch object version) = missing_acts g learnt t t.progress from state _
 peer_acts g learnt t from state (payload.Ack file stamp) = ack_acts g learnt t t.progress from (makes_current g.place from state stamp) stamp
-peer_acts g learnt t from state (payload.Behind file epoch stamp) = record { marks = tt; plain = λ f c. tt }
+peer_acts g learnt t from state (payload.Behind file epoch stamp) = record { marks = tt; plain = λ c. tt }
 peer_acts g learnt t from state (payload.Refused file epoch promised) = outpromised_acts g learnt t promised
-peer_acts g learnt t from state _ = record { marks = tt; plain = λ f c. tt }
+peer_acts g learnt t from state _ = record { marks = tt; plain = λ c. tt }
 
 member_acts : (g : Ground) (learnt : ℕ) (t : Tenure) (from : NodeId) (state : Option PeerState) (content : Payload)
     → Acts g.place.file (hears_member g learnt t from state content).turned
-member_acts g learnt t from None content = record { marks = tt; plain = λ f c. tt }
+member_acts g learnt t from None content = record { marks = tt; plain = λ c. tt }
 member_acts g learnt t from (Some state) content = peer_acts g learnt t from state content
 
 epoch_acts : (g : Ground) (learnt : ℕ) (t : Tenure) (from : NodeId) (told : Option Epoch) (content : Payload) → Acts g.place.file (hears_epoch g learnt t from told content).turned
-epoch_acts g learnt t from None content = record { marks = tt; plain = λ f c. tt }
+epoch_acts g learnt t from None content = record { marks = tt; plain = λ c. tt }
 epoch_acts g learnt t from (Some epoch) content =
-    either (is_epoch epoch t.epoch) _ _ (member_acts g learnt t from (peer_in t.peers from) content) (record { marks = tt; plain = λ f c. tt })
+    either (is_epoch epoch t.epoch) _ _ (member_acts g learnt t from (peer_in t.peers from) content) (record { marks = tt; plain = λ c. tt })
 
 in_acts : (g : Ground) (learnt : ℕ) (t : Option Tenure) (from : NodeId) (content : Payload) → Acts g.place.file (hears_in g learnt t from content).turned
-in_acts g learnt None from content = record { marks = tt; plain = λ f c. tt }
+in_acts g learnt None from content = record { marks = tt; plain = λ c. tt }
 in_acts g learnt (Some t) from content = epoch_acts g learnt t from (epoch_told content) content
 
 pub hears_acts : (g : Ground) (p : PrimaryState) (from : NodeId) (content : Payload) → Acts g.place.file (hears g p from content).turned
@@ -198,9 +198,9 @@ hears_acts g p from content = in_acts g p.learnt p.tenure from content
 -- Serving.
 
 issues_acts : (g : Ground) (learnt : ℕ) (t : Tenure) (head : FileHead) (u : Option Update) → Acts g.place.file (issues g learnt t head u).turned
-issues_acts g learnt t head None = record { marks = tt; plain = λ f c. tt }
+issues_acts g learnt t head None = record { marks = tt; plain = λ c. tt }
 issues_acts g learnt t head (Some update) =
-    (record { marks = (refl, tt); plain = λ f c. tt })
+    (record { marks = (refl, tt); plain = λ c. tt })
 
 abbrev ActsIfAny : FileId → Option Led → Type 0
 ActsIfAny file None = Unit {0}
@@ -213,9 +213,9 @@ unless_acts g learnt t head None id epoch asked = issues_acts g learnt t head (n
 
 stands_acts : (g : Ground) (learnt : ℕ) (t : Tenure) (head : FileHead) (issued : Option IssuedUpdate) (id : OpId) (epoch : ℕ) (asked : Op) (how : Standing)
     → ActsIfAny g.place.file (write_stands g learnt t head issued id epoch asked how)
-stands_acts g learnt t head issued id epoch asked (repeated count) = record { marks = (refl, tt); plain = λ f c. tt }
-stands_acts g learnt t head issued id epoch asked older = record { marks = tt; plain = λ f c. tt }
-stands_acts g learnt t head issued id epoch asked (turned_away why) = record { marks = tt; plain = λ f c. tt }
+stands_acts g learnt t head issued id epoch asked (repeated count) = record { marks = (refl, tt); plain = λ c. tt }
+stands_acts g learnt t head issued id epoch asked older = record { marks = tt; plain = λ c. tt }
+stands_acts g learnt t head issued id epoch asked (turned_away why) = record { marks = tt; plain = λ c. tt }
 stands_acts g learnt t head issued id epoch asked fresh = unless_acts g learnt t head issued id epoch asked
 
 writes_in_acts : (g : Ground) (learnt : ℕ) (t : Tenure) (p : Progress) (id : OpId) (epoch : ℕ) (asked : Op) → ActsIfAny g.place.file (writes_in g learnt t p id epoch asked)
@@ -236,20 +236,20 @@ both_marks : (number : ℕ) (xs ys : List Mark) → AreActs number xs → AreAct
 both_marks number [] ys p q = q
 both_marks number (x ∷ xs) ys p q = (p.0, both_marks number xs ys p.1 q)
 
-pub one_data : (a b : Option Record) → IsData a → IsData b → IsData (the_record a b)
-one_data None b p q = q
-one_data (Some rec) b p q = p
+pub one_data : (file : FileId) (a b : Option Record) → IsData file a → IsData file b → IsData file (the_record a b)
+one_data file None b p q = q
+one_data file (Some rec) b p q = p
 
 pub both_acts : (file : FileId) (a b : Turned) → Acts file a → Acts file b → Acts file (joined a b)
-both_acts file a b p q = record { marks = both_marks file.number a.marks b.marks p.marks q.marks; plain = one_data a.rec b.rec p.plain q.plain }
+both_acts file a b p q = record { marks = both_marks file.number a.marks b.marks p.marks q.marks; plain = one_data file a.rec b.rec p.plain q.plain }
 
 either_served : {file : FileId} (b : Bool) (x y : Served) → Acts file x.turned → Acts file y.turned → Acts file (cond b x y).turned
 either_served true x y p q = p
 either_served false x y p q = q
 
 read_acts : (g : Ground) (id : OpId) (answer : Option Reply) → Acts g.place.file (read_answer g id answer)
-read_acts g id (Some (reply.Ok count size bytes)) = record { marks = (refl, tt); plain = λ f c. tt }
-read_acts g id _ = record { marks = tt; plain = λ f c. tt }
+read_acts g id (Some (reply.Ok count size bytes)) = record { marks = (refl, tt); plain = λ c. tt }
+read_acts g id _ = record { marks = tt; plain = λ c. tt }
 
 done_acts : (g : Ground) (s : Served) (ask : WaitingAsk) (led : Option Led) (left : Asks) → Acts g.place.file s.turned → ActsIfAny g.place.file led → Acts g.place.file (write_done s ask led left).turned
 done_acts g s ask None left p q = p
@@ -270,7 +270,7 @@ fold_acts g s (ask ∷ asks) p = fold_acts g (serves_waiting g s ask) asks (wait
 
 all_acts : (g : Ground) (p : PrimaryState) (waiting : List WaitingAsk) → Acts g.place.file (serves_all g p waiting).turned
 unfolding serves_all
-all_acts g p waiting = fold_acts g _ waiting (record { marks = tt; plain = λ f c. tt })
+all_acts g p waiting = fold_acts g _ waiting (record { marks = tt; plain = λ c. tt })
 
 pub follow_acts : (g : Ground) (before : Option Tenure) (asks : Asks) (led : Led) → Acts g.place.file led.turned → Acts g.place.file (asks_follow g before asks led).turned
 follow_acts g before asks led p =

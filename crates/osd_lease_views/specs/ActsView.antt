@@ -47,13 +47,16 @@ abbrev pub ListAsked : Payload → Location → Type 0
 ListAsked (payload.Ask number capability asked) location = capability.location ≡ location
 ListAsked _ location = ⊥
 
--- The record of a step isn't of a start; one that stores a list stores that of an ask, for the step's file.
+-- The record of a step is of the step's file; one that stores a list stores that of an ask.
 abbrev pub RecordIs : FileId → Payload → Option Record → Type 0
 RecordIs file content None = Unit {0}
+RecordIs file content (Some (kept.Promise f epoch)) = f ≡ file
+RecordIs file content (Some (kept.Update f update)) = f ≡ file
+RecordIs file content (Some (kept.Stage f object version bytes)) = f ≡ file
+RecordIs file content (Some (kept.Head f head)) = f ≡ file
 RecordIs file content (Some (kept.View f location)) = (f ≡ file) × ListAsked content location
 RecordIs file content (Some (kept.Boot boot)) = ⊥
 RecordIs file content (Some (kept.Meta from number now nodes request)) = ⊥
-RecordIs file content (Some _) = Unit {0}
 
 -- What the steps of a file mark and record: a message, and a Wake.
 pub record ShowsActs : Type 0 where

@@ -32,9 +32,10 @@ use Rattle.cluster_runs.specs.Lines.{runs, next_boot, osd_starting, starts_as, t
 use Rattle.world_leases.specs.View.{file_setting, node_id, end_in, told, awake_as, unseen, core_seen, up_seen, node_seen, lease_view}
 use Rattle.world_leases.proofs.Tables.{same, node_in-new, node_in-other, node_in-id, node_in-ticked}
 use Rattle.world_leases.proofs.Standings.{standing-push, own_up, other_up, own_clock, other_clock}
-use Rattle.world_leases.proofs.Files.{RowsFit, record_fits, starting_fits}
+use Rattle.world_leases.proofs.Files.{record_fits, starting_fits, start_agrees}
 use Rattle.world_leases.proofs.Moments.{safe-push, times-push}
-use Rattle.world_leases.proofs.Fit.{CoreFits, UpFits, NodeFits, Stands, IsShaped, IsFit, apart_now, replaced}
+use Rattle.world_leases.proofs.Fit.{IsShaped, IsFit, apart_now, replaced}
+use Rattle.world_leases.specs.Worlds.{RowsFit, CoreFits, UpFits, NodeFits, Stands}
 
 -- ---- the rule on drifting clocks
 
@@ -151,7 +152,7 @@ start_fits w node clock found down close fit =
           ∙ ap (node_seen g n (told number n w.entries)) (node_in-other w.nodes there n ne)))
           (λ m h. h);
       nodes = λ n x is. replaced (NodeFits w.times w.files) w.nodes there node n x found
-          (record { rows = record_fits w.files node.kept (kept.Boot boot) tt rows; up = (starting_fits w.times w.files node.id boot clock (fold_of node.kept).files rows, (let is = boot_pushed node.kept boot in omega (arith, is))) })
+          (record { rows = record_fits w.files node.kept (kept.Boot boot) tt rows; up = (starting_fits w.times w.files node.id boot clock (fold_of node.kept).files rows, (let is = boot_pushed node.kept boot in omega (arith, is)), start_agrees node.kept boot (record { node = node.id; boot = boot; times = w.times; start = clock })) })
           (λ y was. fit.shape.nodes n y was) is;
       stands = λ n number. elim (same n node.id.0) [
         | inl e ↦ subst (λ (f : Option Node). Stands (standing (node_id n) number next.entries) (up_of f)) (sym (ap (node_in next.nodes) e ∙ node_in-new w.nodes there node found))
@@ -190,6 +191,7 @@ later_core times files node records r q (osd s) boot less fits = (
     rises = fits.0.rises;
   },
   subst (λ (b : Boot). b.0 ≤ (fold_of records).boot.0) boot fits.1,
+  fits.2,
 )
 later_core times files node records r q (client c) boot less fits = fits
 

@@ -23,7 +23,8 @@ use Rattle.world_leases.proofs.Standings.{standing-push, standing-none, own_up, 
 use Rattle.world_leases.proofs.Files.{no_rows, listed_more, fits_more, ask_more}
 use Rattle.world_leases.proofs.Moments.{IsSafe, safe-nothing, safe-push, times-push, times_nothing, times_first}
 use Rattle.world_leases.proofs.Frame.{Good}
-use Rattle.world_leases.proofs.Fit.{CallFits, CoreFits, UpFits, NodeFits, Stands, IsShaped, IsFit, apart_now}
+use Rattle.world_leases.proofs.Fit.{IsShaped, IsFit, apart_now}
+use Rattle.world_leases.specs.Worlds.{CallFits, CoreFits, UpFits, NodeFits, Stands}
 
 -- ---- at first
 
@@ -137,7 +138,7 @@ client_fits w id clock free fit =
 core_more : (times : TimeSettings) (files more : List DeclaredFile) (node : NodeId) (kept : List Record) (r : Running) (core : Core) → ((number : ℕ) (location : Location) → file_in files number ≡ Some location → file_in more number ≡ Some location)
     → CoreFits times files node kept r core → CoreFits times more node kept r core
 core_more times files more node kept r (osd s) same fits =
-    (record { started = fits.0.started; last = fits.0.last; fits = λ f h. fits_more files more f same (fits.0.fits f h); rises = fits.0.rises }, fits.1)
+    (record { started = fits.0.started; last = fits.0.last; fits = λ f h. fits_more files more f same (fits.0.fits f h); rises = fits.0.rises }, fits.1, fits.2)
 core_more times files more node kept r (client c) same fits = at c.running fits
   where
     at : (o : Option RunningCall) → CallFits files o → CallFits more o

@@ -1,5 +1,5 @@
 -- what holds of the files of an OSD in a world: their lists are the declared ones
-use Rattle.std.proofs.Common.{◌≡◌, ℕ, ◌≤◌, inl, inr, List, [], ◌∷◌, ◌++◌, map, refl, arith, ap, sym, ◌∙◌, subst, Option, Some, None, Bool, true, false}
+use Rattle.std.proofs.Common.{◌≡◌, ℕ, inl, inr, List, [], ◌∷◌, ◌++◌, map, refl, arith, ap, sym, ◌∙◌, subst, Option, Some, None, Bool, true, false}
 use Rattle.std.specs.Prelude.{cond}
 use Rattle.xt_base.specs.TimeSettings.{TimeSettings}
 use Rattle.xt_base.specs.declared.ids.NodeId.{NodeId}
@@ -14,8 +14,8 @@ use Rattle.xt_base.specs.declared.record.FileRow.{FileRow}
 use Rattle.xt_base.specs.declared.record.Folded.{Folded}
 use Rattle.xt_protocol.specs.FileIds.{is_file}
 use Rattle.xt_protocol.specs.Folds.{fold_of, folded_after, row_in, row_after, rows_after, new_row, file_of}
-use Rattle.xt_protocol.proofs.Folds.{fold_of-push, fold_of-nothing, row_in-file, row_after-file}
-use Rattle.xt_protocol.specs.LeaseRows.{Awake, LeaseState, free, asking, writing, held, lease_expired, on_answer}
+use Rattle.xt_protocol.proofs.Folds.{file-equal, row_in-with_row, fold_of-push, fold_of-nothing, row_in-file, row_after-file}
+use Rattle.xt_protocol.specs.LeaseRows.{Silent, Awake, LeaseState, free, asking, writing, held, lease_expired, on_answer}
 use Rattle.lease_safety.specs.State.{Has}
 use Rattle.lease_runs.specs.LeaseWorld.{LeaseSetting, LeaseRow, row_handles}
 use Rattle.osd_rows.specs.ReplicaRows.{kept_after}
@@ -24,6 +24,8 @@ use Rattle.osd_rows.specs.FileSteps.{step_of_file}
 use Rattle.osd_rows.specs.OsdSteps.{OsdState, osd_from, file_at, file_concerned}
 use Rattle.osd_invariants.specs.Sound.{IsHeld, IsStored}
 use Rattle.osd_invariants.proofs.Kept.{step_follows}
+use Rattle.osd_invariants.proofs.SoundSteps
+use Rattle.osd_rows.specs.Overdue.{expired}
 use Rattle.osd_lease_views.specs.LeaseView.{is_ask, lease_setting, settled_row, Follows, handles, asks, stays, Wakes, renewing, resting}
 use Rattle.osd_lease_views.specs.OsdView.{wake_step}
 use Rattle.osd_lease_views.specs.ActsView.{IsBusy, RecordIs}
@@ -33,30 +35,19 @@ use Rattle.osd_lease_views.proofs.ActSteps.{step_rec, wake_step_kept}
 use Rattle.cluster_runs.specs.declared.DeclaredFile.{DeclaredFile}
 use Rattle.cluster_runs.specs.World.{file_in}
 use Rattle.cluster_runs.specs.Lines.{declared_file}
-use Rattle.world_leases.proofs.Rising.{Rises, files_of, row_files, with_row_has, with_row_rises}
+use Rattle.osd_rows.specs.OsdSteps.{with_file}
+use Rattle.cluster_runs.specs.NodeSteps.{one_more}
+use Rattle.world_leases.specs.View.{awake_as}
+use Rattle.osd_lease_views.proofs.OsdLeases.{file_at-with_file, at_file}
+use Rattle.world_leases.proofs.Rising.{with_row_has, with_row_rises}
+use Rattle.world_leases.specs.Worlds.{Agrees, Rises, files_of, row_files, Listed, AskFits, FileFits, RowsFit, OsdFits}
 
 -- ---- what is declared
-
--- a stored list is the declared one
-abbrev pub Listed : List DeclaredFile → FileId → Option Location → Type 0
-Listed files file None = Unit {0}
-Listed files file (Some location) = file_in files file.number ≡ Some location
-
--- an ask is on a declared file, with its list
-abbrev pub AskFits : List DeclaredFile → Payload → Type 0
-AskFits files (payload.Ask number capability asked) = (capability.file ≡ declared_file capability.file.number) × (file_in files capability.file.number ≡ Some capability.location)
-AskFits files _ = Unit {0}
 
 -- a record that stores a list stores the declared one
 abbrev pub RecordFits : List DeclaredFile → Record → Type 0
 RecordFits files (kept.View file location) = file_in files file.number ≡ Some location
 RecordFits files _ = Unit {0}
-
--- the state of a file: its list is the declared one, and there is one where there is a round or a lease
-pub record FileFits (files : List DeclaredFile) (s : FileState) : Type 0 where
-  pub listed : Listed files s.kept.file s.kept.location
-  pub declared : IsBusy s.lease → s.kept.file ≡ declared_file s.kept.file.number
-  pub stored : IsBusy s.lease → IsStored s.kept.location
 
 -- ---- records
 
@@ -177,6 +168,7 @@ step_fits files site s from content ask concerns fits =
       listed = subst (λ (row : FileRow). Listed files row.file row.location) (sym kept_is) (kept_listed files s.kept content step.turned.rec ask (λ is. concerns) (step_rec site s from content) fits.listed);
       declared = λ busy. subst (λ (f : FileId). f ≡ declared_file f.number) (sym file_is) (of_file (lease_steps.step_follows site s from content) busy);
       stored = λ busy. is_stored (lease_steps.step_follows site s from content) busy;
+      sound = SoundSteps.step_so site s from content fits.sound;
     }
   where
     step : FileStep
@@ -205,6 +197,7 @@ wake_fits files site s fits =
       listed = subst (λ (row : FileRow). Listed files row.file row.location) (sym kept_is) fits.listed;
       declared = λ busy. subst (λ (row : FileRow). row.file ≡ declared_file row.file.number) (sym kept_is) (fits.declared (was_busy (each_wakes site s) busy));
       stored = λ busy. subst (λ (row : FileRow). IsStored row.location) (sym kept_is) (fits.stored (was_busy (each_wakes site s) busy));
+      sound = SoundSteps.wake_so site (expired site s).state (SoundSteps.expired_so site s fits.sound);
     }
   where
     was_busy : Wakes s.kept.file site (settled_row site s) (settled_row site s).lease (wake_step site s) → IsBusy (wake_step site s).state.lease → IsBusy s.lease
@@ -213,20 +206,8 @@ wake_fits files site s fits =
 
 -- ---- OSDs
 
--- the rows that records fold to
-pub record RowsFit (files : List DeclaredFile) (rows : List FileRow) : Type 0 where
-  pub listed : (r : FileRow) → Has r rows → Listed files r.file r.location
-  pub rises : Rises (row_files rows)
-
--- the state of a running OSD
-pub record OsdFits (times : TimeSettings) (files : List DeclaredFile) (node : NodeId) (boot : Boot) (clock : ℕ) (s : OsdState) : Type 0 where
-  pub started : s.started ≡ record { node = node; boot = boot; times = times; start = s.started.start }
-  pub last : s.last ≤ clock
-  pub fits : (f : FileState) → Has f s.files → FileFits files f
-  pub rises : Rises (files_of s.files)
-
 pub fresh_fits : (files : List DeclaredFile) (awake : Awake) (row : FileRow) → Listed files row.file row.location → FileFits files (file_from awake row)
-fresh_fits files awake row listed = record { listed = listed; declared = λ busy. absurd busy; stored = λ busy. absurd busy }
+fresh_fits files awake row listed = record { listed = listed; declared = λ busy. absurd busy; stored = λ busy. absurd busy; sound = SoundSteps.start_so awake row }
 
 -- the state of any file at it
 pub at_fits : (files : List DeclaredFile) (awake : Awake) (states : List FileState) (file : FileId) → ((f : FileState) → Has f states → FileFits files f) → FileFits files (file_at awake states file)
@@ -288,6 +269,64 @@ starting_fits times files node boot clock rows q =
       rises = subst Rises (sym (from_files awake rows)) q.rises;
     }
 
+-- ---- what is kept
+
+-- a record of a step is of the step's file
+of_step : (file : FileId) (content : Payload) (rec : Record) → RecordIs file content (Some rec) → file_of rec ≡ Some file
+of_step file content (kept.Promise f epoch) is = ap (λ f. Some f) is
+of_step file content (kept.Update f update) is = ap (λ f. Some f) is
+of_step file content (kept.Stage f object version bytes) is = ap (λ f. Some f) is
+of_step file content (kept.Head f head) is = ap (λ f. Some f) is
+of_step file content (kept.View f location) is = ap (λ f. Some f) is.0
+of_step file content (kept.Boot boot) is = absurd is
+of_step file content (kept.Meta from number now nodes request) is = absurd is
+
+-- the row of any file behind the record of a step of this one
+row_behind : (records : List Record) (file other : FileId) (content : Payload) (rec : Option Record) → RecordIs file content rec
+    → row_in (fold_of (one_more records rec)).files other ≡ cond (is_file file other) (kept_after (row_in (fold_of records).files file) rec) (row_in (fold_of records).files other)
+row_behind records file other content None is = at (is_file file other) refl
+  where
+    at : (b : Bool) → is_file file other ≡ b → row_in (fold_of records).files other ≡ cond b (row_in (fold_of records).files file) (row_in (fold_of records).files other)
+    at true same_file = ap (row_in (fold_of records).files) (sym (file-equal file other same_file))
+    at false differ = refl
+row_behind records file other content (Some rec) is =
+    let rows = (fold_of records).files in
+    let row = row_after (row_in rows file) rec in
+    ap (λ (f : Folded). row_in f.files other) (fold_of-push records rec)
+    ∙ (ap (λ (o : Option FileId). row_in (rows_after rows rec o) other) (of_step file content rec is)
+    ∙ (row_in-with_row rows row other
+    ∙ ap (λ (f : FileId). cond (is_file f other) row (row_in rows other)) (row_after-file (row_in rows file) rec ∙ row_in-file rows file)))
+
+-- a step of one file keeps what memory and records have in common
+pub step_agrees : (records : List Record) (s : OsdState) (file : FileId) (content : Payload) (after : FileState) (rec : Option Record) → Agrees records s → RecordIs file content rec
+    → after.kept ≡ kept_after (file_at (awake_as s.started) s.files file).kept rec
+    → (other : FileId) → (file_at (awake_as s.started) (with_file s.files after) other).kept ≡ row_in (fold_of (one_more records rec)).files other
+step_agrees records s file content after rec agrees is kept_is other =
+    ap (λ (f : FileState). f.kept) (file_at-with_file (awake_as s.started) s.files after other)
+    ∙ (ap (λ (f : FileId). (cond (is_file f other) after (file_at (awake_as s.started) s.files other)).kept) its_file
+    ∙ (by_file (is_file file other) ∙ sym (row_behind records file other content rec is)))
+  where
+    its_file : after.kept.file ≡ file
+    its_file = ap (λ (row : FileRow). row.file) kept_is ∙ (file_after (file_at (awake_as s.started) s.files file).kept rec ∙ at_file (awake_as s.started) s.files file)
+
+    by_file : (b : Bool) → (cond b after (file_at (awake_as s.started) s.files other)).kept ≡ cond b (kept_after (row_in (fold_of records).files file) rec) (row_in (fold_of records).files other)
+    by_file true = kept_is ∙ ap (λ (row : FileRow). kept_after row rec) (agrees file)
+    by_file false = agrees other
+
+-- an OSD that starts
+from_rows : (awake : Awake) (rows : List FileRow) (file : FileId) → (file_at awake (map (file_from awake) rows) file).kept ≡ row_in rows file
+unfolding file_at row_in
+from_rows awake [] file = refl
+from_rows awake (r ∷ rs) file = at (is_file r.file file) (from_rows awake rs file)
+  where
+    at : (b : Bool) → (file_at awake (map (file_from awake) rs) file).kept ≡ row_in rs file → (cond b (file_from awake r) (file_at awake (map (file_from awake) rs) file)).kept ≡ cond b r (row_in rs file)
+    at true rest = refl
+    at false rest = rest
+
+pub start_agrees : (records : List Record) (boot : Boot) (started : Silent) → Agrees (records ++ kept.Boot boot ∷ []) (osd_from started (fold_of records).files)
+start_agrees records boot started file =
+    from_rows (awake_as started) (fold_of records).files file ∙ sym (ap (λ (f : Folded). row_in f.files file) (fold_of-push records (kept.Boot boot)))
+
 -- more files are declared
 pub listed_more : (files more : List DeclaredFile) (file : FileId) (o : Option Location) → ((number : ℕ) (location : Location) → file_in files number ≡ Some location → file_in more number ≡ Some location)
     → Listed files file o → Listed more file o
@@ -296,7 +335,7 @@ listed_more files more file (Some location) same listed = same file.number locat
 
 pub fits_more : (files more : List DeclaredFile) (s : FileState) → ((number : ℕ) (location : Location) → file_in files number ≡ Some location → file_in more number ≡ Some location)
     → FileFits files s → FileFits more s
-fits_more files more s same q = record { listed = listed_more files more s.kept.file s.kept.location same q.listed; declared = q.declared; stored = q.stored }
+fits_more files more s same q = record { listed = listed_more files more s.kept.file s.kept.location same q.listed; declared = q.declared; stored = q.stored; sound = q.sound }
 
 pub ask_more : (files more : List DeclaredFile) (content : Payload) → ((number : ℕ) (location : Location) → file_in files number ≡ Some location → file_in more number ≡ Some location)
     → AskFits files content → AskFits more content

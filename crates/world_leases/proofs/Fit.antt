@@ -20,49 +20,20 @@ use Rattle.osd_rows.specs.FileStates.{members_of}
 use Rattle.cluster_runs.specs.declared.DeclaredFile.{DeclaredFile}
 use Rattle.cluster_runs.specs.declared.Entry.TheVariants as entry
 use Rattle.cluster_runs.specs.declared.Sent.{Sent}
-use Rattle.cluster_runs.specs.declared.RunningCall.{RunningCall}
 use Rattle.cluster_runs.specs.TimeLine.{Standing, standing, holds, holds_as, times_of, is_before_end}
 use Rattle.cluster_runs.specs.World.{World, Node, Running, Core, osd, client, node_in, with_node, file_in, up_of}
-use Rattle.cluster_runs.specs.Lines.{declared_file}
 use Rattle.cluster_runs.specs.NodeSteps.{entry_of, pending, numbered, to_itself, one_more, after_turn, halted, Doing, appends}
 use Rattle.world_leases.specs.View.{file_setting, node_id, end_in, told, core_seen, up_seen, node_seen, messages, lease_view}
 use Rattle.world_leases.proofs.Lists.{has_in, has_left, has_right, has_filter, has_take, map_same}
 use Rattle.world_leases.proofs.Tables.{same, node_in-new, node_in-other}
 use Rattle.world_leases.proofs.Standings.{standing-push, other_down, own_down}
-use Rattle.world_leases.proofs.Files.{AskFits, RecordFits, RowsFit, OsdFits, record_fits}
+use Rattle.world_leases.proofs.Files.{RecordFits, record_fits}
 use Rattle.world_leases.proofs.Marks.{MarksFit, standing_elsewhere}
 use Rattle.world_leases.proofs.Moments.{ApartAt, IsSafe, safe-push, safe-marks, times-push, times-marks}
 use Rattle.world_leases.proofs.Frame.{AreMembers, Good, however, IsStep, seen_running, next_node, after_reached, halts, fewer, fewer_outs}
+use Rattle.world_leases.specs.Worlds.{AskFits, RowsFit, CoreFits, UpFits, NodeFits, EndFits, Stands}
 
 -- ---- nodes
-
--- the capability of a running call is of a declared file
-abbrev pub CallFits : List DeclaredFile → Option RunningCall → Type 0
-CallFits files None = Unit {0}
-CallFits files (Some call) = (call.capability.file ≡ declared_file call.capability.file.number) × (file_in files call.capability.file.number ≡ Some call.capability.location)
-
-abbrev pub CoreFits : TimeSettings → List DeclaredFile → NodeId → List Record → Running → Core → Type 0
-CoreFits times files node kept r (osd s) = OsdFits times files node r.boot r.clock s × (r.boot.0 ≤ (fold_of kept).boot.0)
-CoreFits times files node kept r (client c) = CallFits files c.running
-
-abbrev pub UpFits : TimeSettings → List DeclaredFile → NodeId → List Record → Option Running → Type 0
-UpFits times files node kept None = Unit {0}
-UpFits times files node kept (Some r) = CoreFits times files node kept r r.core
-
-pub record NodeFits (times : TimeSettings) (files : List DeclaredFile) (node : Node) : Type 0 where
-  pub rows : RowsFit files (fold_of node.kept).files
-  pub up : UpFits times files node.id node.kept node.up
-
--- a node stands in the trace as it runs; a client never holds
-abbrev pub EndFits : Option ℕ → Core → Type 0
-EndFits end (osd s) = Unit {0}
-EndFits end (client c) = end ≡ None
-
-abbrev pub Stands : Option Standing → Option Running → Type 0
-Stands None None = Unit {0}
-Stands None (Some r) = ⊥
-Stands (Some st) None = ⊥
-Stands (Some st) (Some r) = (st.clock ≡ r.clock) × EndFits st.end r.core
 
 -- ---- worlds
 

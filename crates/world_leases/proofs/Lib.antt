@@ -13,4 +13,5 @@ pub mod NodeEvents
 pub mod Declares
 pub mod Clocks
 pub mod LineSteps
+pub mod Order
 pub mod Runs

@@ -39,11 +39,11 @@ use Rattle.cluster_runs.specs.Lines.{does, tells, declares, runs, first_boot, ne
 use Rattle.world_leases.specs.View.{file_setting, node_id, told, core_seen, up_seen, node_seen, messages, is_of, lease_view}
 use Rattle.world_leases.proofs.Lists.{has_in, has_left, has_right, has_filter, filter_has, set_same}
 use Rattle.world_leases.proofs.Tables.{same, node_in-new, node_in-other, node_in-id}
-use Rattle.world_leases.proofs.Files.{OsdFits}
-use Rattle.world_leases.proofs.Fit.{CoreFits, UpFits, NodeFits, EndFits, Stands, IsFit, replaced, halt_fits, fewer_fits}
+use Rattle.world_leases.proofs.Fit.{IsFit, replaced, halt_fits, fewer_fits}
 use Rattle.world_leases.proofs.NodeEvents.{ResultFits, event_fits, end_fits, client_next, call_fits}
 use Rattle.world_leases.proofs.Declares.{times_fit, osd_fits, client_fits, file_fits}
 use Rattle.world_leases.proofs.Clocks.{close_by, start_fits, tick_fits, clock_fits}
+use Rattle.world_leases.specs.Worlds.{OsdFits, CoreFits, UpFits, NodeFits, EndFits, Stands}
 
 -- ---- rules
 
@@ -99,7 +99,7 @@ changed_fits w own node r q found is_up seen core stands fit =
 
 same_core : (times : TimeSettings) (files : List DeclaredFile) (node : NodeId) (records : List Record) (r q : Running) (core : Core) → r.boot ≡ q.boot → r.clock ≡ q.clock → CoreFits times files node records r core → CoreFits times files node records q core
 same_core times files node records r q (osd s) boot clock fits =
-    (subst (λ (c : ℕ). OsdFits times files node q.boot c s) clock (subst (λ (b : Boot). OsdFits times files node b r.clock s) boot fits.0), subst (λ (b : Boot). b.0 ≤ (fold_of records).boot.0) boot fits.1)
+    (subst (λ (c : ℕ). OsdFits times files node q.boot c s) clock (subst (λ (b : Boot). OsdFits times files node b r.clock s) boot fits.0), subst (λ (b : Boot). b.0 ≤ (fold_of records).boot.0) boot fits.1, fits.2)
 same_core times files node records r q (client c) boot clock fits = fits
 
 core_of : (w : World) (own : List Msg) (node : Node) (r : Running) → node_in w.nodes node.id.0 ≡ Some node → node.up ≡ Some r → IsFit w own → CoreFits w.times w.files node.id node.kept r r.core

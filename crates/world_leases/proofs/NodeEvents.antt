@@ -1,5 +1,5 @@
 -- an event at a node leaves a world that fits: an OSD's, and a client's
-use Rattle.std.proofs.Common.{◌≡◌, ℕ, ◌≤◌, ◌+◌, inl, inr, List, ◌++◌, map, refl, arith, ap, sym, ◌∙◌, subst, Option, Some, None, Bool, true, false}
+use Rattle.std.proofs.Common.{◌≡◌, ℕ, ◌+◌, inl, inr, List, ◌++◌, map, refl, arith, ap, sym, ◌∙◌, subst, Option, Some, None, Bool, true, false}
 use Rattle.std.specs.Prelude.{◌==◌, ◌&&◌, cond, max, nat_lt, nat_le, not, filter, Result, Ok, Err, length}
 use Rattle.xt_base.specs.TimeSettings.{TimeSettings}
 use Rattle.xt_base.specs.declared.ids.NodeId.{NodeId}
@@ -22,7 +22,6 @@ use Rattle.xt_base.specs.declared.event.Outcome.TheVariants as outcome
 use Rattle.xt_base.specs.declared.status.AskRefusal.TheVariants as refusal
 use Rattle.xt_base.specs.declared.status.Limited.TheVariants as limited
 use Rattle.xt_base.specs.declared.TheConstants.{COUNTS}
-use Rattle.xt_protocol.specs.Folds.{fold_of}
 use Rattle.xt_protocol.specs.LeaseRows.{Silent}
 use Rattle.lease_safety.specs.State.{Has}
 use Rattle.lease_runs.specs.LeaseWorld.{LeaseRow, LeaseNode, RowStep, node_stepped, row_stepped, IsReached, lease_file}
@@ -42,16 +41,16 @@ use Rattle.cluster_runs.specs.NodeSteps.{Room, Cause, came_to, has_no_room, Over
 use Rattle.world_leases.specs.View.{file_setting, told, awake_as, unseen, core_seen, lease_view}
 use Rattle.world_leases.proofs.Tables.{node_in-id}
 use Rattle.world_leases.proofs.Standings.{AreInert, inert_still, still_standing}
-use Rattle.world_leases.proofs.Files.{AskFits, OsdFits}
 use Rattle.world_leases.proofs.Marks.{inert, told_elsewhere, clock_stays}
 use Rattle.world_leases.proofs.Frame.{AreMembers, IsStep, seen_running}
 use Rattle.world_leases.proofs.OsdEvents as osd_events
-use Rattle.world_leases.proofs.Fit.{CallFits, CoreFits, UpFits, EndFits, Stands, IsShaped, IsFit, members_by, are_members, IsNext, step_fits, fewer_fits, kept_boot}
+use Rattle.world_leases.proofs.Fit.{IsShaped, IsFit, members_by, are_members, IsNext, step_fits, fewer_fits, kept_boot}
+use Rattle.world_leases.specs.Worlds.{AskFits, CallFits, CoreFits, UpFits, EndFits, Stands}
 
 -- ---- OSDs
 
 -- how a running node stands
-stood_by : (w : World) (own : List Msg) (node : Node) (r : Running) → IsShaped w own → node_in w.nodes node.id.0 ≡ Some node → node.up ≡ Some r → (number : ℕ)
+pub stood_by : (w : World) (own : List Msg) (node : Node) (r : Running) → IsShaped w own → node_in w.nodes node.id.0 ≡ Some node → node.up ≡ Some r → (number : ℕ)
     → (st : Standing) × (standing node.id number w.entries ≡ Some st) × (st.clock ≡ r.clock) × EndFits st.end r.core
 stood_by w own node r shape found is_up number =
     at (standing node.id number w.entries) refl (subst (Stands (standing node.id number w.entries)) (ap up_of found ∙ is_up) (shape.stands node.id.0 number))
@@ -66,7 +65,7 @@ osd_next w was node r s happens shape found is_up is_osd comes =
     let o = step_of_osd (outside_of node.kept) s r.clock happens in
     record {
       shows = λ number members are. shown number members are;
-      core = (fits_all.fits, omega (arith, core_is.1, ap (λ (b : Boot). b.0) (kept_boot node.kept o.turned.rec (λ rec is. (fits_all.rec rec is).1))));
+      core = (fits_all.fits, omega (arith, core_is.1, ap (λ (b : Boot). b.0) (kept_boot node.kept o.turned.rec (λ rec is. (fits_all.rec rec is).1))), fits_all.kept);
       rec = fits_all.rec;
       asks = fits_all.asks;
       marks = fits_all.marks;
@@ -76,14 +75,14 @@ osd_next w was node r s happens shape found is_up is_osd comes =
           subst (λ (st : Option Standing). Stands st (Some (record r { core = osd o.osd }))) (sym after.1) (after.2 ∙ before.2, tt);
     }
   where
-    core_is : OsdFits w.times w.files node.id r.boot r.clock s × (r.boot.0 ≤ (fold_of node.kept).boot.0)
+    core_is : CoreFits w.times w.files node.id node.kept r (osd s)
     core_is =
         subst (CoreFits w.times w.files node.id node.kept r) is_osd
         (subst (λ (u : Option Running). UpFits w.times w.files node.id node.kept u) is_up (shape.nodes node.id.0 node found).up)
 
     event_is : osd_events.EventAt w was node r s (step_of_osd (outside_of node.kept) s r.clock happens)
     event_is =
-        osd_events.event_at w was node r s found is_up is_osd core_is.0 shape.good
+        osd_events.event_at w was node r s found is_up is_osd core_is.0 core_is.2 shape.good
         (λ number. let st = stood_by w was node r shape found is_up number in record { at = st.0; stands = st.1; clock = st.2 })
         shape.times (members_by w.files) (are_members w.files) happens comes
 

@@ -16,7 +16,7 @@ use Rattle.xt_base.specs.declared.event.Event.{Event}
 use Rattle.xt_base.specs.declared.event.Event.TheVariants as event
 use Rattle.xt_base.specs.declared.event.Mark.{Mark}
 use Rattle.xt_protocol.specs.FileIds.{is_file}
-use Rattle.xt_protocol.specs.Folds.{fold_of}
+use Rattle.xt_protocol.specs.Folds.{fold_of, row_in}
 use Rattle.xt_protocol.proofs.Folds.{file-equal, file-itself}
 use Rattle.xt_protocol.specs.LeaseRows.{Silent, Awake, awake_at, is_silent, LeaseState, lease_expired}
 use Rattle.lease_safety.specs.State.{Has}
@@ -40,15 +40,17 @@ use Rattle.cluster_runs.specs.declared.DeclaredFile.{DeclaredFile}
 use Rattle.cluster_runs.specs.TimeLine.{Standing, standing, holds, times_of}
 use Rattle.cluster_runs.specs.World.{World, Node, Running, osd, node_in}
 use Rattle.cluster_runs.specs.Lines.{declared_file}
-use Rattle.cluster_runs.specs.NodeSteps.{entry_of, outside_of}
+use Rattle.cluster_runs.specs.NodeSteps.{entry_of, one_more, outside_of}
 use Rattle.world_leases.specs.View.{file_setting, told, awake_as, core_seen, messages, is_of, lease_view}
 use Rattle.world_leases.proofs.Lists.{filter_has, has_map}
 use Rattle.world_leases.proofs.Frame.{AreMembers, Good, seen_running}
-use Rattle.world_leases.proofs.Files.{unbusy, held_busy, AskFits, RecordFits, FileFits, OsdFits, at_fits, step_fits, wake_fits, step_record, same_boot, Listed}
-use Rattle.world_leases.proofs.Rising.{Rises, files_of, with_file_has, with_file_rises}
+use Rattle.world_leases.proofs.Files.{step_agrees, unbusy, held_busy, RecordFits, at_fits, step_fits, wake_fits, step_record, same_boot}
+use Rattle.world_leases.proofs.Rising.{with_file_has, with_file_rises}
 use Rattle.world_leases.proofs.Woken.{AtMap, found_at, found_nowhere, at_map, one_state, mapped_files, flat_has}
 use Rattle.world_leases.proofs.Standings.{AreInert}
 use Rattle.world_leases.proofs.Marks.{none_told, MarksFit, inert, wins, acts, told_as, told_of_other, expired_turn, holds_true}
+use Rattle.osd_invariants.proofs.Kept as kept_steps
+use Rattle.world_leases.specs.Worlds.{Agrees, Rises, files_of, Listed, AskFits, FileFits, OsdFits}
 
 -- ---- messages of a step
 
@@ -139,6 +141,7 @@ pub record StepFits (w : World) (node : Node) (r : Running) (s : OsdState) (o : 
   pub asks : (m : Msg) → Has m o.turned.outs → AskFits w.files m.payload
   pub rec : (rec : Record) → o.turned.rec ≡ Some rec → RecordFits w.files rec × ((fold_of (node.kept ++ rec ∷ [])).boot ≡ (fold_of node.kept).boot)
   pub marks : MarksFit node.id w.entries o.turned.marks
+  pub kept : Agrees (one_more node.kept o.turned.rec) o.osd
 
 -- and what it is in the lease world of a file
 pub record Shows (g : LeaseSetting) (w : World) (was : List Msg) (node : Node) (s : OsdState) (o : OsdStep) : Type 0 where
@@ -169,7 +172,7 @@ no_rec : {rec : Record} {P : Type 0} → None ≡ Some rec → P
 no_rec is = absurd (cc)
 
 module _ (w : World) (was : List Msg) (node : Node) (r : Running) (s : OsdState) (found : node_in w.nodes node.id.0 ≡ Some node) (is_up : node.up ≡ Some r) (is_osd : r.core ≡ osd s)
-    (fits : OsdFits w.times w.files node.id r.boot r.clock s) (good : Good w was) (stood : (number : ℕ) → Stood w node r number) (times : times_of w.entries ≡ w.times) where
+    (fits : OsdFits w.times w.files node.id r.boot r.clock s) (agrees : Agrees node.kept s) (good : Good w was) (stood : (number : ℕ) → Stood w node r number) (times : times_of w.entries ≡ w.times) where
   abbrev now : ℕ
   now = max r.clock s.last
 
@@ -243,6 +246,46 @@ module _ (w : World) (was : List Msg) (node : Node) (r : Running) (s : OsdState)
       ∙ ap (λ (n : NodeId). let x = expired_row now row in row_asks (file_setting w.times k members) n now x x.lease) node_is
       ∙ ap (λ (t : ℕ). let x = expired_row t row in row_asks (file_setting w.times k members) node.id t x x.lease) now_is
 
+  -- a lease that is held once what is overdue has expired is held by the trace, and of a declared file
+  pub lease_holds : (file : FileId) (members : List NodeId) → AreMembers w.files file.number members → IsHeld (lease_expired (file_at awake s.files file).lease r.clock)
+      → (file ≡ declared_file file.number) × (holds w.entries node.id file.number ≡ true)
+  lease_holds file members are is = (same_file, holds_true g w.entries node.id y (stood k).at (ap (λ (t : TimeSettings). t.drift) times) (stood k).stands (stood k).clock refl (subst (IsHolding g) there_is holding))
+    where
+      k : ℕ
+      k = file.number
+
+      g : LeaseSetting
+      g = file_setting w.times k members
+
+      x : LeaseNode
+      x = seen k members
+
+      view : LeaseWorld
+      view = lease_view g w was
+
+      st : RowStep
+      st = row_expires x.clock x.row
+
+      y : LeaseNode
+      y = node_stepped x st
+
+      over : LeaseWorld
+      over = row_stepped view node.id st
+
+      same_file : file ≡ declared_file k
+      same_file =
+          subst (λ (f : FileId). f ≡ declared_file f.number) (osd_leases.at_file awake s.files file)
+          ((at_fits w.files awake s.files file fits.fits).declared (unbusy (file_at awake s.files file).lease r.clock (held_busy (lease_expired (file_at awake s.files file).lease r.clock) is)))
+
+      there_is : over.node node.id.0 ≡ y
+      there_is = put-same view.node node.id.0 node.id.0 (node_stepped (view.node node.id.0) st) refl ∙ ap (λ (z : LeaseNode). node_stepped z st) (seen_is k members)
+
+      turn : HasTurn y y.row.lease
+      turn = expired_turn y (file_at awake s.files (declared_file k)).lease r.clock refl refl (subst (λ (f : FileId). IsHeld (lease_expired (file_at awake s.files f).lease r.clock)) same_file is)
+
+      holding : IsHolding g (over.node node.id.0)
+      holding = turn_holds g over node.id.0 (expiring k members are) (subst (λ (z : LeaseNode). HasTurn z z.row.lease) (sym there_is) turn)
+
   -- ---- silence
 
   pub silent : (k : ℕ) (members : List NodeId) → AreMembers w.files k members → Shows (file_setting w.times k members) w was node s (record { osd = s; turned = quiet })
@@ -250,7 +293,7 @@ module _ (w : World) (was : List Msg) (node : Node) (r : Running) (s : OsdState)
       untouched k members are (record { osd = s; turned = quiet }) refl (λ m h is. h) (ap (told k node.id.0) (append-nil w.entries))
 
   pub silent_fits : StepFits w node r s (record { osd = s; turned = quiet })
-  silent_fits = record { started = refl; fits = fits; asks = λ m h. absurd h; rec = λ rec is. no_rec is; marks = inert tt }
+  silent_fits = record { started = refl; fits = fits; asks = λ m h. absurd h; rec = λ rec is. no_rec is; marks = inert tt; kept = agrees }
 
   -- the clock alone
   pub later_fits : OsdFits w.times w.files node.id r.boot r.clock (record { started = s.started; last = now; files = s.files })
@@ -261,7 +304,7 @@ module _ (w : World) (was : List Msg) (node : Node) (r : Running) (s : OsdState)
       untouched k members are (record { osd = record { started = s.started; last = now; files = s.files }; turned = quiet }) refl (λ m h is. h) (ap (told k node.id.0) (append-nil w.entries))
 
   pub unconcerned_fits : StepFits w node r s (record { osd = record { started = s.started; last = now; files = s.files }; turned = quiet })
-  unconcerned_fits = record { started = refl; fits = later_fits; asks = λ m h. absurd h; rec = λ rec is. no_rec is; marks = inert tt }
+  unconcerned_fits = record { started = refl; fits = later_fits; asks = λ m h. absurd h; rec = λ rec is. no_rec is; marks = inert tt; kept = agrees }
 
   -- ---- a Wake
 
@@ -356,6 +399,17 @@ module _ (w : World) (was : List Msg) (node : Node) (r : Running) (s : OsdState)
             (let here : is_file sent.0.kept.file file ≡ true = ap (λ (a : FileId). is_file a file) same_file ∙ file-itself file in let nowhere = none sent.0 sent.1 in cc (here, nowhere)))
             (woke_told k)
 
+    woke_agrees : Agrees (one_more node.kept woke.turned.rec) woke.osd
+    woke_agrees file =
+        ap (λ (t : Silent). (file_at (awake_as t) woke.osd.files file).kept) (ap (λ (o : OsdStep). o.osd.started) whole_wake)
+        ∙ (ap (λ (fs : List FileState). (file_at awake fs file).kept) shown_woken.files
+        ∙ (by_place (at_map (λ (f : FileState). (woke_of f).state) awake s.files file woke_file)
+        ∙ (agrees file ∙ ap (λ (rec : Option Record). row_in (fold_of (one_more node.kept rec)).files file) (sym no_woke_rec))))
+      where
+        by_place : AtMap (λ (f : FileState). (woke_of f).state) awake s.files file → (file_at awake (map (λ (f : FileState). (woke_of f).state) s.files) file).kept ≡ (file_at awake s.files file).kept
+        by_place (found_at has is) = ap (λ (f : FileState). f.kept) is ∙ act_steps.wake_step_kept site (file_at awake s.files file)
+        by_place (found_nowhere none is) = ap (λ (f : FileState). f.kept) is
+
     pub wake_fits_all : StepFits w node r s woke
     wake_fits_all =
         record {
@@ -372,6 +426,7 @@ module _ (w : World) (was : List Msg) (node : Node) (r : Running) (s : OsdState)
           asks = λ m h. no_ask w.files m (λ is. let sent = woke_sends m h is in (sent.0.kept.file, sent.3));
           rec = λ rec is. no_rec (sym no_woke_rec ∙ is);
           marks = inert (subst AreInert (sym no_woke_marks) tt);
+          kept = woke_agrees;
         }
 
   -- ---- a message
@@ -507,21 +562,7 @@ module _ (w : World) (was : List Msg) (node : Node) (r : Running) (s : OsdState)
 
     -- the marks of the step
     acting_holds : (file : FileId) (members : List NodeId) → AreMembers w.files file.number members → IsHeld (settled_row site (at_file file)).lease → holds w.entries node.id file.number ≡ true
-    acting_holds file members are is =
-        let k = file.number in
-        let g = file_setting w.times k members in
-        let x = seen k members in
-        let view = lease_view g w was in
-        let st = row_expires x.clock x.row in
-        let y = node_stepped x st in
-        let over = row_stepped view node.id st in
-        let same_file = declared file (held_busy (settled_row site (at_file file)).lease is) in
-        let is_held : IsHeld (lease_expired (at_file (declared_file k)).lease r.clock) =
-        subst (λ (t : ℕ). IsHeld (lease_expired (at_file (declared_file k)).lease t)) now_is (subst (λ (f : FileId). IsHeld (lease_expired (at_file f).lease now)) same_file is) in
-        let there_is : over.node node.id.0 ≡ y = put-same view.node node.id.0 node.id.0 (node_stepped (view.node node.id.0) st) refl ∙ ap (λ (z : LeaseNode). node_stepped z st) (seen_is k members) in
-        let turn : HasTurn y y.row.lease = expired_turn y (at_file (declared_file k)).lease r.clock refl refl is_held in
-        let holding = turn_holds g over node.id.0 (expiring k members are) (subst (λ (z : LeaseNode). HasTurn z z.row.lease) (sym there_is) turn) in
-        holds_true g w.entries node.id y (stood k).at (ap (λ (t : TimeSettings). t.drift) times) (stood k).stands (stood k).clock refl (subst (IsHolding g) there_is holding)
+    acting_holds file members are is = (lease_holds file members are (subst (λ (t : ℕ). IsHeld (lease_expired (at_file file).lease t)) now_is is)).1
 
     pub message_fits : (members : ℕ → List NodeId) → ((k : ℕ) → AreMembers w.files k (members k)) → (file : FileId) → file_concerned msg.payload ≡ Some file → StepFits w node r s (stepped file)
     message_fits members are file concerns =
@@ -546,6 +587,10 @@ module _ (w : World) (was : List Msg) (node : Node) (r : Running) (s : OsdState)
             same_boot (at_file file).kept.file msg.payload rec node.kept (subst (RecordIs (at_file file).kept.file msg.payload) is (act_steps.step_rec site (at_file file) msg.from msg.payload)),
           );
           marks = by_marks (marks_are file);
+          kept =
+              step_agrees node.kept s file msg.payload step.state step.turned.rec agrees
+              (subst (λ (f : FileId). RecordIs f msg.payload step.turned.rec) (of_file file) (act_steps.step_rec site (at_file file) msg.from msg.payload))
+              (kept_steps.step_follows site (at_file file) msg.from msg.payload);
         }
       where
         by_marks : MarksAre file (settled_row site (at_file file)).lease (file_step file).turned.marks → MarksFit node.id w.entries (file_step file).turned.marks

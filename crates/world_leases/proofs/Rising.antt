@@ -1,5 +1,5 @@
 -- files in a list that rises
-use Rattle.std.proofs.Common.{◌≡◌, inl, inr, List, [], ◌∷◌, map, refl, ap, sym, ◌∙◌, subst, Bool, true, false}
+use Rattle.std.proofs.Common.{◌≡◌, inl, inr, List, [], ◌∷◌, refl, ap, sym, ◌∙◌, subst, Bool, true, false}
 use Rattle.std.specs.Prelude.{◌⊎◌, cond}
 use Rattle.std.specs.declared.cmp.Ordering.{Ordering}
 use Rattle.std.specs.declared.cmp.Ordering.TheVariants.{Less, Equal, Greater}
@@ -12,6 +12,7 @@ use Rattle.xt_protocol.proofs.Folds.{file-equal, is_file-file_cmp, file_cmp_tota
 use Rattle.lease_safety.specs.State.{Has}
 use Rattle.osd_rows.specs.FileStates.{FileState}
 use Rattle.osd_rows.specs.OsdSteps.{with_file}
+use Rattle.world_leases.specs.Worlds.{AreBehind, Rises, files_of, row_files}
 
 -- ---- the order of files
 
@@ -42,13 +43,6 @@ pub before_itself : (a b : FileId) → is_file a b ≡ true → is_before a b �
 before_itself a b same before = never_both (file_cmp a b) (sym (is_file-file_cmp a b) ∙ same) before
 
 -- ---- rising
-
-abbrev pub AreBehind : FileId → List FileId → Type 0
-AreBehind file files = (other : FileId) → Has other files → is_before file other ≡ true
-
-abbrev pub Rises : List FileId → Type 0
-Rises [] = Unit {0}
-Rises (f ∷ fs) = AreBehind f fs × Rises fs
 
 -- a file in its place
 abbrev put_in : List FileId → FileId → List FileId
@@ -87,13 +81,6 @@ put_rises (f ∷ fs) file rises = at (put_rises fs file rises.1) (is_file f file
               | inl e ↦ subst (λ (k : FileId). is_before f k ≡ true) (sym e) (before_else f file differs is)
               | inr i ↦ rises.0 other i
             ]
-
--- the files of states, and of rows
-abbrev pub files_of : List FileState → List FileId
-files_of states = map (λ (s : FileState). s.kept.file) states
-
-abbrev pub row_files : List FileRow → List FileId
-row_files rows = map (λ (r : FileRow). r.file) rows
 
 with_file_files : (states : List FileState) (s : FileState) → files_of (with_file states s) ≡ put_in (files_of states) s.kept.file
 unfolding with_file

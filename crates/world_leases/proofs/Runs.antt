@@ -12,9 +12,11 @@ use Rattle.cluster_runs.specs.Lines.{begins, steps, so_far, done, enough}
 use Rattle.cluster_runs.specs.Bounds.{AreLines, FitsLater}
 use Rattle.cluster_runs.specs.Clauses.{AreApart, HoldersAct}
 use Rattle.cluster_runs.specs.Runs.{with_line, after_refusal, after, run_of, IsRunInto}
+use Rattle.world_leases.specs.Worlds.{IsInOrder, IsNextInOrder}
+use Rattle.world_leases.proofs.Order.{in_order, next_in_order}
 use Rattle.world_leases.proofs.Declares.{start_fits}
 use Rattle.world_leases.proofs.Fit.{IsFit}
-use Rattle.world_leases.proofs.LineSteps.{OpensFirst, steps_fit, so_far_fits, begins_fits}
+use Rattle.world_leases.proofs.LineSteps.{OpensFirst, NextFits, steps_fit, so_far_fits, begins_fits}
 
 -- the world behind some steps of a line
 pub part_fits : (room : Room) (w : World) (l : Line) (k : ℕ) → refusal w l ≡ None → OpensFirst w l → IsFit w [] → IsFit (so_far (steps k room (begins w l))) []
@@ -84,13 +86,22 @@ all_front : (lines : List Line) (l : Line) → AllByRecursion FitsLater (lines +
 all_front [] l are = (tt, are.0)
 all_front (x ∷ xs) l are = (let rest = all_front xs l are.1 in ((are.0, rest.0), rest.1))
 
-into_fits : (room : Room) (lines : List Line) (l : Line) (k : ℕ) → AreLines (lines ++ l ∷ []) → refusal (run_of room lines) l ≡ None → IsFit (so_far (steps k room (begins (run_of room lines) l))) []
+steps_into : (room : Room) (lines : List Line) (l : Line) (k : ℕ) → AreLines (lines ++ l ∷ []) → refusal (run_of room lines) l ≡ None → NextFits (steps k room (begins (run_of room lines) l))
 unfolding run_of
-into_fits room [] l k are allowed = part_fits room start_world l k allowed (starting_first l) start_fits
-into_fits room (x ∷ xs) l k are allowed =
+steps_into room [] l k are allowed = steps_fit k room (begins start_world l) (begins_fits start_world l allowed (starting_first l) start_fits)
+steps_into room (x ∷ xs) l k are allowed =
     let parts = all_front xs l are.1 in
     let w = fold (after room) (after room start_world x) xs in
-    part_fits room w l k allowed (later_first w l parts.1) (run_fits room (x ∷ xs) (are.0, parts.0))
+    steps_fit k room (begins w l) (begins_fits w l allowed (later_first w l parts.1) (run_fits room (x ∷ xs) (are.0, parts.0)))
+
+into_fits : (room : Room) (lines : List Line) (l : Line) (k : ℕ) → AreLines (lines ++ l ∷ []) → refusal (run_of room lines) l ≡ None → IsFit (so_far (steps k room (begins (run_of room lines) l))) []
+into_fits room lines l k are allowed = so_far_fits (steps k room (begins (run_of room lines) l)) (steps_into room lines l k are allowed)
+
+pub runs_in_order : (room : Room) (lines : List Line) → AreLines lines → IsInOrder (run_of room lines) []
+runs_in_order room lines are = in_order (run_of room lines) [] (run_fits room lines are)
+
+pub steps_in_order : (room : Room) (lines : List Line) (l : Line) (k : ℕ) → AreLines (lines ++ l ∷ []) → refusal (run_of room lines) l ≡ None → IsNextInOrder (steps k room (begins (run_of room lines) l))
+steps_in_order room lines l k are allowed = next_in_order (steps k room (begins (run_of room lines) l)) (steps_into room lines l k are allowed)
 
 pub runs_apart : (room : Room) (lines : List Line) (file : ℕ) → AreLines lines → AreApart file (run_of room lines).entries
 runs_apart room lines file are = ((run_fits room lines are).safe file).0

@@ -10,7 +10,8 @@ use Rattle.lease_safety.specs.State.{Has}
 use Rattle.osd_rows.specs.FileStates.{FileState}
 use Rattle.osd_rows.specs.OsdSteps.{file_at}
 use Rattle.world_leases.proofs.Lists.{has_in}
-use Rattle.world_leases.proofs.Rising.{Rises, files_of, before_itself}
+use Rattle.world_leases.proofs.Rising.{before_itself}
+use Rattle.world_leases.specs.Worlds.{Rises, files_of}
 
 -- a file's state after a step of each, that leaves each of its file
 pub data AtMap (f : FileState → FileState) (awake : Awake) (states : List FileState) (file : FileId) : Type 0 where

@@ -11,7 +11,9 @@ ghost use Rattle.cluster_runs.specs.declared.Entry.{Entry};
 ghost use Rattle.cluster_runs.specs.declared.Line.{Line};
 ghost use Rattle.cluster_runs.specs.NodeSteps.{Room};
 ghost use Rattle.cluster_runs.specs.Rules.{refusal};
+ghost use Rattle.cluster_runs.specs.Lines.{begins, steps};
 ghost use Rattle.cluster_runs.specs.Bounds.{AreLines};
+ghost use Rattle.world_leases.specs.Worlds.{IsInOrder, IsNextInOrder};
 ghost use Rattle.cluster_runs.specs.Runs.{run_of, IsRunInto};
 ghost use Rattle.cluster_runs.specs.Clauses.{AreApart, HoldersAct};
 ghost use Rattle.cluster_runs.specs.TimeLine.{holds};
@@ -27,6 +29,14 @@ pub fn nodes_are_apart()
 pub fn holders_act()
     ensures whole { (room : Room) (lines : List Line) (file : ℕ) → AreLines lines → HoldersAct file (run_of room lines).entries }
     ensures part { (room : Room) (lines : List Line) (l : Line) (file : ℕ) (entries : List Entry) → AreLines (lines ++ l ∷ []) → refusal (run_of room lines) l ≡ None → IsRunInto room lines l entries → HoldersAct file entries }
+{}
+
+/// What holds of the world at every moment of a run, also in the midst of a line: what an OSD has of a file is what its records
+/// say, and is sound; lists and asks are those that are declared; nodes stand in the trace as they run; and who has a lease
+/// holds its file by the trace.
+pub fn worlds_are_in_order()
+    ensures whole { (room : Room) (lines : List Line) → AreLines lines → IsInOrder (run_of room lines) [] }
+    ensures steps { (room : Room) (lines : List Line) (l : Line) (k : ℕ) → AreLines (lines ++ l ∷ []) → refusal (run_of room lines) l ≡ None → IsNextInOrder (steps k room (begins (run_of room lines) l)) }
 {}
 
 /// Leases are held, and pass on: in a run of three replicas one holds the file, and when its lease is over another does.
