@@ -65,7 +65,7 @@ wanted_all (w ∷ vs) v (inl p) = inl p
 wanted_all (w ∷ vs) v (inr h) = inr (wanted_all vs v h)
 wanted_all [] v h = absurd h
 
-not_after_loss : (n : ℕ) (h : Option ℕ) → without n h ≡ Some n → ⊥
+pub not_after_loss : (n : ℕ) (h : Option ℕ) → without n h ≡ Some n → ⊥
 not_after_loss n None e = absurd cc
 not_after_loss n (Some m) e = by_node (λ b. (if b then None else Some m) ≡ Some n → ⊥) m n (λ _ k. absurd cc) (λ ne k. ne (some_is k)) e
   where
@@ -101,6 +101,7 @@ module _ (stripe : ℕ) (ops : ℕ × ℕ → Op) (members : List ℕ) (n : ℕ)
     body = refl;
     is_tenure = refl;
     fits = fits;
+    calm = inl refl;
     steady = λ r. refl;
   }
 
@@ -130,6 +131,7 @@ module _ (stripe : ℕ) (ops : ℕ × ℕ → Op) (members : List ℕ) (n : ℕ)
     own = own;
     peers = nodes_unknown ms ∙ are;
     progress = λ h is. absurd (cc (sym (ap (λ f. f n) (none_told ms)), is));
+    calm_marks = inr tt;
     steady = λ r. true_false r refl;
     outs = λ m h x k. outs (map_has (λ (to : NodeId). message (record { 0 = n }) to (payload.Gather z.kept.file e)) ms m h) x k;
     fed = λ p h x k. unfed (map_has unknown_peer ms p h) x k;
@@ -175,6 +177,7 @@ module _ (stripe : ℕ) (ops : ℕ × ℕ → Op) (members : List ℕ) (n : ℕ)
     body = refl;
     is_tenure = refl;
     fits = record { names = names; own = own; tenure = not_after_loss n z.holder };
+    calm = inl refl;
     steady = λ r. refl;
   })
 
@@ -234,6 +237,7 @@ module _ (stripe : ℕ) (ops : ℕ × ℕ → Op) (members : List ℕ) (n : ℕ)
         own = b.own;
         peers = fed_nodes stripe ops members n z target peers ∙ b.listed;
         progress = (held, none_fit);
+        calm_marks = inr tt;
         steady = λ r. true_false r refl;
         outs = outs;
         fed = all_fed stripe ops members n there e target peers is b.sent;
@@ -294,6 +298,7 @@ module _ (stripe : ℕ) (ops : ℕ × ℕ → Op) (members : List ℕ) (n : ℕ)
         own = b.own;
         peers = b.listed;
         progress = are;
+        calm_marks = inr tt;
         steady = λ r. true_false r refl;
         outs = outs;
         fed = sent_ready stripe ops members n (seen_in z t) z.kept.file e peers b.sent;
@@ -383,6 +388,7 @@ module _ (stripe : ℕ) (ops : ℕ × ℕ → Op) (members : List ℕ) (n : ℕ)
           own = fits.own;
           peers = listed;
           progress = own_told;
+          calm_marks = inl refl;
           steady = λ r. refl;
           outs = λ m h. absurd h;
           fed = fed;

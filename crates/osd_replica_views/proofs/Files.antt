@@ -1,5 +1,5 @@
 -- The step of a file, on a message and on a Wake.
-use Rattle.std.proofs.Common.{◌≡◌, ℕ, ◌⊎◌, List, [], ◌∷◌, ◌++◌, refl, sym, ap, ◌∙◌, subst, inl, inr, if◌then◌else◌, ◌==◌, Option, Some, None}
+use Rattle.std.proofs.Common.{Bool, true, false, ◌≡◌, ℕ, ◌⊎◌, List, [], ◌∷◌, ◌++◌, refl, sym, ap, ◌∙◌, subst, inl, inr, if◌then◌else◌, ◌==◌, Option, Some, None}
 use Rattle.std.specs.Prelude.{cond, map, filter}
 use Rattle.xt_base.specs.declared.ids.NodeId.{NodeId}
 use Rattle.xt_base.specs.declared.ids.FileId.{FileId}
@@ -19,9 +19,10 @@ use Rattle.xt_base.specs.declared.message.Payload.TheVariants as payload
 use Rattle.xt_base.specs.declared.reply.Reply.{Reply}
 use Rattle.xt_base.specs.declared.reply.Reply.TheVariants as reply
 use Rattle.xt_protocol.specs.declared.Turned.{Turned}
-use Rattle.xt_protocol.specs.Register.{Round, ReadAnswer, promise, read_refused, WriteAnswer, Write, accepted, write_refused, other_boot, on_read, on_write}
-use Rattle.xt_protocol.specs.LeaseRows.{LeaseState, Proposer, Held, free, asking, writing, held, LeaseNews, sends_write, holds, finds, ends, on_answer, can_ask, round_starts, renewal_starts, is_renewal_due, has_run_out, has_turn, round_over, renewal_left, lease_expired}
+use Rattle.xt_protocol.specs.Register.{Round, same_ballot, lease_of, on_promise, ReadAnswer, promise, read_refused, WriteAnswer, Write, accepted, write_refused, other_boot, on_read, on_write}
+use Rattle.xt_protocol.specs.LeaseRows.{LeaseState, Proposer, Held, free, asking, writing, held, LeaseNews, LeaseStep, Asked, asked_still, asked_write, asked_found, asking_promised, Written, written_still, written_won, written_late, writing_accepted, Renewal, no_news, renewal_write, renewed, on_renewal, step_of_asking, step_of_written, news_of_targets, news_of_renewal, asking_answered, writing_answered, sends_write, holds, finds, ends, on_answer, can_ask, round_starts, renewal_starts, is_renewal_due, has_run_out, has_turn, round_over, renewal_left, lease_expired}
 use Rattle.xt_protocol.specs.LeaseRows as lease
+use Rattle.osd_invariants.specs.Sound.{ListUnder, IsHeld}
 use Rattle.osd_rows.specs.AskRows.{ask_waits, ask_served, reads_of, round_for, elsewhere, ask_without_lease, ask_under, ask_rows, view_record, ask_let_in, refusal_of, ask_handled, waiting_ask}
 use Rattle.osd_rows.specs.Asks.{Served, waits, asks_follow, asked_already, serves, tells_each, tells_untold}
 use Rattle.osd_rows.specs.FileLeases.{answer_to_read, read_comes, answers_to_write, end_after_write, write_comes, end_after_answer, writes_to, waiting_told, live_lease, led_on, lease_held, lease_news, answer_comes}
@@ -43,7 +44,7 @@ use Rattle.replica_safety.proofs.Lists.{has-append}
 use Rattle.replica_runs.specs.HeadWorld.{Message, shown, Entry}
 use Rattle.replica_runs.proofs.Tools.{by_test}
 use Rattle.osd_replica_views.specs.AskFits.{AskFits}
-use Rattle.osd_replica_views.specs.FileView.{Reaches, FileReaches, seen_of, settled, IsList, ListFits, ListUnder, LedUnder, IsOrderly, IsFree, AskComes, ShowsFile}
+use Rattle.osd_replica_views.specs.FileView.{Reaches, FileReaches, seen_of, settled, IsList, ListFits, IsOrderly, IsFree, AskComes, ShowsFile}
 use Rattle.osd_replica_views.specs.Seen.{Seen, ground_at, AreIn, TenureFits, Fits, Leads}
 use Rattle.osd_replica_views.proofs.Choosing.{LeadsTo, draws}
 use Rattle.osd_replica_views.proofs.Feeding.{seen_in}
@@ -52,6 +53,60 @@ use Rattle.osd_replica_views.proofs.Reaching.{reaches, IsMute, silent, mute_firs
 use Rattle.osd_replica_views.proofs.Sending.{map_has}
 use Rattle.osd_replica_views.proofs.Serving.{Quietly, joined_none}
 use Rattle.osd_replica_views.proofs.Waiting.{rests, follows, serves_one, wakes_again}
+
+-- ---- a round that wins leaves the lease held
+
+abbrev NewsHeld : LeaseState → LeaseNews → Type 0
+NewsHeld l (holds end) = IsHeld l
+NewsHeld l _ = Unit {0}
+
+abbrev AnswerHeld : LeaseStep → Type 0
+AnswerHeld step = NewsHeld step.state step.news
+
+either_held : (b : Bool) (x y : LeaseStep) → AnswerHeld x → AnswerHeld y → AnswerHeld (cond b x y)
+either_held true x y p q = p
+either_held false x y p q = q
+
+asked_held : (ballot : Ballot) (l : Lease) (a : Asked) → AnswerHeld (step_of_asking ballot l a)
+asked_held ballot l (asked_still r) = tt
+asked_held ballot l (asked_write r targets) = tt
+asked_held ballot l (asked_found p found) = tt
+
+written_held : (w : Written) → AnswerHeld (step_of_written w)
+written_held (written_still r) = tt
+written_held (written_won h) = tt
+written_held (written_late p) = tt
+
+targets_held : (l : LeaseState) (ballot : Ballot) (x : Lease) (targets : Option (List (NodeId × Boot))) → NewsHeld l (news_of_targets ballot x targets)
+targets_held l ballot x None = tt
+targets_held l ballot x (Some targets) = tt
+
+renewal_held : (h : Held) (o : Option Round) (renewal : Renewal) → NewsHeld (held h) (news_of_renewal o renewal)
+renewal_held h None renewal = tt
+renewal_held h (Some r) no_news = tt
+renewal_held h (Some r) (renewal_write targets) = tt
+renewal_held h (Some r) (renewed end) = tt
+
+asking_held : (r : Round) (now : ℕ) (from : NodeId) (content : Payload) → AnswerHeld (asking_answered r now from content)
+asking_held r now from (payload.Promise file ballot boot report) = either_held (same_ballot ballot r.ballot) _ _ (asked_held r.ballot (lease_of r) (asking_promised r now from boot report)) tt
+asking_held r now from (payload.Outrun file ballot seen) = either_held (same_ballot ballot r.ballot) _ _ tt tt
+asking_held r now from _ = tt
+
+writing_held : (r : Round) (now : ℕ) (from : NodeId) (content : Payload) → AnswerHeld (writing_answered r now from content)
+writing_held r now from (payload.Promise file ballot boot report) =
+    either_held (same_ballot ballot r.ballot) _ _ (targets_held (writing (on_promise r now from boot report).round) r.ballot (lease_of r) (lease.targets_of (on_promise r now from boot report).took)) tt
+writing_held r now from (payload.Accepted file ballot boot) = either_held (same_ballot ballot r.ballot) _ _ (written_held (writing_accepted r now from boot)) tt
+writing_held r now from (payload.Outrun file ballot seen) = either_held (same_ballot ballot r.ballot) _ _ tt tt
+writing_held r now from _ = tt
+
+answer_held : (l : LeaseState) (now : ℕ) (from : NodeId) (content : Payload) → AnswerHeld (on_answer l now from content)
+answer_held (free p) now from content = tt
+answer_held (asking r) now from content = asking_held r now from content
+answer_held (writing r) now from content = writing_held r now from content
+answer_held (held h) now from content = renewal_held (on_renewal h now from content).held h.renewal (on_renewal h now from content).renewal
+
+news_held : (l : LeaseState) (now : ℕ) (from : NodeId) (content : Payload) (end : ℕ) → (on_answer l now from content).news ≡ holds end → IsHeld (on_answer l now from content).state
+news_held l now from content end is = subst (NewsHeld (on_answer l now from content).state) is (answer_held l now from content)
 
 module _ (stripe : ℕ) (ops : ℕ × ℕ → Op) (members : List ℕ) (site : Site) where
   abbrev n : ℕ
@@ -66,7 +121,7 @@ module _ (stripe : ℕ) (ops : ℕ × ℕ → Op) (members : List ℕ) (site : S
   -- ---- rows that say nothing
 
   mute_sends : (outs : List Msg) → Silent outs → Mute (sends outs)
-  mute_sends outs mute = record { none = refl; mute = mute; told = λ es. refl }
+  mute_sends outs mute = record { none = refl; mute = mute; untold = tt }
 
   mute_one : (to : NodeId) (content : Payload) → shown n content ≡ [] → Silent (message site.node to content ∷ [])
   mute_one to content nothing m (inl p) = ap (λ (y : Msg). shown n y.payload) p ∙ nothing
@@ -93,7 +148,7 @@ module _ (stripe : ℕ) (ops : ℕ × ℕ → Op) (members : List ℕ) (site : S
   mute_to_each nodes content nothing m h = let r = map_has (λ (to : NodeId). message site.node to content) nodes m h in ap (λ (y : Msg). shown n y.payload) r.2 ∙ nothing
 
   mute_quiet : Mute quiet
-  mute_quiet = record { none = refl; mute = λ m h. absurd h; told = λ es. refl }
+  mute_quiet = record { none = refl; mute = λ m h. absurd h; untold = tt }
 
   -- what is overdue
   mute_all : (s : FileState) → Mute (no_lease_for_all site s).turned
@@ -223,23 +278,44 @@ module _ (stripe : ℕ) (ops : ℕ × ℕ → Op) (members : List ℕ) (site : S
     waits_step : (s : FileState) (ask : WaitingAsk) → Fits members n (There s) → QuietStep (There s) (ask_waits s ask)
     waits_step s ask fits = quiet_step s (record s { asks = waits s.asks ask }) quiet holder sent entries refl refl mute_quiet fits
 
-    under_step : (s : FileState) (l : LeaseState) (ask : WaitingAsk) → ListFits stripe members s.kept.location → ListUnder stripe members l s.kept.location → Fits members n (There s) → AskFits stripe ops ask
+    under_step : (s : FileState) (l : LeaseState) (ask : WaitingAsk) → ListFits stripe members s.kept.location → ListUnder l s.kept.location → Fits members n (There s) → AskFits stripe ops ask
         → QuietStep (There s) (ask_under site s l ask)
     under_step s (held h) ask list under fits of =
         by_test (λ b. QuietStep (There s) (cond b (ask_served site s ask) (ask_waits s ask))) (is_active s.primary.tenure)
         (λ _. served_step s ask list (stored s.kept.location under) fits of) (λ _. waits_step s ask fits)
       where
-        stored : (location : Option Location) → ListUnder stripe members (held h) location → location ≡ None → ⊥
+        stored : (location : Option Location) → ListUnder (held h) location → location ≡ None → ⊥
         stored None u is = u
         stored (Some location) u is = cc is
     under_step s (asking r) ask list under fits of = waits_step s ask fits
     under_step s (writing r) ask list under fits of = waits_step s ask fits
     under_step s (free p) ask list under fits of = without_lease s p ask (elsewhere site s.acceptor.accepted) fits
 
-    rows_step : (s : FileState) (ask : WaitingAsk) → ListFits stripe members s.kept.location → ListUnder stripe members s.lease s.kept.location → Fits members n (There s) → AskFits stripe ops ask → QuietStep (There s) (ask_rows site s ask)
+    rows_step : (s : FileState) (ask : WaitingAsk) → ListFits stripe members s.kept.location → ListUnder s.lease s.kept.location → Fits members n (There s) → AskFits stripe ops ask → QuietStep (There s) (ask_rows site s ask)
     rows_step s ask list under fits of =
         by_test (λ b. QuietStep (There s) (cond b (nothing s) (ask_under site s s.lease ask))) (asked_already s.asks ask.id)
         (λ _. quiet_step s s quiet holder sent entries refl refl mute_quiet fits) (λ _. under_step s s.lease ask list under fits of)
+
+    -- where no list is stored nothing is marked
+    round_mute : (s : FileState) (p : Proposer) (ask : WaitingAsk) → Mute (round_for site s p ask).turned
+    round_mute s p ask =
+        by_test (λ b. Mute (cond b (steps_to (record s { asks = waits s.asks ask; lease = asking r }) (reads_of site s (members_of s.kept.location) r)) (nothing s)).turned) (can_ask p)
+        (λ _. mute_sends _ (mute_to_each (members_of s.kept.location) (payload.Read s.kept.file r.ballot) refl)) (λ _. mute_quiet)
+      where
+        r : Round
+        r = round_starts p site.now (members_of s.kept.location)
+
+    without_mute : (s : FileState) (p : Proposer) (ask : WaitingAsk) (o : Option Reply) → Mute (ask_without_lease site s p ask o).turned
+    without_mute s p ask (Some answer) = mute_tells s.kept.file ask.id answer
+    without_mute s p ask None = round_mute s p ask
+
+    rows_mute : (s : FileState) (ask : WaitingAsk) (l : LeaseState) → s.lease ≡ l → ListUnder l None → Mute (ask_rows site s ask).turned
+    rows_mute s ask (free p) is under =
+        by_test (λ b. Mute (cond b (nothing s) (ask_under site s s.lease ask)).turned) (asked_already s.asks ask.id) (λ _. mute_quiet)
+        (λ _. subst (λ l. Mute (ask_under site s l ask).turned) (sym is) (without_mute s p ask (elsewhere site s.acceptor.accepted)))
+    rows_mute s ask (asking r) is under = absurd under
+    rows_mute s ask (writing r) is under = absurd under
+    rows_mute s ask (held h) is under = absurd under
 
     -- an ask that is let in: the first one's list is stored
     let_in_step : (s : FileState) (id : OpId) (capability : Capability) (asked : Op) → IsOrderly stripe ops members s → IsList stripe members capability.location → Fits members n (There s)
@@ -259,9 +335,10 @@ module _ (stripe : ℕ) (ops : ℕ × ℕ → Op) (members : List ℕ) (site : S
         ask_of state = ask_rows site state ask
 
         stores : (o : Option Location) → s.kept.location ≡ o → Steps (There s) (and_then (steps_to s1 (record { rec = view_record s capability.location o; outs = []; marks = [] })) ask_of)
-        stores (Some location) is = mute_then (There s) (steps_to s1 quiet) ask_of mute_quiet (rows_step s1 ask orderly.list orderly.under fits (of ask.deadline)).file
+        stores (Some location) is = mute_then (There s) (steps_to s1 quiet) ask_of mute_quiet (rows_step s1 ask orderly.list orderly.sound.list fits (of ask.deadline)).file
         stores None is = record {
-          reach = stores_first stripe ops members n (There s) capability.location next.state.primary.tenure next.turned q.file.reach q.none;
+          reach = stores_first stripe ops members n (There s) capability.location next.state.primary.tenure next.turned q.file.reach q.none
+              (rows_mute s2 ask s2.lease refl (subst (ListUnder s.lease) is orderly.sound.list)).untold;
           kept = q.file.kept ∙ ap (kept_after s2.kept) q.none;
         }
           where
@@ -271,7 +348,7 @@ module _ (stripe : ℕ) (ops : ℕ × ℕ → Op) (members : List ℕ) (site : S
             next : FileStep
             next = ask_rows site s2 ask
 
-            under2 : (l : LeaseState) → ListUnder stripe members l (Some capability.location)
+            under2 : (l : LeaseState) → ListUnder l (Some capability.location)
             under2 (free p) = tt
             under2 (asking r) = tt
             under2 (writing r) = tt
@@ -342,30 +419,34 @@ module _ (stripe : ℕ) (ops : ℕ × ℕ → Op) (members : List ℕ) (site : S
         led : Led
         led = epoch_drawn (ground_of site s).place s.primary.learnt s.kept.head (members_of s.kept.location)
 
-    held_step : (s t : FileState) (end : ℕ) → t.kept ≡ s.kept → t.primary ≡ s.primary → ListFits stripe members t.kept.location → (t.kept.location ≡ None → ⊥) → IsFree n holder → Fits members n (There t) → Steps (There t) (lease_held site t end)
-    held_step s t end kept primary list some free_ fits =
+    held_step : (t : FileState) (end : ℕ) → ListFits stripe members t.kept.location → (t.kept.location ≡ None → ⊥) → IsFree n holder → Fits members n (There t) → Steps (There t) (lease_held site t end)
+    held_step t end list some free_ fits =
         mute_then (There t) (steps_to t (shows (mark.Held t.kept.file.number end))) (λ state. led_on site state state.primary.tenure)
-        (record { none = refl; mute = λ m h. absurd h; told = λ es. refl }) (led_step t t.primary.tenure refl list some free_ fits)
+        (record { none = refl; mute = λ m h. absurd h; untold = tt }) (led_step t t.primary.tenure refl list some free_ fits)
 
     -- news of a round: only where one runs is a lease held
-    news_step : (s t : FileState) (news : LeaseNews) → t.kept ≡ s.kept → t.primary ≡ s.primary → ListFits stripe members t.kept.location → ((end : ℕ) → news ≡ holds end → t.kept.location ≡ None → ⊥) → IsFree n holder
-        → Fits members n (There s) → Fits members n (There t) → There s ≡ There t → Steps (There t) (lease_news site t news)
-    news_step s t lease.nothing kept primary list some free_ fits there same = (quiet_step t t quiet holder sent entries refl refl mute_quiet there).file
-    news_step s t (sends_write ballot l targets) kept primary list some free_ fits there same =
+    news_step : (t : FileState) (news : LeaseNews) → ListFits stripe members t.kept.location → ((end : ℕ) → news ≡ holds end → t.kept.location ≡ None → ⊥) → ((end : ℕ) → news ≡ holds end → IsFree n holder)
+        → Fits members n (There t) → Steps (There t) (lease_news site t news)
+    news_step t lease.nothing list some free_ there = (quiet_step t t quiet holder sent entries refl refl mute_quiet there).file
+    news_step t (sends_write ballot l targets) list some free_ there =
         still_step t t (writes_to site t ballot l targets) holder sent entries refl refl (mute_sends _ unsaid) there
       where
         unsaid : Silent (map (λ (target : NodeId × Boot). message site.node target.0 (payload.Write t.kept.file ballot target.1 l)) targets)
         unsaid m h = let r = map_has (λ (target : NodeId × Boot). message site.node target.0 (payload.Write t.kept.file ballot target.1 l)) targets m h in ap (λ (y : Msg). shown n y.payload) r.2
-    news_step s t (holds end) kept primary list some free_ fits there same =
-        held_step (record t { last_end = end }) (record t { last_end = end }) end refl refl list (some end refl) free_ there
-    news_step s t (finds l) kept primary list some free_ fits there same = live_step t t l refl refl there
-    news_step s t ends kept primary list some free_ fits there same = told_step t t (reply.NoLease t.last_end) refl refl there
+    news_step t (holds end) list some free_ there = held_step (record t { last_end = end }) end list (some end refl) (free_ end refl) there
+    news_step t (finds l) list some free_ there = live_step t t l refl refl there
+    news_step t ends list some free_ there = told_step t t (reply.NoLease t.last_end) refl refl there
 
-    no_news : {end : ℕ} → lease.nothing ≡ holds end → ⊥
-    no_news e = cc e
+    -- the lease behind it is the one that the answer left
+    led_lease : (s : FileState) (o : Option Tenure) → (led_on site s o).state.lease ≡ s.lease
+    led_lease s (Some t) = refl
+    led_lease s None = refl
 
-    stored_under : (l : LeaseState) (location : Option Location) (now : ℕ) (from : NodeId) (content : Payload) (end : ℕ) → ListUnder stripe members l location → (on_answer l now from content).news ≡ holds end → location ≡ None → ⊥
-    stored_under (free p) location now from content end under is none = no_news is
+    nothing_won : {end : ℕ} → lease.nothing ≡ holds end → ⊥
+    nothing_won e = cc e
+
+    stored_under : (l : LeaseState) (location : Option Location) (now : ℕ) (from : NodeId) (content : Payload) (end : ℕ) → ListUnder l location → (on_answer l now from content).news ≡ holds end → location ≡ None → ⊥
+    stored_under (free p) location now from content end under is none = nothing_won is
     stored_under (asking r) None now from content end under is none = under
     stored_under (writing r) None now from content end under is none = under
     stored_under (held h) None now from content end under is none = under
@@ -373,11 +454,16 @@ module _ (stripe : ℕ) (ops : ℕ × ℕ → Op) (members : List ℕ) (site : S
     stored_under (writing r) (Some location) now from content end under is none = cc none
     stored_under (held h) (Some location) now from content end under is none = cc none
 
-    answer_step : (s : FileState) (from : NodeId) (content : Payload) → IsOrderly stripe ops members s → IsFree n holder → Fits members n (There s) → Steps (There s) (answer_comes site s from content)
+    answer_step : (s : FileState) (from : NodeId) (content : Payload) → IsOrderly stripe ops members s → (IsHeld (answer_comes site s from content).state.lease → IsFree n holder) → Fits members n (There s) → Steps (There s) (answer_comes site s from content)
     unfolding answer_comes
     answer_step s from content orderly free_ fits =
-        news_step s (record s { lease = (on_answer s.lease site.now from content).state; last_end = end_after_answer site s from content }) (on_answer s.lease site.now from content).news refl refl orderly.list
-        (λ end is. stored_under s.lease s.kept.location site.now from content end orderly.under is) free_ fits fits refl
+        news_step t (on_answer s.lease site.now from content).news orderly.list
+        (λ end is. stored_under s.lease s.kept.location site.now from content end orderly.sound.list is)
+        (λ end is. free_ (subst (λ news. IsHeld (lease_news site t news).state.lease) (sym is)
+        (subst IsHeld (sym (led_lease (record t { last_end = end }) t.primary.tenure)) (news_held s.lease site.now from content end is)))) fits
+      where
+        t : FileState
+        t = record s { lease = (on_answer s.lease site.now from content).state; last_end = end_after_answer site s from content }
 
     -- ---- a message
 
@@ -394,23 +480,23 @@ module _ (stripe : ℕ) (ops : ℕ × ℕ → Op) (members : List ℕ) (site : S
           whole : There s ≡ seen_in (There s) t
           whole = ap (λ o. record { kept = s.kept; body = site.body s.kept.file; tenure = o; holder = holder; sent = sent; entries = entries }) is
 
-      heard_step : (s : FileState) (l : LeaseState) (from : NodeId) (content : Payload) → LedUnder l s.primary.tenure → IsOrderly stripe ops members s → (ListUnder stripe members l s.kept.location) → Fits members n (There s) → AreIn (shown from.0 content) sent
+      heard_step : (s : FileState) (l : LeaseState) (from : NodeId) (content : Payload) → IsOrderly stripe ops members s → (ListUnder l s.kept.location) → Fits members n (There s) → AreIn (shown from.0 content) sent
           → Steps (There s) (primary_hears site s l from content)
-      heard_step s (free p) from content led orderly under fits came = (quiet_step s s quiet holder sent entries refl refl mute_quiet fits).file
-      heard_step s (asking r) from content led orderly under fits came = (quiet_step s s quiet holder sent entries refl refl mute_quiet fits).file
-      heard_step s (writing r) from content led orderly under fits came = (quiet_step s s quiet holder sent entries refl refl mute_quiet fits).file
-      heard_step s (held h) from content led orderly under fits came = record {
+      heard_step s (free p) from content orderly under fits came = (quiet_step s s quiet holder sent entries refl refl mute_quiet fits).file
+      heard_step s (asking r) from content orderly under fits came = (quiet_step s s quiet holder sent entries refl refl mute_quiet fits).file
+      heard_step s (writing r) from content orderly under fits came = (quiet_step s s quiet holder sent entries refl refl mute_quiet fits).file
+      heard_step s (held h) from content orderly under fits came = record {
         reach = reaches stripe ops members n (There s) (behind_ (ground_of site s)).primary.tenure (behind_ (ground_of site s)).turned
             (subst (λ g. Leads stripe ops members n (There s) (behind_ g).primary.tenure (behind_ g).turned) (ground_is s holder sent entries (stripe_is s.kept.location orderly.list (stored s.kept.location under)))
             (follows stripe ops members n (There s) s.primary.tenure s.asks (hears (ground_at stripe n (There s)) s.primary from content)
-            (idle_hears s from content s.primary.tenure refl fits came) orderly.asks));
+            (idle_hears s from content s.primary.tenure refl fits came) orderly.asks.waiting));
         kept = refl;
       }
         where
           behind_ : Ground → Served
           behind_ g = asks_follow g s.primary.tenure s.asks (hears g s.primary from content)
 
-          stored : (location : Option Location) → ListUnder stripe members (held h) location → location ≡ None → ⊥
+          stored : (location : Option Location) → ListUnder (held h) location → location ≡ None → ⊥
           stored None u is = u
           stored (Some location) u is = cc is
 
@@ -424,8 +510,8 @@ module _ (stripe : ℕ) (ops : ℕ × ℕ → Op) (members : List ℕ) (site : S
       ask_step s kind.Striped id capability asked orderly own fits of = (quiet_step s s quiet holder sent entries refl refl mute_quiet fits).file
 
       -- A message that concerns the file, when nothing is overdue.
-      pub message_step : (s : FileState) (from : NodeId) (content : Payload) → IsOrderly stripe ops members s → IsFree n holder → Fits members n (There s) → AreIn (shown from.0 content) sent → AskComes stripe ops members from content
-          → Steps (There s) (message_comes site s from content)
+      pub message_step : (s : FileState) (from : NodeId) (content : Payload) → IsOrderly stripe ops members s → (IsHeld (message_comes site s from content).state.lease → IsFree n holder) → Fits members n (There s)
+          → AreIn (shown from.0 content) sent → AskComes stripe ops members from content → Steps (There s) (message_comes site s from content)
       message_step s from (payload.Ask number capability asked) orderly free_ fits came known =
           ask_step s capability.location.kind (record { client = from; number = number }) capability asked orderly known.0 fits known.1
       message_step s from (payload.Read file ballot) orderly free_ fits came known = read_step s from ballot fits
@@ -441,7 +527,7 @@ module _ (stripe : ℕ) (ops : ℕ × ℕ → Op) (members : List ℕ) (site : S
           replica_step s from (headed s.kept.file s.kept.head s.kept.held epoch head) (head_acts stripe ops members n (There s) from epoch head fits came.0)
       message_step s from (payload.Update file update) orderly free_ fits came known =
           replica_step s from (updated s.kept.file s.kept.head update) (update_acts stripe ops members n (There s) from update fits came.0)
-      message_step s from content orderly free_ fits came known = heard_step s s.lease from content orderly.led orderly orderly.under fits came
+      message_step s from content orderly free_ fits came known = heard_step s s.lease from content orderly orderly.sound.list fits came
 
     -- ---- a Wake
 
@@ -468,7 +554,7 @@ module _ (stripe : ℕ) (ops : ℕ × ℕ → Op) (members : List ℕ) (site : S
         whole : There s ≡ seen_in (There s) t
         whole = ap (λ o. record { kept = s.kept; body = site.body s.kept.file; tenure = o; holder = holder; sent = sent; entries = entries }) is
 
-    pub woken_step : (s : FileState) (l : LeaseState) → ListFits stripe members s.kept.location → ListUnder stripe members l s.kept.location → Fits members n (There s) → Steps (There s) (wakes_under_lease site s l)
+    pub woken_step : (s : FileState) (l : LeaseState) → ListFits stripe members s.kept.location → ListUnder l s.kept.location → Fits members n (There s) → Steps (There s) (wakes_under_lease site s l)
     woken_step s (free p) list under fits = (quiet_step s s quiet holder sent entries refl refl mute_quiet fits).file
     woken_step s (asking r) list under fits = (quiet_step s s quiet holder sent entries refl refl mute_quiet fits).file
     woken_step s (writing r) list under fits = (quiet_step s s quiet holder sent entries refl refl mute_quiet fits).file
@@ -483,18 +569,18 @@ module _ (stripe : ℕ) (ops : ℕ × ℕ → Op) (members : List ℕ) (site : S
         first : FileStep
         first = steps_to s (wakes (ground_of site s).place s.primary)
 
-        stored : (location : Option Location) → ListUnder stripe members (held h) location → location ≡ None → ⊥
+        stored : (location : Option Location) → ListUnder (held h) location → location ≡ None → ⊥
         stored None u is = u
         stored (Some location) u is = cc is
 
 -- Each step of a file is a list of small steps.
 pub files_show : (stripe : ℕ) (ops : ℕ × ℕ → Op) (members : List ℕ) (site : Site) (s : FileState) (holder : Option ℕ) (sent : List Message) (entries : List Entry) → AreDistinct members
-    → IsOrderly stripe ops members (settled site s) → IsFree site.node.0 holder → Fits members site.node.0 (seen_of site (settled site s) holder sent entries)
+    → IsOrderly stripe ops members (settled site s) → Fits members site.node.0 (seen_of site (settled site s) holder sent entries)
     → ShowsFile stripe ops members site s holder sent entries
 unfolding step_of_file wake_of_file
-files_show stripe ops members site s holder sent entries distinct orderly free_ fits = record {
-  message = λ from content came known. mute_then stripe ops members site (seen_of site (settled site s) holder sent entries) (expired site s) (λ state. message_comes site state from content)
+files_show stripe ops members site s holder sent entries distinct orderly fits = record {
+  message = λ from content came known free_. mute_then stripe ops members site (seen_of site (settled site s) holder sent entries) (expired site s) (λ state. message_comes site state from content)
       (mute_expired stripe ops members site s) (message_step stripe ops members site holder sent entries distinct (settled site s) from content orderly free_ fits came known);
   wake = mute_then stripe ops members site (seen_of site (settled site s) holder sent entries) (expired site s) (wake_of_file site)
-      (mute_expired stripe ops members site s) (woken_step stripe ops members site holder sent entries (settled site s) (settled site s).lease orderly.list orderly.under fits);
+      (mute_expired stripe ops members site s) (woken_step stripe ops members site holder sent entries (settled site s) (settled site s).lease orderly.list orderly.sound.list fits);
 }

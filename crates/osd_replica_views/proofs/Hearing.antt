@@ -87,6 +87,7 @@ module _ (stripe : ℕ) (ops : ℕ × ℕ → Op) (members : List ℕ) (n : ℕ)
         own = fits.own;
         peers = listed;
         progress = progress;
+        calm_marks = inl refl;
         steady = λ r. refl;
         outs = sent;
         fed = fed;

@@ -10,3 +10,4 @@ pub mod Waiting
 pub mod Replicas
 pub mod Reaching
 pub mod Files
+pub mod Stopping

@@ -5,6 +5,7 @@ use Rattle.xt_base.specs.declared.ids.NodeId.{NodeId}
 use Rattle.xt_base.specs.declared.ids.Epoch.{Epoch}
 use Rattle.xt_base.specs.declared.ids.Stamp.{Stamp}
 use Rattle.xt_base.specs.declared.event.Mark.{Mark}
+use Rattle.xt_base.specs.declared.event.Mark.TheVariants as mark
 use Rattle.xt_base.specs.declared.file.FileHead.{FileHead}
 use Rattle.xt_base.specs.declared.file.Location.{Location}
 use Rattle.xt_base.specs.declared.file.Op.{Op}
@@ -29,7 +30,7 @@ use Rattle.replica_runs.specs.HeadWorld.{Message, Gather, Head, UpdateSent, Stat
 use Rattle.replica_runs.proofs.HeldVersions.{held_more}
 use Rattle.replica_runs.proofs.Tools.{by_test, has-right}
 use Rattle.osd_replica_views.specs.FileView.{Reaches}
-use Rattle.osd_replica_views.specs.Seen.{Seen, local_of, AreIn, AreTold, NamesHeld, Fits, Leads}
+use Rattle.osd_replica_views.specs.Seen.{Seen, local_of, AreIn, AreTold, AreUntold, NamesHeld, Fits, Leads}
 use Rattle.osd_replica_views.proofs.Feeding.{if_any_shown}
 use Rattle.osd_replica_views.proofs.Replicas.{held_grows, same_file, tenure_grows, ActsWell, gathers_well, takes_head_well, takes_update_well}
 use Rattle.osd_replica_views.proofs.Sending.{are_in, has-left}
@@ -38,7 +39,7 @@ use Rattle.osd_replica_views.proofs.Serving.{told_append, joined_none}
 module _ (stripe : ℕ) (ops : ℕ × ℕ → Op) (members : List ℕ) (n : ℕ) where
   -- a row of a primary is one
   pub reaches : (a : Seen) (t : Option Tenure) (u : Turned) → Leads stripe ops members n a t u → Reaches stripe ops members n a t u
-  reaches a t u l = record { behind = l.behind; shows = l.shows; kept = l.kept; body = l.body; is_tenure = l.is_tenure; fits = l.fits }
+  reaches a t u l = record { behind = l.behind; shows = l.shows; kept = l.kept; body = l.body; is_tenure = l.is_tenure; fits = l.fits; calm = l.calm }
 
   -- ---- rows that say nothing here
 
@@ -56,6 +57,7 @@ module _ (stripe : ℕ) (ops : ℕ × ℕ → Op) (members : List ℕ) (n : ℕ)
     body = refl;
     is_tenure = refl;
     fits = fits;
+    calm = inl refl;
   }
 
   -- ---- rows of a replica
@@ -76,6 +78,7 @@ module _ (stripe : ℕ) (ops : ℕ × ℕ → Op) (members : List ℕ) (n : ℕ)
     kept = refl;
     body = refl;
     is_tenure = refl;
+    calm = inr tt;
     fits = record {
       names = well.names fits.names;
       own = λ e h k. own e h (has-append (Status n e h) (shown_if n acted.answer) a.sent k);
@@ -160,11 +163,45 @@ module _ (stripe : ℕ) (ops : ℕ × ℕ → Op) (members : List ℕ) (n : ℕ)
 
   -- ---- a row, and one that says nothing here
 
+  untold_told : (ms : List Mark) → AreUntold ms → (es : List Entry) → AreTold stripe ops n ms es es
+  untold_told [] un es = refl
+  untold_told (mark.Active file count id ∷ ms) un es = absurd un
+  untold_told (mark.Issue file count id ∷ ms) un es = absurd un
+  untold_told (mark.Commit file count id ∷ ms) un es = absurd un
+  untold_told (mark.Answer file id count bytes ∷ ms) un es = absurd un
+  untold_told (mark.File file location ∷ ms) un es = untold_told ms un es
+  untold_told (mark.Begin number call ∷ ms) un es = untold_told ms un es
+  untold_told (mark.Held file end ∷ ms) un es = untold_told ms un es
+  untold_told (mark.Done number outcome ∷ ms) un es = untold_told ms un es
+
+  -- marks that tell nothing leave the entries
+  pub untold_same : (ms : List Mark) → AreUntold ms → (es es2 : List Entry) → AreTold stripe ops n ms es es2 → es ≡ es2
+  untold_same [] un es es2 told = told
+  untold_same (mark.Active file count id ∷ ms) un es es2 told = absurd un
+  untold_same (mark.Issue file count id ∷ ms) un es es2 told = absurd un
+  untold_same (mark.Commit file count id ∷ ms) un es es2 told = absurd un
+  untold_same (mark.Answer file id count bytes ∷ ms) un es es2 told = absurd un
+  untold_same (mark.File file location ∷ ms) un es es2 told = untold_same ms un es es2 told
+  untold_same (mark.Begin number call ∷ ms) un es es2 told = untold_same ms un es es2 told
+  untold_same (mark.Held file end ∷ ms) un es es2 told = untold_same ms un es es2 told
+  untold_same (mark.Done number outcome ∷ ms) un es es2 told = untold_same ms un es es2 told
+
+  untold_append : (first later : List Mark) → AreUntold first → AreUntold later → AreUntold (first ++ later)
+  untold_append [] later a b = b
+  untold_append (mark.Active file count id ∷ ms) later a b = absurd a
+  untold_append (mark.Issue file count id ∷ ms) later a b = absurd a
+  untold_append (mark.Commit file count id ∷ ms) later a b = absurd a
+  untold_append (mark.Answer file id count bytes ∷ ms) later a b = absurd a
+  untold_append (mark.File file location ∷ ms) later a b = untold_append ms later a b
+  untold_append (mark.Begin number call ∷ ms) later a b = untold_append ms later a b
+  untold_append (mark.Held file end ∷ ms) later a b = untold_append ms later a b
+  untold_append (mark.Done number outcome ∷ ms) later a b = untold_append ms later a b
+
   -- a part of a step that keeps nothing and shows nothing
   pub record IsMute (turned : Turned) : Type 0 where
     pub none : turned.rec ≡ None
     pub mute : AreSilent turned.outs
-    pub told : (es : List Entry) → AreTold stripe ops n turned.marks es es
+    pub untold : AreUntold turned.marks
 
   pub mute_first : (a : Seen) (t : Option Tenure) (u1 u2 : Turned) → IsMute u1 → Reaches stripe ops members n a t u2 → Reaches stripe ops members n a t (joined u1 u2)
   mute_first a t u1 u2 m next = record {
@@ -175,14 +212,19 @@ module _ (stripe : ℕ) (ops : ℕ × ℕ → Op) (members : List ℕ) (n : ℕ)
       leads = next.shows.leads;
       outs = λ k h. outs k (has-append k u1.outs u2.outs h);
       grows = next.shows.grows;
-      told = told_append stripe ops members n u1.marks u2.marks a.entries a.entries next.behind.entries (m.told a.entries) next.shows.told;
+      told = told_append stripe ops members n u1.marks u2.marks a.entries a.entries next.behind.entries (untold_told u1.marks m.untold a.entries) next.shows.told;
     };
     kept = next.kept ∙ ap (λ r. kept_after a.kept (the_record r u2.rec)) (sym m.none);
     body = next.body ∙ ap (λ r. body_beyond a.kept.file (the_record r u2.rec) a.body) (sym m.none);
     is_tenure = next.is_tenure;
     fits = next.fits;
+    calm = of next.calm;
   }
     where
+      of : (u2.rec ≡ None) ⊎ AreUntold u2.marks → ((joined u1 u2).rec ≡ None) ⊎ AreUntold (joined u1 u2).marks
+      of (inl none) = inl (ap (λ r. the_record r u2.rec) m.none ∙ none)
+      of (inr un) = inr (untold_append u1.marks u2.marks m.untold un)
+
       outs : (k : Msg) → Has k u1.outs ⊎ Has k u2.outs → AreIn (shown n k.payload) next.behind.sent
       outs k (inl h) = are_in (shown n k.payload) next.behind.sent (λ x g. absurd (subst (Has x) (m.mute k h) g))
       outs k (inr h) = next.shows.outs k h
@@ -196,25 +238,30 @@ module _ (stripe : ℕ) (ops : ℕ × ℕ → Op) (members : List ℕ) (n : ℕ)
       leads = first.shows.leads;
       outs = λ k h. outs k (has-append k u1.outs u2.outs h);
       grows = first.shows.grows;
-      told = told_append stripe ops members n u1.marks u2.marks a.entries first.behind.entries first.behind.entries first.shows.told (m.told first.behind.entries);
+      told = told_append stripe ops members n u1.marks u2.marks a.entries first.behind.entries first.behind.entries first.shows.told (untold_told u2.marks m.untold first.behind.entries);
     };
     kept = first.kept ∙ ap (kept_after a.kept) (sym rec_is);
     body = first.body ∙ ap (λ r. body_beyond a.kept.file r a.body) (sym rec_is);
     is_tenure = first.is_tenure;
     fits = first.fits;
+    calm = of first.calm;
   }
     where
       rec_is : the_record u1.rec u2.rec ≡ u1.rec
       rec_is = ap (the_record u1.rec) m.none ∙ joined_none stripe ops members n u1.rec
+
+      of : (u1.rec ≡ None) ⊎ AreUntold u1.marks → ((joined u1 u2).rec ≡ None) ⊎ AreUntold (joined u1 u2).marks
+      of (inl none) = inl (rec_is ∙ none)
+      of (inr un) = inr (untold_append u1.marks u2.marks un m.untold)
 
       outs : (k : Msg) → Has k u1.outs ⊎ Has k u2.outs → AreIn (shown n k.payload) first.behind.sent
       outs k (inl h) = first.shows.outs k h
       outs k (inr h) = are_in (shown n k.payload) first.behind.sent (λ x g. absurd (subst (Has x) (m.mute k h) g))
 
   -- a list is stored, and then a row that keeps nothing
-  pub stores_first : (a : Seen) (location : Location) (t : Option Tenure) (u : Turned) → Reaches stripe ops members n (record a { kept = record a.kept { location = Some location } }) t u → u.rec ≡ None
+  pub stores_first : (a : Seen) (location : Location) (t : Option Tenure) (u : Turned) → Reaches stripe ops members n (record a { kept = record a.kept { location = Some location } }) t u → u.rec ≡ None → AreUntold u.marks
       → Reaches stripe ops members n a t (joined (record { rec = Some (kept.View a.kept.file location); outs = []; marks = [] }) u)
-  stores_first a location t u next none = record {
+  stores_first a location t u next none un = record {
     behind = next.behind;
     shows = record {
       steps = StoresList location ∷ next.shows.steps;
@@ -228,6 +275,7 @@ module _ (stripe : ℕ) (ops : ℕ × ℕ → Op) (members : List ℕ) (n : ℕ)
     body = next.body ∙ ap (λ r. body_beyond a.kept.file r a.body) none;
     is_tenure = next.is_tenure;
     fits = next.fits;
+    calm = inr un;
   }
 
   -- the lease is gained, and then a row
@@ -246,4 +294,5 @@ module _ (stripe : ℕ) (ops : ℕ × ℕ → Op) (members : List ℕ) (n : ℕ)
     body = next.body;
     is_tenure = next.is_tenure;
     fits = next.fits;
+    calm = next.calm;
   }

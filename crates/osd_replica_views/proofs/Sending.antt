@@ -16,7 +16,7 @@ use Rattle.replica_safety.proofs.Lists.{has-append}
 use Rattle.replica_runs.specs.HeadSteps.{Step, May, MayAll, after, after_steps}
 use Rattle.replica_runs.specs.HeadWorld.{Message, Status, shown, shown_if, Local}
 use Rattle.replica_runs.proofs.Tools.{has-right}
-use Rattle.osd_replica_views.specs.Seen.{Seen, local_of, AreIn, AreTold, NamesHeld, ProgressFits, nodes_in, TenureFits, Leads}
+use Rattle.osd_replica_views.specs.Seen.{Seen, local_of, AreIn, AreTold, AreUntold, NamesHeld, ProgressFits, nodes_in, TenureFits, Leads}
 
 -- ---- lists
 
@@ -153,6 +153,7 @@ module _ (stripe : ℕ) (ops : ℕ × ℕ → Op) (members : List ℕ) (n : ℕ)
     pub peers : nodes_in t.peers ≡ members
     pub progress : ProgressFits members n seen.kept.held t.peers t.progress
     pub outs : (m : Msg) → Has m turned.outs → (x : Message) → Has x (shown n m.payload) → IsReady seen x
+    pub calm_marks : (turned.rec ≡ None) ⊎ AreUntold turned.marks
     pub steady : is_ready (Some t) ≡ true → turned.rec ≡ None
     pub fed : (p : Peer) → Has p t.peers → (x : Message) → Has x (shown_if n (last_sent seen.kept.file t.epoch p.state)) → IsReady seen x
 
@@ -186,6 +187,7 @@ module _ (stripe : ℕ) (ops : ℕ × ℕ → Op) (members : List ℕ) (n : ℕ)
         kept = c.kept;
         body = c.body;
         is_tenure = c.is_tenure;
+        calm = c.calm_marks;
         steady = c.steady;
         fits = record {
           names = c.names;

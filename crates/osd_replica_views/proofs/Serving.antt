@@ -114,7 +114,7 @@ module _ (stripe : ℕ) (ops : ℕ × ℕ → Op) (members : List ℕ) (n : ℕ)
 
   -- of two rows the later one keeps nothing
   pub compose : (a : Seen) (t1 t2 : Option Tenure) (u1 u2 : Turned) → (first : Leads stripe ops members n a t1 u1) → Leads stripe ops members n first.behind t2 u2 → u2.rec ≡ None
-      → (is_ready t2 ≡ true → u1.rec ≡ None) → Leads stripe ops members n a t2 (joined u1 u2)
+      → u1.rec ≡ None → Leads stripe ops members n a t2 (joined u1 u2)
   compose a t1 t2 u1 u2 first then_ none ready = record {
     behind = then_.behind;
     shows = record {
@@ -129,7 +129,8 @@ module _ (stripe : ℕ) (ops : ℕ × ℕ → Op) (members : List ℕ) (n : ℕ)
     body = then_.body ∙ ap (λ r. body_beyond first.behind.kept.file r first.behind.body) none ∙ first.body ∙ ap (λ r. body_beyond a.kept.file r a.body) (sym rec_is);
     is_tenure = then_.is_tenure;
     fits = then_.fits;
-    steady = λ r. rec_is ∙ ready r;
+    calm = inl (rec_is ∙ ready);
+    steady = λ r. rec_is ∙ ready;
   }
     where
       rec_is : the_record u1.rec u2.rec ≡ u1.rec
@@ -241,6 +242,7 @@ module _ (stripe : ℕ) (ops : ℕ × ℕ → Op) (members : List ℕ) (n : ℕ)
       own = fits.own;
       peers = fits.tenure.1.peers;
       progress = omega arith;
+      calm_marks = inl refl;
       steady = λ r. true_false r refl;
       outs = λ m h x k. goes m x (map_has (λ (to : NodeId). message (record { 0 = n }) to (payload.Update z.kept.file u)) (record { 0 = n } ∷ current_others (ground_at stripe n z).place peers) m h) k;
       fed = sent_ready stripe ops members n b z.kept.file e peers (λ q h. are_in (shown_if n (last_sent z.kept.file e q.state)) b.sent (λ x k. inr (in_are (shown_if n (last_sent z.kept.file e q.state)) z.sent (fits.tenure.1.sent q h) x k)));

@@ -45,6 +45,7 @@ module _ (stripe : ℕ) (ops : ℕ × ℕ → Op) (members : List ℕ) (n : ℕ)
     body = refl;
     is_tenure = refl;
     fits = fits;
+    calm = inl refl;
     steady = λ r. refl;
   }
 
@@ -85,7 +86,7 @@ module _ (stripe : ℕ) (ops : ℕ × ℕ → Op) (members : List ℕ) (n : ℕ)
   more a t1 t2 u v first next =
       let q = next first.lead.behind first.lead.is_tenure first.lead.fits (same_ground stripe ops members n a t1 u first.lead first.none) in
       record {
-        lead = compose stripe ops members n a t1 t2 u v first.lead q.lead q.none (λ r. first.none);
+        lead = compose stripe ops members n a t1 t2 u v first.lead q.lead q.none first.none;
         none = none_joined u v first.none q.none;
       }
 
@@ -140,7 +141,7 @@ module _ (stripe : ℕ) (ops : ℕ × ℕ → Op) (members : List ℕ) (n : ℕ)
           subst (λ g. Quietly stripe ops members n lead.behind (serves_all g led.primary asks.waiting).primary.tenure (serves_all g led.primary asks.waiting).turned)
           (same_ground stripe ops members n a led.primary.tenure led.turned lead none)
           (all_served lead.behind led.primary.learnt led.primary.tenure asks.waiting lead.is_tenure lead.fits of) in
-          compose stripe ops members n a led.primary.tenure all.primary.tenure led.turned all.turned lead q.lead q.none (λ r. none)
+          compose stripe ops members n a led.primary.tenure all.primary.tenure led.turned all.turned lead q.lead q.none none
 
   -- ---- wakes
 

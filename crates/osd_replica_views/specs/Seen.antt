@@ -110,6 +110,15 @@ AreTold stripe ops n (mark.Answer file id count bytes ∷ ms) before after =
     (e : Entry) × IsAnswer stripe ops n id count bytes e × AreTold stripe ops n ms (e ∷ before) after
 AreTold stripe ops n (_ ∷ ms) before after = AreTold stripe ops n ms before after
 
+-- marks that tell nothing here
+abbrev pub AreUntold : List Mark → Type 0
+AreUntold [] = Unit {0}
+AreUntold (mark.Active file count id ∷ ms) = ⊥
+AreUntold (mark.Issue file count id ∷ ms) = ⊥
+AreUntold (mark.Commit file count id ∷ ms) = ⊥
+AreUntold (mark.Answer file id count bytes ∷ ms) = ⊥
+AreUntold (_ ∷ ms) = AreUntold ms
+
 -- What a step gives is a list of small steps, which may come: what is seen behind it, what it sends, and what it tells. A status
 -- is sent by the rows of a replica alone.
 pub record Shows (stripe : ℕ) (ops : ℕ × ℕ → Op) (members : List ℕ) (n : ℕ) (a b : Seen) (turned : Turned) : Type 0 where
@@ -172,5 +181,7 @@ pub record Leads (stripe : ℕ) (ops : ℕ × ℕ → Op) (members : List ℕ) (
   pub body : behind.body ≡ body_beyond a.kept.file turned.rec a.body
   pub is_tenure : behind.tenure ≡ tenure
   pub fits : Fits members n behind
+  -- a step that keeps something tells nothing
+  pub calm : (turned.rec ≡ None) ⊎ AreUntold turned.marks
   -- who has nothing issued in the end has kept nothing
   pub steady : is_ready tenure ≡ true → turned.rec ≡ None

@@ -3,4 +3,4 @@ use Rattle.osd_replica_views.proofs.Files.{files_show}
 use Rattle.osd_replica_views.proofs.steps_of_a_file_are_small_steps.Goals as goal
 
 pub returns : goal.returns
-returns c stripe ops members site s holder sent entries distinct orderly free_ fits = files_show stripe ops members site s holder sent entries distinct orderly free_ fits
+returns c stripe ops members site s holder sent entries distinct orderly fits = files_show stripe ops members site s holder sent entries distinct orderly fits
