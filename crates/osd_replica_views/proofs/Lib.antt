@@ -11,3 +11,4 @@ pub mod Replicas
 pub mod Reaching
 pub mod Files
 pub mod Stopping
+pub mod AskSteps

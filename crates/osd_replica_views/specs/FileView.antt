@@ -9,8 +9,10 @@ use Rattle.xt_base.specs.declared.message.Msg.{Msg}
 use Rattle.xt_base.specs.declared.record.Record.{Record}
 use Rattle.xt_protocol.specs.declared.Turned.{Turned}
 use Rattle.xt_protocol.specs.LeaseRows.{LeaseState, free, held}
+use Rattle.xt_base.specs.declared.record.FileRow.{FileRow}
+use Rattle.xt_protocol.specs.LeaseRows.{Awake}
 use Rattle.osd_invariants.specs.Sound.{IsSound, IsHeld}
-use Rattle.osd_rows.specs.FileStates.{FileState, Site, FileStep, and_then}
+use Rattle.osd_rows.specs.FileStates.{FileState, Site, FileStep, file_from, and_then}
 use Rattle.osd_rows.specs.FileSteps.{step_of_file, wake_of_file}
 use Rattle.osd_rows.specs.Overdue.{expired}
 use Rattle.osd_rows.specs.PrimaryRows.{body_beyond}
@@ -123,3 +125,13 @@ abbrev pub LeavesOthers : Type 0
 LeavesOthers =
     (stripe : ℕ) (ops : ℕ × ℕ → Op) (members : List ℕ) (n : ℕ) (l : Local) (steps : List Step) → MayAll stripe ops members n l steps
     → (m : ℕ) → (m ≡ n → ⊥) → ((after_steps n l steps).holder ≡ Some m → l.holder ≡ Some m) × (l.holder ≡ Some m → (after_steps n l steps).holder ≡ Some m)
+
+-- ---- asks
+
+-- The asks of a file stay within their limits, step by step.
+pub record AsksStay (stripe : ℕ) (ops : ℕ × ℕ → Op) (members : List ℕ) : Type 0 where
+  pub start : (awake : Awake) (row : FileRow) → AsksFit stripe ops (file_from awake row).asks
+  pub expiry : (site : Site) (s : FileState) → AsksFit stripe ops s.asks → AsksFit stripe ops (settled site s).asks
+  pub message : (site : Site) (s : FileState) (from : NodeId) (content : Payload) → AsksFit stripe ops s.asks → AskComes stripe ops members from content
+      → AsksFit stripe ops (step_of_file site s from content).state.asks
+  pub wake : (site : Site) (s : FileState) → AsksFit stripe ops s.asks → AsksFit stripe ops (and_then (expired site s) (wake_of_file site)).state.asks

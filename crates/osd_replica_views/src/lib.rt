@@ -6,7 +6,9 @@
 //! that a node which stops in or behind a step is such a list too.
 #![tactic(auto)]
 
-ghost use Rattle.osd_replica_views.specs.FileView.{AlwaysShowsFile, AlwaysStops, LeavesOthers};
+ghost use Rattle.std.specs.Prelude.{ℕ, List};
+ghost use Rattle.xt_base.specs.declared.file.Op.{Op};
+ghost use Rattle.osd_replica_views.specs.FileView.{AlwaysShowsFile, AlwaysStops, LeavesOthers, AsksStay};
 
 /// Each step of a file on a message that was sent, and on a Wake, is a list of small steps of its node in the world of heads: what is
 /// kept changes by the step's record alone, the primary behind it is the one that is seen, every message of the step was sent, its
@@ -20,4 +22,9 @@ pub fn steps_of_a_file_are_small_steps()
 pub fn stops_are_small_steps()
     ensures stops { AlwaysStops }
     ensures others { LeavesOthers }
+{}
+
+/// The asks of a file stay within their limits, where those that come are.
+pub fn asks_stay_within_limits()
+    ensures { (stripe : ℕ) (ops : ℕ × ℕ → Op) (members : List ℕ) → AsksStay stripe ops members }
 {}
