@@ -1,6 +1,5 @@
 -- held versions that rise
-use Rattle.std.proofs.Common.{◌≡◌, ◌==◌, ◌&&◌, ℕ, zero, suc, ◌<◌, ◌≤◌, Bool, true, false, cond, List, [], ◌∷◌, length, get_or, set, refl, ap, sym, subst, ◌∙◌, arith}
-use Rattle.std.proofs.lemmas.Bool.{and_parts, eqb-true}
+use Rattle.std.proofs.Common.{◌≡◌, ℕ, zero, suc, ◌<◌, ◌≤◌, Bool, true, false, cond, List, [], ◌∷◌, length, get_or, set, refl, ap, sym, subst, ◌∙◌, arith}
 use Rattle.std.specs.Ordering.{is_eq, is_lt, ordering_reverse}
 use Rattle.std.specs.List.Sorted.{IsPartitionPoint}
 use Rattle.std.specs.Prelude.{Ok, Err}
@@ -8,9 +7,10 @@ use Rattle.std.proofs.lemmas.List.{get_or_default}
 use Rattle.std.specs.declared.cmp.Ordering.{Ordering}
 use Rattle.std.specs.declared.cmp.Ordering.TheVariants.{Less, Equal, Greater}
 use Rattle.xt_base.specs.declared.file.ObjectVersion.{ObjectVersion}
-use Rattle.xt_protocol.specs.Stamps.{is_stamp, is_version, comes_before, with_held}
+use Rattle.xt_protocol.specs.Stamps.{is_version, comes_before, with_held}
 use Rattle.version_lists.specs.Rising.{held_rise, IsHeldPlace}
-use Rattle.version_lists.proofs.VersionOrder.{version_cmp, version_cmp_total, eq_version, lt_version}
+use Rattle.xt_protocol.specs.VersionOrder.{version_cmp}
+use Rattle.xt_protocol.proofs.Stamps.{version-equal, version_cmp_total, is_version-cmp, comes_before-cmp}
 use Rattle.version_lists.proofs.Puts.{Orders, put, placed, set_there, insert_there, there, not_there}
 
 less : (o : Ordering) → is_lt o ≡ true → o ≡ Less
@@ -29,35 +29,21 @@ neither Equal a b = absurd cc
 neither Greater a b = refl
 
 is_less : (a b : ObjectVersion) → comes_before a b ≡ true → version_cmp a b ≡ Less
-is_less a b is = less (version_cmp a b) (lt_version a b ∙ is)
+is_less a b is = less (version_cmp a b) (sym (comes_before-cmp a b) ∙ is)
 
 pub version_order : Orders is_version comes_before
 version_order =
     record {
-      apart = λ a b is. sym (eq_version a b) ∙ ap is_eq (is_less a b is);
-      one_way = λ a b is. sym (lt_version b a) ∙ ap is_lt (version_cmp_total.antisymm b a) ∙ ap (λ o. is_lt (ordering_reverse o)) (is_less a b is);
-      chain = λ a b c first second. sym (lt_version a c) ∙ ap is_lt (version_cmp_total.trans a b c (is_less a b first) (is_less b c second));
-      total = λ a b no differ. sym (lt_version b a) ∙ ap is_lt (version_cmp_total.antisymm b a) ∙ neither (version_cmp a b) (lt_version a b ∙ no) (eq_version a b ∙ differ);
-      back = λ a b. sym (eq_version a b) ∙ ap is_eq (version_cmp_total.antisymm a b) ∙ reversed_eq (version_cmp b a) ∙ eq_version b a;
+      apart = λ a b is. is_version-cmp a b ∙ ap is_eq (is_less a b is);
+      one_way = λ a b is. comes_before-cmp b a ∙ ap is_lt (version_cmp_total.antisymm b a) ∙ ap (λ o. is_lt (ordering_reverse o)) (is_less a b is);
+      chain = λ a b c first second. comes_before-cmp a c ∙ ap is_lt (version_cmp_total.trans a b c (is_less a b first) (is_less b c second));
+      total = λ a b no differ. comes_before-cmp b a ∙ ap is_lt (version_cmp_total.antisymm b a) ∙ neither (version_cmp a b) (sym (comes_before-cmp a b) ∙ no) (sym (is_version-cmp a b) ∙ differ);
+      back = λ a b. is_version-cmp a b ∙ ap is_eq (version_cmp_total.antisymm a b) ∙ reversed_eq (version_cmp b a) ∙ sym (is_version-cmp b a);
     }
 
 -- versions that are one are equal
 pub version_equal : (a b : ObjectVersion) → is_version a b ≡ true → a ≡ b
-version_equal a b same =
-    let parts = and_parts (a.object == b.object) (is_stamp a.version b.version) same in
-    let stamps = and_parts (a.version.epoch.number == b.version.epoch.number && (a.version.epoch.node.0 == b.version.epoch.node.0)) (a.version.count == b.version.count) parts.1 in
-    let epochs = and_parts (a.version.epoch.number == b.version.epoch.number) (a.version.epoch.node.0 == b.version.epoch.node.0) stamps.0 in
-    let object : a.object ≡ b.object = eqb-true a.object b.object parts.0 in
-    let number : a.version.epoch.number ≡ b.version.epoch.number = eqb-true _ _ epochs.0 in
-    let node : a.version.epoch.node.0 ≡ b.version.epoch.node.0 = eqb-true _ _ epochs.1 in
-    let count : a.version.count ≡ b.version.count = eqb-true _ _ stamps.1 in
-    let of : ℕ → ℕ → ℕ → ℕ → ObjectVersion =
-    λ o n m c. record { object = o; version = record { epoch = record { number = n; node = record { 0 = m } }; count = c } }
-    in
-    ap (λ o. of o a.version.epoch.number a.version.epoch.node.0 a.version.count) object
-    ∙ ap (λ n. of b.object n a.version.epoch.node.0 a.version.count) number
-    ∙ ap (λ m. of b.object b.version.epoch.number m a.version.count) node
-    ∙ ap (λ c. of b.object b.version.epoch.number b.version.epoch.node.0 c) count
+version_equal = version-equal
 
 -- a held version is put like any item
 held_put : (held : List ObjectVersion) (v : ObjectVersion) → with_held held v ≡ put is_version comes_before held v

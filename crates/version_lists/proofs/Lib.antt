@@ -1,4 +1,3 @@
-pub mod VersionOrder
 pub mod Puts
 pub mod HeldVersions
 pub mod HeadRows

@@ -1,6 +1,7 @@
 pub mod FileIds
 pub mod Heads
 pub mod Stamps
+pub mod VersionOrder
 pub mod Folds
 pub mod SeenBodies
 pub mod OsdRows
