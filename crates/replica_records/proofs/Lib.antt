@@ -1,6 +1,3 @@
-pub mod HeadRows
-pub mod FileRows
 pub mod RecordLaws
 pub mod PayloadLength
-pub mod Held
 pub mod Placing

@@ -1,5 +1,5 @@
 -- a record more, and where its body stands
-use Rattle.std.proofs.Common.{◌≡◌, ◌==◌, ◌&&◌, ℕ, ◌<◌, List, [], ◌∷◌, ◌++◌, length, refl, ap, ◌∙◌, sym, Bool, true, false, cond, if◌then◌else◌, Option, Some, None, unwrap_or, is_some, Result, Ok, Err, OnOk, OnErr, arith}
+use Rattle.std.proofs.Common.{◌≡◌, ◌==◌, ◌&&◌, ℕ, ◌<◌, List, [], ◌∷◌, ◌++◌, length, refl, ap, ◌∙◌, sym, Bool, true, false, not, cond, if◌then◌else◌, Option, Some, None, unwrap_or, is_some, Result, Ok, Err, OnOk, OnErr, arith}
 use Rattle.std.specs.Option.{option_map}
 use Rattle.std.specs.declared.cmp.Ordering.{Ordering}
 use Rattle.std.specs.Ordering.{ordering_then, is_eq}
@@ -12,15 +12,18 @@ use Rattle.std.proofs.lemmas.List.{get_or_append_left, length_push}
 use Rattle.std.proofs.lemmas.Option.{slice_get-get_or}
 use Rattle.std.proofs.Math.Seq.{get_or-append_seam}
 use Rattle.xt_base.specs.declared.ids.Stamp.{Stamp}
+use Rattle.xt_base.specs.declared.TheConstants.{NO_OBJECT}
 use Rattle.xt_base.specs.declared.record.Record.{Record}
 use Rattle.xt_base.specs.declared.record.Record.TheVariants as kept
 use Rattle.xt_protocol.specs.FileIds.{is_file}
 use Rattle.xt_protocol.specs.Stamps.{is_stamp}
+use Rattle.xt_protocol.specs.VersionOrder.{stamp_cmp}
+use Rattle.xt_protocol.proofs.Stamps.{stamp-equal}
 use Rattle.xt_protocol.specs.Folds.{body_put, body_kept, newer}
 use Rattle.xt_protocol.proofs.Folds.{is_file-file_cmp, file-equal, body_kept-nothing, body_kept-push}
 use Rattle.replica_records.specs.declared.places.BodyKey.{BodyKey}
 use Rattle.replica_records.specs.declared.places.Places.{Places}
-use Rattle.replica_records.specs.Places.{stamp_cmp, body_cmp, key_put, body_in, body_at, place_in, ArePlacesIn}
+use Rattle.replica_records.specs.Places.{body_cmp, key_put, body_in, body_at, place_in, ArePlacesIn}
 
 -- ---- keys
 
@@ -41,22 +44,13 @@ same_key a b =
     regroup true b c = refl
     regroup false b c = refl
 
-stamp_equal : (a b : Stamp) → is_stamp a b ≡ true → a ≡ b
-stamp_equal a b same =
-    let parts = and_parts ((a.epoch.number == b.epoch.number) && (a.epoch.node.0 == b.epoch.node.0)) (a.count == b.count) same in
-    let epochs = and_parts (a.epoch.number == b.epoch.number) (a.epoch.node.0 == b.epoch.node.0) parts.0 in
-    let numbers = eqb-true a.epoch.number b.epoch.number epochs.0 in
-    let nodes = eqb-true a.epoch.node.0 b.epoch.node.0 epochs.1 in
-    let counts = eqb-true a.count b.count parts.1 in
-    λ i. record { epoch = record { number = numbers i; node = record { 0 = nodes i } }; count = counts i }
-
 key_equal : (a b : BodyKey) → is_eq (body_cmp a b) ≡ true → a ≡ b
 key_equal a b same =
     let parts = and_parts (is_file a.file b.file && (a.object == b.object)) (is_stamp a.version b.version) (sym (same_key a b) ∙ same) in
     let fronts = and_parts (is_file a.file b.file) (a.object == b.object) parts.0 in
     let files = file-equal a.file b.file fronts.0 in
     let objects = eqb-true a.object b.object fronts.1 in
-    let versions = stamp_equal a.version b.version parts.1 in
+    let versions = stamp-equal a.version b.version parts.1 in
     λ i. record { file = files i; object = objects i; version = versions i }
 
 -- what a record puts for a key
@@ -65,8 +59,26 @@ put_for None q bytes = None
 put_for (Some key) q bytes = if is_eq (body_cmp key q) then Some bytes else None
 
 put_is : (rec : Record) (q : BodyKey) → body_put q.file q.object q.version rec ≡ put_for (key_put rec) q (body_in rec)
-put_is (kept.Update file update) q =
-    ap (λ t. if t then Some update.body else None) (sym (same_key (record { file = file; object = update.object; version = update.stamp }) q))
+put_is (kept.Update file update) q = at (update.object == NO_OBJECT)
+  where
+    key : BodyKey
+    key = record { file = file; object = update.object; version = update.stamp }
+
+    none : (f : Bool) → (if f && false then Some update.body else None) ≡ None
+    none true = refl
+    none false = refl
+
+    regrouped : (f o s : Bool) → (f && (true && o && s)) ≡ (f && o && s)
+    regrouped true o s = refl
+    regrouped false o s = refl
+
+    at : (empty : Bool)
+        → (if is_file file q.file && (not empty && (update.object == q.object) && is_stamp update.stamp q.version) then Some update.body else None)
+        ≡ put_for (if empty then None else Some key) q update.body
+    at true = none (is_file file q.file)
+    at false =
+        ap (λ (t : Bool). if t then Some update.body else None)
+        (regrouped (is_file file q.file) (update.object == q.object) (is_stamp update.stamp q.version) ∙ sym (same_key key q))
 put_is (kept.Stage file object version bytes) q =
     ap (λ t. if t then Some bytes else None) (sym (same_key (record { file = file; object = object; version = version }) q))
 put_is (kept.Boot boot) q = refl

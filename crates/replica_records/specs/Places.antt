@@ -1,29 +1,27 @@
 -- where the record stands that put a body last
-use Rattle.std.specs.Prelude.{ℕ, ◌≡◌, ◌≢◌, ◌<◌, Option, Some, None, List, [], length, slice_get, unwrap_or}
+use Rattle.std.specs.Prelude.{ℕ, ◌≡◌, ◌≢◌, ◌<◌, ◌==◌, if◌then◌else◌, Option, Some, None, List, [], length, slice_get, unwrap_or}
 use Rattle.std.specs.Option.{option_map}
 use Rattle.std.specs.Ordering.{ordering_then, nat_cmp}
 use Rattle.std.specs.declared.cmp.Ordering.{Ordering}
 use Rattle.std.specs.BTreeMap.{get}
 use Rattle.std.proofs.Props.{props}
-use Rattle.xt_base.specs.declared.ids.Stamp.{Stamp}
 use Rattle.xt_base.specs.declared.record.Record.{Record}
 use Rattle.xt_base.specs.declared.record.Record.TheVariants as kept
+use Rattle.xt_base.specs.declared.TheConstants.{NO_OBJECT}
 use Rattle.xt_protocol.specs.FileIds.{file_cmp}
+use Rattle.xt_protocol.specs.VersionOrder.{stamp_cmp}
 use Rattle.xt_protocol.specs.Folds.{body_kept}
 use Rattle.replica_records.specs.declared.places.BodyKey.{BodyKey}
 use Rattle.replica_records.specs.declared.places.Places.{Places}
 
 -- by the places as they stand
-abbrev pub stamp_cmp : Stamp → Stamp → Ordering
-stamp_cmp a b =
-    ordering_then (ordering_then (nat_cmp a.epoch.number b.epoch.number) (nat_cmp a.epoch.node.0 b.epoch.node.0)) (nat_cmp a.count b.count)
-
 abbrev pub body_cmp : BodyKey → BodyKey → Ordering
 body_cmp a b = ordering_then (file_cmp a.file b.file) (ordering_then (nat_cmp a.object b.object) (stamp_cmp a.version b.version))
 
 -- which body a record puts, if it puts one
 abbrev pub key_put : Record → Option BodyKey
-key_put (kept.Update file update) = Some (record { file = file; object = update.object; version = update.stamp })
+key_put (kept.Update file update) =
+    if update.object == NO_OBJECT then None else Some (record { file = file; object = update.object; version = update.stamp })
 key_put (kept.Stage file object version bytes) = Some (record { file = file; object = object; version = version })
 key_put (kept.Boot boot) = None
 key_put (kept.Promise file epoch) = None

@@ -24,16 +24,3 @@ impl From<FieldErr> for RecordErr {
         }
     }
 }
-
-/// Why a body wasn't given.
-#[derive(Clone, Copy, Debug, PartialEq, Eq, Error)]
-pub enum BodyErr {
-    /// No record put this version of the object.
-    #[error("no record put this version of the object")]
-    NoSuchVersion,
-    /// Reading failed, as often as this in all.
-    #[error("reading failed, {count} times in all")]
-    Failed { count: u64 },
-    #[error("no memory was left")]
-    OutOfMemory,
-}

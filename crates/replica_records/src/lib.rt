@@ -1,31 +1,23 @@
-//! What a replica keeps: each record as bytes, what an update makes of a head, and what all records together say.
+//! What a replica keeps: each record as bytes, and the records of a node with their bodies.
 //!
-//! A record within its limits has one spelling, which is read back, and no other bytes are read. A folding takes the
-//! records one by one and holds what they say: the last start, and of each file its head, the bodies that it holds and
-//! where its content is kept. `Bodies` is whoever gives back a body that was recorded. A `RecordLog` is the records of
-//! one node in memory, with their bodies.
+//! A record within its limits has one spelling, which is read back, and no other bytes are read. A `RecordLog` is the
+//! records of one node in memory; a body is found by its file, object and version. What records say, folded one by one, is
+//! `record_folds`, which is passed on.
 #![tactic(auto)]
 
-mod bodies;
 mod errors;
-mod folding;
-mod head;
 mod log;
-mod order;
 mod payload;
 mod places;
 mod reading;
 mod writing;
 
-pub use bodies::Bodies;
-pub use errors::{BodyErr, RecordErr};
-pub use folding::{Folding, fold};
-pub use head::{
-    head_after, new_head, plain_stamp, session_of, sessions_with, take_update, version_of,
-};
+pub use errors::RecordErr;
+pub use kept_bodies::{Bodies, BodyErr};
 pub use log::RecordLog;
 pub use payload::{read_record, record_bytes};
+pub use record_folds::{
+    Folding, fold, head_after, new_head, plain_stamp, session_of, sessions_with, take_update,
+    version_of,
+};
 pub use xt_base::{FileRow, FileTable, Folded, HeldPairs, Keep, Record};
-
-#[cfg(test)]
-mod tests;

@@ -5,7 +5,7 @@ ghost use Rattle.replica_records.specs.Places.{body_in};
 
 use std::alloc::Global;
 use std::collections::BTreeMap;
-use xt_base::{FileId, OutOfMemory, Record, Stamp};
+use xt_base::{FileId, NO_OBJECT, OutOfMemory, Record, Stamp};
 
 /// Which version of which object of which file.
 #[derive(Clone, Copy, PartialEq, Eq, PartialOrd, Ord)]
@@ -41,6 +41,7 @@ impl BodyKey {
         ensures { result ≡ key_put rec.now }
     {
         match rec {
+            Record::Update { update, .. } if update.object == NO_OBJECT => None,
             Record::Update { file, update } => Some(BodyKey {
                 file: *file,
                 object: update.object,

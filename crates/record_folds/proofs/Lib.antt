@@ -1,0 +1,5 @@
+pub mod HeadRows
+pub mod FileRows
+pub mod Held
+pub mod AfterUpdate
+pub mod SoundRows
