@@ -1,5 +1,5 @@
 -- how an append ends, and what the nodes keep after it
-use Rattle.std.specs.Prelude.{ℕ, ◌≡◌, ◌≤◌, List, Option, Some, None, if◌then◌else◌}
+use Rattle.std.specs.Prelude.{ℕ, ◌≡◌, ◌==◌, ◌≤◌, false, List, Option, Some, None, if◌then◌else◌}
 use Rattle.disk_model.specs.declared.plan.Stop.{Stop}
 use Rattle.xt_base.specs.declared.ids.NodeId.{NodeId}
 use Rattle.xt_base.specs.declared.record.Record.{Record}
@@ -27,3 +27,7 @@ records_after records node rec StoppedLost = records
 -- and every other node keeps what it kept.
 abbrev pub IsAppended : (ℕ → List Record) → (ℕ → List Record) → NodeId → Record → Option Stop → Kept → Type 0
 IsAppended old new node rec stop end = (end ≡ kept_by stop) × (new ≡ records_after old node rec end)
+
+-- every other node keeps what it kept
+abbrev pub AreOthersSame : (ℕ → List Record) → (ℕ → List Record) → NodeId → Type 0
+AreOthersSame old new node = (n : ℕ) → (n == node.0) ≡ false → new n ≡ old n

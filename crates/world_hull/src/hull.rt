@@ -1,13 +1,13 @@
-ghost use Rattle.std.specs.Prelude.{◌≡◌, ℕ, List, Option, IfOk, IfErr};
+ghost use Rattle.std.specs.Prelude.{◌≡◌, ℕ, List, Option, IfOk, IfErr, OnErr};
 ghost use Rattle.xt_base.specs.declared.record.Record.{Record};
 ghost use Rattle.xt_base.specs.Limits.{FitsMessage, FitsRecord};
 ghost use Rattle.xt_protocol.specs.Folds.{IsInPlace, fold_of, logged_of, body_kept};
 ghost use Rattle.world_hull.specs.Answers.{Overflow, IsFullOrMemory, IsFullExactly, GivesBody};
-ghost use Rattle.world_hull.specs.Appends.{IsInAppend, IsAppended, kept_by};
+ghost use Rattle.world_hull.specs.Appends.{IsInAppend, IsAppended, AreOthersSame, kept_by};
 
 use crate::errors::WorldErr;
-use disk_model::Stop;
-use replica_records::BodyErr;
+use disk_model::{OPEN_GATE, Stop};
+use kept_bodies::BodyErr;
 use std::alloc::Global;
 use xt_base::{FileId, Msg, NodeId, Octets, Record, Stamp};
 
@@ -22,9 +22,6 @@ pub enum Kept {
     StoppedLost,
 }
 
-/// The byte of an open gate: a stop that leaves it where a gate was being opened leaves the record.
-const OPEN: u8 = 0xa5;
-
 impl Kept {
     /// How an append ends that this stop is in, or none.
     pub fn by(stop: Option<Stop>) -> Kept
@@ -33,7 +30,7 @@ impl Kept {
         match stop {
             None => Kept::Done,
             Some(stop) => {
-                if stop.call >= 3 && stop.fill == OPEN {
+                if stop.call >= 3 && stop.fill == OPEN_GATE {
                     Kept::StoppedKept
                 } else {
                     Kept::StoppedLost
@@ -59,8 +56,8 @@ pub trait Hull: Drop {
         ensures records { kept self.new ≡ kept self.old };
 
     /// Appends the node's record, or stops in one of the four device calls of that. `Full` comes exactly where the
-    /// record has no room, whether there is a stop or not. After an error the hull isn't to be used for its records
-    /// again.
+    /// record has no room, whether there is a stop or not. After an error the hull isn't to be used for the node's records
+    /// again; those of every other node are as before.
     fn append(
         &mut self,
         alloc: Global,
@@ -73,7 +70,8 @@ pub trait Hull: Drop {
         requires call { IsInAppend stop }
         ensures records { IfOk result (λ end. IsAppended (kept self.old) (kept self.new) node rec.now stop end) }
         ensures room { IsFullExactly (overflow (kept self.old node.0) rec.now) result }
-        ensures error { IfErr result IsFullOrMemory };
+        ensures error { IfErr result IsFullOrMemory }
+        ensures others { OnErr result (AreOthersSame (kept self.old) (kept self.new) node) };
 
     /// What the node that starts again finds: records that say what its records say, with its requests in their order.
     /// Only memory may run out.

@@ -8,10 +8,8 @@
 mod errors;
 mod hull;
 mod list_hull;
-#[cfg(test)]
-mod tests;
 
 pub use errors::WorldErr;
 pub use hull::{Hull, Kept};
+pub use kept_bodies::BodyErr;
 pub use list_hull::ListHull;
-pub use replica_records::BodyErr;

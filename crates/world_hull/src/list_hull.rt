@@ -1,12 +1,13 @@
 //! A hull that keeps the records in memory.
-ghost use Rattle.std.specs.Prelude.{◌≡◌, [], None, OnOk};
+ghost use Rattle.std.specs.Prelude.{◌≡◌, [], None, OnOk, OnErr};
 ghost use Rattle.world_runs.specs.Records.{with_record};
 ghost use Rattle.world_hull.specs.Logs.{records_of};
 
 use crate::errors::WorldErr;
 use crate::hull::{Hull, Kept};
 use disk_model::Stop;
-use replica_records::{BodyErr, RecordLog};
+use kept_bodies::BodyErr;
+use replica_records::RecordLog;
 use std::alloc::Global;
 use std::collections::BTreeMap;
 use xt_base::{Copies, FileId, Msg, NodeId, Octets, OutOfMemory, Record, Stamp};
@@ -29,7 +30,8 @@ impl ListHull {
 
     /// Keeps the node's record.
     fn keep(&mut self, alloc: Global, node: NodeId, rec: Record) -> Result<(), OutOfMemory>
-        ensures { OnOk result (records_of self.new ≡ with_record (records_of self.old) node rec) }
+        ensures ok { OnOk result (records_of self.new ≡ with_record (records_of self.old) node rec) }
+        ensures err { OnErr result (records_of self.new ≡ records_of self.old) }
     {
         match self.logs.get_mut(&node.0) {
             Some(log) => log.push(rec),

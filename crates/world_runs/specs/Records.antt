@@ -1,5 +1,6 @@
 -- the records that the nodes keep
 use Rattle.std.specs.Prelude.{ℕ, Bool, ◌==◌, ◌&&◌, nat_le, if◌then◌else◌, unwrap_or, Option, Some, None, List, [], ◌∷◌, ◌++◌}
+use Rattle.disk_model.specs.Gate.{open_gate}
 use Rattle.disk_model.specs.declared.plan.Stop.{Stop}
 use Rattle.xt_base.specs.declared.ids.NodeId.{NodeId}
 use Rattle.xt_base.specs.declared.ids.FileId.{FileId}
@@ -24,4 +25,4 @@ body_in records file object version = unwrap_or (body_kept records file object v
 -- synced. One that is stopped in a call leaves a byte at each place that isn't synced. So its record stands where its gate
 -- was being opened and the byte is an open gate's.
 abbrev pub keeps_record : Stop → Bool
-keeps_record stop = nat_le 3 stop.call && (stop.fill == 165)
+keeps_record stop = nat_le 3 stop.call && (stop.fill == open_gate)
