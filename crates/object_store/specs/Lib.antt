@@ -5,3 +5,4 @@ pub mod KeptJournals
 pub mod Access
 pub mod Loading
 pub mod Answers
+pub mod Puts

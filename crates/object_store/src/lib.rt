@@ -15,6 +15,3 @@ mod store;
 pub use errors::{AppendErr, StoreErr};
 pub use laws::loads_what_was_put;
 pub use store::Store;
-
-#[cfg(test)]
-mod tests;

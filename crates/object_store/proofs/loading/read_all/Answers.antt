@@ -26,7 +26,7 @@ loop-placed-preserved c =
     record {
       texts = ap texts_of more ∙ texts_more old rec c.args.payloads.now c.loop-placed.placed-index c.placed-item.result (omega arith) c.placed-item.is (sym c.as_slice.ensures ∙ is.1) was.texts;
       are = subst AreRecords (sym more) (are-push old rec was.are is.0 (subst (λ (f : Folded). IsInPlace f rec) was.says is.2));
-      says = c.in_ok-take.ensures ∙ ap (λ (f : Folded). folded_after f rec) was.says ∙ sym (fold_of-push old rec) ∙ ap fold_of (sym more);
+      says = c.in_ok-take.ensures.ok ∙ ap (λ (f : Folded). folded_after f rec) was.says ∙ sym (fold_of-push old rec) ∙ ap fold_of (sym more);
     }
 
 pub returns-in_default : goal.returns-in_default
