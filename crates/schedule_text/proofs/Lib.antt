@@ -1,6 +1,5 @@
 pub mod Digits
 pub mod EntryAgain
-pub mod Hex
 pub mod InLine
 pub mod LineAgain
 pub mod Many

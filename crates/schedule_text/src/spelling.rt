@@ -86,7 +86,6 @@ pub(crate) fn push_pair(out: &mut Vec<u8>, byte: u8) -> Result<(), OutOfMemory>
 }
 
 /// Appends two hex digits a byte.
-#[tactic(auto, using(crate::proofs::Hex::hex_step))]
 pub(crate) fn push_hex(out: &mut Vec<u8>, bytes: &[u8]) -> Result<(), OutOfMemory>
     ensures { OnOk result (out.new.items ≡ out.old.items ++ hex_of bytes.now) }
 {
