@@ -2,7 +2,6 @@ pub mod Digits
 pub mod EntryAgain
 pub mod InLine
 pub mod LineAgain
-pub mod Many
 pub mod Trace
 pub mod TraceAgain
 pub mod WordsAgain

@@ -143,7 +143,6 @@ fn push_answer(out: &mut Vec<u8>, answered: &Answered) -> Result<(), OutOfMemory
 }
 
 /// Appends what each member gave.
-#[tactic(auto, using(crate::proofs::Many::answer_step))]
 pub(crate) fn push_answers(out: &mut Vec<u8>, answers: &[Answered]) -> Result<(), OutOfMemory>
     ensures { OnOk result (out.new.items ≡ out.old.items ++ behind (answer_words answers.now)) }
 {
@@ -154,7 +153,6 @@ pub(crate) fn push_answers(out: &mut Vec<u8>, answers: &[Answered]) -> Result<()
 }
 
 /// Appends names.
-#[tactic(auto, using(crate::proofs::Many::name_step))]
 fn push_names(out: &mut Vec<u8>, names: &[Name]) -> Result<(), OutOfMemory>
     ensures { OnOk result (out.new.items ≡ out.old.items ++ behind names.now) }
 {

@@ -126,7 +126,6 @@ pub(crate) fn kind_word(kind: Kind) -> &'static [u8]
 }
 
 /// Appends the nodes, a space before each.
-#[tactic(auto, using(crate::proofs::Many::node_step))]
 pub(crate) fn push_nodes(out: &mut Vec<u8>, nodes: &[NodeId]) -> Result<(), OutOfMemory>
     ensures { OnOk result (out.new.items ≡ out.old.items ++ behind (node_words nodes.now)) }
 {
