@@ -1,13 +1,12 @@
 -- a disk that stops in a call of an append
 use Rattle.std.proofs.Common.{◌≡◌, ℕ, ◌+◌, ◌≤◌, ◌&&◌, ◌==◌, Bool, true, false, if◌then◌else◌, nat_le, List, [], ◌∷◌, ◌++◌, Option, None, Some, refl, sym, ◌∙◌, ap, subst, arith}
-use Rattle.std.proofs.lemmas.Bool.Decides.{nat_tests}
 use Rattle.std.proofs.lemmas.Bool.{leb-true, leb-false, le-leb}
 use Rattle.std.proofs.Math.Logic.{∥∥₁_map}
 use Rattle.std.proofs.lemmas.List.{map-append}
+use Rattle.disk_model.specs.Gate.{open_gate}
 use Rattle.disk_model.specs.declared.plan.Stop.{Stop}
 use Rattle.disk_model.specs.Changes.{Memory}
 use Rattle.disk_model.specs.Disk.{Kept, IsFilled}
-use Rattle.xt_base.specs.Faults.{counted}
 use Rattle.disk_model.specs.Plan.{planned}
 use Rattle.xt_base.specs.Limits.{FitsRecord}
 use Rattle.xt_base.specs.declared.record.Record.{Record}
@@ -16,14 +15,14 @@ use Rattle.replica_records.specs.RecordText.{record_text}
 use Rattle.xt_journal.specs.Append.{IsStopped, payloads_after_stop}
 use Rattle.xt_journal.specs.Calls.{IsFirstFailure, AllSucceed}
 use Rattle.xt_journal.specs.Format.{StandsFor, end_of}
-use Rattle.xt_journal.specs.Loaded.{FailedCall, MadeCalls, IsReady}
+use Rattle.xt_journal.specs.Loaded.{MadeCalls}
 use Rattle.object_store.specs.Texts.{texts_of, AreRecords}
 use Rattle.world_hull.specs.declared.hull.Kept.TheVariants.{StoppedKept, StoppedLost}
 use Rattle.world_hull.specs.Appends.{kept_by}
 use Rattle.disk_hull.specs.Disks.{AreOn, IsToStop}
 use Rattle.disk_hull.specs.Nodes.{own_after}
 use Rattle.disk_hull.specs.declared.TheConstants.{JOURNAL}
-use Rattle.disk_hull.proofs.StoredRecords.{are-push}
+use Rattle.object_store.proofs.Reading.{are-push}
 
 -- a disk that was just made
 abbrev pub made : List ℕ → List ℕ → Option Stop → Memory
@@ -40,7 +39,7 @@ pub never : (disk : Memory) (bytes failing : List ℕ) → disk ≡ made bytes f
 never disk bytes failing is none looks changes =
     ap (λ (d : Memory). planned d.plan looks changes) is ∙ ap (λ (f : List ℕ). planned (made bytes f None).plan looks changes) none
 
-false_ne_true : false ≡ true → ⊥
+pub false_ne_true : false ≡ true → ⊥
 false_ne_true h = cc
 
 pub calm_after : (old new : ℕ → ℕ → Bool) (bytes : List ℕ) → ((looks changes : ℕ) → old looks changes ≡ false) → MadeCalls old new bytes
@@ -75,7 +74,7 @@ module _ (fails : ℕ → ℕ → Bool) (call : ℕ) (stops : IsToStop call fail
       → end_of (texts_of records) ≤ JOURNAL → end_of (texts_of (records ++ rec ∷ [])) ≤ JOURNAL
       → ∥ AreOn bytes (own_after records rec (kept_by (Some (record { call = call; fill = fill })))) ∥₁
   left_on fill records rec kept bytes stopped filled sound fits place short short_with =
-      at (nat_le 3 call && (fill == 165))
+      at (nat_le 3 call && (fill == open_gate))
       (subst (λ (c : ℕ). StandsFor bytes (payloads_after_stop c fill (texts_of records) (record_text rec)))
       (the_call stopped.call stopped.four stopped.first) (stopped.image fill bytes filled))
     where
@@ -84,7 +83,7 @@ module _ (fails : ℕ → ℕ → Bool) (call : ℕ) (stops : IsToStop call fail
       at true stands =
           ∥∥₁_map sound (λ are. record {
             stand = subst (λ (ps : List (List ℕ)). StandsFor bytes ps) (sym (map-append record_text records (rec ∷ []))) stands;
-            sound = are-push records rec fits place are;
+            sound = are-push records rec are fits place;
             short = short_with;
           })
       at false stands = ∥∥₁_map sound (λ are. record { stand = stands; sound = are; short = short })

@@ -1,54 +1,32 @@
 -- bytes stand for one list of records
-use Rattle.std.proofs.Common.{◌≡◌, ℕ, ◌+◌, ◌<◌, ◌≤◌, List, [], ◌∷◌, ◌++◌, length, refl, sym, ◌∙◌, ap, subst, inl, inr, arith, length-append, Bool, true, false, nat_le}
+use Rattle.std.proofs.Common.{◌≡◌, ℕ, ◌+◌, ◌≤◌, List, [], ◌∷◌, ◌++◌, length, refl, sym, ◌∙◌, ap, subst, inl, arith, length-append}
 use Rattle.std.proofs.Math.Logic.{∥∥₁_elim, ∥∥₁_map}
 use Rattle.std.proofs.Props.{props}
-use Rattle.std.proofs.lemmas.List.Elements.{All-head, All-tail, All-push}
 use Rattle.std.proofs.lemmas.List.{map-append}
-use Rattle.std.proofs.lemmas.Bool.{leb-true, leb-false}
-use Rattle.std.specs.List.{All, fold}
 use Rattle.std.specs.Coded.{Coded-set, coded_list}
-use Rattle.xt_base.specs.Limits.{FitsRecord}
 use Rattle.xt_base.specs.contracts.record.Record as record_type
-use Rattle.xt_base.specs.declared.record.Folded.{Folded}
 use Rattle.xt_base.specs.declared.record.Record.{Record}
-use Rattle.xt_protocol.specs.Folds.{folded_after, nothing_kept, fold_of, IsInPlace, AreInPlace}
 use Rattle.replica_records.specs.RecordText.{record_text}
-use Rattle.replica_records.specs.RecordFields.{recorded}
-use Rattle.replica_records.proofs.RecordLaws.{recorded_again}
 use Rattle.xt_journal.specs.declared.placed.Placed.{Placed}
 use Rattle.disk_model.specs.Disk.{Kept, IsImage}
 use Rattle.disk_model.proofs.Images.{rest_stays}
-use Rattle.xt_journal.specs.Format.{KeepsJournal, StandsFor, records, end_of, journal_of}
+use Rattle.xt_journal.specs.Format.{KeepsJournal, StandsFor, records, end_of}
 use Rattle.xt_journal.specs.Loaded.{IsReady}
 use Rattle.xt_journal.specs.Reading.{Reading, Stands, ReadsAs, IsTheReading, payloads_of, placed_from}
 use Rattle.xt_journal.proofs.Push.{end_of-push}
 use Rattle.xt_journal.proofs.Steps.{each_stands}
 use Rattle.xt_journal.proofs.Unique.{stands_for_one}
 use Rattle.object_store.specs.Texts.{texts_of, AreRecords, IsFirstBad}
+use Rattle.object_store.proofs.Again.{are_of_one_list, none_is_bad}
 use Rattle.disk_hull.specs.Disks.{AreOn, HasRecords}
 use Rattle.disk_hull.specs.declared.TheConstants.{JOURNAL}
-
--- ---- records from their texts
-
-one_text : (a b : Record) → FitsRecord a → FitsRecord b → record_text a ≡ record_text b → a ≡ b
-one_text a b fits_a fits_b same =
-    let read = sym (recorded_again a fits_a) ∙ ap recorded same ∙ recorded_again b fits_b in cc
-
-one_list : (xs ys : List Record) → All FitsRecord xs → All FitsRecord ys → texts_of xs ≡ texts_of ys → xs ≡ ys
-one_list [] [] fit_a fit_b same = refl
-one_list [] (b ∷ ys) fit_a fit_b same = absurd cc
-one_list (a ∷ xs) [] fit_a fit_b same = absurd cc
-one_list (a ∷ xs) (b ∷ ys) fit_a fit_b same =
-    let first : a ≡ b = one_text a b (All-head FitsRecord a xs fit_a) (All-head FitsRecord b ys fit_b) (cc same) in
-    let rest : xs ≡ ys = one_list xs ys (All-tail FitsRecord a xs fit_a) (All-tail FitsRecord b ys fit_b) (cc same) in
-    cc (first, rest)
 
 -- the same bytes stand for the same records
 pub one_on : (bytes : List ℕ) (xs ys : List Record) → ∥ AreOn bytes xs ∥₁ → ∥ AreOn bytes ys ∥₁ → xs ≡ ys
 one_on bytes xs ys on_a on_b =
     ∥∥₁_elim on_a (Coded-set (coded_list record_type.the_row.coded) xs ys) (λ a.
     ∥∥₁_elim on_b (Coded-set (coded_list record_type.the_row.coded) xs ys) (λ b.
-    one_list xs ys a.sound.fit b.sound.fit (stands_for_one bytes (texts_of xs) (texts_of ys) a.stand b.stand)))
+    are_of_one_list ys xs b.sound a.sound (stands_for_one bytes (texts_of xs) (texts_of ys) a.stand b.stand)))
 
 -- ---- loading
 
@@ -68,30 +46,11 @@ nothing_else bytes reading has is other =
 
 -- ---- no record is bad
 
-next_fits : (folded : Folded) (records before : List Record) (payload : List ℕ) (rest : List (List ℕ))
-    → All FitsRecord records → AreInPlace folded records → All FitsRecord before
-    → texts_of records ≡ texts_of before ++ payload ∷ rest
-    → (rec : Record) × FitsRecord rec × (payload ≡ record_text rec) × IsInPlace (fold folded_after folded before) rec
-next_fits folded [] [] payload rest fit placed fit_b split = absurd cc
-next_fits folded [] (b ∷ before) payload rest fit placed fit_b split = absurd cc
-next_fits folded (r ∷ records) [] payload rest fit placed fit_b split = (r, All-head FitsRecord r records fit, cc, placed.0)
-next_fits folded (r ∷ records) (b ∷ before) payload rest fit placed fit_b split =
-    let first : r ≡ b = one_text r b (All-head FitsRecord r records fit) (All-head FitsRecord b before fit_b) (cc split) in
-    let found = next_fits (folded_after folded r) records before payload rest (All-tail FitsRecord r records fit) placed.1 (All-tail FitsRecord b before fit_b) (cc split) in
-    subst (λ (f : Record). (rec : Record) × FitsRecord rec × (payload ≡ record_text rec) × IsInPlace (fold folded_after (folded_after folded f) before) rec)
-    first found
-
-not_bad : (records : List Record) (index : ℕ) → AreRecords records → IsFirstBad (texts_of records) index → ⊥
-unfolding fold_of
-not_bad records index are bad =
-    let found = next_fits nothing_kept records bad.before bad.payload bad.rest are.fit are.placed bad.are.fit bad.split in
-    bad.bad found.0 found.1 found.2 found.3
-
 pub none_bad : (bytes : List ℕ) (payloads : List (List ℕ)) (index : ℕ) → HasRecords bytes → StandsFor bytes payloads → IsFirstBad payloads index → ⊥
 none_bad bytes payloads index has stands bad =
     ∥∥₁_elim has (λ x y. absurd x) (λ some.
     let same : payloads ≡ texts_of some.0 = stands_for_one bytes payloads (texts_of some.0) stands some.1.stand in
-    not_bad some.0 index some.1.sound (subst (λ (ps : List (List ℕ)). IsFirstBad ps index) same bad))
+    none_is_bad some.0 index some.1.sound (subst (λ (ps : List (List ℕ)). IsFirstBad ps index) same bad))
 
 -- the same bytes end at the same place
 pub short_payloads : (bytes : List ℕ) (payloads : List (List ℕ)) → HasRecords bytes → StandsFor bytes payloads → end_of payloads ≤ JOURNAL
@@ -116,18 +75,6 @@ pub has : (bytes : List ℕ) (records : List Record) → ∥ AreOn bytes records
 has bytes records on = ∥∥₁_map on (λ are. (records, are))
 
 -- ---- a record more
-
-placed-push : (folded : Folded) (records : List Record) (rec : Record) → AreInPlace folded records → IsInPlace (fold folded_after folded records) rec
-    → AreInPlace folded (records ++ rec ∷ [])
-placed-push folded [] rec are is = (is, tt)
-placed-push folded (r ∷ records) rec are is = (are.0, placed-push (folded_after folded r) records rec are.1 is)
-
-pub are-push : (records : List Record) (rec : Record) → FitsRecord rec → IsInPlace (fold_of records) rec → AreRecords records → AreRecords (records ++ rec ∷ [])
-unfolding fold_of
-are-push records rec fits is are = record {
-  fit = All-push FitsRecord records rec are.fit fits;
-  placed = placed-push nothing_kept records rec are.placed is;
-}
 
 pub none_stand : ∥ AreOn [] [] ∥₁
 none_stand = ∣ record { stand = inl (omega arith, refl); sound = record { fit = λ k d less. absurd (omega arith); placed = tt }; short = omega arith } ∣₁

@@ -4,6 +4,7 @@ ghost use Rattle.xt_base.specs.Limits.{FitsRecord};
 ghost use Rattle.xt_protocol.specs.Folds.{IsInPlace, fold_of};
 ghost use Rattle.world_hull.specs.Answers.{IsFullOrMemory, IsFullExactly};
 ghost use Rattle.world_hull.specs.Appends.{IsInAppend, kept_by};
+ghost use Rattle.disk_hull.specs.Disks.{AreOn};
 ghost use Rattle.disk_hull.specs.Nodes.{records_of, own_after};
 ghost use Rattle.disk_hull.specs.Room.{journal_overflow};
 
@@ -31,6 +32,16 @@ impl DiskHull {
         DiskHull {
             stores: BTreeMap::new(alloc),
             carried: 0,
+        }
+    }
+
+    /// The bytes on the node's disk, no bytes where it has none yet: they stand for the records that it keeps.
+    pub fn image(&self, alloc: Global, node: NodeId) -> Result<Octets, OutOfMemory>
+        ensures { IfOk result (λ bytes. ∥ AreOn bytes (records_of self.now node.0) ∥₁) }
+    {
+        match self.stores.get(&node.0) {
+            Some(store) => store.bytes(),
+            None => Ok(Octets::new(alloc)),
         }
     }
 

@@ -9,8 +9,6 @@
 mod carrying;
 mod disk_hull;
 mod node_store;
-#[cfg(test)]
-mod tests;
 
 pub use disk_hull::DiskHull;
 

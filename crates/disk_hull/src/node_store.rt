@@ -136,7 +136,7 @@ impl NodeStore {
     }
 
     /// The bytes on the disk.
-    fn bytes(&self) -> Result<Octets, OutOfMemory>
+    pub fn bytes(&self) -> Result<Octets, OutOfMemory>
         ensures same { IfOk result (λ bytes. ∥ AreOn bytes self.now ∥₁) }
         ensures ready { IfOk result IsReady }
     {
