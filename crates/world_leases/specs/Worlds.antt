@@ -15,13 +15,17 @@ use Rattle.xt_protocol.specs.Folds.{fold_of, row_in}
 use Rattle.xt_protocol.specs.LeaseRows.{lease_expired}
 use Rattle.lease_safety.specs.State.{Has}
 use Rattle.osd_rows.specs.FileStates.{FileState}
+use Rattle.osd_rows.specs.declared.Tenure.{Tenure}
+use Rattle.osd_rows.specs.Overdue.{expired}
 use Rattle.osd_rows.specs.OsdSteps.{OsdState, file_at}
 use Rattle.osd_invariants.specs.Sound.{IsHeld, IsStored, IsSound}
+use Rattle.osd_lease_views.specs.OsdView.{site_of}
 use Rattle.osd_lease_views.specs.ActsView.{IsBusy}
 use Rattle.cluster_runs.specs.declared.DeclaredFile.{DeclaredFile}
 use Rattle.cluster_runs.specs.declared.RunningCall.{RunningCall}
 use Rattle.cluster_runs.specs.TimeLine.{Standing, standing, holds, times_of}
 use Rattle.cluster_runs.specs.World.{World, Node, Running, Core, osd, client, node_in, file_in, up_of}
+use Rattle.cluster_runs.specs.NodeSteps.{outside_of}
 use Rattle.cluster_runs.specs.Lines.{Next, finished, opens, goes_on, ends, declared_file}
 use Rattle.world_leases.specs.View.{node_id, awake_as, messages}
 
@@ -117,6 +121,23 @@ LeasesHold w =
     (n : ℕ) (node : Node) (r : Running) (s : OsdState) (file : FileId) → node_in w.nodes n ≡ Some node → node.up ≡ Some r → r.core ≡ osd s
     → IsHeld (lease_expired (file_at (awake_as s.started) s.files file).lease r.clock) → (file ≡ declared_file file.number) × (holds w.entries node.id file.number ≡ true)
 
+-- The node leads the file: it is a running OSD, and its primary for the file is in a tenure, once what is overdue has expired.
+pub record Leads (w : World) (file : FileId) (n : ℕ) : Type 0 where
+  pub node : Node
+  pub running : Running
+  pub state : OsdState
+  pub tenure : Tenure
+  pub found : node_in w.nodes n ≡ Some node
+  pub up : node.up ≡ Some running
+  pub core : running.core ≡ osd state
+  pub leads :
+      (expired (site_of (outside_of node.kept) (awake_as state.started) running.clock) (file_at (awake_as state.started) state.files file)).state.primary.tenure
+      ≡ Some tenure
+
+-- No two nodes lead a file.
+abbrev pub OneLeads : World → Type 0
+OneLeads w = (file : FileId) (a b : ℕ) → Leads w file a → Leads w file b → a ≡ b
+
 -- ---- worlds
 
 -- What holds of a world, in the midst of a line with the messages of a node to itself that it hasn't handled.
@@ -126,6 +147,7 @@ pub record IsInOrder (w : World) (own : List Msg) : Type 0 where
   pub asks : (m : Msg) → Has m (own ++ messages w) → AskFits w.files m.payload
   pub times : times_of w.entries ≡ w.times
   pub leases : LeasesHold w
+  pub leads : OneLeads w
 
 -- and at each step of a line
 abbrev pub IsNextInOrder : Next → Type 0

@@ -32,8 +32,8 @@ pub fn holders_act()
 {}
 
 /// What holds of the world at every moment of a run, also in the midst of a line: what an OSD has of a file is what its records
-/// say, and is sound; lists and asks are those that are declared; nodes stand in the trace as they run; and who has a lease
-/// holds its file by the trace.
+/// say, and is sound; lists and asks are those that are declared; nodes stand in the trace as they run; who has a lease holds
+/// its file by the trace; and no two nodes lead a file.
 pub fn worlds_are_in_order()
     ensures whole { (room : Room) (lines : List Line) → AreLines lines → IsInOrder (run_of room lines) [] }
     ensures steps { (room : Room) (lines : List Line) (l : Line) (k : ℕ) → AreLines (lines ++ l ∷ []) → refusal (run_of room lines) l ≡ None → IsNextInOrder (steps k room (begins (run_of room lines) l)) }
