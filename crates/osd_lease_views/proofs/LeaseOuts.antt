@@ -12,30 +12,30 @@ use Rattle.lease_runs.specs.LeaseWorld.{LeaseSetting, LeaseRow, RowStep, lease_f
 use Rattle.lease_runs.proofs.Outs.{AreOf, handles_of, asks_of}
 use Rattle.osd_rows.specs.FileStates.{FileState, Site, FileStep}
 use Rattle.osd_rows.specs.FileSteps.{step_of_file}
-use Rattle.osd_lease_views.specs.LeaseView.{is_ask, lease_setting, lease_msgs, lease_outs, is_about, ShowsRow, Follows, handles, asks, stays, Wakes, renewing, resting, settled_row}
+use Rattle.osd_lease_views.specs.LeaseView.{is_ask, lease_setting, leases_and_asks, lease_outs, is_about, ShowsRow, Follows, handles, asks, stays, Wakes, renewing, resting, settled_row}
 use Rattle.osd_lease_views.specs.OsdView.{wake_step}
 use Rattle.osd_lease_views.specs.OutsView.{SendsOfFile}
 use Rattle.osd_lease_views.proofs.LeaseSteps.{step_follows}
 use Rattle.osd_lease_views.proofs.OsdLeases.{each_wakes}
 
 -- only messages about leases count
-outs_of_leases : (k : FileId) (ms : List Msg) → lease_outs k ms ≡ lease_outs k (lease_msgs ms)
+outs_of_leases : (k : FileId) (ms : List Msg) → lease_outs k ms ≡ lease_outs k (leases_and_asks ms)
 outs_of_leases k [] = refl
 outs_of_leases k (m ∷ ms) = by_file (outs_of_leases k ms) (lease_file m.payload) refl
   where
-    by_file : lease_outs k ms ≡ lease_outs k (lease_msgs ms) → (o : Option FileId) → lease_file m.payload ≡ o → lease_outs k (m ∷ ms) ≡ lease_outs k (lease_msgs (m ∷ ms))
+    by_file : lease_outs k ms ≡ lease_outs k (leases_and_asks ms) → (o : Option FileId) → lease_file m.payload ≡ o → lease_outs k (m ∷ ms) ≡ lease_outs k (leases_and_asks (m ∷ ms))
     by_file rest None is = other (is_ask m.payload)
       where
-        other : (b : Bool) → lease_outs k (m ∷ ms) ≡ lease_outs k (cond (is_some (lease_file m.payload) || b) (m ∷ lease_msgs ms) (lease_msgs ms))
+        other : (b : Bool) → lease_outs k (m ∷ ms) ≡ lease_outs k (cond (is_some (lease_file m.payload) || b) (m ∷ leases_and_asks ms) (leases_and_asks ms))
         other true =
             ap (λ o. cond (is_about k o) (m ∷ lease_outs k ms) (lease_outs k ms)) is ∙ rest
-            ∙ sym (ap (λ o. lease_outs k (cond (is_some o || true) (m ∷ lease_msgs ms) (lease_msgs ms))) is ∙ ap (λ o. cond (is_about k o) (m ∷ lease_outs k (lease_msgs ms)) (lease_outs k (lease_msgs ms))) is)
+            ∙ sym (ap (λ o. lease_outs k (cond (is_some o || true) (m ∷ leases_and_asks ms) (leases_and_asks ms))) is ∙ ap (λ o. cond (is_about k o) (m ∷ lease_outs k (leases_and_asks ms)) (lease_outs k (leases_and_asks ms))) is)
         other false =
             ap (λ o. cond (is_about k o) (m ∷ lease_outs k ms) (lease_outs k ms)) is ∙ rest
-            ∙ sym (ap (λ o. lease_outs k (cond (is_some o || false) (m ∷ lease_msgs ms) (lease_msgs ms))) is)
+            ∙ sym (ap (λ o. lease_outs k (cond (is_some o || false) (m ∷ leases_and_asks ms) (leases_and_asks ms))) is)
     by_file rest (Some f) is =
         ap (λ others. cond (is_about k (lease_file m.payload)) (m ∷ others) others) rest
-        ∙ sym (ap (λ o. lease_outs k (cond (is_some o || is_ask m.payload) (m ∷ lease_msgs ms) (lease_msgs ms))) is)
+        ∙ sym (ap (λ o. lease_outs k (cond (is_some o || is_ask m.payload) (m ∷ leases_and_asks ms) (leases_and_asks ms))) is)
 
 all_own : (g : LeaseSetting) (ms : List Msg) → AreOf g ms → lease_outs g.file ms ≡ ms
 all_own g [] are = refl

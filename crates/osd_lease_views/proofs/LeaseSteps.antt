@@ -45,7 +45,7 @@ use Rattle.osd_rows.specs.Overdue.{expired, lease_became, deadlines_under, newly
 use Rattle.osd_rows.specs.AskRows.{ask_handled, ask_let_in, ask_rows, ask_under, ask_without_lease, round_for, refusal_of, elsewhere, view_record, waiting_ask}
 use Rattle.osd_rows.specs.FileLeases.{answer_to_read, read_comes, write_comes, answer_comes, answers_to_write, end_after_answer, lease_news, led_on, waiting_told}
 use Rattle.osd_rows.specs.FileSteps.{step_of_file, message_comes, ask_comes, primary_hears, renews, wakes_under_lease, wake_of_file}
-use Rattle.osd_lease_views.specs.LeaseView.{lease_row_of, is_ask, lease_setting, is_lease_msg, lease_msgs, held_end, held_ends, IsBare, ShowsRow, stays_so, Follows, handles, asks, stays, Wakes, renewing, resting, settled_row}
+use Rattle.osd_lease_views.specs.LeaseView.{lease_row_of, is_ask, lease_setting, is_lease_or_ask, leases_and_asks, held_end, held_ends, IsBare, ShowsRow, stays_so, Follows, handles, asks, stays, Wakes, renewing, resting, settled_row}
 use Rattle.osd_invariants.specs.Sound.{IsStored}
 use Rattle.osd_invariants.proofs.Kept.{wake_keeps}
 use Rattle.osd_lease_views.proofs.Bare.{both_bare, each_told, untold, map_all}
@@ -176,7 +176,7 @@ shown_after first rows r bare p =
     let rest = rows first.state in
     record {
       row = p.row;
-      outs = filter-append is_lease_msg first.turned.outs rest.turned.outs ∙ ap (λ ms. ms ++ lease_msgs rest.turned.outs) bare.outs ∙ p.outs;
+      outs = filter-append is_lease_or_ask first.turned.outs rest.turned.outs ∙ ap (λ ms. ms ++ leases_and_asks rest.turned.outs) bare.outs ∙ p.outs;
       ends = filter_map-append held_end first.turned.marks rest.turned.marks ∙ ap (λ told. told ++ held_ends rest.turned.marks) bare.ends ∙ p.ends;
     }
 
@@ -211,7 +211,7 @@ unfolding read_comes
 read_shows site s location from ballot file = record { row = refl; outs = answered (on_read s.acceptor ballot).answer; ends = refl }
   where
     answered : (a : ReadAnswer)
-        → lease_msgs (message site.node from (answer_to_read s.kept.file s.acceptor.boot ballot a) ∷ [])
+        → leases_and_asks (message site.node from (answer_to_read s.kept.file s.acceptor.boot ballot a) ∷ [])
         ≡ read_answer (lease_setting site s.kept.file location) site.node s.acceptor.boot from ballot a
     answered (promise report) = refl
     answered (read_refused seen) = refl
@@ -220,14 +220,14 @@ same_boot : (a b : Boot) → a.0 ≡ b.0 → a ≡ b
 same_boot a b is = ap (λ (n : ℕ). let m : Boot = record { 0 = n } in m) is
 
 answers_show : (site : Site) (s : FileState) (location : Option Location) (from : NodeId) (ballot : Ballot) (boot : Boot) (a : WriteAnswer) → s.acceptor.boot ≡ boot
-    → lease_msgs (answers_to_write site s from ballot boot a) ≡ write_answer (lease_setting site s.kept.file location) site.node s.acceptor.boot from ballot a
+    → leases_and_asks (answers_to_write site s from ballot boot a) ≡ write_answer (lease_setting site s.kept.file location) site.node s.acceptor.boot from ballot a
 answers_show site s location from ballot boot accepted is = ap (λ (b : Boot). message site.node from (payload.Accepted s.kept.file ballot b) ∷ []) (sym is)
 answers_show site s location from ballot boot (write_refused seen) is = refl
 answers_show site s location from ballot boot other_boot is = refl
 
 written_shows : (site : Site) (s : FileState) (location : Option Location) (from : NodeId) (ballot : Ballot) (boot : Boot) (w : Write) (here : Bool)
     → (here ≡ true → s.acceptor.boot ≡ boot)
-    → lease_msgs (answers_to_write site s from ballot boot (cond here w (write_other_boot s.acceptor)).answer)
+    → leases_and_asks (answers_to_write site s from ballot boot (cond here w (write_other_boot s.acceptor)).answer)
     ≡ write_answer (lease_setting site s.kept.file location) site.node s.acceptor.boot from ballot (cond here w (write_other_boot s.acceptor)).answer
 written_shows site s location from ballot boot w true same = answers_show site s location from ballot boot w.answer (same refl)
 written_shows site s location from ballot boot w false same = refl
@@ -251,7 +251,7 @@ write_shows site s location from ballot boot l file =
 -- nothing changes of the lease
 record IsCalm (s : FileState) (step : FileStep) : Type 0 where
   row : lease_row_of step.state ≡ lease_row_of s
-  outs : lease_msgs step.turned.outs ≡ []
+  outs : leases_and_asks step.turned.outs ≡ []
   ends : held_ends step.turned.marks ≡ []
 
 led_calm : (site : Site) (s : FileState) (t : Option Tenure) → IsCalm s (led_on site s t)
@@ -305,7 +305,7 @@ answer_shows site s location from content =
 
 -- an answer that isn't about leases
 abbrev IsPlain : Option Payload → Type 0
-IsPlain answer = (from to : NodeId) → lease_msgs (if_any from to answer) ≡ []
+IsPlain answer = (from to : NodeId) → leases_and_asks (if_any from to answer) ≡ []
 
 either_plain : (b : Bool) (x y : Acted) → IsPlain x.answer → IsPlain y.answer → IsPlain (cond b x y).answer
 either_plain true x y p q = p
@@ -346,11 +346,11 @@ updated_plain file own update =
     (either_plain (head_fits (head_after own update)) _ _ (λ from to. refl) (λ from to. refl)) (λ from to. refl))))
 
 fetched_plain : (site : Site) (s : FileState) (from : NodeId) (epoch : Epoch) (object : ℕ) (version : Stamp)
-    → lease_msgs (message site.node from (fetched_from s.kept.file s.kept.held (site.body s.kept.file) epoch object version) ∷ []) ≡ []
+    → leases_and_asks (message site.node from (fetched_from s.kept.file s.kept.held (site.body s.kept.file) epoch object version) ∷ []) ≡ []
 unfolding fetched_from
 fetched_plain site s from epoch object version = one_of (has_version s.kept.held (body_of object version))
   where
-    one_of : (b : Bool) → lease_msgs (message site.node from (cond b (payload.Object s.kept.file epoch object version (site.body s.kept.file object version)) (payload.Missing s.kept.file epoch object version)) ∷ []) ≡ []
+    one_of : (b : Bool) → leases_and_asks (message site.node from (cond b (payload.Object s.kept.file epoch object version (site.body s.kept.file object version)) (payload.Missing s.kept.file epoch object version)) ∷ []) ≡ []
     one_of true = refl
     one_of false = refl
 

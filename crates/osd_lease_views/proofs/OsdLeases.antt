@@ -19,7 +19,7 @@ use Rattle.osd_rows.specs.FileStates.{FileState, Site, FileStep}
 use Rattle.osd_rows.specs.Overdue.{expired}
 use Rattle.osd_rows.specs.FileSteps.{step_of_file, wake_of_file}
 use Rattle.osd_rows.specs.OsdSteps.{Outside, OsdState, OsdStep, step_of_osd, file_at, with_file, each_file, file_concerned, handled_awake, message_handled, woken}
-use Rattle.osd_lease_views.specs.LeaseView.{lease_row_of, lease_setting, listed, is_lease_msg, lease_msgs, held_end, held_ends, Follows, Wakes, renewing, resting, settled_row}
+use Rattle.osd_lease_views.specs.LeaseView.{lease_row_of, lease_setting, listed, is_lease_or_ask, leases_and_asks, held_end, held_ends, Follows, Wakes, renewing, resting, settled_row}
 use Rattle.osd_lease_views.specs.OsdView.{site_of, file_after, ShowsMessage, ShowsWake, wake_step}
 use Rattle.osd_lease_views.proofs.LeaseSteps.{expired_shows, expired_keeps, step_follows, wake_wakes, wake_after}
 use Rattle.osd_invariants.proofs.Kept as kept_proofs
@@ -161,12 +161,12 @@ each_states step [] = refl
 each_states step (s ∷ ss) = ap (λ others. (step s).state ∷ others) (each_states step ss)
 
 each_outs : (step : FileState → FileStep) (files : List FileState)
-    → lease_msgs (each_file step files).turned.outs ≡ flat_map (λ s. lease_msgs (step s).turned.outs) files
+    → leases_and_asks (each_file step files).turned.outs ≡ flat_map (λ s. leases_and_asks (step s).turned.outs) files
 unfolding each_file
 each_outs step [] = refl
 each_outs step (s ∷ ss) =
-    filter-append is_lease_msg (step s).turned.outs (each_file step ss).turned.outs
-    ∙ ap (λ ms. lease_msgs (step s).turned.outs ++ ms) (each_outs step ss)
+    filter-append is_lease_or_ask (step s).turned.outs (each_file step ss).turned.outs
+    ∙ ap (λ ms. leases_and_asks (step s).turned.outs ++ ms) (each_outs step ss)
 
 each_ends : (step : FileState → FileStep) (files : List FileState) → ((s : FileState) → held_ends (step s).turned.marks ≡ [])
     → held_ends (each_file step files).turned.marks ≡ []
@@ -187,15 +187,15 @@ twice_mapped f g (s ∷ ss) = ap (λ others. g (f s) ∷ others) (twice_mapped f
 
 -- the rows after what is overdue give what both do, as that gives nothing
 flat_mapped : (site : Site) (files : List FileState)
-    → flat_map (λ s. lease_msgs (wake_of_file site s).turned.outs) (map (λ s. (expired site s).state) files)
-    ≡ flat_map (λ s. lease_msgs (wake_step site s).turned.outs) files
+    → flat_map (λ s. leases_and_asks (wake_of_file site s).turned.outs) (map (λ s. (expired site s).state) files)
+    ≡ flat_map (λ s. leases_and_asks (wake_step site s).turned.outs) files
 flat_mapped site [] = refl
 flat_mapped site (s ∷ ss) =
     let first = expired site s in
     let second = wake_of_file site first.state in
-    ap (λ ms. lease_msgs second.turned.outs ++ ms) (flat_mapped site ss)
-    ∙ ap (λ ms. ms ++ flat_map (λ s. lease_msgs (wake_step site s).turned.outs) ss)
-    (sym (filter-append is_lease_msg first.turned.outs second.turned.outs ∙ ap (λ ms. ms ++ lease_msgs second.turned.outs) (expired_shows site s).outs))
+    ap (λ ms. leases_and_asks second.turned.outs ++ ms) (flat_mapped site ss)
+    ∙ ap (λ ms. ms ++ flat_map (λ s. leases_and_asks (wake_step site s).turned.outs) ss)
+    (sym (filter-append is_lease_or_ask first.turned.outs second.turned.outs ∙ ap (λ ms. ms ++ leases_and_asks second.turned.outs) (expired_shows site s).outs))
 
 wake_ends : (site : Site) (s : FileState) → held_ends (wake_of_file site s).turned.marks ≡ []
 wake_ends site s = of_wakes (wake_wakes site s)
@@ -224,12 +224,12 @@ wake_shows outside osd reading awake is_awake =
           ∙ ap (λ fs. map (λ s. (wake_of_file site s).state) fs) files
           ∙ twice_mapped (λ s. (expired site s).state) (λ s. (wake_of_file site s).state) osd.files;
       outs =
-          ap (λ (o : OsdStep). lease_msgs o.turned.outs) whole
-          ∙ filter-append is_lease_msg settled.turned.outs woke.turned.outs
-          ∙ ap (λ ms. ms ++ lease_msgs woke.turned.outs)
-          (each_outs (expired site) osd.files ∙ flat_none (λ s. lease_msgs (expired site s).turned.outs) osd.files (λ s. (expired_shows site s).outs))
+          ap (λ (o : OsdStep). leases_and_asks o.turned.outs) whole
+          ∙ filter-append is_lease_or_ask settled.turned.outs woke.turned.outs
+          ∙ ap (λ ms. ms ++ leases_and_asks woke.turned.outs)
+          (each_outs (expired site) osd.files ∙ flat_none (λ s. leases_and_asks (expired site s).turned.outs) osd.files (λ s. (expired_shows site s).outs))
           ∙ each_outs (wake_of_file site) settled.files
-          ∙ ap (λ fs. flat_map (λ s. lease_msgs (wake_of_file site s).turned.outs) fs) files
+          ∙ ap (λ fs. flat_map (λ s. leases_and_asks (wake_of_file site s).turned.outs) fs) files
           ∙ flat_mapped site osd.files;
       ends =
           ap (λ (o : OsdStep). held_ends o.turned.marks) whole

@@ -35,11 +35,11 @@ use Rattle.osd_rows.specs.ReplicaRows.{stage_record}
 use Rattle.xt_protocol.specs.Folds.{body_of}
 use Rattle.osd_rows.specs.Serving.{issues, issues_unless, write_stands, writes_in, writes_under, writes, next_update_of, current_others, reads, gather_unknown, unacked, sent_again, wakes_in, wakes_under, wakes}
 use Rattle.osd_rows.specs.Asks.{Served, asks_follow, is_read, read_answer, serves, serves_all, serves_waiting, stays, write_done}
-use Rattle.osd_lease_views.specs.LeaseView.{lease_msgs, held_ends, IsBare}
+use Rattle.osd_lease_views.specs.LeaseView.{leases_and_asks, held_ends, IsBare}
 use Rattle.osd_lease_views.proofs.Bare.{map_bare, flat_bare, last_bare, each_last_bare, joined_bare}
 
 pub record Calm (led : Led) : Type 0 where
-  pub outs : lease_msgs led.turned.outs ≡ []
+  pub outs : leases_and_asks led.turned.outs ≡ []
   pub ends : held_ends led.turned.marks ≡ []
 
 plain : (led : Led) → Calm led → IsBare led.turned
@@ -224,13 +224,13 @@ unfolding writes
 writes_bare g p id epoch asked = writes_under_bare g p.learnt p.tenure id epoch asked
 
 pub record CalmServed (s : Served) : Type 0 where
-  pub outs : lease_msgs s.turned.outs ≡ []
+  pub outs : leases_and_asks s.turned.outs ≡ []
   pub ends : held_ends s.turned.marks ≡ []
 
 joins : (s : Served) (t : Turned) (after : Served) → CalmServed s → IsBare t → after.turned ≡ joined s.turned t → CalmServed after
 joins s t after p q is =
     let j = joined_bare s.turned t (record { outs = p.outs; ends = p.ends }) q in
-    record { outs = ap (λ (u : Turned). lease_msgs u.outs) is ∙ j.outs; ends = ap (λ (u : Turned). held_ends u.marks) is ∙ j.ends }
+    record { outs = ap (λ (u : Turned). leases_and_asks u.outs) is ∙ j.outs; ends = ap (λ (u : Turned). held_ends u.marks) is ∙ j.ends }
 
 either_served : (b : Bool) {x y : Served} → CalmServed x → CalmServed y → CalmServed (cond b x y)
 either_served true p q = p
@@ -273,23 +273,23 @@ follow_bare g before asks led p =
 
 -- Wakes.
 
-unknown_bare : (place : Place) (epoch : Epoch) (node : NodeId) (state : PeerState) → lease_msgs (if_any place.node node (gather_unknown place epoch node state)) ≡ []
+unknown_bare : (place : Place) (epoch : Epoch) (node : NodeId) (state : PeerState) → leases_and_asks (if_any place.node node (gather_unknown place epoch node state)) ≡ []
 unknown_bare place epoch node peer.Unknown = refl
 unknown_bare place epoch node (peer.Reported head) = refl
 unknown_bare place epoch node (peer.Feeding known object version body) = refl
 unknown_bare place epoch node (peer.Heading known head) = refl
 unknown_bare place epoch node peer.Current = refl
 
-unacked_bare : (place : Place) (node : NodeId) (issued : Option IssuedUpdate) → lease_msgs (if_any place.node node (unacked place.file node issued)) ≡ []
+unacked_bare : (place : Place) (node : NodeId) (issued : Option IssuedUpdate) → leases_and_asks (if_any place.node node (unacked place.file node issued)) ≡ []
 unacked_bare place node None = refl
 unacked_bare place node (Some issued) = one_of (has_node issued.acked node.0)
   where
-    one_of : (b : Bool) → lease_msgs (if_any place.node node (cond b None (Some (payload.Update place.file issued.update)))) ≡ []
+    one_of : (b : Bool) → leases_and_asks (if_any place.node node (cond b None (Some (payload.Update place.file issued.update)))) ≡ []
     one_of true = refl
     one_of false = refl
 
 again_bare : (place : Place) (epoch : Epoch) (issued : Option IssuedUpdate) (node : NodeId) (state : PeerState)
-    → lease_msgs (if_any place.node node (sent_again place epoch issued node state)) ≡ []
+    → leases_and_asks (if_any place.node node (sent_again place epoch issued node state)) ≡ []
 again_bare place epoch issued node peer.Unknown = refl
 again_bare place epoch issued node (peer.Reported head) = refl
 again_bare place epoch issued node (peer.Feeding known object version body) = refl

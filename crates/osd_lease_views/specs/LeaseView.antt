@@ -30,11 +30,11 @@ abbrev pub is_ask : Payload → Bool
 is_ask (payload.Ask number capability asked) = true
 is_ask _ = false
 
-abbrev pub is_lease_msg : Msg → Bool
-is_lease_msg m = is_some (lease_file m.payload) || is_ask m.payload
+abbrev pub is_lease_or_ask : Msg → Bool
+is_lease_or_ask m = is_some (lease_file m.payload) || is_ask m.payload
 
-abbrev pub lease_msgs : List Msg → List Msg
-lease_msgs outs = filter is_lease_msg outs
+abbrev pub leases_and_asks : List Msg → List Msg
+leases_and_asks outs = filter is_lease_or_ask outs
 
 -- those about the lease of this file
 abbrev pub is_about : FileId → Option FileId → Bool
@@ -58,13 +58,13 @@ listed (Some end) = end ∷ []
 
 -- nothing of a lease is sent or marked
 pub record IsBare (t : Turned) : Type 0 where
-  pub outs : lease_msgs t.outs ≡ []
+  pub outs : leases_and_asks t.outs ≡ []
   pub ends : held_ends t.marks ≡ []
 
 -- A step of a file shows this step of its lease: the row that it leaves, the messages about leases, and the end that is marked.
 pub record ShowsRow (step : FileStep) (r : RowStep) : Type 0 where
   pub row : lease_row_of step.state ≡ r.row
-  pub outs : lease_msgs step.turned.outs ≡ r.outs
+  pub outs : leases_and_asks step.turned.outs ≡ r.outs
   pub ends : held_ends step.turned.marks ≡ listed r.end
 
 -- the lease stays

@@ -9,7 +9,7 @@ use Rattle.osd_rows.specs.FileStates.{FileState, Site, FileStep, and_then}
 use Rattle.osd_rows.specs.Overdue.{expired}
 use Rattle.osd_rows.specs.FileSteps.{wake_of_file}
 use Rattle.osd_rows.specs.OsdSteps.{Outside, OsdState, OsdStep, step_of_osd, file_at, file_concerned}
-use Rattle.osd_lease_views.specs.LeaseView.{Follows, Wakes, lease_msgs, held_ends, settled_row}
+use Rattle.osd_lease_views.specs.LeaseView.{Follows, Wakes, leases_and_asks, held_ends, settled_row}
 
 -- the node at the moment of a step
 abbrev pub site_of : Outside → Awake → ℕ → Site
@@ -34,8 +34,8 @@ wake_step site s = and_then (expired site s) (wake_of_file site)
 -- A Wake changes each file by itself.
 pub record ShowsWake (outside : Outside) (osd : OsdState) (reading : ℕ) (awake : Awake) : Type 0 where
   pub files : (step_of_osd outside osd reading event.Wake).osd.files ≡ map (λ s. (wake_step (site_of outside awake (max reading osd.last)) s).state) osd.files
-  pub outs : lease_msgs (step_of_osd outside osd reading event.Wake).turned.outs
-      ≡ flat_map (λ s. lease_msgs (wake_step (site_of outside awake (max reading osd.last)) s).turned.outs) osd.files
+  pub outs : leases_and_asks (step_of_osd outside osd reading event.Wake).turned.outs
+      ≡ flat_map (λ s. leases_and_asks (wake_step (site_of outside awake (max reading osd.last)) s).turned.outs) osd.files
   pub ends : held_ends (step_of_osd outside osd reading event.Wake).turned.marks ≡ []
 
 -- The steps of an OSD show in the leases of its files.

@@ -6,12 +6,12 @@ use Rattle.xt_base.specs.declared.message.Payload.{Payload}
 use Rattle.xt_protocol.specs.FileIds.{is_file}
 use Rattle.osd_rows.specs.FileStates.{FileState, Site, FileStep}
 use Rattle.osd_rows.specs.FileSteps.{step_of_file}
-use Rattle.osd_lease_views.specs.LeaseView.{lease_msgs, lease_outs}
+use Rattle.osd_lease_views.specs.LeaseView.{leases_and_asks, lease_outs}
 use Rattle.osd_lease_views.specs.OsdView.{wake_step}
 
 -- what a step sends about leases is about the lease of its file
 pub record SendsOfFile (file : FileId) (step : FileStep) : Type 0 where
-  pub own : lease_outs file step.turned.outs ≡ lease_msgs step.turned.outs
+  pub own : lease_outs file step.turned.outs ≡ leases_and_asks step.turned.outs
   pub others : (other : FileId) → is_file file other ≡ false → lease_outs other step.turned.outs ≡ []
 
 pub record SendsByFile : Type 0 where

@@ -1,17 +1,15 @@
 -- what holds of a world in the midst of a line, and that each step of a node leaves it so
 use Rattle.std.proofs.Common.{◌≡◌, ℕ, ◌≤◌, ◌+◌, ◌<◌, inl, inr, List, [], ◌∷◌, ◌++◌, map, refl, arith, ap, sym, ◌∙◌, subst, Option, Some, None, true}
-use Rattle.std.specs.Prelude.{◌⊎◌, take, filter, IsSomeAnd, nat_lt}
+use Rattle.std.specs.Prelude.{◌⊎◌, filter, IsSomeAnd, nat_lt}
 use Rattle.std.proofs.lemmas.List.{map-append}
 use Rattle.std.proofs.lemmas.Bool.Decides.{nat_tests}
 use Rattle.xt_base.specs.TimeSettings.{TimeSettings}
 use Rattle.xt_base.specs.declared.ids.NodeId.{NodeId}
-use Rattle.xt_base.specs.declared.ids.Boot.{Boot}
 use Rattle.xt_base.specs.declared.message.Msg.{Msg}
 use Rattle.xt_base.specs.declared.record.Record.{Record}
 use Rattle.xt_protocol.specs.declared.Turned.{Turned}
 use Rattle.xt_protocol.specs.Folds.{fold_of}
 use Rattle.time_line.specs.declared.entry.Halt.{Halt}
-use Rattle.time_line.specs.declared.entry.Halt.TheVariants as halt
 use Rattle.lease_safety.specs.State.{Has}
 use Rattle.lease_runs.specs.LeaseWorld.{LeaseSetting, LeaseNode, RowStep, row_stepped, IsReached, IsHolding}
 use Rattle.lease_runs.proofs.Worlds.{one_holds}
@@ -22,15 +20,15 @@ use Rattle.cluster_runs.specs.declared.Entry.TheVariants as entry
 use Rattle.cluster_runs.specs.declared.Sent.{Sent}
 use Rattle.cluster_runs.specs.TimeLine.{Standing, standing, holds, holds_as, times_of, is_before_end}
 use Rattle.cluster_runs.specs.World.{World, Node, Running, Core, osd, client, node_in, with_node, file_in, up_of}
-use Rattle.cluster_runs.specs.NodeSteps.{entry_of, pending, numbered, to_itself, one_more, after_turn, halted, Doing, appends}
+use Rattle.cluster_runs.specs.NodeSteps.{entry_of, pending, numbered, to_itself, one_more, after_turn, halted}
 use Rattle.world_leases.specs.View.{file_setting, node_id, end_in, told, core_seen, up_seen, node_seen, messages, lease_view}
-use Rattle.world_leases.proofs.Lists.{has_in, has_left, has_right, has_filter, has_take, map_same}
+use Rattle.world_leases.proofs.Lists.{has_in, has_left, has_right, has_filter, map_same}
 use Rattle.world_leases.proofs.Tables.{same, node_in-new, node_in-other}
 use Rattle.world_leases.proofs.Standings.{standing-push, other_down, own_down}
 use Rattle.world_leases.proofs.Files.{RecordFits, record_fits}
 use Rattle.world_leases.proofs.Marks.{MarksFit, standing_elsewhere}
 use Rattle.world_leases.proofs.Moments.{ApartAt, IsSafe, safe-push, safe-marks, times-push, times-marks}
-use Rattle.world_leases.proofs.Frame.{AreMembers, Good, however, IsStep, seen_running, next_node, after_reached, halts, fewer, fewer_outs}
+use Rattle.world_leases.proofs.Frame.{AreMembers, Good, IsStep, seen_running, next_node, after_reached, halts, fewer, fewer_outs}
 use Rattle.world_leases.specs.Worlds.{AskFits, RowsFit, CoreFits, UpFits, NodeFits, EndFits, Stands}
 
 -- ---- nodes
@@ -162,15 +160,16 @@ pub record IsNext (w : World) (was : List Msg) (node : Node) (r : Running) (next
   pub stands : (number : ℕ) → Stands (standing node.id number (w.entries ++ map (entry_of node.id) turned.marks)) (Some (record r { core = next }))
 
 -- with fewer messages
-fewer_next : (w : World) (was : List Msg) (node : Node) (r : Running) (next : Core) (turned : Turned) (count : ℕ) → IsNext w was node r next turned → IsNext w was node r next (record turned { outs = take count turned.outs })
-fewer_next w was node r next turned count is =
+pub fewer_next : (w : World) (was : List Msg) (node : Node) (r : Running) (next : Core) (turned : Turned) (outs : List Msg) → ((m : Msg) → Has m outs → Has m turned.outs)
+    → IsNext w was node r next turned → IsNext w was node r next (record turned { outs = outs })
+fewer_next w was node r next turned outs within is =
     record {
       shows = λ number members are.
           let shown = is.shows number members are in
-          (shown.0, fewer_outs (file_setting w.times number members) w node r next turned shown.0 count shown.1, shown.2);
+          (shown.0, fewer_outs (file_setting w.times number members) w node r next turned shown.0 outs within shown.1, shown.2);
       core = is.core;
       rec = is.rec;
-      asks = λ m h. is.asks m (has_take m count turned.outs h);
+      asks = λ m h. is.asks m (within m h);
       marks = is.marks;
       stands = is.stands;
     }
@@ -230,23 +229,6 @@ after_fits w was own node r next turned within found is_up is fit =
       times = times-marks node.id w.entries turned.marks ∙ fit.shape.times;
     } in
     record { shape = shape; safe = safe-marks node.id turned.marks w.entries is.marks fit.safe (apart_now w was fit.shape) (apart_now end (own ++ to_itself node.id turned.outs) shape) }
-
--- Whatever becomes of a step, it leaves a world that fits.
-pub step_fits : (d : Doing) (was : List Msg) (node : Node) (r : Running) (next : Core) (turned : Turned) → ((k : Msg) → Has k d.own → Has k was) → node_in d.world.nodes node.id.0 ≡ Some node → node.up ≡ Some r
-    → IsNext d.world was node r next turned → IsFit d.world was → (let after = appends d node (record r { core = next }) r.crash turned.rec turned in IsFit after.world after.own)
-step_fits d was node r next turned within found is_up is fit =
-    however (λ (after : Doing). IsFit after.world after.own) d node (record r { core = next }) turned
-    (after_fits d.world was d.own node r next turned within found is_up is fit)
-    (λ count.
-    let fewer : Turned = record turned { outs = take count turned.outs } in
-    let done = after_turn d.world node (record r { core = next }) fewer in
-    let there = next_node node r next turned in
-    let done_fits = after_fits d.world was d.own node r next fewer within found is_up (fewer_next d.world was node r next turned count is) fit in
-    halt_fits done (d.own ++ to_itself node.id fewer.outs) (record node { kept = one_more node.kept turned.rec }) there (record r { core = next }) halt.Cut (node_in-new d.world.nodes there node found)
-    (done_fits.shape.nodes node.id.0 there (node_in-new d.world.nodes there node found)).rows (omega arith) done_fits)
-    (halt_fits d.world was node node (record r { core = next }) halt.Lost found (fit.shape.nodes node.id.0 node found).rows (omega arith) fit)
-    (λ rec e. halt_fits d.world was (record node { kept = node.kept ++ rec ∷ [] }) node (record r { core = next }) halt.Kept found
-    (record_fits d.world.files node.kept rec (is.rec rec e).0 (fit.shape.nodes node.id.0 node found).rows) (omega (arith, ap (λ (b : Boot). b.0) (is.rec rec e).1)) fit)
 
 -- messages of a node to itself are lost
 pub fewer_fits : (w : World) (own left : List Msg) → ((m : Msg) → Has m left → Has m own) → IsFit w own → IsFit w left

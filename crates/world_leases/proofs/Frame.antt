@@ -1,10 +1,9 @@
 -- What a node's step leaves of a world, as it is seen of one file: whether it is whole, stopped in its append, or cut.
 use Rattle.std.proofs.Common.{◌≡◌, ◌≢◌, ℕ, ◌≤◌, inl, inr, List, [], ◌∷◌, ◌++◌, map, refl, arith, ap, sym, ◌∙◌, subst, Option, Some, None, true}
-use Rattle.std.specs.Prelude.{◌⊎◌, ◌==◌, filter, take, is_some, not, ◌&&◌}
+use Rattle.std.specs.Prelude.{◌⊎◌, ◌==◌, filter, is_some, not, ◌&&◌}
 use Rattle.std.proofs.lemmas.List.{map-append}
 use Rattle.disk_model.specs.declared.plan.Stop.{Stop}
 use Rattle.xt_base.specs.declared.ids.NodeId.{NodeId}
-use Rattle.xt_base.specs.declared.ids.Boot.{Boot}
 use Rattle.xt_base.specs.declared.ids.FileId.{FileId}
 use Rattle.xt_base.specs.declared.message.Msg.{Msg}
 use Rattle.xt_base.specs.declared.record.Record.{Record}
@@ -16,14 +15,14 @@ use Rattle.time_line.specs.declared.entry.Halt.TheVariants as halt
 use Rattle.cluster_runs.specs.declared.DeclaredFile.{DeclaredFile}
 use Rattle.cluster_runs.specs.declared.Entry.TheVariants as entry
 use Rattle.cluster_runs.specs.declared.Sent.{Sent}
-use Rattle.cluster_runs.specs.World.{World, Node, Running, Core, osd, client, node_in, file_in}
+use Rattle.cluster_runs.specs.World.{World, Node, Running, Core, node_in, file_in}
 use Rattle.cluster_runs.specs.NodeSteps.{entry_of, pending, numbered, to_itself, one_more, after_turn, halted, keeps_record, cut_in_sending, Doing, loses_own, sends, appends}
 use Rattle.lease_safety.specs.State.{Has}
 use Rattle.lease_runs.specs.LeaseWorld.{LeaseSetting, LeaseNode, RowStep, node_stepped, row_stepped, IsReached}
 use Rattle.lease_runs.proofs.Tests.{when}
 use Rattle.lease_runs.proofs.Seen as seen_steps
 use Rattle.world_leases.specs.View.{file_setting, node_id, end_in, told, unseen, core_seen, up_seen, node_seen, messages, is_of, lease_view}
-use Rattle.world_leases.proofs.Lists.{has_in, has_left, has_right, has_filter, filter_has, has_take, map_same}
+use Rattle.world_leases.proofs.Lists.{has_in, has_left, has_right, has_filter, filter_has, map_same}
 use Rattle.world_leases.proofs.Tables.{node_in-new, node_in-other}
 use Rattle.world_leases.proofs.Standings.{standing-push, other_down}
 
@@ -161,49 +160,6 @@ fewer g w own left within reached =
     ]) found.1)
 
 -- a step with fewer messages
-pub fewer_outs : (g : LeaseSetting) (w : World) (node : Node) (r : Running) (next : Core) (turned : Turned) (step : RowStep) (count : ℕ) → IsStep g w node r next turned step
-    → IsStep g w node r next (record turned { outs = take count turned.outs }) step
-fewer_outs g w node r next turned step count is =
-    record { here = is.here; others = is.others; outs = λ m h about. is.outs m (has_take m count turned.outs h) about }
-
--- the records of a node say how far its boots have come, running or not
-abbrev pub IsBelow : LeaseSetting → ℕ → List Record → Running → Core → Type 0
-IsBelow g n kept r core = (core_seen g n None kept r core).boot ≤ (fold_of kept).boot.0
-
-pub below_seen : (g : LeaseSetting) (n : ℕ) (end : Option ℕ) (kept : List Record) (r : Running) (core : Core) → (core_seen g n end kept r core).boot ≡ (core_seen g n None kept r core).boot
-below_seen g n end kept r (osd s) = refl
-below_seen g n end kept r (client c) = refl
-
--- Whatever becomes of a step: it owes that it is a step of the lease, and that its record is of no start.
-pub turned_reached : (g : LeaseSetting) (d : Doing) (was : List Msg) (node : Node) (r : Running) (next : Core) (turned : Turned) (step : RowStep)
-    → ((k : Msg) → Has k d.own → Has k was) → node_in d.world.nodes node.id.0 ≡ Some node → node.up ≡ Some r → IsBelow g node.id.0 node.kept r r.core
-    → IsBelow g node.id.0 (one_more node.kept turned.rec) (record r { core = next }) next
-    → ((rec : Record) → turned.rec ≡ Some rec → (fold_of (node.kept ++ rec ∷ [])).boot ≡ (fold_of node.kept).boot)
-    → IsStep g d.world node r next turned step → IsReached g (lease_view g d.world was) → IsReached g (row_stepped (lease_view g d.world was) node.id step)
-    → (let after = appends d node (record r { core = next }) r.crash turned.rec turned in IsReached g (lease_view g after.world after.own))
-turned_reached g d was node r next turned step within found up below below_next kept is before reached =
-    however (λ (after : Doing). IsReached g (lease_view g after.world after.own)) d node (record r { core = next }) turned
-    (after_reached g d.world was d.own node r next turned step within found up is reached)
-    (λ count.
-    let fewer : Turned = record turned { outs = take count turned.outs } in
-    let done = after_turn d.world node (record r { core = next }) fewer in
-    let there = next_node node r next turned in
-    let now = seen_running g id (told g.file.number id done.entries) (node_in done.nodes id) there (record r { core = next }) (node_in-new d.world.nodes there node found) refl in
-    halts g done (d.own ++ to_itself node.id fewer.outs) (record node { kept = one_more node.kept turned.rec }) there (record r { core = next }) halt.Cut (node_in-new d.world.nodes there node found)
-    (omega (arith, ap (λ (x : LeaseNode). x.boot) now, below_seen g id (told g.file.number id done.entries) there.kept (record r { core = next }) next, below_next))
-    (after_reached g d.world was d.own node r next fewer step within found up (fewer_outs g d.world node r next turned step count is) reached))
-    (halts g d.world was node node (record r { core = next }) halt.Lost found boot_below before)
-    (λ rec e. halts g d.world was (record node { kept = node.kept ++ rec ∷ [] }) node (record r { core = next }) halt.Kept found
-    (omega (arith, boot_below, ap (λ (b : Boot). b.0) (kept rec e))) before)
-  where
-    id : ℕ
-    id = node.id.0
-
-    boot_below : ((lease_view g d.world was).node id).boot ≤ (fold_of node.kept).boot.0
-    boot_below =
-        omega (
-          arith,
-          ap (λ (x : LeaseNode). x.boot) (seen_running g id (told g.file.number id d.world.entries) (node_in d.world.nodes id) node r found up),
-          below_seen g id (told g.file.number id d.world.entries) node.kept r r.core,
-          below,
-        )
+pub fewer_outs : (g : LeaseSetting) (w : World) (node : Node) (r : Running) (next : Core) (turned : Turned) (step : RowStep) (outs : List Msg) → ((m : Msg) → Has m outs → Has m turned.outs)
+    → IsStep g w node r next turned step → IsStep g w node r next (record turned { outs = outs }) step
+fewer_outs g w node r next turned step outs within is = record { here = is.here; others = is.others; outs = λ m h about. is.outs m (within m h) about }

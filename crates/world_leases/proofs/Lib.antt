@@ -9,6 +9,7 @@ pub mod Woken
 pub mod OsdEvents
 pub mod Moments
 pub mod Fit
+pub mod Walk
 pub mod NodeEvents
 pub mod Declares
 pub mod Clocks

@@ -1,6 +1,6 @@
 -- an event at a node leaves a world that fits: an OSD's, and a client's
 use Rattle.std.proofs.Common.{◌≡◌, ℕ, ◌+◌, inl, inr, List, ◌++◌, map, refl, arith, ap, sym, ◌∙◌, subst, Option, Some, None, Bool, true, false}
-use Rattle.std.specs.Prelude.{◌==◌, ◌&&◌, cond, max, nat_lt, nat_le, not, filter, Result, Ok, Err, length}
+use Rattle.std.specs.Prelude.{◌==◌, ◌&&◌, cond, max, nat_lt, nat_le, not, filter}
 use Rattle.xt_base.specs.TimeSettings.{TimeSettings}
 use Rattle.xt_base.specs.declared.ids.NodeId.{NodeId}
 use Rattle.xt_base.specs.declared.ids.Boot.{Boot}
@@ -20,13 +20,11 @@ use Rattle.xt_base.specs.declared.event.Event.TheVariants as event
 use Rattle.xt_base.specs.declared.event.Outcome.{Outcome}
 use Rattle.xt_base.specs.declared.event.Outcome.TheVariants as outcome
 use Rattle.xt_base.specs.declared.status.AskRefusal.TheVariants as refusal
-use Rattle.xt_base.specs.declared.status.Limited.TheVariants as limited
 use Rattle.xt_base.specs.declared.TheConstants.{COUNTS}
 use Rattle.xt_protocol.specs.LeaseRows.{Silent}
 use Rattle.lease_safety.specs.State.{Has}
 use Rattle.lease_runs.specs.LeaseWorld.{LeaseRow, LeaseNode, RowStep, node_stepped, row_stepped, IsReached, lease_file}
 use Rattle.lease_runs.proofs.Seen as seen_steps
-use Rattle.lease_runs.proofs.Tests.{same_node}
 use Rattle.osd_rows.specs.OsdSteps.{OsdState, step_of_osd, file_at}
 use Rattle.osd_lease_views.specs.LeaseView.{lease_row_of, is_about}
 use Rattle.cluster_runs.specs.declared.DeclaredFile.{DeclaredFile}
@@ -37,15 +35,17 @@ use Rattle.cluster_runs.specs.Steps.{Step, stays}
 use Rattle.cluster_runs.specs.Clients as clients
 use Rattle.cluster_runs.specs.Clients.{ClientSite, step_of_client, call_of_client}
 use Rattle.cluster_runs.specs.World.{World, Node, Running, Core, osd, client, node_in, up_of}
-use Rattle.cluster_runs.specs.NodeSteps.{Room, Cause, came_to, has_no_room, Overflow, overflow_of, entry_of, one_more, Doing, appends, within_limits, frame_bytes, MESSAGES, MESSAGE_BYTES, core_step, osd_steps, client_steps, outside_of, end_of_step, event_at, event_comes}
+use Rattle.cluster_runs.specs.NodeSteps.{entry_of, one_more, outside_of}
 use Rattle.world_leases.specs.View.{file_setting, told, awake_as, unseen, core_seen, lease_view}
-use Rattle.world_leases.proofs.Tables.{node_in-id}
 use Rattle.world_leases.proofs.Standings.{AreInert, inert_still, still_standing}
 use Rattle.world_leases.proofs.Marks.{inert, told_elsewhere, clock_stays}
 use Rattle.world_leases.proofs.Frame.{AreMembers, IsStep, seen_running}
 use Rattle.world_leases.proofs.OsdEvents as osd_events
-use Rattle.world_leases.proofs.Fit.{IsShaped, IsFit, members_by, are_members, IsNext, step_fits, fewer_fits, kept_boot}
+use Rattle.world_leases.proofs.Fit.{IsShaped, members_by, are_members, IsNext, kept_boot}
 use Rattle.world_leases.specs.Worlds.{AskFits, CallFits, CoreFits, UpFits, EndFits, Stands}
+use Rattle.cluster_runs.specs.Lines.{declared_file, declared_capability, epoch_of, uses}
+use Rattle.xt_protocol.specs.declared.Turned.{Turned}
+use Rattle.world_leases.proofs.Walk.{Reaches, NodeStep, of_osd, of_client, of_call, call_step}
 
 -- ---- OSDs
 
@@ -239,58 +239,22 @@ client_next w was node r c step shape found is_up is_client fits =
           subst (λ (x : LeaseNode). IsReached g (row_stepped view node.id (seen_steps.no_step x))) seen (seen_steps.no_step_reached g view node.id (shape.good number members are)),
         )
 
--- ---- an event in the world
+-- ---- any step of a node
 
-abbrev pub ResultFits : Result Doing Cause → Type 0
-ResultFits (Ok d) = IsFit d.world d.own
-ResultFits (Err cause) = Unit {0}
+-- what comes to a node of the lines' messages is on declared files
+comes_by : (w : World) (was : List Msg) (node : NodeId) (happens : Event) → IsShaped w was → Reaches w was node happens → osd_events.Comes w was node happens
+comes_by w was node (event.Deliver msg) shape reaches = (reaches.0, reaches.1, shape.asks msg reaches.1)
+comes_by w was node event.Wake shape reaches = tt
+comes_by w was node (event.Call call) shape reaches = tt
 
-pub limits_fit : (d : Doing) → IsFit d.world d.own → ResultFits (within_limits d)
-limits_fit d fit = at (nat_lt MESSAGES (length d.world.sent)) (nat_lt MESSAGE_BYTES (frame_bytes d.world.sent))
-  where
-    at : (many large : Bool) → ResultFits (cond many (Err (came_to limited.Messages)) (cond large (Err (came_to limited.Bytes)) (Ok d)))
-    at true large = tt
-    at false true = tt
-    at false false = fit
-
-pub end_fits : (room : Room) (d : Doing) (was : List Msg) (node : Node) (r : Running) (step : Step Core) → ((k : Msg) → Has k d.own → Has k was) → node_in d.world.nodes node.id.0 ≡ Some node → node.up ≡ Some r
-    → IsNext d.world was node r step.state step.turned → IsFit d.world was → ResultFits (end_of_step room d node r step)
-end_fits room d was node r step within found is_up is fit = at (overflow_of room node.kept step.turned.rec)
-  where
-    at : (o : Option Overflow) → ResultFits (elim o [
-      | Some overflow ↦ Err (has_no_room overflow)
-      | None ↦ within_limits (appends d node (record r { core = step.state }) r.crash step.turned.rec step.turned)
-    ])
-    at (Some overflow) = tt
-    at None = limits_fit (appends d node (record r { core = step.state }) r.crash step.turned.rec step.turned) (step_fits d was node r step.state step.turned within found is_up is fit)
-
--- a message that comes: it was sent, or is the node's to itself
-pub event_fits : (room : Room) (d : Doing) (was : List Msg) (id : NodeId) (happens : Event) → ((k : Msg) → Has k d.own → Has k was) → osd_events.Comes d.world was id happens
-    → IsFit d.world was → ResultFits (event_comes room d id happens)
-unfolding event_comes
-event_fits room d was id happens within comes fit = at (node_in d.world.nodes id.0) refl
-  where
-    quiet_fit : IsFit d.world d.own
-    quiet_fit = fewer_fits d.world was d.own within fit
-
-    by_core : (node : Node) (r : Running) (core : Core) → node_in d.world.nodes node.id.0 ≡ Some node → node.id ≡ id → node.up ≡ Some r → r.core ≡ core
-        → ResultFits (end_of_step room d node r (core_step d.world.times node core r.clock happens))
-    by_core node r (osd s) found mine is_up is_core =
-        end_fits room d was node r (osd_steps (step_of_osd (outside_of node.kept) s r.clock happens)) within found is_up (osd_next d.world was node r s happens fit.shape found is_up is_core (subst (λ (n : NodeId). osd_events.Comes d.world was n happens) (sym mine) comes)) fit
-    by_core node r (client c) found mine is_up is_core =
-        let running = subst (CoreFits d.world.times d.world.files node.id node.kept r) is_core (subst (λ (u : Option Running). UpFits d.world.times d.world.files node.id node.kept u) is_up (fit.shape.nodes node.id.0 node found).up) in
-        let step = step_of_client node.id d.world.times c r.clock happens in
-        end_fits room d was node r (client_steps step) within found is_up
-        (client_next d.world was node r c step fit.shape found is_up is_core (client_step_fits d.world.files node.id d.world.times c r.clock happens running)) fit
-
-    by_up : (node : Node) (up : Option Running) → node_in d.world.nodes node.id.0 ≡ Some node → node.id ≡ id → node.up ≡ up
-        → ResultFits (elim up [
-          | None ↦ Ok d
-          | Some running ↦ end_of_step room d node running (core_step d.world.times node running.core running.clock happens)
-        ])
-    by_up node None found mine is_up = quiet_fit
-    by_up node (Some r) found mine is_up = by_core node r r.core found mine is_up refl
-
-    at : (found : Option Node) → node_in d.world.nodes id.0 ≡ found → ResultFits (event_at room d happens found)
-    at None is = quiet_fit
-    at (Some node) is = by_up node node.up (ap (node_in d.world.nodes) (node_in-id d.world.nodes id.0 node is) ∙ is) (same_node node.id id (node_in-id d.world.nodes id.0 node is)) refl
+pub step_next : (w : World) (was : List Msg) (node : Node) (r : Running) (next : Core) (turned : Turned) → IsShaped w was → node_in w.nodes node.id.0 ≡ Some node → node.up ≡ Some r
+    → NodeStep w was node r next turned → IsNext w was node r next turned
+step_next w was node r _ _ shape found is_up (of_osd s happens is_osd reaches) = osd_next w was node r s happens shape found is_up is_osd (comes_by w was node.id happens shape reaches)
+step_next w was node r _ _ shape found is_up (of_client c happens is_client reaches) =
+    let running = subst (CoreFits w.times w.files node.id node.kept r) is_client (subst (UpFits w.times w.files node.id node.kept) is_up (shape.nodes node.id.0 node found).up) in
+    client_next w was node r c (step_of_client node.id w.times c r.clock happens) shape found is_up is_client (client_step_fits w.files node.id w.times c r.clock happens running)
+step_next w was node r _ _ shape found is_up (of_call c k number location asked is_client called declared asks_so) =
+    let capability = declared_capability number location (epoch_of c (declared_file number) k) in
+    let running = subst (CoreFits w.times w.files node.id node.kept r) is_client (subst (UpFits w.times w.files node.id node.kept) is_up (shape.nodes node.id.0 node found).up) in
+    client_next w was node r c (call_step w node r c k number location asked) shape found is_up is_client
+    (call_fits w.files node.id w.times (uses c capability) r.clock capability k asked running (refl, declared))

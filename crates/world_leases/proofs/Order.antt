@@ -8,7 +8,8 @@ use Rattle.world_leases.proofs.Tables.{node_in-id}
 use Rattle.world_leases.proofs.OsdEvents as osd_events
 use Rattle.world_leases.proofs.Fit.{IsShaped, IsFit, apart_now, members_by, are_members}
 use Rattle.world_leases.proofs.NodeEvents.{stood_by}
-use Rattle.world_leases.proofs.LineSteps.{NextFits}
+use Rattle.world_leases.proofs.LineSteps.{fits_kept}
+use Rattle.world_leases.proofs.Walk.{NextIs}
 use Rattle.xt_base.specs.declared.ids.NodeId.{NodeId}
 use Rattle.xt_base.specs.declared.ids.FileId.{FileId}
 use Rattle.xt_protocol.specs.LeaseRows.{LeaseState}
@@ -62,7 +63,7 @@ pub in_order : (w : World) (own : List Msg) → IsFit w own → IsInOrder w own
 in_order w own fit =
     record { nodes = fit.shape.nodes; stands = fit.shape.stands; asks = fit.shape.asks; times = fit.shape.times; leases = leases_hold w own fit.shape; leads = one_leads w own fit.shape }
 
-pub next_in_order : (next : Next) → NextFits next → IsNextInOrder next
+pub next_in_order : (next : Next) → NextIs IsFit fits_kept next → IsNextInOrder next
 next_in_order (finished w) fit = in_order w [] fit
 next_in_order (opens l w) fit = in_order w [] fit.0
 next_in_order (goes_on d) fit = in_order d.world d.own fit

@@ -30,7 +30,7 @@ use Rattle.osd_rows.specs.FileStates.{FileState, Site, FileStep}
 use Rattle.osd_rows.specs.FileSteps.{step_of_file}
 use Rattle.osd_rows.specs.OsdSteps.{OsdState, OsdStep, Outside, step_of_osd, handled_awake, file_at, with_file, file_concerned}
 use Rattle.osd_invariants.specs.Sound.{IsHeld, IsStored}
-use Rattle.osd_lease_views.specs.LeaseView.{lease_row_of, lease_setting, is_about, is_ask, is_lease_msg, lease_msgs, held_ends, settled_row, ShowsRow, stays_so, Follows, handles, asks, stays, Wakes, renewing, resting}
+use Rattle.osd_lease_views.specs.LeaseView.{lease_row_of, lease_setting, is_about, is_ask, is_lease_or_ask, leases_and_asks, held_ends, settled_row, ShowsRow, stays_so, Follows, handles, asks, stays, Wakes, renewing, resting}
 use Rattle.osd_lease_views.specs.OsdView.{site_of, wake_step, ShowsWake}
 use Rattle.osd_lease_views.specs.ActsView.{RecordIs, IsBusy, MarksAre, no_marks, won, acting}
 use Rattle.osd_lease_views.proofs.LeaseSteps as lease_steps
@@ -55,7 +55,7 @@ use Rattle.world_leases.specs.Worlds.{Agrees, Rises, files_of, Listed, AskFits, 
 -- ---- messages of a step
 
 -- a message about a file's lease is one of the step of the lease
-about_lease : (file : FileId) (m : Msg) → is_of file m ≡ true → is_lease_msg m ≡ true
+about_lease : (file : FileId) (m : Msg) → is_of file m ≡ true → is_lease_or_ask m ≡ true
 about_lease file m is = at (lease_file m.payload) is
   where
     at : (o : Option FileId) → is_about file o ≡ true → (is_some o || is_ask m.payload) ≡ true
@@ -66,7 +66,7 @@ about_same : (file f : FileId) (m : Msg) → is_of file m ≡ true → lease_fil
 about_same file f m is of_file = file-equal f file (sym (ap (is_about file) of_file) ∙ is)
 
 pub outs_shown : (step : FileStep) (st : RowStep) (file : FileId) (m : Msg) → ShowsRow step st → Has m step.turned.outs → is_of file m ≡ true → Has m st.outs
-outs_shown step st file m shows h is = subst (Has m) shows.outs (filter_has is_lease_msg m step.turned.outs h (about_lease file m is))
+outs_shown step st file m shows h is = subst (Has m) shows.outs (filter_has is_lease_or_ask m step.turned.outs h (about_lease file m is))
 
 -- no ask is about a lease
 lease_no_ask : (p : Payload) (file : FileId) → is_ask p ≡ true → lease_file p ≡ Some file → ⊥
@@ -78,26 +78,26 @@ lease_no_ask (payload.Accepted f ballot boot) file is of_file = cc
 lease_no_ask (payload.Outrun f ballot seen) file is of_file = cc
 lease_no_ask _ file is of_file = cc
 
-ask_is_lease_msg : (m : Msg) → is_ask m.payload ≡ true → is_lease_msg m ≡ true
-ask_is_lease_msg m is = or_right (is_some (lease_file m.payload)) (is_ask m.payload) is
+ask_counts : (m : Msg) → is_ask m.payload ≡ true → is_lease_or_ask m ≡ true
+ask_counts m is = or_right (is_some (lease_file m.payload)) (is_ask m.payload) is
   where
     or_right : (a b : Bool) → b ≡ true → (a || b) ≡ true
     or_right true b is = refl
     or_right false b is = is
 
 -- so where all messages about leases, and asks, are about a file's lease, no ask is sent
-pub no_ask : (files : List DeclaredFile) (m : Msg) → (is_lease_msg m ≡ true → (file : FileId) × (lease_file m.payload ≡ Some file)) → AskFits files m.payload
+pub no_ask : (files : List DeclaredFile) (m : Msg) → (is_lease_or_ask m ≡ true → (file : FileId) × (lease_file m.payload ≡ Some file)) → AskFits files m.payload
 no_ask files m each = at m.payload refl
   where
     at : (p : Payload) → m.payload ≡ p → AskFits files p
     at (payload.Ask number capability asked) is =
         let ask : is_ask m.payload ≡ true = ap is_ask is in
-        let about = each (ask_is_lease_msg m ask) in
+        let about = each (ask_counts m ask) in
         absurd (lease_no_ask m.payload about.0 ask about.1)
     at _ is = tt
 
 none_asked : (files : List DeclaredFile) (file : FileId) (step : FileStep) (st : RowStep) (m : Msg) → ShowsRow step st → ((k : Msg) → Has k st.outs → lease_file k.payload ≡ Some file) → Has m step.turned.outs → AskFits files m.payload
-none_asked files file step st m shows are h = no_ask files m (λ is. (file, are m (subst (Has m) shows.outs (filter_has is_lease_msg m step.turned.outs h is))))
+none_asked files file step st m shows are h = no_ask files m (λ is. (file, are m (subst (Has m) shows.outs (filter_has is_lease_or_ask m step.turned.outs h is))))
 
 -- a message about a lease concerns its file
 lease_concerns : (p : Payload) (f : FileId) → lease_file p ≡ Some f → file_concerned p ≡ Some f
@@ -334,9 +334,9 @@ module _ (w : World) (was : List Msg) (node : Node) (r : Running) (s : OsdState)
     woke_of_file f = osd_leases.each_wakes site f
 
     -- what is sent about leases comes of a file's step
-    woke_sends : (m : Msg) → Has m woke.turned.outs → is_lease_msg m ≡ true → (f : FileState) × Has f s.files × Has m (lease_msgs (woke_of f).turned.outs) × (lease_file m.payload ≡ Some f.kept.file)
+    woke_sends : (m : Msg) → Has m woke.turned.outs → is_lease_or_ask m ≡ true → (f : FileState) × Has f s.files × Has m (leases_and_asks (woke_of f).turned.outs) × (lease_file m.payload ≡ Some f.kept.file)
     woke_sends m h is =
-        let found = flat_has (λ (f : FileState). lease_msgs (woke_of f).turned.outs) s.files m (subst (Has m) shown_woken.outs (filter_has is_lease_msg m woke.turned.outs h is)) in
+        let found = flat_has (λ (f : FileState). leases_and_asks (woke_of f).turned.outs) s.files m (subst (Has m) shown_woken.outs (filter_has is_lease_or_ask m woke.turned.outs h is)) in
         let f = found.0 in
         let shown = wakes_of f.kept.file site (settled_row site f) (settled_row site f).lease (woke_of f) (woke_of_file f) in
         (f, found.1, found.2, shown.2 m (subst (Has m) shown.1.outs found.2))
@@ -375,7 +375,7 @@ module _ (w : World) (was : List Msg) (node : Node) (r : Running) (s : OsdState)
                   let sent = woke_sends m h (about_lease file m about) in
                   let same_file = about_same file sent.0.kept.file m about sent.3 in
                   let same_state = one_state awake s.files file sent.0 fits.rises sent.1 (ap (λ (a : FileId). is_file a file) same_file ∙ file-itself file) in
-                  subst (Has m) p.outs (subst (λ (f : FileState). Has m (lease_msgs (woke_of f).turned.outs)) same_state sent.2);
+                  subst (Has m) p.outs (subst (λ (f : FileState). Has m (leases_and_asks (woke_of f).turned.outs)) same_state sent.2);
               told = woke_told k ∙ sym (none_told st.end (told k node.id.0 w.entries) (sym p.ends ∙ ap held_ends (act_steps.wake_step_marks site f)));
             }
 
