@@ -65,10 +65,6 @@ none_there : {A : Type 0} (o : Option A) → is_some o ≡ false → o ≡ None
 none_there None is = refl
 none_there (Some x) is = absurd (cc)
 
-some_there : {A : Type 0} (o : Option A) → not (is_some o) ≡ false → (x : A) × (o ≡ Some x)
-some_there None is = absurd (cc)
-some_there (Some x) is = (x, refl)
-
 -- ---- messages
 
 -- a message that was sent
