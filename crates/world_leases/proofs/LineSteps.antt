@@ -119,11 +119,11 @@ pub fits_kept : IsKept IsFit
 fits_kept =
     record {
       begins = declares.start_fits;
-      times = declares.times_fit;
-      osd_declared = declares.osd_fits;
-      client_declared = declares.client_fits;
-      file_declared = λ w number location free fit. declares.file_fits w number location fit;
-      started = clocks.start_fits;
+      times = λ lease drift bound. declares.times_fit lease drift;
+      osd_declared = λ w id bound free fit. declares.osd_fits w id free fit;
+      client_declared = λ w id clock bound free fit. declares.client_fits w id clock free fit;
+      file_declared = λ w number location bound free fit. declares.file_fits w number location fit;
+      started = λ w node clock bound found down close fit. clocks.start_fits w node clock found down close fit;
       planned = λ w node r q found is_up boot clock core fit.
           changed_fits w [] node r q found is_up
           (λ g n end. ap (core_seen g n end node.kept q) core ∙ same_seen g n end node.kept r q r.core boot clock)
@@ -134,8 +134,8 @@ fits_kept =
           changed_fits w [] node r (record r { core = client d }) found is_up (λ g n end. ap (core_seen g n end node.kept r) (sym is_client))
           (subst (CoreFits w.times w.files node.id node.kept r) is_client (core_of w [] node r found is_up fit)) (λ o stands. aimed_stands r c d o is_client stands) fit;
       stopped = λ w own node r how found is_up fit. halt_fits w own node node r how found (fit.shape.nodes node.id.0 node found).rows (omega arith) fit;
-      clock_set = clocks.clock_fits;
-      all_ticked = clocks.tick_fits;
+      clock_set = λ w node r clock bound found is_up rises close fit. clocks.clock_fits w node r clock found is_up rises close fit;
+      all_ticked = λ w count bound fit. clocks.tick_fits w count fit;
       less_pending = less_sent;
       lost = fewer_fits;
       stepped = λ w was own node r next turned outs rest within found is_up step split fit.

@@ -253,7 +253,7 @@ step_next w was node r _ _ shape found is_up (of_osd s happens is_osd reaches) =
 step_next w was node r _ _ shape found is_up (of_client c happens is_client reaches) =
     let running = subst (CoreFits w.times w.files node.id node.kept r) is_client (subst (UpFits w.times w.files node.id node.kept) is_up (shape.nodes node.id.0 node found).up) in
     client_next w was node r c (step_of_client node.id w.times c r.clock happens) shape found is_up is_client (client_step_fits w.files node.id w.times c r.clock happens running)
-step_next w was node r _ _ shape found is_up (of_call c k number location asked is_client called declared asks_so) =
+step_next w was node r _ _ shape found is_up (of_call c k number location asked is_client resting bound called declared asks_so) =
     let capability = declared_capability number location (epoch_of c (declared_file number) k) in
     let running = subst (CoreFits w.times w.files node.id node.kept r) is_client (subst (UpFits w.times w.files node.id node.kept) is_up (shape.nodes node.id.0 node found).up) in
     client_next w was node r c (call_step w node r c k number location asked) shape found is_up is_client

@@ -46,7 +46,11 @@ use Rattle.cluster_runs.specs.NodeSteps.{to_itself, after_turn, appends, within_
 use Rattle.cluster_runs.specs.Lines.{ticked}
 use Rattle.cluster_runs.specs.Rules.{first_stranger, file_twice}
 use Rattle.cluster_runs.specs.Runs.{with_line, after, after_refusal, run_of}
-use Rattle.cluster_runs.specs.Bounds.{AreLines, FitsLater}
+use Rattle.std.specs.Prelude.{◌<◌, ◌^◌}
+use Rattle.xt_base.specs.TimeSettings.{AreTimes}
+use Rattle.xt_base.specs.Limits.{FitsNode, FitsLocation}
+use Rattle.cluster_runs.specs.Bounds.{AreLines, FitsLine, FitsCall, FitsLater}
+use Rattle.cluster_runs.specs.Rules.{has_call, busy, no_client, no_called_file}
 use Rattle.std.specs.List.{fold, AllByRecursion}
 use Rattle.cluster_runs.specs.Lines.{done, enough}
 use Rattle.world_leases.proofs.Frame.{however, next_node}
@@ -112,7 +116,7 @@ pub data NodeStep (w : World) (was : List Msg) (node : Node) (r : Running) : Cor
       → NodeStep w was node r (osd (step_of_osd (outside_of node.kept) s r.clock happens).osd) (step_of_osd (outside_of node.kept) s r.clock happens).turned
   of_client : (c : ClientState) (happens : Event) → r.core ≡ client c → Reaches w was node.id happens
       → NodeStep w was node r (client (step_of_client node.id w.times c r.clock happens).state) (step_of_client node.id w.times c r.clock happens).turned
-  of_call : (c : ClientState) (k : Call) (number : ℕ) (location : Location) (asked : Op) → r.core ≡ client c → called_file k ≡ Some number → file_in w.files number ≡ Some location → operation_of k ≡ Some asked
+  of_call : (c : ClientState) (k : Call) (number : ℕ) (location : Location) (asked : Op) → r.core ≡ client c → c.running ≡ None → FitsCall k → called_file k ≡ Some number → file_in w.files number ≡ Some location → operation_of k ≡ Some asked
       → NodeStep w was node r (client (call_step w node r c k number location asked).state) (call_step w node r c k number location asked).turned
 
 -- a new clock is close to those of the other running nodes
@@ -123,25 +127,25 @@ IsCloseToOthers w id clock = (n : ℕ) (other : Node) (q : Running) → n ≢ id
 pub record IsKept (P : World → List Msg → Type 0) : Type 0 where
   -- no line has come, or only the times
   pub begins : P start_world []
-  pub times : (lease drift : ℕ) → P (tells (record start_world { times = record { lease = lease; drift = drift } }) (entry.Times lease drift ∷ [])) []
+  pub times : (lease drift : ℕ) → AreTimes lease drift → P (tells (record start_world { times = record { lease = lease; drift = drift } }) (entry.Times lease drift ∷ [])) []
   -- declarations
-  pub osd_declared : (w : World) (id : NodeId) → node_in w.nodes id.0 ≡ None → P w []
+  pub osd_declared : (w : World) (id : NodeId) → FitsNode id → node_in w.nodes id.0 ≡ None → P w []
       → P (tells (record w { nodes = w.nodes ++ record { id = id; role = role.Osd; kept = []; up = None } ∷ [] }) []) []
-  pub client_declared : (w : World) (id : NodeId) (clock : ℕ) → node_in w.nodes id.0 ≡ None → P w []
+  pub client_declared : (w : World) (id : NodeId) (clock : ℕ) → FitsNode id × (clock < 2 ^ 62) → node_in w.nodes id.0 ≡ None → P w []
       → P (tells (record w { nodes = w.nodes ++ record { id = id; role = role.Client; kept = []; up = Some (runs first_boot clock (client (new_client clock))) } ∷ [] }) (entry.Up id first_boot clock ∷ [])) []
-  pub file_declared : (w : World) (number : ℕ) (location : Location) → file_in w.files number ≡ None → P w []
+  pub file_declared : (w : World) (number : ℕ) (location : Location) → (number < 1000000) × FitsLocation location → file_in w.files number ≡ None → P w []
       → P (tells (record w { files = w.files ++ record { number = number; location = location } ∷ [] }) (entry.File number location ∷ [])) []
   -- a node starts; it is changed in what no step of it reads; a client's first target is set; a node stops
-  pub started : (w : World) (node : Node) (clock : ℕ) → node_in w.nodes node.id.0 ≡ Some node → node.up ≡ None → IsCloseToOthers w node.id clock → P w [] → P (starts_as w node (next_boot node.kept) clock) []
+  pub started : (w : World) (node : Node) (clock : ℕ) → clock < 2 ^ 62 → node_in w.nodes node.id.0 ≡ Some node → node.up ≡ None → IsCloseToOthers w node.id clock → P w [] → P (starts_as w node (next_boot node.kept) clock) []
   pub planned : (w : World) (node : Node) (r q : Running) → node_in w.nodes node.id.0 ≡ Some node → node.up ≡ Some r → q.boot ≡ r.boot → q.clock ≡ r.clock → q.core ≡ r.core → P w []
       → P (record w { nodes = with_node w.nodes (record node { up = Some q }) }) []
   pub aimed_at : (w : World) (node : Node) (r : Running) (c : ClientState) (number : ℕ) (target : NodeId) → node_in w.nodes node.id.0 ≡ Some node → node.up ≡ Some r → r.core ≡ client c → P w []
       → P (record w { nodes = with_node w.nodes (record node { up = Some (record r { core = client (knows c (declared_file number) (aimed target)) }) }) }) []
   pub stopped : (w : World) (own : List Msg) (node : Node) (r : Running) (how : Halt) → node_in w.nodes node.id.0 ≡ Some node → node.up ≡ Some r → P w own → P (halted w node r how) []
   -- clocks
-  pub clock_set : (w : World) (node : Node) (r : Running) (clock : ℕ) → node_in w.nodes node.id.0 ≡ Some node → node.up ≡ Some r → r.clock ≤ clock → IsCloseToOthers w node.id clock → P w []
+  pub clock_set : (w : World) (node : Node) (r : Running) (clock : ℕ) → clock < 2 ^ 62 → node_in w.nodes node.id.0 ≡ Some node → node.up ≡ Some r → r.clock ≤ clock → IsCloseToOthers w node.id clock → P w []
       → P (tells (record w { nodes = with_node w.nodes (record node { up = Some (record r { clock = clock }) }) }) (entry.Clock node.id clock ∷ [])) []
-  pub all_ticked : (w : World) (count : ℕ) → P w [] → P (tells (record w { nodes = map (ticked count) w.nodes }) (entry.Tick count ∷ [])) []
+  pub all_ticked : (w : World) (count : ℕ) → count < 2 ^ 32 → P w [] → P (tells (record w { nodes = map (ticked count) w.nodes }) (entry.Tick count ∷ [])) []
   -- a message is no longer pending; messages of a node to itself are lost
   pub less_pending : (w : World) (own : List Msg) (number : ℕ) → P w own → P (record w { sent = no_longer_pending w.sent number }) own
   pub lost : (w : World) (own left : List Msg) → ((m : Msg) → Has m left → Has m own) → P w own → P w left
@@ -158,6 +162,10 @@ pub record IsKept (P : World → List Msg → Type 0) : Type 0 where
 abbrev pub OpensFirst : World → Line → Type 0
 OpensFirst w (line.Times lease drift) = w ≡ start_world
 OpensFirst w _ = Unit {0}
+
+-- a line within its limits, where it may stand
+abbrev pub Opens : World → Line → Type 0
+Opens w l = FitsLine l × OpensFirst w l
 
 later_first : (w : World) (l : Line) → FitsLater l → OpensFirst w l
 later_first w (line.Times lease drift) is = absurd (cc (is.1))
@@ -334,43 +342,48 @@ module _ (P : World → List Msg → Type 0) (keeps : IsKept P) where
 
   -- ---- a client's call
 
-  call_number_kept : (room : Room) (d : Doing) (node : Node) (r : Running) (c : ClientState) (k : Call) (number : ℕ) (location : Location) (asked : Op) → d.own ≡ [] → node_in d.world.nodes node.id.0 ≡ Some node → node.up ≡ Some r → r.core ≡ client c
+  call_number_kept : (room : Room) (d : Doing) (node : Node) (r : Running) (c : ClientState) (k : Call) (number : ℕ) (location : Location) (asked : Op) → d.own ≡ [] → node_in d.world.nodes node.id.0 ≡ Some node → node.up ≡ Some r → r.core ≡ client c → c.running ≡ None → FitsCall k
       → called_file k ≡ Some number → file_in d.world.files number ≡ Some location → operation_of k ≡ Some asked → P d.world [] → ResultIs (client_calls room d node r c k number location asked)
-  call_number_kept room d node r c k number location asked idle found is_up is_core called declared asks_so fit =
+  call_number_kept room d node r c k number location asked idle found is_up is_core resting bound called declared asks_so fit =
       let capability = declared_capability number location (epoch_of c (declared_file number) k) in
       let step = call_of_client node.id d.world.times (uses c capability) r.clock capability k asked in
-      end_kept room d [] node r (client_steps step) (λ m h. subst (Has m) idle h) found is_up (of_call c k number location asked is_core called declared asks_so) fit
+      end_kept room d [] node r (client_steps step) (λ m h. subst (Has m) idle h) found is_up (of_call c k number location asked is_core resting bound called declared asks_so) fit
 
-  calls_kept : (room : Room) (d : Doing) (id : NodeId) (k : Call) → d.own ≡ [] → P d.world [] → ResultIs (calls room d (node_in d.world.nodes id.0) k)
-  calls_kept room d id k idle fit = at (node_in d.world.nodes id.0) refl
+  calls_kept : (room : Room) (d : Doing) (id : NodeId) (k : Call) → FitsCall k → busy d.world.nodes id ≡ None → d.own ≡ [] → P d.world [] → ResultIs (calls room d (node_in d.world.nodes id.0) k)
+  calls_kept room d id k bound free idle fit = at (node_in d.world.nodes id.0) refl
     where
       idle_fit : P d.world d.own
       idle_fit = subst (P d.world) (sym idle) fit
 
-      by_core : (node : Node) (r : Running) (core : Core) (number : Option ℕ) (location : Option Location) (asked : Option Op) → node_in d.world.nodes node.id.0 ≡ Some node → node.up ≡ Some r → r.core ≡ core → called_file k ≡ number → location_of d.world number ≡ location → operation_of k ≡ asked
-          → ResultIs (core_calls room d node r core k number location asked)
-      by_core node r (osd s) number location asked found is_up is_core called there asks_so = idle_fit
-      by_core node r (client c) None location asked found is_up is_core called there asks_so = idle_fit
-      by_core node r (client c) (Some number) None asked found is_up is_core called there asks_so = idle_fit
-      by_core node r (client c) (Some number) (Some location) None found is_up is_core called there asks_so = idle_fit
-      by_core node r (client c) (Some number) (Some location) (Some asked) found is_up is_core called there asks_so = call_number_kept room d node r c k number location asked idle found is_up is_core called there asks_so fit
+      -- no call of the client runs
+      calm : has_call (up_of (node_in d.world.nodes id.0)) ≡ false
+      calm = not_so _ _ free
 
-      by_up : (node : Node) → node_in d.world.nodes node.id.0 ≡ Some node → (up : Option Running) → node.up ≡ up
+      by_core : (node : Node) (r : Running) (core : Core) (number : Option ℕ) (location : Option Location) (asked : Option Op) → has_call (Some r) ≡ false → node_in d.world.nodes node.id.0 ≡ Some node → node.up ≡ Some r → r.core ≡ core → called_file k ≡ number → location_of d.world number ≡ location → operation_of k ≡ asked
+          → ResultIs (core_calls room d node r core k number location asked)
+      by_core node r (osd s) number location asked still found is_up is_core called there asks_so = idle_fit
+      by_core node r (client c) None location asked still found is_up is_core called there asks_so = idle_fit
+      by_core node r (client c) (Some number) None asked still found is_up is_core called there asks_so = idle_fit
+      by_core node r (client c) (Some number) (Some location) None still found is_up is_core called there asks_so = idle_fit
+      by_core node r (client c) (Some number) (Some location) (Some asked) still found is_up is_core called there asks_so = call_number_kept room d node r c k number location asked idle found is_up is_core
+          (none_there c.running (sym (ap (λ (core : Core). has_call (Some (record r { core = core }))) is_core) ∙ still)) bound called there asks_so fit
+
+      by_up : (node : Node) → has_call node.up ≡ false → node_in d.world.nodes node.id.0 ≡ Some node → (up : Option Running) → node.up ≡ up
           → ResultIs (elim up [
             | None ↦ Ok d
             | Some running ↦ core_calls room d node running running.core k (called_file k) (location_of d.world (called_file k)) (operation_of k)
           ])
-      by_up node found None is_up = idle_fit
-      by_up node found (Some r) is_up = by_core node r r.core (called_file k) (location_of d.world (called_file k)) (operation_of k) found is_up refl refl refl refl
+      by_up node still found None is_up = idle_fit
+      by_up node still found (Some r) is_up = by_core node r r.core (called_file k) (location_of d.world (called_file k)) (operation_of k) (sym (ap has_call is_up) ∙ still) found is_up refl refl refl refl
 
       at : (found : Option Node) → node_in d.world.nodes id.0 ≡ found → ResultIs (calls room d found k)
       at None is = idle_fit
-      at (Some node) is = by_up node (ap (node_in d.world.nodes) (node_in-id d.world.nodes id.0 node is) ∙ is) node.up refl
+      at (Some node) is = by_up node (sym (ap (λ (f : Option Node). has_call (up_of f)) is) ∙ calm) (ap (node_in d.world.nodes) (node_in-id d.world.nodes id.0 node is) ∙ is) node.up refl
 
   -- ---- starts and declarations
 
-  starts_kept : (room : Room) (d : Doing) (id : NodeId) (clock : ℕ) → d.own ≡ [] → runs_already d.world.nodes id ≡ None → drifts d.world id clock ≡ None → P d.world [] → ResultIs (starts room d clock (node_in d.world.nodes id.0))
-  starts_kept room d id clock idle down close fit = at (node_in d.world.nodes id.0) refl
+  starts_kept : (room : Room) (d : Doing) (id : NodeId) (clock : ℕ) → clock < 2 ^ 62 → d.own ≡ [] → runs_already d.world.nodes id ≡ None → drifts d.world id clock ≡ None → P d.world [] → ResultIs (starts room d clock (node_in d.world.nodes id.0))
+  starts_kept room d id clock bound idle down close fit = at (node_in d.world.nodes id.0) refl
     where
       idle_fit : P d.world d.own
       idle_fit = subst (P d.world) (sym idle) fit
@@ -379,7 +392,7 @@ module _ (P : World → List Msg → Type 0) (keeps : IsKept P) where
       new node is =
           let its = node_in-id d.world.nodes id.0 node is in
           let off = none_there (up_of (node_in d.world.nodes id.0)) (not_so _ _ down) in
-          keeps.started d.world node clock (ap (node_in d.world.nodes) its ∙ is) (sym (ap up_of is) ∙ off)
+          keeps.started d.world node clock bound (ap (node_in d.world.nodes) its ∙ is) (sym (ap up_of is) ∙ off)
           (λ n other r ne there up. close_by d.world id clock n other r close (λ e. ne (e ∙ sym its)) there up) fit
 
       by_room : (node : Node) → node_in d.world.nodes id.0 ≡ Some node → (o : Option Overflow)
@@ -405,9 +418,9 @@ module _ (P : World → List Msg → Type 0) (keeps : IsKept P) where
 
   -- ---- the first step of a line
 
-  clock_line : (w : World) (id : NodeId) (clock : ℕ) → runs_not w.nodes id ≡ None → goes_back clock (up_of (node_in w.nodes id.0)) ≡ None → drifts w id clock ≡ None → P w []
+  clock_line : (w : World) (id : NodeId) (clock : ℕ) → clock < 2 ^ 62 → runs_not w.nodes id ≡ None → goes_back clock (up_of (node_in w.nodes id.0)) ≡ None → drifts w id clock ≡ None → P w []
       → P (tells (changed w (node_in w.nodes id.0) (reads_clock clock)) (entry.Clock id clock ∷ [])) []
-  clock_line w id clock running rises close fit = at (node_in w.nodes id.0) refl
+  clock_line w id clock bound running rises close fit = at (node_in w.nodes id.0) refl
     where
       is_up : not (is_some (up_of (node_in w.nodes id.0))) ≡ false
       is_up = not_so _ _ running
@@ -420,7 +433,7 @@ module _ (P : World → List Msg → Type 0) (keeps : IsKept P) where
           let back = ap (goes_back clock) (sym (ap up_of is ∙ up)) ∙ rises in
           let less = not_so (nat_lt clock r.clock) _ back in
           subst (λ (n : NodeId). P (tells (record w { nodes = with_node w.nodes (record node { up = Some (reads_clock clock r) }) }) (entry.Clock n clock ∷ [])) []) (same_node node.id id its)
-          (keeps.clock_set w node r clock (ap (node_in w.nodes) its ∙ is) up (not_less clock r.clock less)
+          (keeps.clock_set w node r clock bound (ap (node_in w.nodes) its ∙ is) up (not_less clock r.clock less)
           (λ n other q ne there up. close_by w id clock n other q close (λ e. ne (e ∙ sym its)) there up) fit)
         where
           not_less : (a b : ℕ) → nat_lt a b ≡ false → b ≤ a
@@ -430,19 +443,19 @@ module _ (P : World → List Msg → Type 0) (keeps : IsKept P) where
       at None is = absurd (let off : not (is_some (up_of (node_in w.nodes id.0))) ≡ true = ap (λ (f : Option Node). not (is_some (up_of f))) is in cc (off, is_up))
       at (Some node) is = by_up node is node.up refl
 
-  first_kept : (room : Room) (w : World) (l : Line) → refusal w l ≡ None → OpensFirst w l → P w [] → ResultIs (first_step room (record { world = w; own = []; left = 0 }) l)
+  first_kept : (room : Room) (w : World) (l : Line) → refusal w l ≡ None → Opens w l → P w [] → ResultIs (first_step room (record { world = w; own = []; left = 0 }) l)
   unfolding first_step refusal
   first_kept room w (line.Times lease drift) allowed first fit =
-      subst (λ (w : World). P (tells (record w { times = record { lease = lease; drift = drift } }) (entry.Times lease drift ∷ [])) []) (sym first) (keeps.times lease drift)
-  first_kept room w (line.Osd node) allowed first fit = declares_kept _ (record { id = node; role = role.Osd; kept = []; up = None }) [] refl (keeps.osd_declared w node (none_there _ (not_so _ _ allowed)) fit)
+      subst (λ (w : World). P (tells (record w { times = record { lease = lease; drift = drift } }) (entry.Times lease drift ∷ [])) []) (sym first.1) (keeps.times lease drift first.0)
+  first_kept room w (line.Osd node) allowed first fit = declares_kept _ (record { id = node; role = role.Osd; kept = []; up = None }) [] refl (keeps.osd_declared w node first.0 (none_there _ (not_so _ _ allowed)) fit)
   first_kept room w (line.Client node clock) allowed first fit =
       let free = (either_none (node_twice w.nodes node) (drifts_inside w node clock) allowed).0 in
-      declares_kept _ (record { id = node; role = role.Client; kept = []; up = Some (runs first_boot clock (client (new_client clock))) }) (entry.Up node first_boot clock ∷ []) refl (keeps.client_declared w node clock (none_there _ (not_so _ _ free)) fit)
-  first_kept room w (line.File number location) allowed first fit = keeps.file_declared w number location (none_there _ (not_so _ _ (either_none (file_twice w.files number) (first_stranger w.nodes location.members) allowed).0)) fit
+      declares_kept _ (record { id = node; role = role.Client; kept = []; up = Some (runs first_boot clock (client (new_client clock))) }) (entry.Up node first_boot clock ∷ []) refl (keeps.client_declared w node clock first.0 (none_there _ (not_so _ _ free)) fit)
+  first_kept room w (line.File number location) allowed first fit = keeps.file_declared w number location first.0 (none_there _ (not_so _ _ (either_none (file_twice w.files number) (first_stranger w.nodes location.members) allowed).0)) fit
   first_kept room w (line.Start node clock) allowed first fit =
       let later = (either_none (no_osd w.nodes node) (option_or (runs_already w.nodes node) (drifts w node clock)) allowed).1 in
       let parts = either_none (runs_already w.nodes node) (drifts w node clock) later in
-      starts_kept room _ node clock refl parts.0 parts.1 fit
+      starts_kept room _ node clock first.0.1 refl parts.0 parts.1 fit
   first_kept room w (line.Stop node) allowed first fit = stops_kept w node fit
   first_kept room w (line.Crash node k fill) allowed first fit = plan_kept w node (crashes k fill) (λ r. refl) (λ r. refl) (λ r. refl) fit
   first_kept room w (line.Cut node count) allowed first fit = plan_kept w node (cuts count) (λ r. refl) (λ r. refl) (λ r. refl) fit
@@ -450,10 +463,10 @@ module _ (P : World → List Msg → Type 0) (keeps : IsKept P) where
       let later = (either_none (no_node w.nodes node) (option_or (runs_not w.nodes node) (option_or (goes_back clock (up_of (node_in w.nodes node.0))) (drifts w node clock))) allowed).1 in
       let one = either_none (runs_not w.nodes node) (option_or (goes_back clock (up_of (node_in w.nodes node.0))) (drifts w node clock)) later in
       let two = either_none (goes_back clock (up_of (node_in w.nodes node.0))) (drifts w node clock) one.1 in
-      clock_line w node clock one.0 two.0 two.1 fit
-  first_kept room w (line.Tick count) allowed first fit = keeps.all_ticked w count fit
+      clock_line w node clock first.0.1 one.0 two.0 two.1 fit
+  first_kept room w (line.Tick count) allowed first fit = keeps.all_ticked w count first.0 fit
   first_kept room w (line.Wake node) allowed first fit = event_kept room (record { world = w; own = []; left = 0 }) [] node event.Wake (λ k h. h) tt fit
-  first_kept room w (line.Call id k) allowed first fit = calls_kept room (record { world = w; own = []; left = 0 }) id k refl fit
+  first_kept room w (line.Call id k) allowed first fit = calls_kept room (record { world = w; own = []; left = 0 }) id k first.0.1 (either_none (no_called_file w.files (called_file k)) (busy w.nodes id) (either_none (no_client w.nodes id) (option_or (no_called_file w.files (called_file k)) (busy w.nodes id)) allowed).1).1 refl fit
   first_kept room w (line.Aim id file node) allowed first fit = aims_kept w id file node fit
   first_kept room w (line.Deliver number) allowed first fit = delivers_kept room (record { world = w; own = []; left = 0 }) number refl fit
   first_kept room w (line.Drop number) allowed first fit = keeps.less_pending w [] number fit
@@ -464,7 +477,7 @@ module _ (P : World → List Msg → Type 0) (keeps : IsKept P) where
   -- where a line is, in a world that fits
   abbrev pub NextIs : Next → Type 0
   NextIs (finished w) = P w []
-  NextIs (opens l w) = P w [] × (refusal w l ≡ None) × OpensFirst w l
+  NextIs (opens l w) = P w [] × (refusal w l ≡ None) × Opens w l
   NextIs (goes_on d) = P d.world d.own
   NextIs (ends cause w) = P w []
 
@@ -514,7 +527,7 @@ module _ (P : World → List Msg → Type 0) (keeps : IsKept P) where
   so_far_kept (goes_on d) fit = idle_of d.world d.own fit
   so_far_kept (ends cause w) fit = fit
 
-  pub begins_kept : (w : World) (l : Line) → refusal w l ≡ None → OpensFirst w l → P w [] → NextIs (begins w l)
+  pub begins_kept : (w : World) (l : Line) → refusal w l ≡ None → Opens w l → P w [] → NextIs (begins w l)
   begins_kept w (line.Settle count) allowed first fit = fit
   begins_kept w (line.Times lease drift) allowed first fit = (fit, allowed, first)
   begins_kept w (line.Osd node) allowed first fit = (fit, allowed, first)
@@ -534,7 +547,7 @@ module _ (P : World → List Msg → Type 0) (keeps : IsKept P) where
 
   -- ---- runs
 
-  after_kept : (room : Room) (w : World) (l : Line) → OpensFirst w l → P w [] → P (after room w l) []
+  after_kept : (room : Room) (w : World) (l : Line) → Opens w l → P w [] → P (after room w l) []
   unfolding after done
   after_kept room w l first p = at (refusal w l) refl
     where
@@ -544,19 +557,19 @@ module _ (P : World → List Msg → Type 0) (keeps : IsKept P) where
 
   later_kept : (room : Room) (w : World) (lines : List Line) → AllByRecursion FitsLater lines → P w [] → P (fold (after room) w lines) []
   later_kept room w [] are p = p
-  later_kept room w (l ∷ lines) are p = later_kept room (after room w l) lines are.1 (after_kept room w l (later_first w l are.0) p)
+  later_kept room w (l ∷ lines) are p = later_kept room (after room w l) lines are.1 (after_kept room w l (are.0.0, later_first w l are.0) p)
 
   -- Every run keeps it,
   pub run_kept : (room : Room) (lines : List Line) → AreLines lines → P (run_of room lines) []
   unfolding run_of
   run_kept room [] are = keeps.begins
-  run_kept room (l ∷ lines) are = later_kept room (after room start_world l) lines are.1 (after_kept room start_world l (starting_first l) keeps.begins)
+  run_kept room (l ∷ lines) are = later_kept room (after room start_world l) lines are.1 (after_kept room start_world l (are.0, starting_first l) keeps.begins)
 
   -- and each step of a line behind a run.
   pub steps_into : (room : Room) (lines : List Line) (l : Line) (k : ℕ) → AreLines (lines ++ l ∷ []) → refusal (run_of room lines) l ≡ None → NextIs (steps k room (begins (run_of room lines) l))
   unfolding run_of
-  steps_into room [] l k are allowed = steps_kept k room (begins start_world l) (begins_kept start_world l allowed (starting_first l) keeps.begins)
+  steps_into room [] l k are allowed = steps_kept k room (begins start_world l) (begins_kept start_world l allowed (are.0, starting_first l) keeps.begins)
   steps_into room (x ∷ xs) l k are allowed =
       let parts = all_front xs l are.1 in
       let w = fold (after room) (after room start_world x) xs in
-      steps_kept k room (begins w l) (begins_kept w l allowed (later_first w l parts.1) (run_kept room (x ∷ xs) (are.0, parts.0)))
+      steps_kept k room (begins w l) (begins_kept w l allowed (parts.1.0, later_first w l parts.1) (run_kept room (x ∷ xs) (are.0, parts.0)))
