@@ -1,5 +1,5 @@
 -- paths as lists of names
-use Rattle.std.specs.Prelude.{ℕ, Bool, true, false, ◌&&◌, ◌==◌, not, nat_le, if◌then◌else◌, Option, Some, None, List, [], ◌∷◌, length, ◌-◌, take}
+use Rattle.std.specs.Prelude.{ℕ, Bool, true, false, ◌&&◌, ◌==◌, not, nat_le, if◌then◌else◌, Option, Some, None, List, [], ◌∷◌, length}
 use Rattle.std.specs.List.{list_all, list_any}
 use Rattle.std.specs.Str.{bytes_eq}
 use Rattle.std.specs.Ordering.{nat_cmp}
@@ -64,7 +64,9 @@ is_within (name ∷ names) (first ∷ rest) = bytes_eq name first && is_within n
 
 -- the path of the directory that has this path in it
 abbrev pub parent_of : Path → Path
-parent_of path = take (length path - 1) path
+parent_of [] = []
+parent_of (name ∷ []) = []
+parent_of (name ∷ next ∷ names) = name ∷ parent_of (next ∷ names)
 
 -- the name of a path in a directory, if it is right in it
 abbrev pub name_in : Path → Path → Option Name

@@ -48,6 +48,13 @@ with_row (r ∷ rs) row =
 abbrev pub without_row : List Row → Path → List Row
 without_row rows path = filter (λ r. not (same_path r.path path)) rows
 
+-- the rows at or below a path, and all others
+abbrev pub rows_within : Path → List Row → List Row
+rows_within path rows = filter (λ r. is_within path r.path) rows
+
+abbrev pub rows_outside : Path → List Row → List Row
+rows_outside path rows = filter (λ r. not (is_within path r.path)) rows
+
 -- the row at or below one path as it stands at or below another
 abbrev pub moved : Path → Path → Row → Row
 moved from to row = record { path = to ++ drop (length from) row.path; entry = row.entry }
@@ -55,8 +62,7 @@ moved from to row = record { path = to ++ drop (length from) row.path; entry = r
 -- A rename: the rows at or below the source have the target's names in place of the source's, each in its new place.
 abbrev pub renamed : List Row → Path → Path → List Row
 renamed rows from to =
-    fold with_row (filter (λ r. not (is_within from r.path)) rows)
-    (map (moved from to) (filter (λ r. is_within from r.path) rows))
+    fold with_row (rows_outside from rows) (map (moved from to) (rows_within from rows))
 
 -- the names right in a directory, in order
 abbrev pub names_in : List Row → Path → List Name

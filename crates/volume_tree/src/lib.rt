@@ -1,7 +1,14 @@
 //! Volumes: directories and files under their paths, whose they are, and who may do what with them.
+//!
+//! The definitions have all volumes as one flat list of rows, each with its whole path, and say what comes of each request to
+//! the metadata server, with each refusal in its order. `Node` is a tree of names whose calls equal those on the flat list:
+//! to find an entry, to put one, and to take a subtree out, each by the names of its path alone.
 #![tactic(auto)]
 
-use xt_base::{Location, SizeMark};
+mod node;
+
+pub use node::Node;
+use xt_base::{FileId, Location, SizeMark};
 
 /// What is kept of a file: its number, where its content is, the truncate epoch that was issued last, and its size as it was
 /// reported.
@@ -37,6 +44,15 @@ pub enum Picked {
     On { location: Location },
     /// So many OSDs are there, fewer than the file wants.
     TooFew { have: u8 },
+}
+
+/// What is granted of a file: where its content is, the truncate epoch of the capability, and its size.
+#[derive(Clone, Copy, PartialEq, Eq)]
+pub struct Granting {
+    pub file: FileId,
+    pub location: Location,
+    pub epoch: u64,
+    pub mark: SizeMark,
 }
 
 ghost use Rattle.std.specs.Prelude.{◌≡◌, replicate};
