@@ -1,14 +1,12 @@
 -- A file's asks stay within their limits.
-use Rattle.std.proofs.Common.{◌≡◌, ℕ, ◌⊎◌, Bool, true, false, List, [], ◌∷◌, ◌++◌, refl, sym, ap, subst, inl, inr, if◌then◌else◌, ◌&&◌, ◌==◌, not, Option, Some, None}
+use Rattle.std.proofs.Common.{◌≡◌, ℕ, ◌⊎◌, Bool, true, false, List, [], ◌∷◌, ◌++◌, refl, sym, subst, inl, inr, if◌then◌else◌, ◌&&◌, ◌==◌, not, Option, Some, None}
 use Rattle.std.specs.Prelude.{cond, filter, is_some, nat_lt, length}
 use Rattle.std.specs.List.{fold}
 use Rattle.xt_base.specs.declared.ids.NodeId.{NodeId}
-use Rattle.xt_base.specs.declared.ids.Lease.{Lease}
 use Rattle.xt_base.specs.declared.ids.OpId.{OpId}
 use Rattle.xt_base.specs.declared.file.Capability.{Capability}
 use Rattle.xt_base.specs.declared.file.Kind.{Kind}
 use Rattle.xt_base.specs.declared.file.Kind.TheVariants as kind
-use Rattle.xt_base.specs.declared.file.Location.{Location}
 use Rattle.xt_base.specs.declared.file.Op.{Op}
 use Rattle.xt_base.specs.declared.message.Payload.{Payload}
 use Rattle.xt_base.specs.declared.message.Payload.TheVariants as payload
@@ -17,11 +15,11 @@ use Rattle.xt_base.specs.declared.reply.Reply.TheVariants as reply
 use Rattle.xt_protocol.specs.Register.{Round}
 use Rattle.xt_protocol.specs.LeaseRows.{LeaseState, Proposer, Held, free, asking, writing, held, LeaseNews, sends_write, holds, finds, ends, on_answer, can_ask, round_starts, is_renewal_due, lease_expired}
 use Rattle.xt_protocol.specs.LeaseRows as lease
-use Rattle.osd_rows.specs.AskRows.{turned_off, reads_of, ask_waits, ask_served, round_for, elsewhere, ask_without_lease, ask_under, ask_rows, view_record, ask_let_in, refusal_of, ask_handled, waiting_ask}
-use Rattle.osd_rows.specs.Asks.{Served, WAITING, no_asks, waits, stays, is_read, newly_issued, write_done, serves, serves_waiting, serves_all, comes_back, asks_behind, asks_follow, asked_already}
-use Rattle.osd_rows.specs.FileLeases.{read_comes, write_comes, answer_comes, end_after_answer, waiting_told, live_lease, led_on, lease_held, lease_news}
+use Rattle.osd_rows.specs.AskRows.{reads_of, ask_waits, ask_served, elsewhere, ask_without_lease, ask_under, ask_rows, ask_let_in, refusal_of, ask_handled, waiting_ask}
+use Rattle.osd_rows.specs.Asks.{Served, WAITING, no_asks, waits, stays, is_read, newly_issued, write_done, serves, serves_waiting, serves_all, comes_back, asks_follow, asked_already}
+use Rattle.osd_rows.specs.FileLeases.{read_comes, write_comes, answer_comes, end_after_answer, waiting_told, led_on, lease_news}
 use Rattle.osd_rows.specs.FileStates.{FileState, Site, FileStep, nothing, steps_to, and_then, members_of, ground_of}
-use Rattle.osd_rows.specs.FileSteps.{ask_comes, primary_hears, message_comes, step_of_file, renews, wakes_under_lease, wake_of_file}
+use Rattle.osd_rows.specs.FileSteps.{ask_comes, primary_hears, message_comes, step_of_file, wakes_under_lease, wake_of_file}
 use Rattle.osd_rows.specs.Overdue.{is_due, issued_due, deadlines_under, lease_became, expired}
 use Rattle.osd_rows.specs.Primaries.{Ground, Led, is_active, is_ready}
 use Rattle.osd_rows.specs.PrimaryRows.{hears}

@@ -13,6 +13,7 @@ use Rattle.xt_base.specs.declared.file.Kind.{Kind}
 use Rattle.xt_base.specs.declared.file.Kind.TheVariants as kind
 use Rattle.xt_base.specs.declared.file.Location.{Location}
 use Rattle.xt_base.specs.declared.file.Op.{Op}
+use Rattle.xt_base.specs.declared.file.Op.TheVariants as op
 use Rattle.xt_base.specs.declared.message.Msg.{Msg}
 use Rattle.xt_base.specs.declared.message.Payload.{Payload}
 use Rattle.xt_base.specs.declared.message.Payload.TheVariants as payload
@@ -572,6 +573,36 @@ module _ (stripe : ℕ) (ops : ℕ × ℕ → Op) (members : List ℕ) (site : S
         stored : (location : Option Location) → ListUnder (held h) location → location ≡ None → ⊥
         stored None u is = u
         stored (Some location) u is = cc is
+
+-- what is overdue keeps nothing, and leaves the tenure or ends it
+pub expired_none : (site : Site) (s : FileState) → (expired site s).turned.rec ≡ None
+expired_none site s = (mute_expired 0 (λ id. op.Truncate 0) [] site s).none
+
+pub expired_tenure : (site : Site) (s : FileState) → ((settled site s).primary.tenure ≡ s.primary.tenure) ⊎ ((settled site s).primary.tenure ≡ None)
+unfolding expired
+expired_tenure site s = became s.lease (lease_expired s.lease site.now)
+  where
+    s1 : FileState
+    s1 = record s { lease = lease_expired s.lease site.now }
+
+    under : (o : Option Tenure) → ((deadlines_under site s1 o).state.primary.tenure ≡ s.primary.tenure) ⊎ ((deadlines_under site s1 o).state.primary.tenure ≡ None)
+    under None = inl refl
+    under (Some t) = inl refl
+
+    became : (before after : LeaseState) → ((lease_became site s1 before after).state.primary.tenure ≡ s.primary.tenure) ⊎ ((lease_became site s1 before after).state.primary.tenure ≡ None)
+    became (held h) (free p) = inr refl
+    became (asking r) (free p) = inl refl
+    became (writing r) (free p) = inl refl
+    became (free p) after = under s.primary.tenure
+    became (held h) (held k) = under s.primary.tenure
+    became (held h) (asking r) = under s.primary.tenure
+    became (held h) (writing r) = under s.primary.tenure
+    became (asking q) (held h) = under s.primary.tenure
+    became (asking q) (asking r) = under s.primary.tenure
+    became (asking q) (writing r) = under s.primary.tenure
+    became (writing q) (held h) = under s.primary.tenure
+    became (writing q) (asking r) = under s.primary.tenure
+    became (writing q) (writing r) = under s.primary.tenure
 
 -- Each step of a file is a list of small steps.
 pub files_show : (stripe : ℕ) (ops : ℕ × ℕ → Op) (members : List ℕ) (site : Site) (s : FileState) (holder : Option ℕ) (sent : List Message) (entries : List Entry) → AreDistinct members

@@ -62,7 +62,7 @@ progress_grows members n held more peers (progress.Installing chosen acked) grow
 progress_grows members n held more peers (progress.Active c issued) grows fits = fits
 
 -- what was sent to a peer doesn't speak of the file's name
-peers_grow : (n : ℕ) (file other : FileId) (e : Epoch) (peers : List Peer) (sent more : List Message) → other ≡ file → ((x : Message) → Has x sent → Has x more) → PeersSent n file e peers sent → PeersSent n other e peers more
+pub peers_grow : (n : ℕ) (file other : FileId) (e : Epoch) (peers : List Peer) (sent more : List Message) → other ≡ file → ((x : Message) → Has x sent → Has x more) → PeersSent n file e peers sent → PeersSent n other e peers more
 peers_grow n file other e peers sent more same grows all p h =
     subst (λ f. AreIn (shown_if n (last_sent f e p.state)) more) (sym same)
     (are_in (shown_if n (last_sent file e p.state)) more (λ x k. grows x (in_are (shown_if n (last_sent file e p.state)) sent (all p h) x k)))

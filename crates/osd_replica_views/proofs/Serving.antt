@@ -25,7 +25,7 @@ use Rattle.xt_protocol.specs.Heads.{session_of, version_of}
 use Rattle.xt_protocol.specs.OsdRows.{present_body}
 use Rattle.xt_protocol.specs.declared.Turned.{Turned}
 use Rattle.osd_rows.specs.Asks.{is_read, read_answer}
-use Rattle.osd_rows.specs.Primaries.{Led, Ground, last_sent, is_ready}
+use Rattle.osd_rows.specs.Primaries.{Led, Ground, last_sent}
 use Rattle.osd_rows.specs.PrimaryRows.{body_beyond}
 use Rattle.osd_rows.specs.ReplicaRows.{kept_after}
 use Rattle.osd_rows.specs.Serving.{reads_in, current_others, issues, next_update_of, write_stands, writes_in}

@@ -8,7 +8,6 @@ use Rattle.xt_base.specs.declared.message.Payload.TheVariants as payload
 use Rattle.xt_base.specs.declared.message.Msg.{Msg}
 use Rattle.xt_base.specs.declared.record.Record.{Record}
 use Rattle.xt_protocol.specs.declared.Turned.{Turned}
-use Rattle.xt_protocol.specs.LeaseRows.{LeaseState, free, held}
 use Rattle.xt_base.specs.declared.record.FileRow.{FileRow}
 use Rattle.xt_protocol.specs.LeaseRows.{Awake}
 use Rattle.osd_invariants.specs.Sound.{IsSound, IsHeld}
@@ -113,12 +112,20 @@ pub record Stops (stripe : ℕ) (ops : ℕ × ℕ → Op) (members : List ℕ) (
   pub grows : (x : Message) → Has x a.sent → Has x sent
   pub told : AreTold stripe ops n turned.marks a.entries entries
   pub untold : (rec : Record) → turned.rec ≡ Some rec → entries ≡ a.entries
+  pub fits : Fits members n (record {
+    kept = kept_after a.kept turned.rec;
+    body = body_beyond a.kept.file turned.rec a.body;
+    tenure = None;
+    holder = holder;
+    sent = sent;
+    entries = entries;
+  })
 
 -- A node may stop behind whatever it reaches; a stop in an append that keeps no record is one behind nothing.
 abbrev pub AlwaysStops : Type 0
 AlwaysStops =
     (stripe : ℕ) (ops : ℕ × ℕ → Op) (members : List ℕ) (n : ℕ) (a : Seen) (tenure : Option Tenure) (turned : Turned)
-    → Reaches stripe ops members n a tenure turned → Stops stripe ops members n a turned × Stops stripe ops members n a quiet
+    → Fits members n a → Reaches stripe ops members n a tenure turned → Stops stripe ops members n a turned × Stops stripe ops members n a quiet
 
 -- A list of small steps of one node leaves who holds else.
 abbrev pub LeavesOthers : Type 0

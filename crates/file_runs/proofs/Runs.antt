@@ -1,0 +1,550 @@
+-- Every run of a file is a run of a world of heads.
+use Rattle.std.proofs.Common.{◌≡◌, ℕ, ◌<◌, ◌⊎◌, List, [], ◌∷◌, ◌++◌, refl, sym, ap, ap₂, ◌∙◌, subst, inl, inr, if◌then◌else◌, Option, Some, None}
+use Rattle.xt_base.specs.declared.ids.NodeId.{NodeId}
+use Rattle.xt_base.specs.declared.ids.Epoch.{Epoch}
+use Rattle.xt_base.specs.declared.ids.FileId.{FileId}
+use Rattle.xt_base.specs.declared.file.FileHead.{FileHead}
+use Rattle.xt_base.specs.declared.file.Op.{Op}
+use Rattle.xt_base.specs.declared.message.Msg.{Msg}
+use Rattle.xt_base.specs.declared.message.Payload.{Payload}
+use Rattle.xt_base.specs.declared.message.Payload.TheVariants as payload
+use Rattle.xt_base.specs.declared.record.FileRow.{FileRow}
+use Rattle.xt_base.specs.declared.record.Record.{Record}
+use Rattle.xt_base.specs.declared.record.Record.TheVariants as kept
+use Rattle.xt_protocol.specs.declared.Turned.{Turned}
+use Rattle.xt_protocol.specs.LeaseRows.{Awake}
+use Rattle.osd_invariants.specs.Sound.{IsHeld}
+use Rattle.osd_invariants.proofs.Kept.{expired_follows}
+use Rattle.osd_invariants.proofs.SoundSteps.{start_so, expired_so, step_so, wake_so}
+use Rattle.osd_lease_views.specs.ActsView.{ListAsked, RecordIs}
+use Rattle.osd_lease_views.proofs.ActSteps.{step_rec, wake_step_rec}
+use Rattle.osd_rows.specs.FileStates.{FileState, Site, FileStep, file_from}
+use Rattle.osd_rows.specs.FileSteps.{step_of_file}
+use Rattle.osd_rows.specs.PrimaryRows.{body_beyond}
+use Rattle.osd_rows.specs.ReplicaRows.{kept_after}
+use Rattle.osd_rows.specs.Turns.{quiet}
+use Rattle.osd_rows.specs.declared.Tenure.{Tenure}
+use Rattle.replica_safety.specs.Epochs.{at_node}
+use Rattle.replica_safety.specs.Lists.{Has, AreDistinct}
+use Rattle.replica_safety.specs.Rules.{Start}
+use Rattle.replica_safety.proofs.Lists.{has-append}
+use Rattle.replica_runs.specs.HeadSteps.{Step, Loses, MayAll, after_steps}
+use Rattle.replica_runs.specs.HeadSteps as heads
+use Rattle.replica_runs.specs.HeadWorld.{Node, Idle, Message, Status, shown, Entry, Local, local, put, BeginsAt}
+use Rattle.replica_runs.specs.HeadWorld as world
+use Rattle.replica_runs.specs.Made.{IsMade}
+use Rattle.replica_runs.specs.Marks.{Begins}
+use Rattle.replica_runs.specs.Steps.{without}
+use Rattle.replica_runs.proofs.HeadLine.{entries_fit_there}
+use Rattle.replica_runs.proofs.HeadRun.{turns_there, begins_there}
+use Rattle.replica_runs.proofs.HeadStands.{IsReached}
+use Rattle.replica_runs.proofs.Tools.{by_node, at_own}
+use Rattle.osd_replica_views.specs.FileView.{FileReaches, seen_of, settled, IsList, ListFits, IsOrderly, IsFree, AskComes, ShowsFile, Stops}
+use Rattle.osd_replica_views.specs.Seen.{Seen, local_of, AreIn, TenureFits, Fits}
+use Rattle.osd_replica_views.proofs.AskSteps.{none_fit, expired_fit, step_fit, wake_fit}
+use Rattle.osd_replica_views.proofs.Choosing.{not_after_loss}
+use Rattle.osd_replica_views.proofs.Files.{expired_none, expired_tenure, files_show}
+use Rattle.osd_replica_views.proofs.Replicas.{peers_grow}
+use Rattle.osd_replica_views.proofs.Sending.{are_in, in_are, map_has, steps_append, may_append}
+use Rattle.osd_replica_views.proofs.Stopping.{stops, lost, others_same, statuses_before}
+use Rattle.file_runs.specs.FileRuns.{FileNode, Sent, Tale, FileWorld, Happening, message, wake, step_on, Ending, goes_on, stops_kept, stops_lost, Event, acts, starts, lapses, sent_by, holder_after, keeping, acted, after, Comes, MayEnd, MayAct, May, after_all, BeginsFile, Tells, IsOnOneOrder}
+use Rattle.file_runs.specs.FileRuns as runs
+
+-- what is seen of a node in a world of heads, with this tenure
+abbrev seen_at : FileNode → world.World → Option Tenure → Seen
+seen_at x v t = record { kept = x.kept; body = x.body; tenure = t; holder = v.holder; sent = v.sent; entries = v.entries }
+
+module _ (stripe : ℕ) (some : 0 < stripe) (ops : ℕ × ℕ → Op) (members : List ℕ) (distinct : AreDistinct members) (start : Start) where
+  -- ---- one node
+
+  pub record Down (x : FileNode) (v : world.World) (n : ℕ) : Type 0 where
+    pub node : v.nodes n ≡ (local_of (seen_at x v None)).node
+    pub fits : Fits members n (seen_at x v None)
+    pub list : ListFits stripe members x.kept.location
+
+  -- a running node: the tenure that is seen is its own, or none
+  pub record Up (x : FileNode) (v : world.World) (n : ℕ) (s : FileState) : Type 0 where
+    pub same : s.kept ≡ x.kept
+    pub orderly : IsOrderly stripe ops members s
+    pub tenure : Option Tenure
+    pub either : (tenure ≡ None) ⊎ (tenure ≡ s.primary.tenure)
+    pub node : v.nodes n ≡ (local_of (seen_at x v tenure)).node
+    pub fits : Fits members n (seen_at x v tenure)
+
+  abbrev Shape : FileNode → world.World → ℕ → Option FileState → Type 0
+  Shape x v n None = Down x v n
+  Shape x v n (Some s) = Up x v n s
+
+  pub record Inv (w : FileWorld) : Type 0 where
+    pub world : world.World
+    pub reached : IsReached stripe ops members start world
+    pub holder : world.holder ≡ w.holder
+    pub sent : (x : Sent) → Has x w.sent → AreIn (shown x.from x.content) world.sent
+    pub told : Tells stripe ops w.tales world.entries
+    pub nodes : (n : ℕ) → Shape (w.nodes n) world n (w.nodes n).state
+
+  -- ---- another node's steps
+
+  -- what they leave of a node
+  pub record Leaves (v v2 : world.World) (m : ℕ) : Type 0 where
+    pub node : v2.nodes m ≡ v.nodes m
+    pub grows : (x : Message) → Has x v.sent → Has x v2.sent
+    pub before : (e : Epoch) (h : FileHead) → Has (Status m e h) v2.sent → Has (Status m e h) v.sent
+    pub holds : (v2.holder ≡ Some m → v.holder ≡ Some m) × (v.holder ≡ Some m → v2.holder ≡ Some m)
+
+  fits_on : (x : FileNode) (v v2 : world.World) (m : ℕ) (t : Option Tenure) → Leaves v v2 m → Fits members m (seen_at x v t) → Fits members m (seen_at x v2 t)
+  fits_on x v v2 m t l f = record { names = f.names; own = λ e h k. f.own e h (l.before e h k); tenure = tenure t f.tenure }
+    where
+      tenure : (o : Option Tenure) → TenureFits members m (seen_at x v t) o → TenureFits members m (seen_at x v2 t) o
+      tenure None g = λ is. g (l.holds.0 is)
+      tenure (Some k) g = (l.holds.1 g.0, record { peers = g.1.peers; sent = peers_grow m x.kept.file x.kept.file k.epoch k.peers v.sent v2.sent refl l.grows g.1.sent; progress = g.1.progress })
+
+  shape_on : (x : FileNode) (v v2 : world.World) (m : ℕ) (o : Option FileState) → Leaves v v2 m → Shape x v m o → Shape x v2 m o
+  shape_on x v v2 m None l d = record { node = l.node ∙ d.node; fits = fits_on x v v2 m None l d.fits; list = d.list }
+  shape_on x v v2 m (Some s) l u = record { same = u.same; orderly = u.orderly; tenure = u.tenure; either = u.either; node = l.node ∙ u.node; fits = fits_on x v v2 m u.tenure l u.fits }
+
+  -- ---- a list of steps of one node
+
+  -- the world behind it
+  abbrev behind : world.World → ℕ → Seen → world.World
+  behind v n b = put v n (local_of b)
+
+  -- steps of a node that lead to what is seen
+  pub record Goes (v : world.World) (n : ℕ) (b : Seen) : Type 0 where
+    pub steps : List Step
+    pub may : MayAll stripe ops members n (local v n) steps
+    pub leads : after_steps n (local v n) steps ≡ local_of b
+    pub grows : (x : Message) → Has x v.sent → Has x b.sent
+
+  goes_reached : (v : world.World) (n : ℕ) (b : Seen) → Goes v n b → IsReached stripe ops members start v → IsReached stripe ops members start (behind v n b)
+  goes_reached v n b g r = subst (λ l. IsReached stripe ops members start (put v n l)) g.leads
+      (turns_there stripe some ops members start v (record { node = n; steps = g.steps } ∷ []) (g.may, tt) r)
+
+  goes_leaves : (v : world.World) (n : ℕ) (b : Seen) → Goes v n b → (m : ℕ) → (m ≡ n → ⊥) → Leaves v (behind v n b) m
+  goes_leaves v n b g m ne = record {
+    node = by_node (λ t. (if t then (local_of b).node else v.nodes m) ≡ v.nodes m) m n (λ is. absurd (ne is)) (λ _. refl);
+    grows = g.grows;
+    before = λ e h k. statuses_before stripe ops members n (local v n) g.steps g.may m ne e h (subst (λ (l : Local). Has (Status m e h) l.sent) (sym g.leads) k);
+    holds = subst (λ (l : Local). (l.holder ≡ Some m → v.holder ≡ Some m) × (v.holder ≡ Some m → l.holder ≡ Some m)) g.leads (others_same stripe ops members n (local v n) g.steps g.may m ne);
+  }
+
+  goes_nodes : (xs : ℕ → FileNode) (v : world.World) (n : ℕ) (b : Seen) (x : FileNode) → Goes v n b → ((m : ℕ) → Shape (xs m) v m (xs m).state) → Shape x (behind v n b) n x.state
+      → (m : ℕ) → Shape (at_node n x xs m) (behind v n b) m (at_node n x xs m).state
+  goes_nodes xs v n b x g all one m =
+      by_node (λ t. Shape (if t then x else xs m) (behind v n b) m (if t then x else xs m).state) m n (λ is. subst (λ k. Shape x (behind v n b) k x.state) (sym is) one)
+      (λ ne. shape_on (xs m) v (behind v n b) m (xs m).state (goes_leaves v n b g m ne) (all m))
+
+  -- ---- who holds behind it
+
+  holder_is : (v : world.World) (n : ℕ) (b : Seen) → Goes v n b → (b.holder ≡ Some n → ⊥) → b.holder ≡ without n v.holder
+  holder_is v n b g gone = at b.holder v.holder gone (λ m ne. (goes_leaves v n b g m ne).holds)
+    where
+      some_is : {i j : ℕ} → Some i ≡ Some j → i ≡ j
+      some_is p = cc
+
+      at : (h k : Option ℕ) → (h ≡ Some n → ⊥) → ((m : ℕ) → (m ≡ n → ⊥) → (h ≡ Some m → k ≡ Some m) × (k ≡ Some m → h ≡ Some m)) → h ≡ without n k
+      at None None gone same = refl
+      at (Some i) None gone same = absurd (cc ((same i (λ e. gone (ap Some e))).0 refl))
+      at None (Some j) gone same = by_node (λ t. None ≡ (if t then None else Some j)) j n (λ _. refl) (λ ne. absurd (cc ((same j ne).1 refl)))
+      at (Some i) (Some j) gone same = by_node (λ t. Some i ≡ (if t then None else Some j)) j n
+          (λ is. absurd (gone (ap Some (sym (some_is ((same i (λ e. gone (ap Some e))).0 refl)) ∙ is))))
+          (λ _. sym ((same i (λ e. gone (ap Some e))).0 refl))
+
+  holder_behind : (v : world.World) (n : ℕ) (b : Seen) → Goes v n b → Fits members n b → b.holder ≡ holder_after n b.tenure v.holder
+  holder_behind v n b g f = at b.tenure f.tenure
+    where
+      at : (o : Option Tenure) → TenureFits members n b o → b.holder ≡ holder_after n o v.holder
+      at None t = holder_is v n b g t
+      at (Some k) t = t.0
+
+  -- ---- a node takes a step
+
+  -- the list that is stored stays the one of this version
+  list_after : (row : FileRow) (file : FileId) (from : NodeId) (content : Payload) (rec : Option Record) → RecordIs file content rec → AskComes stripe ops members from content
+      → ListFits stripe members row.location → ListFits stripe members (kept_after row rec).location
+  list_after row file from content None is known fits = fits
+  list_after row file from content (Some (kept.View f location)) is known fits = of content is.1 known
+    where
+      of : (c : Payload) → ListAsked c location → AskComes stripe ops members from c → IsList stripe members location
+      of (payload.Ask number capability asked) same k = subst (IsList stripe members) same k.0
+      of _ same k = absurd same
+  list_after row file from content (Some (kept.Promise f epoch)) is known fits = fits
+  list_after row file from content (Some (kept.Update f update)) is known fits = fits
+  list_after row file from content (Some (kept.Stage f object version bytes)) is known fits = fits
+  list_after row file from content (Some (kept.Head f head)) is known fits = fits
+  list_after row file from content (Some (kept.Boot boot)) is known fits = absurd is
+  list_after row file from content (Some (kept.Meta sender number now nodes request)) is known fits = absurd is
+
+  module _ (w : FileWorld) (inv : Inv w) (n : ℕ) (s : FileState) (site : Site) (happens : Happening) (how : Ending) (may : MayAct stripe ops members w n s site happens how) (u : Up (w.nodes n) inv.world n s) where
+    abbrev v : world.World
+    v = inv.world
+
+    abbrev x : FileNode
+    x = w.nodes n
+
+    abbrev s1 : FileState
+    s1 = settled site s
+
+    -- what is overdue leaves what is kept
+    kept_same : s1.kept ≡ x.kept
+    kept_same = expired_follows site s ∙ ap (kept_after s.kept) (expired_none site s) ∙ u.same
+
+    body_same : site.body s1.kept.file ≡ x.body
+    body_same = ap site.body (ap (λ (k : FileRow). k.file) (kept_same ∙ sym u.same)) ∙ may.bodies
+
+    orderly1 : IsOrderly stripe ops members s1
+    orderly1 = record {
+      sound = expired_so site s u.orderly.sound;
+      list = subst (λ (k : FileRow). ListFits stripe members k.location) (sym (kept_same ∙ sym u.same)) u.orderly.list;
+      asks = expired_fit stripe ops site s u.orderly.asks;
+    }
+
+    -- the node, seen with the tenure that hasn't lapsed
+    pub record Ready (h : Option ℕ) : Type 0 where
+      pub steps : List Step
+      pub may_steps : MayAll stripe ops members n (local v n) steps
+      pub leads : after_steps n (local v n) steps ≡ local_of (seen_of site s1 h v.sent v.entries)
+      pub fits : Fits members n (seen_of site s1 h v.sent v.entries)
+      pub free : IsFree n v.holder → IsFree n h
+
+    abbrev at_tenure : Option Tenure → Option ℕ → Seen
+    at_tenure t h = record { kept = x.kept; body = x.body; tenure = t; holder = h; sent = v.sent; entries = v.entries }
+
+    is_seen : (t : Option Tenure) (h : Option ℕ) → s1.primary.tenure ≡ t → at_tenure t h ≡ seen_of site s1 h v.sent v.entries
+    is_seen t h is = λ i. record { kept = sym kept_same i; body = sym body_same i; tenure = sym is i; holder = h; sent = v.sent; entries = v.entries }
+
+    free_without : IsFree n v.holder → IsFree n (without n v.holder)
+    free_without f m is = absurd (not_after_loss n v.holder (at v.holder f is))
+      where
+        at : (h : Option ℕ) → IsFree n h → without n h ≡ Some m → without n h ≡ Some n
+        at None g e = absurd cc
+        at (Some k) g e = by_node (λ b. (if b then None else Some k) ≡ Some m → (if b then None else Some k) ≡ Some n) k n (λ _ q. absurd cc) (λ ne _. absurd (ne (g k refl))) e
+
+    ready : (h : Option ℕ) × Ready h
+    ready = at s1.primary.tenure refl
+      where
+        local_is : local v n ≡ local_of (at_tenure u.tenure v.holder)
+        local_is = ap (λ (z : Node). record { node = z; holder = v.holder; sent = v.sent; entries = v.entries }) u.node
+
+        at : (t : Option Tenure) → s1.primary.tenure ≡ t → (h : Option ℕ) × Ready h
+        at None is = (
+          without n v.holder,
+          record {
+            steps = Loses ∷ [];
+            may_steps = (tt, tt);
+            leads = ap (λ l. heads.after n l Loses) local_is ∙ ap local_of (is_seen None (without n v.holder) is);
+            fits = subst (Fits members n) (is_seen None (without n v.holder) is) (record { names = u.fits.names; own = u.fits.own; tenure = not_after_loss n v.holder });
+            free = free_without;
+          },
+        )
+        at (Some t) is = (
+          v.holder,
+          record {
+            steps = [];
+            may_steps = tt;
+            leads = local_is ∙ ap (λ o. local_of (at_tenure o v.holder)) own ∙ ap local_of (is_seen (Some t) v.holder is);
+            fits = subst (Fits members n) (ap (λ o. at_tenure o v.holder) own ∙ is_seen (Some t) v.holder is) u.fits;
+            free = λ f. f;
+          },
+        )
+          where
+            holds : v.holder ≡ Some n
+            holds = inv.holder ∙ may.holds t is
+
+            none_lapsed : (s1.primary.tenure ≡ s.primary.tenure) ⊎ (s1.primary.tenure ≡ None) → s.primary.tenure ≡ Some t
+            none_lapsed (inl e) = sym e ∙ is
+            none_lapsed (inr e) = absurd (cc (sym e ∙ is))
+
+            of : (o : Option Tenure) → (o ≡ None) ⊎ (o ≡ s.primary.tenure) → TenureFits members n (at_tenure u.tenure v.holder) o → o ≡ Some t
+            of None e f = absurd (f holds)
+            of (Some k) (inl e) f = absurd cc
+            of (Some k) (inr e) f = e ∙ none_lapsed (expired_tenure site s)
+
+            own : u.tenure ≡ Some t
+            own = of u.tenure u.either u.fits.tenure
+
+    -- what it shows
+    came : (from : NodeId) (content : Payload) → Has (record { from = from.0; content = content }) w.sent ⊎ (shown from.0 content ≡ []) → AreIn (shown from.0 content) v.sent
+    came from content (inl h) = inv.sent (record { from = from.0; content = content }) h
+    came from content (inr nothing) = subst (λ ms. AreIn ms v.sent) (sym nothing) tt
+
+    module _ (h : Option ℕ) (r : Ready h) where
+      abbrev a : Seen
+      a = seen_of site s1 h v.sent v.entries
+
+      shows : ShowsFile stripe ops members site s h v.sent v.entries
+      shows = files_show stripe ops members site s h v.sent v.entries distinct orderly1 (subst (λ k. Fits members k a) (sym may.here) r.fits)
+
+      step_reaches : (hp : Happening) → Comes stripe ops members w hp → (IsHeld (step_on site s hp).state.lease → IsFree n v.holder) → FileReaches stripe ops members n a (step_on site s hp)
+      step_reaches (message from content) comes alone = subst (λ k. FileReaches stripe ops members k a (step_of_file site s from content)) may.here
+          (shows.message from content (came from content comes.0) comes.1 (λ held. subst (λ k. IsFree k h) (sym may.here) (r.free (alone held))))
+      step_reaches wake comes alone = subst (λ k. FileReaches stripe ops members k a (step_on site s wake)) may.here shows.wake
+
+      step_orderly : (hp : Happening) → Comes stripe ops members w hp → FileReaches stripe ops members n a (step_on site s hp) → IsOrderly stripe ops members (step_on site s hp).state
+      step_orderly (message from content) comes f = record {
+        sound = step_so site s from content u.orderly.sound;
+        list = subst (λ (k : FileRow). ListFits stripe members k.location) (sym f.kept)
+            (list_after s1.kept s.kept.file from content (step_of_file site s from content).turned.rec (step_rec site s from content) comes.1 orderly1.list);
+        asks = step_fit stripe ops site members s from content u.orderly.asks comes.1;
+      }
+      step_orderly wake comes f = record {
+        sound = wake_so site s1 orderly1.sound;
+        list = subst (λ (k : FileRow). ListFits stripe members k.location) (sym (f.kept ∙ ap (kept_after s1.kept) (wake_step_rec site s))) orderly1.list;
+        asks = wake_fit stripe ops site s u.orderly.asks;
+      }
+
+      abbrev step : FileStep
+      step = step_on site s happens
+
+      f : FileReaches stripe ops members n a step
+      f = step_reaches happens may.comes (λ held. subst (IsFree n) (sym inv.holder) (may.alone held))
+
+      orderly2 : IsOrderly stripe ops members step.state
+      orderly2 = step_orderly happens may.comes f
+
+      same_kept : (rec : Option Record) → kept_after s1.kept rec ≡ kept_after x.kept rec
+      same_kept rec = ap (λ k. kept_after k rec) kept_same
+
+      same_body : (rec : Option Record) → body_beyond s1.kept.file rec (site.body s1.kept.file) ≡ body_beyond x.kept.file rec x.body
+      same_body rec = ap₂ (λ (k : FileRow) b. body_beyond k.file rec b) kept_same body_same
+
+      sent_later : (outs : List Msg) (sent : List Message) → ((m : Msg) → Has m outs → AreIn (shown n m.payload) sent) → ((k : Message) → Has k v.sent → Has k sent)
+          → (y : Sent) → Has y (sent_by n outs ++ w.sent) → AreIn (shown y.from y.content) sent
+      sent_later outs sent all grows y k = of (has-append y (sent_by n outs) w.sent k)
+        where
+          of : Has y (sent_by n outs) ⊎ Has y w.sent → AreIn (shown y.from y.content) sent
+          of (inl g) =
+              let m = map_has (λ (m : Msg). let z : Sent = record { from = n; content = m.payload } in z) outs y g in
+              subst (λ (z : Sent). AreIn (shown z.from z.content) sent) (sym m.2) (all m.0 m.1)
+          of (inr g) = are_in (shown y.from y.content) sent (λ q i. grows q (in_are (shown y.from y.content) v.sent (inv.sent y g) q i))
+
+      -- the node goes on
+      goes_inv : Inv (acted w n step goes_on)
+      goes_inv = record {
+        world = behind v n b;
+        reached = goes_reached v n b g inv.reached;
+        holder = holder_behind v n b g f.reach.fits ∙ ap₂ (holder_after n) f.reach.is_tenure inv.holder;
+        sent = sent_later step.turned.outs b.sent f.reach.shows.outs f.reach.shows.grows;
+        told = (v.entries, inv.told, f.reach.shows.told);
+        nodes = goes_nodes w.nodes v n b x2 g inv.nodes (record {
+          same = f.kept ∙ same_kept step.turned.rec;
+          orderly = orderly2;
+          tenure = step.state.primary.tenure;
+          either = inr refl;
+          node = at_own v.nodes n (local_of b).node ∙ ap (λ (z : Seen). (local_of z).node) b_is;
+          fits = subst (Fits members n) b_is f.reach.fits;
+        });
+      }
+        where
+          b : Seen
+          b = f.reach.behind
+
+          g : Goes v n b
+          g = record {
+            steps = r.steps ++ f.reach.shows.steps;
+            may = may_append stripe ops members n (local v n) r.steps f.reach.shows.steps r.may_steps (subst (λ l. MayAll stripe ops members n l f.reach.shows.steps) (sym r.leads) f.reach.shows.may);
+            leads = steps_append stripe ops members n (local v n) r.steps f.reach.shows.steps ∙ ap (λ l. after_steps n l f.reach.shows.steps) r.leads ∙ f.reach.shows.leads;
+            grows = f.reach.shows.grows;
+          }
+
+          x2 : FileNode
+          x2 = keeping x (Some step.state) step.turned.rec
+
+          b_is : b ≡ seen_at x2 (behind v n b) step.state.primary.tenure
+          b_is = λ i. record {
+            kept = (f.reach.kept ∙ same_kept step.turned.rec) i;
+            body = (f.reach.body ∙ same_body step.turned.rec) i;
+            tenure = f.reach.is_tenure i;
+            holder = b.holder;
+            sent = b.sent;
+            entries = b.entries;
+          }
+
+      -- the node stops
+      halt_inv : (turned : Turned) (st : Stops stripe ops members n a turned) (sent2 : List Sent) (tales2 : List Tale) → ListFits stripe members (kept_after s1.kept turned.rec).location
+          → ((y : Sent) → Has y sent2 → AreIn (shown y.from y.content) st.sent) → Tells stripe ops tales2 st.entries
+          → Inv (record { nodes = at_node n (keeping x None turned.rec) w.nodes; holder = without n w.holder; sent = sent2; tales = tales2 })
+      halt_inv turned st sent2 tales2 list sent told = record {
+        world = behind v n c;
+        reached = goes_reached v n c g inv.reached;
+        holder = holder_is v n c g st.gone ∙ ap (without n) inv.holder;
+        sent = sent;
+        told = told;
+        nodes = goes_nodes w.nodes v n c x2 g inv.nodes (record {
+          node = at_own v.nodes n (local_of c).node ∙ ap (λ (z : Seen). (local_of z).node) c_is;
+          fits = subst (Fits members n) c_is st.fits;
+          list = subst (λ (k : FileRow). ListFits stripe members k.location) (same_kept turned.rec) list;
+        });
+      }
+        where
+          c : Seen
+          c = record {
+            kept = kept_after s1.kept turned.rec;
+            body = body_beyond s1.kept.file turned.rec (site.body s1.kept.file);
+            tenure = None;
+            holder = st.holder;
+            sent = st.sent;
+            entries = st.entries;
+          }
+
+          g : Goes v n c
+          g = record {
+            steps = r.steps ++ st.steps;
+            may = may_append stripe ops members n (local v n) r.steps st.steps r.may_steps (subst (λ l. MayAll stripe ops members n l st.steps) (sym r.leads) st.may);
+            leads = steps_append stripe ops members n (local v n) r.steps st.steps ∙ ap (λ l. after_steps n l st.steps) r.leads ∙ st.leads;
+            grows = st.grows;
+          }
+
+          x2 : FileNode
+          x2 = keeping x None turned.rec
+
+          c_is : c ≡ seen_at x2 (behind v n c) None
+          c_is = λ i. record {
+            kept = same_kept turned.rec i;
+            body = same_body turned.rec i;
+            tenure = None;
+            holder = c.holder;
+            sent = c.sent;
+            entries = c.entries;
+          }
+
+      ends_inv : (e : Ending) → MayEnd step e → Inv (acted w n step e)
+      ends_inv goes_on end = goes_inv
+      ends_inv runs.stops end =
+          let st = stops stripe ops members n a step.state.primary.tenure step.turned f.reach in
+          halt_inv step.turned st (sent_by n step.turned.outs ++ w.sent) (record { node = n; marks = step.turned.marks } ∷ w.tales)
+          (subst (λ (k : FileRow). ListFits stripe members k.location) f.kept orderly2.list) (sent_later step.turned.outs st.sent st.outs st.grows) (v.entries, inv.told, st.told)
+      ends_inv stops_kept end =
+          let st = stops stripe ops members n a step.state.primary.tenure step.turned f.reach in
+          halt_inv step.turned st w.sent w.tales (subst (λ (k : FileRow). ListFits stripe members k.location) f.kept orderly2.list)
+          (λ y k. are_in (shown y.from y.content) st.sent (λ q i. st.grows q (in_are (shown y.from y.content) v.sent (inv.sent y k) q i)))
+          (subst (Tells stripe ops w.tales) (sym (st.untold end.0 end.1)) inv.told)
+      ends_inv stops_lost end =
+          let st = lost stripe ops members n a r.fits in
+          halt_inv quiet st w.sent w.tales orderly1.list
+          (λ y k. are_in (shown y.from y.content) st.sent (λ q i. st.grows q (in_are (shown y.from y.content) v.sent (inv.sent y k) q i)))
+          (subst (Tells stripe ops w.tales) st.told inv.told)
+
+  -- ---- each event
+
+  pub acts_inv : (w : FileWorld) (inv : Inv w) (n : ℕ) (s : FileState) (site : Site) (happens : Happening) (how : Ending) → MayAct stripe ops members w n s site happens how → Inv (after w (acts n s site happens how))
+  acts_inv w inv n s site happens how may =
+      let u : Up (w.nodes n) inv.world n s = subst (Shape (w.nodes n) inv.world n) may.runs (inv.nodes n) in
+      let r = ready w inv n s site happens how may u in
+      ends_inv w inv n s site happens how may u r.0 r.1 how may.ends
+
+  -- a node starts from what it keeps
+  pub starts_inv : (w : FileWorld) (inv : Inv w) (n : ℕ) (awake : Awake) → (w.nodes n).state ≡ None → Inv (after w (starts n awake))
+  starts_inv w inv n awake is = record {
+    world = inv.world;
+    reached = inv.reached;
+    holder = inv.holder;
+    sent = inv.sent;
+    told = inv.told;
+    nodes = λ m. by_node (λ b. Shape (if b then x2 else w.nodes m) inv.world m (if b then x2 else w.nodes m).state) m n (λ same. subst (λ k. Up x2 inv.world k s) (sym same) up) (λ _. inv.nodes m);
+  }
+    where
+      s : FileState
+      s = file_from awake (w.nodes n).kept
+
+      x2 : FileNode
+      x2 = record (w.nodes n) { state = Some s }
+
+      down : Down (w.nodes n) inv.world n
+      down = subst (Shape (w.nodes n) inv.world n) is (inv.nodes n)
+
+      up : Up x2 inv.world n s
+      up = record {
+        same = refl;
+        orderly = record { sound = start_so awake (w.nodes n).kept; list = down.list; asks = none_fit stripe ops };
+        tenure = None;
+        either = inl refl;
+        node = down.node;
+        fits = down.fits;
+      }
+
+  -- a node holds no more
+  pub lapses_inv : (w : FileWorld) (inv : Inv w) (n : ℕ) → Inv (after w (lapses n))
+  lapses_inv w inv n = record {
+    world = v2;
+    reached = subst (IsReached stripe ops members start) refl (turns_there stripe some ops members start v (record { node = n; steps = Loses ∷ [] } ∷ []) ((tt, tt), tt) inv.reached);
+    holder = ap (without n) inv.holder;
+    sent = inv.sent;
+    told = inv.told;
+    nodes = λ m. at m (by_node (λ b. (m ≡ n) ⊎ (m ≡ n → ⊥)) m n (λ same. inl same) (λ ne. inr ne));
+  }
+    where
+      v : world.World
+      v = inv.world
+
+      v2 : world.World
+      v2 = put v n (heads.after n (local v n) Loses)
+
+      lost_node : (v.nodes n) ≡ (v.nodes n) → Node
+      lost_node e = record { kept = (v.nodes n).kept; body = (v.nodes n).body; primary = Idle }
+
+      others : (m : ℕ) → (m ≡ n → ⊥) → Leaves v v2 m
+      others m ne = record {
+        node = by_node (λ t. (if t then lost_node refl else v.nodes m) ≡ v.nodes m) m n (λ is. absurd (ne is)) (λ _. refl);
+        grows = λ k h. h;
+        before = λ e h k. k;
+        holds = others_same stripe ops members n (local v n) (Loses ∷ []) (tt, tt) m ne;
+      }
+
+      own_fits : (x : FileNode) (t : Option Tenure) → Fits members n (seen_at x v t) → Fits members n (seen_at x v2 None)
+      own_fits x t f = record { names = f.names; own = f.own; tenure = not_after_loss n v.holder }
+
+      idle_node : (x : FileNode) (t : Option Tenure) → v.nodes n ≡ (local_of (seen_at x v t)).node → v2.nodes n ≡ (local_of (seen_at x v2 None)).node
+      idle_node x t is = at_own v.nodes n (lost_node refl) ∙ ap (λ (z : Node). record { kept = z.kept; body = z.body; primary = Idle }) is
+
+      own : (o : Option FileState) → Shape (w.nodes n) v n o → Shape (w.nodes n) v2 n o
+      own None d = record { node = idle_node (w.nodes n) None d.node; fits = own_fits (w.nodes n) None d.fits; list = d.list }
+      own (Some s) u = record { same = u.same; orderly = u.orderly; tenure = None; either = inl refl; node = idle_node (w.nodes n) u.tenure u.node; fits = own_fits (w.nodes n) u.tenure u.fits }
+
+      at : (m : ℕ) → (m ≡ n) ⊎ (m ≡ n → ⊥) → Shape (w.nodes m) v2 m (w.nodes m).state
+      at m (inl same) = subst (λ k. Shape (w.nodes k) v2 k (w.nodes k).state) (sym same) (own (w.nodes n).state (inv.nodes n))
+      at m (inr ne) = shape_on (w.nodes m) v v2 m (w.nodes m).state (others m ne) (inv.nodes m)
+
+  pub next_inv : (w : FileWorld) (e : Event) → May stripe ops members w e → Inv w → Inv (after w e)
+  next_inv w (acts n s site happens how) may inv = acts_inv w inv n s site happens how may
+  next_inv w (starts n awake) may inv = starts_inv w inv n awake may
+  next_inv w (lapses n) may inv = lapses_inv w inv n
+
+  pub all_inv : (w : FileWorld) (es : List Event) → runs.MayAll stripe ops members w es → Inv w → Inv (after_all w es)
+  all_inv w [] may inv = inv
+  all_inv w (e ∷ es) may inv = all_inv (after w e) es may.1 (next_inv w e may.0 inv)
+
+  -- fewer messages may be seen than were sent
+  pub fewer_inv : (w : FileWorld) (sent : List Sent) → ((y : Sent) → Has y sent → Has y w.sent) → Inv w → Inv (record w { sent = sent })
+  fewer_inv w sent fewer inv = record {
+    world = inv.world;
+    reached = inv.reached;
+    holder = inv.holder;
+    sent = λ y h. inv.sent y (fewer y h);
+    told = inv.told;
+    nodes = inv.nodes;
+  }
+
+  -- the start
+  pub begins_inv : (w : FileWorld) → Begins (IsMade stripe ops) members start → BeginsFile stripe members start w → Inv w
+  begins_inv w b at = record {
+    world = v;
+    reached = begins_there stripe some ops members start v b (record { head = at.head; bodies = at.bodies; idle = λ r. refl; free = refl; silent = refl; untold = refl });
+    holder = sym at.free;
+    sent = λ x h. absurd (subst (Has x) at.silent h);
+    told = subst (λ ts. Tells stripe ops ts []) (sym at.untold) refl;
+    nodes = λ n. subst (Shape (w.nodes n) v n) (sym (at.stopped n)) (record {
+      node = refl;
+      fits = record { names = at.names n; own = λ e h k. absurd k; tenure = λ is. absurd cc };
+      list = at.list n;
+    });
+  }
+    where
+      v : world.World
+      v = record { nodes = λ r. record { kept = (w.nodes r).kept; body = (w.nodes r).body; primary = Idle }; holder = None; sent = []; entries = [] }
+
+  pub on_one_order : (w : FileWorld) (es : List Event) → Begins (IsMade stripe ops) members start → BeginsFile stripe members start w → runs.MayAll stripe ops members w es
+      → IsOnOneOrder stripe ops start (after_all w es)
+  on_one_order w es b at may =
+      let inv = all_inv w es may (begins_inv w b at) in
+      record { entries = inv.world.entries; told = inv.told; fit = entries_fit_there stripe ops start members inv.world inv.reached }

@@ -1,0 +1,175 @@
+-- Runs of one file among OSDs, who holds it being given.
+use Rattle.std.specs.Prelude.{◌≡◌, ◌⊎◌, ℕ, ◌≤◌, List, [], ◌∷◌, ◌++◌, map, Option, Some, None}
+use Rattle.xt_base.specs.declared.ids.NodeId.{NodeId}
+use Rattle.xt_base.specs.declared.ids.Stamp.{Stamp}
+use Rattle.xt_base.specs.declared.event.Mark.{Mark}
+use Rattle.xt_base.specs.declared.file.Op.{Op}
+use Rattle.xt_base.specs.declared.message.Msg.{Msg}
+use Rattle.xt_base.specs.declared.message.Payload.{Payload}
+use Rattle.xt_base.specs.declared.record.FileRow.{FileRow}
+use Rattle.xt_base.specs.declared.record.Record.{Record}
+use Rattle.xt_protocol.specs.LeaseRows.{Awake}
+use Rattle.osd_invariants.specs.Sound.{IsHeld}
+use Rattle.osd_rows.specs.FileStates.{FileState, Site, FileStep, file_from, and_then}
+use Rattle.osd_rows.specs.FileSteps.{step_of_file, wake_of_file}
+use Rattle.osd_rows.specs.Overdue.{expired}
+use Rattle.osd_rows.specs.PrimaryRows.{body_beyond}
+use Rattle.osd_rows.specs.ReplicaRows.{kept_after}
+use Rattle.osd_rows.specs.declared.Tenure.{Tenure}
+use Rattle.replica_safety.specs.Epochs.{at_node}
+use Rattle.replica_safety.specs.Lists.{Has, AreDistinct}
+use Rattle.replica_safety.specs.Rules.{Start}
+use Rattle.replica_runs.specs.FileHeads.{bodies_in, head_of}
+use Rattle.replica_runs.specs.HeadOrder.{AreOnOneOrder, order_at}
+use Rattle.replica_runs.specs.HeadWorld.{shown, Entry, BodiesAre, has_at}
+use Rattle.replica_runs.specs.Made.{IsMade}
+use Rattle.replica_runs.specs.Marks.{Begins}
+use Rattle.replica_runs.specs.Steps.{without}
+use Rattle.osd_replica_views.specs.FileView.{settled, ListFits, IsFree, AskComes}
+use Rattle.osd_replica_views.specs.Seen.{AreTold, NamesHeld}
+
+-- A node of the file: its state, none while it doesn't run; what it keeps of the file; and what the bodies are.
+pub record FileNode : Type 0 where
+  pub state : Option FileState
+  pub kept : FileRow
+  pub body : ℕ → Stamp → List ℕ
+
+-- a message, with its sender; any node may take it, at any time and as often as it comes
+pub record Sent : Type 0 where
+  pub from : ℕ
+  pub content : Payload
+
+-- what a step of a node has marked
+pub record Tale : Type 0 where
+  pub node : ℕ
+  pub marks : List Mark
+
+pub record FileWorld : Type 0 where
+  pub nodes : ℕ → FileNode
+  -- the node that holds the file and leads
+  pub holder : Option ℕ
+  pub sent : List Sent
+  -- the newest first
+  pub tales : List Tale
+
+pub data Happening : Type 0 where
+  message : (from : NodeId) → (content : Payload) → Happening
+  wake : Happening
+
+-- what is overdue at a file, and then what happens
+abbrev pub step_on : Site → FileState → Happening → FileStep
+step_on site s (message from content) = step_of_file site s from content
+step_on site s wake = and_then (expired site s) (wake_of_file site)
+
+-- How a step ends: the node goes on; it stops behind the step, however few of its messages got out; or it stops in its append, and
+-- its record is kept, or lost.
+pub data Ending : Type 0 where
+  goes_on : Ending
+  stops : Ending
+  stops_kept : Ending
+  stops_lost : Ending
+
+pub data Event : Type 0 where
+  acts : (node : ℕ) → (state : FileState) → (site : Site) → (happens : Happening) → (how : Ending) → Event
+  starts : (node : ℕ) → (awake : Awake) → Event
+  -- the node holds no more
+  lapses : (node : ℕ) → Event
+
+abbrev pub sent_by : ℕ → List Msg → List Sent
+sent_by n outs = map (λ m. record { from = n; content = m.payload }) outs
+
+-- who holds behind a step: its node while it leads
+abbrev pub holder_after : ℕ → Option Tenure → Option ℕ → Option ℕ
+holder_after n None holder = without n holder
+holder_after n (Some t) holder = Some n
+
+-- a node that keeps this record
+abbrev pub keeping : FileNode → Option FileState → Option Record → FileNode
+keeping x state rec = record { state = state; kept = kept_after x.kept rec; body = body_beyond x.kept.file rec x.body }
+
+abbrev pub acted : FileWorld → ℕ → FileStep → Ending → FileWorld
+acted w n step goes_on = record {
+  nodes = at_node n (keeping (w.nodes n) (Some step.state) step.turned.rec) w.nodes;
+  holder = holder_after n step.state.primary.tenure w.holder;
+  sent = sent_by n step.turned.outs ++ w.sent;
+  tales = record { node = n; marks = step.turned.marks } ∷ w.tales;
+}
+acted w n step stops = record {
+  nodes = at_node n (keeping (w.nodes n) None step.turned.rec) w.nodes;
+  holder = without n w.holder;
+  sent = sent_by n step.turned.outs ++ w.sent;
+  tales = record { node = n; marks = step.turned.marks } ∷ w.tales;
+}
+acted w n step stops_kept = record {
+  nodes = at_node n (keeping (w.nodes n) None step.turned.rec) w.nodes;
+  holder = without n w.holder;
+  sent = w.sent;
+  tales = w.tales;
+}
+acted w n step stops_lost = record w { nodes = at_node n (keeping (w.nodes n) None None) w.nodes; holder = without n w.holder }
+
+abbrev pub after : FileWorld → Event → FileWorld
+after w (acts n s site happens how) = acted w n (step_on site s happens) how
+after w (starts n awake) = record w { nodes = at_node n (record (w.nodes n) { state = Some (file_from awake (w.nodes n).kept) }) w.nodes }
+after w (lapses n) = record w { holder = without n w.holder }
+
+-- A message was sent, or says nothing of replication; an ask is within its limits, and of this version of the list.
+abbrev pub Comes : ℕ → (ℕ × ℕ → Op) → List ℕ → FileWorld → Happening → Type 0
+Comes stripe ops members w (message from content) =
+    (Has (record { from = from.0; content = content }) w.sent ⊎ (shown from.0 content ≡ [])) × AskComes stripe ops members from content
+Comes stripe ops members w wake = Unit {0}
+
+abbrev pub MayEnd : FileStep → Ending → Type 0
+MayEnd step stops_kept = (rec : Record) × (step.turned.rec ≡ Some rec)
+MayEnd step _ = Unit {0}
+
+-- A node takes a step: a tenure that hasn't lapsed is the holder's, and a lease is won while nobody else holds.
+pub record MayAct (stripe : ℕ) (ops : ℕ × ℕ → Op) (members : List ℕ) (w : FileWorld) (n : ℕ) (s : FileState) (site : Site) (happens : Happening) (how : Ending) : Type 0 where
+  pub runs : (w.nodes n).state ≡ Some s
+  pub here : site.node.0 ≡ n
+  pub bodies : site.body s.kept.file ≡ (w.nodes n).body
+  pub comes : Comes stripe ops members w happens
+  pub holds : (t : Tenure) → (settled site s).primary.tenure ≡ Some t → w.holder ≡ Some n
+  pub alone : IsHeld (step_on site s happens).state.lease → IsFree n w.holder
+  pub ends : MayEnd (step_on site s happens) how
+
+abbrev pub May : ℕ → (ℕ × ℕ → Op) → List ℕ → FileWorld → Event → Type 0
+May stripe ops members w (acts n s site happens how) = MayAct stripe ops members w n s site happens how
+May stripe ops members w (starts n awake) = (w.nodes n).state ≡ None
+May stripe ops members w (lapses n) = Unit {0}
+
+abbrev pub after_all : FileWorld → List Event → FileWorld
+after_all w [] = w
+after_all w (e ∷ es) = after_all (after w e) es
+
+abbrev pub MayAll : ℕ → (ℕ × ℕ → Op) → List ℕ → FileWorld → List Event → Type 0
+MayAll stripe ops members w [] = Unit {0}
+MayAll stripe ops members w (e ∷ es) = May stripe ops members w e × MayAll stripe ops members (after w e) es
+
+-- A world in which this version of the list begins: no node runs, and each keeps the head and the bodies of its writes.
+pub record BeginsFile (stripe : ℕ) (members : List ℕ) (start : Start) (w : FileWorld) : Type 0 where
+  pub stopped : (r : ℕ) → (w.nodes r).state ≡ None
+  pub head : (r : ℕ) → (w.nodes r).kept.head ≡ head_of (start.promised r) start.epoch (has_at start r)
+  pub bodies : (r : ℕ) → BodiesAre (w.nodes r).kept (w.nodes r).body (bodies_in (has_at start r))
+  pub names : (r : ℕ) → NamesHeld (w.nodes r).kept.held (w.nodes r).kept.head.versions
+  pub list : (r : ℕ) → ListFits stripe members (w.nodes r).kept.location
+  pub free : w.holder ≡ None
+  pub silent : w.sent ≡ []
+  pub untold : w.tales ≡ []
+
+-- these entries are what the tales tell, the newest of both first
+abbrev pub Tells : ℕ → (ℕ × ℕ → Op) → List Tale → List Entry → Type 0
+Tells stripe ops [] es = es ≡ []
+Tells stripe ops (t ∷ ts) es = (before : List Entry) × Tells stripe ops ts before × AreTold stripe ops t.node t.marks before es
+
+-- All that was marked is told by entries that fit one order of writes.
+pub record IsOnOneOrder (stripe : ℕ) (ops : ℕ × ℕ → Op) (start : Start) (w : FileWorld) : Type 0 where
+  pub entries : List Entry
+  pub told : Tells stripe ops w.tales entries
+  pub fit : AreOnOneOrder stripe ops (order_at start) entries
+
+abbrev pub AlwaysOnOneOrder : Type 0
+AlwaysOnOneOrder =
+    (stripe : ℕ) (ops : ℕ × ℕ → Op) (members : List ℕ) (start : Start) (w : FileWorld) (events : List Event) → 1 ≤ stripe → AreDistinct members
+    → Begins (IsMade stripe ops) members start → BeginsFile stripe members start w → MayAll stripe ops members w events
+    → IsOnOneOrder stripe ops start (after_all w events)
