@@ -5,6 +5,7 @@ use Rattle.std.specs.List.{best_of, fold, cons_option}
 use Rattle.xt_base.specs.declared.ids.NodeId.{NodeId}
 use Rattle.xt_base.specs.declared.file.FileHead.{FileHead}
 use Rattle.xt_protocol.specs.Stamps.{is_stamp, is_below}
+use Rattle.xt_protocol.proofs.Stamps.{stamp-equal}
 use Rattle.osd_rows.specs.Choice.{is_better, chosen_of}
 use Rattle.osd_rows.specs.Primaries.{reported, report_of, reports_of}
 use Rattle.osd_rows.specs.declared.Peer.{Peer}
@@ -13,7 +14,6 @@ use Rattle.osd_rows.specs.declared.PeerState.TheVariants as peer
 use Rattle.replica_safety.specs.Epochs.{AtMost}
 use Rattle.replica_safety.specs.Lists.{Has}
 use Rattle.replica_safety.proofs.Orders.{at_most_self, at_most_trans, below_at_most}
-use Rattle.replica_runs.proofs.HeldVersions.{stamp_is}
 use Rattle.replica_runs.proofs.Tools.{true_false, by_test, both_true}
 
 -- a better report has no smaller stamp, and a worse one no greater one
@@ -26,7 +26,7 @@ better_above own a b h = at (is_below b.1.stamp a.1.stamp) refl h
     at false e k =
         let p = both_true (is_stamp b.1.stamp a.1.stamp && not (b.0.0 == own.0)) (a.0.0 == own.0 || nat_lt a.0.0 b.0.0) k in
         let q = both_true (is_stamp b.1.stamp a.1.stamp) (not (b.0.0 == own.0)) p.0 in
-        subst (λ s. AtMost b.1.stamp s) (stamp_is b.1.stamp a.1.stamp q.0) (at_most_self b.1.stamp)
+        subst (λ s. AtMost b.1.stamp s) (stamp-equal b.1.stamp a.1.stamp q.0) (at_most_self b.1.stamp)
 
 worse_below : (own : NodeId) (a b : NodeId × FileHead) → is_better own a b ≡ false → AtMost a.1.stamp b.1.stamp
 worse_below own a b h = at (is_below b.1.stamp a.1.stamp) refl h

@@ -16,6 +16,7 @@ use Rattle.xt_base.specs.declared.record.Record.TheVariants as kept
 use Rattle.xt_protocol.specs.declared.Turned.{Turned}
 use Rattle.xt_protocol.specs.Folds.{body_of}
 use Rattle.xt_protocol.specs.Stamps.{is_version, has_version, with_held}
+use Rattle.xt_protocol.proofs.Stamps.{version-equal}
 use Rattle.osd_rows.specs.Choice.{chosen_of, difference}
 use Rattle.osd_rows.specs.Primaries.{Led, Ground, peer_in, with_peer, unknown_peer, nodes_of, reported, reports_of, majority_among, statuses_counted, target_of, last_sent, if_any, last_to_each, known_of_own}
 use Rattle.osd_rows.specs.PrimaryRows.{goes_on, unmoved, epoch_above, epoch_drawn, peers_fed, installs, fetches, chooses, status_counted, body_beyond, after_keeping, body_fetched}
@@ -32,7 +33,7 @@ use Rattle.replica_safety.specs.Lists.{Has, AreDistinct}
 use Rattle.replica_runs.specs.HeadSteps.{Step, Loses, Draws, KeepsBody, CountsStatus, Chooses, IsChosen, nobody, with_status, with_acted, MayAll, after_steps}
 use Rattle.replica_runs.specs.HeadWorld.{Message, Gather, Head, Status, Piece, shown, shown_if, Gathering, Local, Primary}
 use Rattle.replica_runs.specs.Steps.{without}
-use Rattle.replica_runs.proofs.HeldVersions.{version_is, held_new, held_more}
+use Rattle.replica_runs.proofs.HeldVersions.{held_new, held_more}
 use Rattle.replica_runs.proofs.Tools.{true_false, by_node, by_test}
 use Rattle.osd_replica_views.specs.Seen.{Seen, local_of, ground_at, AreIn, NamesHeld, PeersSent, AckedFit, nodes_in, statuses_of, Fits, Leads}
 use Rattle.osd_replica_views.proofs.Choices.{IsBest, chosen_is, report_from, report_there}
@@ -466,7 +467,7 @@ module _ (stripe : ℕ) (ops : ℕ × ℕ → Op) (members : List ℕ) (n : ℕ)
       a = seen_in z (tenure_of e peers p)
 
       is_asked : asked ≡ body_of object version
-      is_asked = version_is asked (body_of object version) same
+      is_asked = version-equal asked (body_of object version) same
 
       -- it was held
       had : has_version z.kept.held (body_of object version) ≡ true

@@ -14,6 +14,7 @@ use Rattle.xt_protocol.specs.Folds.{body_put, makes_body, held_after}
 use Rattle.xt_protocol.specs.Folds as folds
 use Rattle.xt_protocol.specs.Stamps.{is_stamp, is_version, comes_before, has_version, with_held}
 use Rattle.xt_protocol.proofs.Folds.{file-itself}
+use Rattle.xt_protocol.proofs.Stamps.{stamp-equal, version-equal, version-itself, has_version-with_held}
 use Rattle.osd_rows.specs.PrimaryRows.{body_beyond, newer_body}
 use Rattle.replica_safety.specs.Lists.{Has}
 use Rattle.replica_runs.specs.FileHeads.{Body, body_of}
@@ -39,83 +40,20 @@ three_from false b c p q r = true_false p refl
 equal_self : (n : ℕ) → (n == n) ≡ true
 equal_self n = grind (arith, nat_tests)
 
--- one stamp, one version
-pub stamp_is : (s t : Stamp) → is_stamp s t ≡ true → s ≡ t
-stamp_is s t h =
-    let p = three_true (s.epoch.number == t.epoch.number) (s.epoch.node.0 == t.epoch.node.0) (s.count == t.count) h in
-    λ i. record {
-      epoch = record { number = number_is s.epoch.number t.epoch.number p.0 i; node = record { 0 = number_is s.epoch.node.0 t.epoch.node.0 p.1 i } };
-      count = number_is s.count t.count p.2 i;
-    }
-
-pub stamp_self : (s : Stamp) → is_stamp s s ≡ true
+stamp_self : (s : Stamp) → is_stamp s s ≡ true
 stamp_self s = grind (arith, nat_tests)
-
-pub version_is : (a b : ObjectVersion) → is_version a b ≡ true → a ≡ b
-version_is a b h =
-    let p = both_true (a.object == b.object) (is_stamp a.version b.version) h in
-    λ i. record { object = number_is a.object b.object p.0 i; version = stamp_is a.version b.version p.1 i }
-
-pub version_self : (a : ObjectVersion) → is_version a a ≡ true
-version_self a = and_from (a.object == a.object) (is_stamp a.version a.version) (grind (arith, nat_tests)) (stamp_self a.version)
-
--- whether a version is among these
-pub has_here : (v : ObjectVersion) (vs : List ObjectVersion) → has_version (v ∷ vs) v ≡ true
-has_here v vs = ap (λ b. b || has_version vs v) (version_self v)
-
-pub has_later : (w v : ObjectVersion) (vs : List ObjectVersion) → has_version vs v ≡ true → has_version (w ∷ vs) v ≡ true
-has_later w v vs h = by_test (λ b. (b || has_version vs v) ≡ true) (is_version v w) (λ _. refl) (λ _. h)
-
-pub has_one_of : (w v : ObjectVersion) (vs : List ObjectVersion) → has_version (w ∷ vs) v ≡ true → (v ≡ w) ⊎ (has_version vs v ≡ true)
-has_one_of w v vs = by_test (λ b. is_version v w ≡ b → (b || has_version vs v) ≡ true → (v ≡ w) ⊎ (has_version vs v ≡ true)) (is_version v w)
-    (λ _ e _. inl (version_is v w e)) (λ _ _ h. inr h) refl
-
-pub has_in : (v : ObjectVersion) (vs : List ObjectVersion) → Has v vs → has_version vs v ≡ true
-has_in v [] h = absurd h
-has_in v (w ∷ vs) (inl p) = subst (λ x. has_version (x ∷ vs) v ≡ true) p (has_here v vs)
-has_in v (w ∷ vs) (inr h) = has_later w v vs (has_in v vs h)
 
 -- one more version
 pub held_new : (hs : List ObjectVersion) (v : ObjectVersion) → has_version (with_held hs v) v ≡ true
-unfolding with_held
-held_new [] v = has_here v []
-held_new (h ∷ hs) v =
-    by_test (λ b. is_version h v ≡ b → has_version (cond b (h ∷ hs) (cond (comes_before v h) (v ∷ h ∷ hs) (h ∷ with_held hs v))) v ≡ true) (is_version h v)
-    (λ _ e. subst (λ x. has_version (x ∷ hs) v ≡ true) (sym (version_is h v e)) (has_here v hs))
-    (λ _ _. by_test (λ b. has_version (cond b (v ∷ h ∷ hs) (h ∷ with_held hs v)) v ≡ true) (comes_before v h)
-    (λ _. has_here v (h ∷ hs)) (λ _. has_later h v (with_held hs v) (held_new hs v))) refl
+held_new hs v = has_version-with_held hs v v ∙ ap (λ b. b || has_version hs v) (version-itself v)
 
 pub held_more : (hs : List ObjectVersion) (v w : ObjectVersion) → has_version hs w ≡ true → has_version (with_held hs v) w ≡ true
-unfolding with_held
-held_more [] v w h = has_later v w [] h
-held_more (h ∷ hs) v w is =
-    by_test (λ b. has_version (cond b (h ∷ hs) (cond (comes_before v h) (v ∷ h ∷ hs) (h ∷ with_held hs v))) w ≡ true) (is_version h v)
-    (λ _. is)
-    (λ _. by_test (λ b. has_version (cond b (v ∷ h ∷ hs) (h ∷ with_held hs v)) w ≡ true) (comes_before v h)
-    (λ _. has_later v w (h ∷ hs) is)
-    (λ _. at (has_one_of h w hs is) (held_more hs v w)))
-  where
-    at : (w ≡ h) ⊎ (has_version hs w ≡ true) → (has_version hs w ≡ true → has_version (with_held hs v) w ≡ true) → has_version (h ∷ with_held hs v) w ≡ true
-    at (inl p) rest = subst (λ x. has_version (h ∷ with_held hs v) x ≡ true) (sym p) (has_here h (with_held hs v))
-    at (inr q) rest = has_later h w (with_held hs v) (rest q)
+held_more hs v w h = has_version-with_held hs v w ∙ by_test (λ b. (b || has_version hs w) ≡ true) (is_version w v) (λ _. refl) (λ _. h)
 
 pub held_cases : (hs : List ObjectVersion) (v w : ObjectVersion) → has_version (with_held hs v) w ≡ true → (w ≡ v) ⊎ (has_version hs w ≡ true)
-unfolding with_held
-held_cases [] v w is = has_one_of v w [] is
-held_cases (h ∷ hs) v w is =
-    by_test (λ b. has_version (cond b (h ∷ hs) (cond (comes_before v h) (v ∷ h ∷ hs) (h ∷ with_held hs v))) w ≡ true → (w ≡ v) ⊎ (has_version (h ∷ hs) w ≡ true)) (is_version h v)
-    (λ _ k. inr k)
-    (λ _. by_test (λ b. has_version (cond b (v ∷ h ∷ hs) (h ∷ with_held hs v)) w ≡ true → (w ≡ v) ⊎ (has_version (h ∷ hs) w ≡ true)) (comes_before v h)
-    (λ _ k. has_one_of v w (h ∷ hs) k)
-    (λ _ k. at (has_one_of h w (with_held hs v) k) (held_cases hs v w))) is
-  where
-    at : (w ≡ h) ⊎ (has_version (with_held hs v) w ≡ true) → (has_version (with_held hs v) w ≡ true → (w ≡ v) ⊎ (has_version hs w ≡ true)) → (w ≡ v) ⊎ (has_version (h ∷ hs) w ≡ true)
-    at (inl p) rest = inr (subst (λ x. has_version (h ∷ hs) x ≡ true) (sym p) (has_here h hs))
-    at (inr q) rest = later (rest q)
-      where
-        later : (w ≡ v) ⊎ (has_version hs w ≡ true) → (w ≡ v) ⊎ (has_version (h ∷ hs) w ≡ true)
-        later (inl p) = inl p
-        later (inr r) = inr (has_later h w hs r)
+held_cases hs v w h =
+    by_test (λ b. is_version w v ≡ b → (b || has_version hs w) ≡ true → (w ≡ v) ⊎ (has_version hs w ≡ true)) (is_version w v)
+    (λ _ e _. inl (version-equal w v e)) (λ _ _ k. inr k) refl (sym (has_version-with_held hs v w) ∙ h)
 
 -- ---- the bodies behind them
 
@@ -178,7 +116,7 @@ staged_bodies row body held object version bytes are =
     (put_here (body object version) bytes (is_file row.file row.file && (object == object) && is_stamp version version) own)
     (put_near body object version bytes (λ o v. is_file row.file row.file && (object == o) && is_stamp version v)
     (λ o v e. let p = three_true (is_file row.file row.file) (object == o) (is_stamp version v) e in
-    (sym (number_is object o p.1), sym (stamp_is version v p.2)))) are
+    (sym (number_is object o p.1), sym (stamp-equal version v p.2)))) are
   where
     own : (is_file row.file row.file && (object == object) && is_stamp version version) ≡ true
     own = three_from (is_file row.file row.file) (object == object) (is_stamp version version) (file-itself row.file) (equal_self object) (stamp_self version)
@@ -206,7 +144,7 @@ updated_bodies row other body held u same are =
           (put_near body u.object u.stamp u.body (λ o v. is_file row.file row.file && makes_body u o v)
           (λ o v e. let p = both_true (is_file row.file row.file) (makes_body u o v) e in
           let q = three_true true (u.object == o) (is_stamp u.stamp v) (sym (makes o v) ∙ p.1) in
-          (sym (number_is u.object o q.1), sym (stamp_is u.stamp v q.2)))) are,
+          (sym (number_is u.object o q.1), sym (stamp-equal u.stamp v q.2)))) are,
     ))
     (λ o v. refl) same
   where
