@@ -1,0 +1,54 @@
+-- The sample, step by step.
+use Rattle.std.proofs.Common.{◌≡◌, ℕ, [], ◌∷◌, refl, inl, inr, arith, Some, None}
+use Rattle.std.specs.Prelude.{suc, zero, ◌<◌, slice_index}
+use Rattle.xt_base.specs.declared.file.Op.TheVariants as op
+use Rattle.osd_rows.specs.Asks.{serves_all}
+use Rattle.osd_rows.specs.AskRows.{refusal_of, ask_handled}
+use Rattle.osd_rows.specs.Choice.{chosen_of, difference}
+use Rattle.osd_rows.specs.FileLeases.{read_comes, write_comes, answer_comes}
+use Rattle.osd_rows.specs.FileSteps.{step_of_file, wake_of_file}
+use Rattle.osd_rows.specs.Overdue.{expired}
+use Rattle.osd_rows.specs.Primaries.{peer_in, with_peer, fed}
+use Rattle.osd_rows.specs.PrimaryRows.{epoch_drawn, hears}
+use Rattle.osd_rows.specs.ReplicaRows.{gathered, fetched_from, staged, headed, updated}
+use Rattle.osd_rows.specs.Serving.{reads, writes, wakes}
+use Rattle.osd_rows.specs.Writes.{standing}
+use Rattle.xt_protocol.specs.Stamps.{with_held}
+use Rattle.osd_replica_views.specs.AskFits.{AskFits}
+use Rattle.file_runs.specs.Sample.{calls, id_of, SampleRuns}
+
+bytes_fit : (i : ℕ) → slice_index (97 ∷ []) i < 256
+bytes_fit zero = omega arith
+bytes_fit (suc i) = omega arith
+
+write_fits : (deadline : ℕ) → AskFits 1024 calls (record { id = id_of 1; epoch = 0; op = op.Write 0 0 (97 ∷ []); deadline = deadline })
+write_fits deadline = record {
+  allowed = record { fits = (omega arith, omega arith, record { all = bytes_fit; few = omega arith }, omega arith); inside = refl };
+  asked = refl;
+}
+
+read_fits : (deadline : ℕ) → AskFits 1024 calls (record { id = id_of 2; epoch = 0; op = op.Read 0 0 1; deadline = deadline })
+read_fits deadline = record { allowed = record { fits = (omega arith, omega arith, omega arith, omega arith); inside = refl }; asked = refl }
+
+nobody : {A : Type 0} (m : ℕ) → None ≡ Some m → A
+nobody m is = absurd cc
+
+itself : (m : ℕ) → Some 1 ≡ Some m → m ≡ 1
+itself m is = cc
+
+pub sample_runs : SampleRuns
+unfolding serves_all refusal_of ask_handled chosen_of difference read_comes write_comes answer_comes step_of_file wake_of_file expired peer_in with_peer fed epoch_drawn hears gathered fetched_from staged headed updated reads writes wakes standing with_held
+sample_runs = record {
+  begins = record {
+    stopped = λ r. refl;
+    head = λ r. refl;
+    bodies = λ r. record { has = λ o v h. absurd cc; holds = λ o v low h. absurd h.1 };
+    names = λ r v h. absurd h;
+    list = λ r. tt;
+    free = refl;
+    silent = refl;
+    untold = refl;
+  };
+  runs = (refl, (record { runs = refl; here = refl; bodies = refl; comes = (inr refl, ((refl, refl), write_fits)); holds = λ t is. absurd cc; alone = λ held m is. nobody m is; ends = tt }, (record { runs = refl; here = refl; bodies = refl; comes = (inl (inl refl), tt); holds = λ t is. absurd cc; alone = λ held m is. nobody m is; ends = tt }, (record { runs = refl; here = refl; bodies = refl; comes = (inl (inl refl), tt); holds = λ t is. absurd cc; alone = λ held m is. nobody m is; ends = tt }, (record { runs = refl; here = refl; bodies = refl; comes = (inl (inl refl), tt); holds = λ t is. absurd cc; alone = λ held m is. nobody m is; ends = tt }, (record { runs = refl; here = refl; bodies = refl; comes = (inl (inl refl), tt); holds = λ t is. absurd cc; alone = λ held m is. nobody m is; ends = tt }, (record { runs = refl; here = refl; bodies = refl; comes = (inl (inl refl), tt); holds = λ t is. refl; alone = λ held m is. itself m is; ends = tt }, (record { runs = refl; here = refl; bodies = refl; comes = (inl (inl refl), tt); holds = λ t is. refl; alone = λ held m is. itself m is; ends = tt }, (record { runs = refl; here = refl; bodies = refl; comes = (inl (inl refl), tt); holds = λ t is. refl; alone = λ held m is. itself m is; ends = tt }, (record { runs = refl; here = refl; bodies = refl; comes = (inl (inl refl), tt); holds = λ t is. refl; alone = λ held m is. itself m is; ends = tt }, (record { runs = refl; here = refl; bodies = refl; comes = (inl (inl refl), tt); holds = λ t is. refl; alone = λ held m is. itself m is; ends = tt }, (record { runs = refl; here = refl; bodies = refl; comes = (inl (inl refl), tt); holds = λ t is. refl; alone = λ held m is. itself m is; ends = tt }, (record { runs = refl; here = refl; bodies = refl; comes = (inr refl, ((refl, refl), read_fits)); holds = λ t is. refl; alone = λ held m is. itself m is; ends = tt }, tt)))))))))))));
+  marks = refl;
+}
