@@ -210,7 +210,7 @@ module _ (w : World) (node : Node) (running : Running) (osd : OsdState) (from to
         sound-commit (heads_of w.records) (heads_of new_records) (bodies_of w.records) (bodies_of new_records) (nexts_of w.nodes) (messages_of w.sent) issued_entries
         node.id file stands.location node.id.0 head the_update at bytes sound-issued
         (location-kept file w.entries issue (λ g. refl) ∙ stands.told) target_is head_is asked refl size_is refl few_enough inside newer refl head_new heads_kept
-        (bodies-new w.records node.id file the_update)
+        (bodies-new w.records node.id file the_update few_enough)
         (λ o v ne. bodies-other_object w.records node.id file the_update node.id.0 o v ne)
         (λ n f o v ne. bodies-other_file w.records node.id file the_update n f o v ne)
 
@@ -219,7 +219,7 @@ module _ (w : World) (node : Node) (running : Running) (osd : OsdState) (from to
         position-after (heads_of w.records) (heads_of new_records) (bodies_of w.records) (bodies_of new_records) (nexts_of w.nodes) (messages_of w.sent) issued_entries
         node.id file stands.location node.id.0 head the_update at bytes sound-issued
         (location-kept file w.entries issue (λ g. refl) ∙ stands.told) target_is head_is asked refl size_is refl few_enough inside newer refl head_new heads_kept
-        (bodies-new w.records node.id file the_update)
+        (bodies-new w.records node.id file the_update few_enough)
         (λ o v ne. bodies-other_object w.records node.id file the_update node.id.0 o v ne)
         (λ n f o v ne. bodies-other_file w.records node.id file the_update n f o v ne)
         (told-front file issued_entries (commit ∷ []) whole)

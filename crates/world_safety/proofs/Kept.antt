@@ -1,7 +1,7 @@
 -- the heads and the bodies that the kept records give
-use Rattle.std.proofs.Common.{◌≡◌, ◌≢◌, ℕ, List, [], ◌∷◌, ◌++◌, refl, ap, sym, ◌∙◌, arith, eq-eqb, Some, None, Bool, true, false}
+use Rattle.std.proofs.Common.{◌≡◌, ◌≢◌, ◌<◌, ℕ, List, [], ◌∷◌, ◌++◌, refl, ap, sym, ◌∙◌, arith, eq-eqb, Some, None, Bool, true, false}
 use mathlib.Core.Path.{fun_ext}
-use Rattle.std.specs.Prelude.{◌==◌, ◌&&◌, if◌then◌else◌, unwrap_or}
+use Rattle.std.specs.Prelude.{not, ◌==◌, ◌&&◌, if◌then◌else◌, unwrap_or}
 use Rattle.std.proofs.lemmas.Bool.Decides.{nat_tests}
 use Rattle.xt_base.specs.declared.ids.NodeId.{NodeId}
 use Rattle.xt_base.specs.declared.ids.FileId.{FileId}
@@ -13,10 +13,11 @@ use Rattle.xt_base.specs.declared.record.Record.{Record}
 use Rattle.xt_base.specs.declared.record.Record.TheVariants as kept
 use Rattle.xt_base.specs.declared.record.FileRow.{FileRow}
 use Rattle.xt_base.specs.declared.record.Folded.{Folded}
+use Rattle.xt_base.specs.declared.TheConstants.{NO_OBJECT}
 use Rattle.xt_protocol.specs.FileIds.{is_file}
 use Rattle.xt_protocol.specs.Heads.{head_after}
 use Rattle.xt_protocol.specs.Stamps.{is_stamp}
-use Rattle.xt_protocol.specs.Folds.{row_in, row_after, fold_of, body_put, newer, body_kept}
+use Rattle.xt_protocol.specs.Folds.{row_in, row_after, fold_of, body_put, newer, body_kept, makes_body}
 use Rattle.xt_protocol.proofs.Folds.{file-equal, file-itself, row_in-with_row, row_in-file, fold_of-push, body_kept-push}
 use Rattle.world_runs.specs.Records.{with_record, body_in}
 use Rattle.world_safety.proofs.Sound.{declared_id}
@@ -100,29 +101,35 @@ module _ (records : ℕ → List Record) (who : NodeId) (file : ℕ) (update : U
 
   put-other_file : (f object : ℕ) (version : Stamp) → f ≢ file → body_put (declared_id f) object version the_record ≡ None
   put-other_file f object version ne =
-      ap (λ t. if t && (update.object == object) && is_stamp update.stamp version then Some update.body else None) (different file f ne)
+      ap (λ t. if t && makes_body update object version then Some update.body else None) (different file f ne)
 
   put-other_object : (object : ℕ) (version : Stamp) → object ≢ update.object → body_put (declared_id file) object version the_record ≡ None
-  put-other_object object version ne = at (is_file (declared_id file) (declared_id file)) (update.object == object) (is_stamp update.stamp version) another
+  put-other_object object version ne =
+      at (is_file (declared_id file) (declared_id file)) (not (update.object == NO_OBJECT)) (update.object == object) (is_stamp update.stamp version) another
     where
       another : (update.object == object) ≡ false
       another = grind (arith, nat_tests)
 
-      at : (a b c : Bool) → b ≡ false → (if a && b && c then Some update.body else None) ≡ None
-      at true true c e = absurd cc
-      at true false c e = refl
-      at false b c e = refl
+      at : (a m b c : Bool) → b ≡ false → (if a && (m && b && c) then Some update.body else None) ≡ None
+      at true true true c e = absurd cc
+      at true true false c e = refl
+      at true false b c e = refl
+      at false m b c e = refl
 
   is_stamp-same : (s : Stamp) → is_stamp s s ≡ true
   is_stamp-same s = grind (arith, nat_tests)
 
-  put-new : body_put (declared_id file) update.object update.stamp the_record ≡ Some update.body
-  put-new =
-      at (is_file (declared_id file) (declared_id file)) (update.object == update.object) (is_stamp update.stamp update.stamp)
-      (file-itself (declared_id file)) (eq-eqb update.object update.object refl) (is_stamp-same update.stamp)
+  -- an update of an object puts its body
+  put-new : update.object < NO_OBJECT → body_put (declared_id file) update.object update.stamp the_record ≡ Some update.body
+  put-new some =
+      at (is_file (declared_id file) (declared_id file)) (update.object == NO_OBJECT) (update.object == update.object) (is_stamp update.stamp update.stamp)
+      (file-itself (declared_id file)) makes (eq-eqb update.object update.object refl) (is_stamp-same update.stamp)
     where
-      at : (a b c : Bool) → a ≡ true → b ≡ true → c ≡ true → (if a && b && c then Some update.body else None) ≡ Some update.body
-      at a b c e f g = rw (e, f, g) refl
+      makes : (update.object == NO_OBJECT) ≡ false
+      makes = grind (arith, nat_tests)
+
+      at : (a m b c : Bool) → a ≡ true → m ≡ false → b ≡ true → c ≡ true → (if a && (not m && b && c) then Some update.body else None) ≡ Some update.body
+      at a m b c e h f g = rw (e, h, f, g) refl
 
   body-none : (n f object : ℕ) (version : Stamp) → body_put (declared_id f) object version the_record ≡ None
       → body_in (records n ++ the_record ∷ []) (declared_id f) object version ≡ body_in (records n) (declared_id f) object version
@@ -142,9 +149,9 @@ module _ (records : ℕ → List Record) (who : NodeId) (file : ℕ) (update : U
       with_record-kept (λ rs. body_in rs (declared_id file) object version) records who the_record n
       (body-none n file object version (put-other_object object version ne))
 
-  pub bodies-new : bodies_of (with_record records who the_record) who.0 file update.object update.stamp ≡ update.body
-  bodies-new =
+  pub bodies-new : update.object < NO_OBJECT → bodies_of (with_record records who the_record) who.0 file update.object update.stamp ≡ update.body
+  bodies-new some =
       ap (λ rs. body_in rs (declared_id file) update.object update.stamp) (with_record-here records who the_record)
       ∙ ap (λ o. unwrap_or o [])
       (body_kept-push (records who.0) the_record (declared_id file) update.object update.stamp
-      ∙ ap (newer (body_kept (records who.0) (declared_id file) update.object update.stamp)) put-new)
+      ∙ ap (newer (body_kept (records who.0) (declared_id file) update.object update.stamp)) (put-new some))
