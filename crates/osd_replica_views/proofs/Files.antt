@@ -400,13 +400,13 @@ module _ (stripe : ℕ) (ops : ℕ × ℕ → Op) (members : List ℕ) (site : S
 
     -- an idle primary draws its epoch
     nobody_holds : (o : Option ℕ) → IsFree n o → (o ≡ Some n → ⊥) → o ≡ None
-    nobody_holds None free_ other = refl
-    nobody_holds (Some m) free_ other = absurd (other (ap Some (free_ m refl)))
+    nobody_holds None alone other = refl
+    nobody_holds (Some m) alone other = absurd (other (ap Some (alone m refl)))
 
     led_step : (s : FileState) (o : Option Tenure) → s.primary.tenure ≡ o → ListFits stripe members s.kept.location → (s.kept.location ≡ None → ⊥) → IsFree n holder → Fits members n (There s) → Steps (There s) (led_on site s o)
-    led_step s (Some t) is list some free_ fits = (quiet_step s s quiet holder sent entries refl refl mute_quiet fits).file
-    led_step s None is list some free_ fits = record {
-      reach = gains_first stripe ops members n (There s) led.primary.tenure led.turned (nobody_holds holder free_ (subst (TenureFits members n (There s)) is fits.tenure))
+    led_step s (Some t) is list some alone fits = (quiet_step s s quiet holder sent entries refl refl mute_quiet fits).file
+    led_step s None is list some alone fits = record {
+      reach = gains_first stripe ops members n (There s) led.primary.tenure led.turned (nobody_holds holder alone (subst (TenureFits members n (There s)) is fits.tenure))
           (reaches stripe ops members n z led.primary.tenure led.turned
           (subst (λ g. Leads stripe ops members n z (epoch_drawn g.place s.primary.learnt s.kept.head (members_of s.kept.location)).primary.tenure (epoch_drawn g.place s.primary.learnt s.kept.head (members_of s.kept.location)).turned)
           (ground_is s holder sent entries (stripe_is s.kept.location list some))
@@ -421,22 +421,22 @@ module _ (stripe : ℕ) (ops : ℕ × ℕ → Op) (members : List ℕ) (site : S
         led = epoch_drawn (ground_of site s).place s.primary.learnt s.kept.head (members_of s.kept.location)
 
     held_step : (t : FileState) (end : ℕ) → ListFits stripe members t.kept.location → (t.kept.location ≡ None → ⊥) → IsFree n holder → Fits members n (There t) → Steps (There t) (lease_held site t end)
-    held_step t end list some free_ fits =
+    held_step t end list some alone fits =
         mute_then (There t) (steps_to t (shows (mark.Held t.kept.file.number end))) (λ state. led_on site state state.primary.tenure)
-        (record { none = refl; mute = λ m h. absurd h; untold = tt }) (led_step t t.primary.tenure refl list some free_ fits)
+        (record { none = refl; mute = λ m h. absurd h; untold = tt }) (led_step t t.primary.tenure refl list some alone fits)
 
     -- news of a round: only where one runs is a lease held
     news_step : (t : FileState) (news : LeaseNews) → ListFits stripe members t.kept.location → ((end : ℕ) → news ≡ holds end → t.kept.location ≡ None → ⊥) → ((end : ℕ) → news ≡ holds end → IsFree n holder)
         → Fits members n (There t) → Steps (There t) (lease_news site t news)
-    news_step t lease.nothing list some free_ there = (quiet_step t t quiet holder sent entries refl refl mute_quiet there).file
-    news_step t (sends_write ballot l targets) list some free_ there =
+    news_step t lease.nothing list some alone there = (quiet_step t t quiet holder sent entries refl refl mute_quiet there).file
+    news_step t (sends_write ballot l targets) list some alone there =
         still_step t t (writes_to site t ballot l targets) holder sent entries refl refl (mute_sends _ unsaid) there
       where
         unsaid : Silent (map (λ (target : NodeId × Boot). message site.node target.0 (payload.Write t.kept.file ballot target.1 l)) targets)
         unsaid m h = let r = map_has (λ (target : NodeId × Boot). message site.node target.0 (payload.Write t.kept.file ballot target.1 l)) targets m h in ap (λ (y : Msg). shown n y.payload) r.2
-    news_step t (holds end) list some free_ there = held_step (record t { last_end = end }) end list (some end refl) (free_ end refl) there
-    news_step t (finds l) list some free_ there = live_step t t l refl refl there
-    news_step t ends list some free_ there = told_step t t (reply.NoLease t.last_end) refl refl there
+    news_step t (holds end) list some alone there = held_step (record t { last_end = end }) end list (some end refl) (alone end refl) there
+    news_step t (finds l) list some alone there = live_step t t l refl refl there
+    news_step t ends list some alone there = told_step t t (reply.NoLease t.last_end) refl refl there
 
     -- the lease behind it is the one that the answer left
     led_lease : (s : FileState) (o : Option Tenure) → (led_on site s o).state.lease ≡ s.lease
@@ -457,10 +457,10 @@ module _ (stripe : ℕ) (ops : ℕ × ℕ → Op) (members : List ℕ) (site : S
 
     answer_step : (s : FileState) (from : NodeId) (content : Payload) → IsOrderly stripe ops members s → (IsHeld (answer_comes site s from content).state.lease → IsFree n holder) → Fits members n (There s) → Steps (There s) (answer_comes site s from content)
     unfolding answer_comes
-    answer_step s from content orderly free_ fits =
+    answer_step s from content orderly alone fits =
         news_step t (on_answer s.lease site.now from content).news orderly.list
         (λ end is. stored_under s.lease s.kept.location site.now from content end orderly.sound.list is)
-        (λ end is. free_ (subst (λ news. IsHeld (lease_news site t news).state.lease) (sym is)
+        (λ end is. alone (subst (λ news. IsHeld (lease_news site t news).state.lease) (sym is)
         (subst IsHeld (sym (led_lease (record t { last_end = end }) t.primary.tenure)) (news_held s.lease site.now from content end is)))) fits
       where
         t : FileState
@@ -487,15 +487,15 @@ module _ (stripe : ℕ) (ops : ℕ × ℕ → Op) (members : List ℕ) (site : S
       heard_step s (asking r) from content orderly under fits came = (quiet_step s s quiet holder sent entries refl refl mute_quiet fits).file
       heard_step s (writing r) from content orderly under fits came = (quiet_step s s quiet holder sent entries refl refl mute_quiet fits).file
       heard_step s (held h) from content orderly under fits came = record {
-        reach = reaches stripe ops members n (There s) (behind_ (ground_of site s)).primary.tenure (behind_ (ground_of site s)).turned
-            (subst (λ g. Leads stripe ops members n (There s) (behind_ g).primary.tenure (behind_ g).turned) (ground_is s holder sent entries (stripe_is s.kept.location orderly.list (stored s.kept.location under)))
+        reach = reaches stripe ops members n (There s) (followed (ground_of site s)).primary.tenure (followed (ground_of site s)).turned
+            (subst (λ g. Leads stripe ops members n (There s) (followed g).primary.tenure (followed g).turned) (ground_is s holder sent entries (stripe_is s.kept.location orderly.list (stored s.kept.location under)))
             (follows stripe ops members n (There s) s.primary.tenure s.asks (hears (ground_at stripe n (There s)) s.primary from content)
             (idle_hears s from content s.primary.tenure refl fits came) orderly.asks.waiting));
         kept = refl;
       }
         where
-          behind_ : Ground → Served
-          behind_ g = asks_follow g s.primary.tenure s.asks (hears g s.primary from content)
+          followed : Ground → Served
+          followed g = asks_follow g s.primary.tenure s.asks (hears g s.primary from content)
 
           stored : (location : Option Location) → ListUnder (held h) location → location ≡ None → ⊥
           stored None u is = u
@@ -513,22 +513,22 @@ module _ (stripe : ℕ) (ops : ℕ × ℕ → Op) (members : List ℕ) (site : S
       -- A message that concerns the file, when nothing is overdue.
       pub message_step : (s : FileState) (from : NodeId) (content : Payload) → IsOrderly stripe ops members s → (IsHeld (message_comes site s from content).state.lease → IsFree n holder) → Fits members n (There s)
           → AreIn (shown from.0 content) sent → AskComes stripe ops members from content → Steps (There s) (message_comes site s from content)
-      message_step s from (payload.Ask number capability asked) orderly free_ fits came known =
+      message_step s from (payload.Ask number capability asked) orderly alone fits came known =
           ask_step s capability.location.kind (record { client = from; number = number }) capability asked orderly known.0 fits known.1
-      message_step s from (payload.Read file ballot) orderly free_ fits came known = read_step s from ballot fits
-      message_step s from (payload.Write file ballot boot l) orderly free_ fits came known = write_step s from ballot boot l fits
-      message_step s from (payload.Promise file ballot boot report) orderly free_ fits came known = answer_step s from (payload.Promise file ballot boot report) orderly free_ fits
-      message_step s from (payload.Accepted file ballot boot) orderly free_ fits came known = answer_step s from (payload.Accepted file ballot boot) orderly free_ fits
-      message_step s from (payload.Outrun file ballot seen) orderly free_ fits came known = answer_step s from (payload.Outrun file ballot seen) orderly free_ fits
-      message_step s from (payload.Gather file epoch) orderly free_ fits came known = replica_step s from (gathered s.kept.file s.kept.head epoch) (gather_acts stripe ops members n (There s) from epoch fits came.0)
-      message_step s from (payload.Fetch file epoch object version) orderly free_ fits came known = record { reach = fetch_acts stripe ops members n (There s) from epoch object version fits; kept = refl }
-      message_step s from (payload.Stage file epoch object version bytes) orderly free_ fits came known =
+      message_step s from (payload.Read file ballot) orderly alone fits came known = read_step s from ballot fits
+      message_step s from (payload.Write file ballot boot l) orderly alone fits came known = write_step s from ballot boot l fits
+      message_step s from (payload.Promise file ballot boot report) orderly alone fits came known = answer_step s from (payload.Promise file ballot boot report) orderly alone fits
+      message_step s from (payload.Accepted file ballot boot) orderly alone fits came known = answer_step s from (payload.Accepted file ballot boot) orderly alone fits
+      message_step s from (payload.Outrun file ballot seen) orderly alone fits came known = answer_step s from (payload.Outrun file ballot seen) orderly alone fits
+      message_step s from (payload.Gather file epoch) orderly alone fits came known = replica_step s from (gathered s.kept.file s.kept.head epoch) (gather_acts stripe ops members n (There s) from epoch fits came.0)
+      message_step s from (payload.Fetch file epoch object version) orderly alone fits came known = record { reach = fetch_acts stripe ops members n (There s) from epoch object version fits; kept = refl }
+      message_step s from (payload.Stage file epoch object version bytes) orderly alone fits came known =
           replica_step s from (staged s.kept.file s.kept.head s.kept.held epoch object version bytes) (stage_acts stripe ops members n (There s) from epoch object version bytes fits came.0)
-      message_step s from (payload.Head file epoch head) orderly free_ fits came known =
+      message_step s from (payload.Head file epoch head) orderly alone fits came known =
           replica_step s from (headed s.kept.file s.kept.head s.kept.held epoch head) (head_acts stripe ops members n (There s) from epoch head fits came.0)
-      message_step s from (payload.Update file update) orderly free_ fits came known =
+      message_step s from (payload.Update file update) orderly alone fits came known =
           replica_step s from (updated s.kept.file s.kept.head update) (update_acts stripe ops members n (There s) from update fits came.0)
-      message_step s from content orderly free_ fits came known = heard_step s s.lease from content orderly orderly.sound.list fits came
+      message_step s from content orderly alone fits came known = heard_step s s.lease from content orderly orderly.sound.list fits came
 
     -- ---- a Wake
 
@@ -610,8 +610,8 @@ pub files_show : (stripe : ℕ) (ops : ℕ × ℕ → Op) (members : List ℕ) (
     → ShowsFile stripe ops members site s holder sent entries
 unfolding step_of_file wake_of_file
 files_show stripe ops members site s holder sent entries distinct orderly fits = record {
-  message = λ from content came known free_. mute_then stripe ops members site (seen_of site (settled site s) holder sent entries) (expired site s) (λ state. message_comes site state from content)
-      (mute_expired stripe ops members site s) (message_step stripe ops members site holder sent entries distinct (settled site s) from content orderly free_ fits came known);
+  message = λ from content came known alone. mute_then stripe ops members site (seen_of site (settled site s) holder sent entries) (expired site s) (λ state. message_comes site state from content)
+      (mute_expired stripe ops members site s) (message_step stripe ops members site holder sent entries distinct (settled site s) from content orderly alone fits came known);
   wake = mute_then stripe ops members site (seen_of site (settled site s) holder sent entries) (expired site s) (wake_of_file site)
       (mute_expired stripe ops members site s) (woken_step stripe ops members site holder sent entries (settled site s) (settled site s).lease orderly.list orderly.sound.list fits);
 }

@@ -115,20 +115,20 @@ module _ (stripe : ℕ) (ops : ℕ × ℕ → Op) (members : List ℕ) (n : ℕ)
   -- of two rows the later one keeps nothing
   pub compose : (a : Seen) (t1 t2 : Option Tenure) (u1 u2 : Turned) → (first : Leads stripe ops members n a t1 u1) → Leads stripe ops members n first.behind t2 u2 → u2.rec ≡ None
       → u1.rec ≡ None → Leads stripe ops members n a t2 (joined u1 u2)
-  compose a t1 t2 u1 u2 first then_ none ready = record {
-    behind = then_.behind;
+  compose a t1 t2 u1 u2 first later none ready = record {
+    behind = later.behind;
     shows = record {
-      steps = first.shows.steps ++ then_.shows.steps;
-      may = may_append stripe ops members n (local_of a) first.shows.steps then_.shows.steps first.shows.may (subst (λ l. MayAll stripe ops members n l then_.shows.steps) (sym first.shows.leads) then_.shows.may);
-      leads = steps_append stripe ops members n (local_of a) first.shows.steps then_.shows.steps ∙ ap (λ l. after_steps n l then_.shows.steps) first.shows.leads ∙ then_.shows.leads;
+      steps = first.shows.steps ++ later.shows.steps;
+      may = may_append stripe ops members n (local_of a) first.shows.steps later.shows.steps first.shows.may (subst (λ l. MayAll stripe ops members n l later.shows.steps) (sym first.shows.leads) later.shows.may);
+      leads = steps_append stripe ops members n (local_of a) first.shows.steps later.shows.steps ∙ ap (λ l. after_steps n l later.shows.steps) first.shows.leads ∙ later.shows.leads;
       outs = λ m h. outs m (has-append m u1.outs u2.outs h);
-      grows = λ x h. then_.shows.grows x (first.shows.grows x h);
-      told = told_append u1.marks u2.marks a.entries first.behind.entries then_.behind.entries first.shows.told then_.shows.told;
+      grows = λ x h. later.shows.grows x (first.shows.grows x h);
+      told = told_append u1.marks u2.marks a.entries first.behind.entries later.behind.entries first.shows.told later.shows.told;
     };
-    kept = then_.kept ∙ ap (kept_after first.behind.kept) none ∙ first.kept ∙ ap (kept_after a.kept) (sym rec_is);
-    body = then_.body ∙ ap (λ r. body_beyond first.behind.kept.file r first.behind.body) none ∙ first.body ∙ ap (λ r. body_beyond a.kept.file r a.body) (sym rec_is);
-    is_tenure = then_.is_tenure;
-    fits = then_.fits;
+    kept = later.kept ∙ ap (kept_after first.behind.kept) none ∙ first.kept ∙ ap (kept_after a.kept) (sym rec_is);
+    body = later.body ∙ ap (λ r. body_beyond first.behind.kept.file r first.behind.body) none ∙ first.body ∙ ap (λ r. body_beyond a.kept.file r a.body) (sym rec_is);
+    is_tenure = later.is_tenure;
+    fits = later.fits;
     calm = inl (rec_is ∙ ready);
     steady = λ r. rec_is ∙ ready;
   }
@@ -136,9 +136,9 @@ module _ (stripe : ℕ) (ops : ℕ × ℕ → Op) (members : List ℕ) (n : ℕ)
       rec_is : the_record u1.rec u2.rec ≡ u1.rec
       rec_is = ap (the_record u1.rec) none ∙ joined_none u1.rec
 
-      outs : (m : Msg) → Has m u1.outs ⊎ Has m u2.outs → AreIn (shown n m.payload) then_.behind.sent
-      outs m (inl h) = are_in (shown n m.payload) then_.behind.sent (λ x k. then_.shows.grows x (in_are (shown n m.payload) first.behind.sent (first.shows.outs m h) x k))
-      outs m (inr h) = then_.shows.outs m h
+      outs : (m : Msg) → Has m u1.outs ⊎ Has m u2.outs → AreIn (shown n m.payload) later.behind.sent
+      outs m (inl h) = are_in (shown n m.payload) later.behind.sent (λ x k. later.shows.grows x (in_are (shown n m.payload) first.behind.sent (first.shows.outs m h) x k))
+      outs m (inr h) = later.shows.outs m h
 
   -- what a primary stands on stays where nothing is kept
   pub same_ground : (a : Seen) (t : Option Tenure) (u : Turned) → (l : Leads stripe ops members n a t u) → u.rec ≡ None → ground_at stripe n l.behind ≡ ground_at stripe n a

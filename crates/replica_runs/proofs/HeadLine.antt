@@ -1,22 +1,23 @@
 -- What the marks of a world of writes say, in the words of the entries.
-use Rattle.std.proofs.Common.{◌≡◌, ℕ, suc, pred, zero, List, [], ◌∷◌, ◌++◌, length, refl, sym, ap, ◌∙◌, subst, subst₂, ◌==◌, if◌then◌else◌, Some}
+use Rattle.std.proofs.Common.{◌≡◌, ℕ, suc, pred, zero, List, [], ◌∷◌, ◌++◌, length, refl, sym, ap, ◌∙◌, subst, subst₂, ◌==◌, if◌then◌else◌, Some, inl, inr, ◌⊎◌}
 use Rattle.std.specs.Prelude.{slice_get, map}
 use Rattle.std.proofs.lemmas.List.{map-append}
 use Rattle.xt_base.specs.declared.file.Op.{Op}
+use Rattle.xt_base.specs.declared.file.Op.TheVariants as op
 use Rattle.xt_base.specs.declared.file.Update.{Update}
 use Rattle.time_line.specs.Content.{place_of, content_of, range_of}
 use Rattle.replica_safety.specs.Epochs.{name}
-use Rattle.replica_safety.specs.Lists.{AreDistinct}
+use Rattle.replica_safety.specs.Lists.{Has, AreDistinct}
 use Rattle.replica_safety.specs.Protocol.{Act, Activated, Issued, Committed, last_write}
 use Rattle.replica_safety.specs.Rules.{Start}
 use Rattle.replica_safety.specs.Line.{with_told, line_of, AreOnOneLine}
 use Rattle.replica_safety.proofs.Lists.{distinct_front}
 use Rattle.replica_safety.proofs.Conclusions.{line_distinct}
-use Rattle.replica_runs.specs.Made.{IsMade, ops_of}
-use Rattle.replica_runs.specs.Marks.{acts_of, line_at, AnswersShow}
+use Rattle.replica_runs.specs.Made.{IsMade, ops_of, IsMadeBy, bodies_of, size_of}
+use Rattle.replica_runs.specs.Marks.{acts_of, line_at, AnswersShow, AreMadeAfter}
 use Rattle.replica_runs.specs.Answers.{ReadsShow}
 use Rattle.replica_runs.specs.World.{Mark, Told, ShowsRead, ShowsWrite}
-use Rattle.replica_runs.specs.HeadOrder.{order_told, order_of, last_of, AreOnOneOrder, order_at}
+use Rattle.replica_runs.specs.HeadOrder.{order_told, order_of, last_of, AreOnOneOrder, order_at, IsChange, AreChanges}
 use Rattle.replica_runs.specs.HeadWorld.{World}
 use Rattle.replica_runs.proofs.Seen.{line_grows, reads_show}
 use Rattle.replica_runs.proofs.Shows.{line_made}
@@ -101,3 +102,21 @@ module _ (stripe : ℕ) (ops : ℕ × ℕ → Op) (start : Start) where
       (entries_fit r.world.marks (subst (AreOnOneLine start.line) (sym is.shows.acts) is.shows.sound.told) is.shows.answers
       (reads_show stripe ops start r.world.marks is.shows.answers (line_made (IsMade stripe ops) members start r.world is))
       (subst (λ a. AreDistinct (map name (line_of start.line a))) (sym is.shows.acts) (line_distinct members start is.state is.shows.sound)))
+
+  -- ---- what stands in the order
+
+  made_one : (done ws : List Update) (id : ℕ × ℕ) → AreMadeAfter (IsMade stripe ops) done ws → Has id (map name ws) → (before : List Update) × (u : Update) × (id ≡ name u) × IsMade stripe ops before u
+  made_one done [] id m h = absurd h
+  made_one done (w ∷ ws) id m (inl p) = (done, w, p, m.0)
+  made_one done (w ∷ ws) id m (inr h) = made_one (done ++ w ∷ []) ws id m.1 h
+
+  is_change : (asked : Op) (bodies : ℕ → List ℕ) (size : ℕ) (u : Update) → IsMadeBy stripe bodies size u asked → IsChange asked
+  is_change (op.Read object at len) bodies size u m = m
+  is_change (op.Write object at bytes) bodies size u m = tt
+  is_change (op.Truncate z) bodies size u m = tt
+
+  pub order_of_changes : (members : List ℕ) (w : World) → IsReached stripe ops members start w → AreChanges ops (order_of (order_at start) w.entries)
+  order_of_changes members w r id h =
+      let there : Has id (map name (line_at start r.world.marks)) = subst (Has id) (ap (order_of (order_at start)) r.stand.entries ∙ order_marks start r.world.marks) h in
+      let one = made_one [] (line_at start r.world.marks) id (line_made (IsMade stripe ops) members start r.world r.good.is) there in
+      subst (λ k. IsChange (ops k)) (sym one.2) (is_change (ops (name one.1)) (bodies_of one.0) (size_of one.0) one.1 one.3.1)

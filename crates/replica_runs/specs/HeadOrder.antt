@@ -1,10 +1,11 @@
 -- What the entries of a file tell: its line of writes, by their ids, and what fits it.
 use Rattle.std.specs.Prelude.{◌≡◌, ℕ, suc, pred, ◌+◌, ◌-◌, ◌*◌, ◌≤◌, ◌==◌, if◌then◌else◌, min, List, [], ◌∷◌, ◌++◌, length, map, drop, slice_get, Some}
 use Rattle.xt_base.specs.declared.file.Op.{Op}
+use Rattle.xt_base.specs.declared.file.Op.TheVariants as op
 use Rattle.xt_base.specs.Overlay.{cut_or_filled}
 use Rattle.time_line.specs.Content.{place_of, content_of, range_of}
 use Rattle.replica_safety.specs.Epochs.{name}
-use Rattle.replica_safety.specs.Lists.{AreDistinct}
+use Rattle.replica_safety.specs.Lists.{Has, AreDistinct}
 use Rattle.replica_safety.specs.Rules.{Start}
 use Rattle.replica_runs.specs.HeadWorld.{Entry, TellsActive, TellsIssue, TellsCommit, ReadOk, WriteOk}
 
@@ -57,3 +58,12 @@ AreOnOneOrder stripe ops order (e ∷ es) =
 -- the order at a start: that of the writes which it takes over as committed
 abbrev pub order_at : Start → List (ℕ × ℕ)
 order_at start = map name start.line
+
+abbrev pub IsChange : Op → Type 0
+IsChange (op.Read object at len) = ⊥
+IsChange (op.Write object at bytes) = Unit {0}
+IsChange (op.Truncate size) = Unit {0}
+
+-- what stands in an order are writes and truncations
+abbrev pub AreChanges : (ℕ × ℕ → Op) → List (ℕ × ℕ) → Type 0
+AreChanges ops order = (id : ℕ × ℕ) → Has id order → IsChange (ops id)

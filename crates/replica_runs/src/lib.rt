@@ -11,7 +11,7 @@ ghost use Rattle.replica_safety.specs.Epochs.{name};
 ghost use Rattle.replica_safety.specs.Line.{AreOnOneLine};
 ghost use Rattle.replica_safety.specs.Lists.{AreDistinct};
 ghost use Rattle.replica_runs.specs.Answers.{ReadsShow, AreFresh, HasEpochs, AlwaysOfWorlds};
-ghost use Rattle.replica_runs.specs.HeadOrder.{AreOnOneOrder, order_at};
+ghost use Rattle.replica_runs.specs.HeadOrder.{AreOnOneOrder, AreChanges, order_of, order_at};
 ghost use Rattle.replica_runs.specs.HeadSample.{SampleRuns};
 ghost use Rattle.replica_runs.specs.HeadSteps.{AlwaysOfHeads};
 ghost use Rattle.replica_runs.specs.Made.{IsMade};
@@ -34,9 +34,10 @@ pub fn runs_are_on_one_line()
 {}
 
 /// After every run of a world of heads, in the words of the entries: each entry fits the order of writes as it was then, the
-/// order has no write twice, and each read shows the content of all its writes.
+/// order has no write twice, and each read shows the content of all its writes. What stands in it are writes and truncations.
 pub fn rows_are_on_one_order()
-    ensures { AlwaysOfHeads (λ stripe ops start entries. AreOnOneOrder stripe ops (order_at start) entries) }
+    ensures one_order { AlwaysOfHeads (λ stripe ops start entries. AreOnOneOrder stripe ops (order_at start) entries) }
+    ensures changes { AlwaysOfHeads (λ stripe ops start entries. AreChanges ops (order_of (order_at start) entries)) }
 {}
 
 /// Such runs come to something: a byte is written, committed by two of three, and read.
