@@ -1,0 +1,25 @@
+-- what an ask makes of a file's list and of its open asks
+use Rattle.std.specs.Prelude.{Bool, false, Option, Some, None, if◌then◌else◌, is_some}
+use Rattle.xt_base.specs.declared.ids.FileId.{FileId}
+use Rattle.xt_base.specs.declared.file.Location.{Location}
+use Rattle.xt_base.specs.declared.record.Record.{Record}
+use Rattle.xt_base.specs.declared.record.Record.TheVariants as kept
+use Rattle.osd_rows.specs.declared.Asks.{Asks}
+use Rattle.osd_rows.specs.declared.IssuedAsk.{IssuedAsk}
+use Rattle.osd_rows.specs.declared.WaitingAsk.{WaitingAsk}
+
+-- the record of a file's first list
+abbrev pub first_list : FileId → Location → Option Location → Option Record
+first_list file location None = Some (kept.View file location)
+first_list file location (Some stored) = None
+
+-- the list that is stored then
+abbrev pub list_after : Option Location → Location → Option Location
+list_after None location = Some location
+list_after (Some stored) location = Some stored
+
+-- the asks once a write was answered, refused or issued, where this says whether an update is issued
+abbrev pub asks_once_done : Asks → Bool → WaitingAsk → Asks
+asks_once_done asks issued ask =
+    if is_some asks.issued then asks
+    else record asks { issued = if issued then Some (record { ask = ask; told = false }) else None }

@@ -1,0 +1,6 @@
+pub mod Leads
+pub mod Owners
+pub mod Answers
+pub mod Asking
+pub mod Views
+pub mod Rows

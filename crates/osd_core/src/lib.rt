@@ -1,0 +1,14 @@
+//! A file at an OSD that is awake, and what comes of its events: of asks, of the messages of its register and its lease, and of
+//! a wake.
+//!
+//! Each call equals its row of `osd_rows` on the state that contracts see: it leaves the file in the row's state, and gives what
+//! the row gives. Want of memory, and a body that can't be read, are all that it may answer beside that; then the file isn't to
+//! be used again. Clocks are in milliseconds, below 2^62. A primary acts only in a turn that the file's lease gives.
+#![tactic(auto)]
+
+mod asks;
+mod lead;
+mod leases;
+mod overdue;
+mod parts;
+mod waking;
