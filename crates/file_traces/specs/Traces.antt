@@ -1,0 +1,43 @@
+-- When the trace of a world tells, of one file, the entries of a world of heads.
+use Rattle.std.specs.Prelude.{◌≡◌, ℕ, Bool, true, false, ◌==◌, if◌then◌else◌, List, [], ◌∷◌}
+use Rattle.xt_base.specs.declared.ids.OpId.{OpId}
+use Rattle.xt_base.specs.declared.file.Op.{Op}
+use Rattle.cluster_runs.specs.declared.Entry.{Entry}
+use Rattle.cluster_runs.specs.declared.Entry.TheVariants as entry
+use Rattle.cluster_runs.specs.Clauses.{IsOneOrder, AreDistinct}
+use Rattle.replica_runs.specs.HeadOrder.{AreOnOneOrder}
+use Rattle.replica_runs.specs.HeadWorld.{TellsActive, TellsIssue, TellsCommit}
+use Rattle.replica_runs.specs.HeadWorld as heads
+use Rattle.osd_replica_views.specs.Seen.{IsAnswer, name_of}
+
+-- An answer on the file tells an entry that it shows.
+abbrev pub AnswerTells : ℕ → (ℕ × ℕ → Op) → ℕ → OpId → ℕ → List ℕ → List heads.Entry → List heads.Entry → Bool → Type 0
+AnswerTells stripe ops n id count bytes before after true =
+    (x : heads.Entry) × IsAnswer stripe ops n id count bytes x × (after ≡ x ∷ before)
+AnswerTells stripe ops n id count bytes before after false = after ≡ before
+
+-- What an entry of the trace tells of the file, where the entries of the file, the newest first, were these before and are
+-- those after it.
+abbrev pub TellsOne : ℕ → (ℕ × ℕ → Op) → ℕ → Entry → List heads.Entry → List heads.Entry → Type 0
+TellsOne stripe ops file (entry.Active node f count id) before after =
+    after ≡ (if f == file then TellsActive node.0 count (name_of id) ∷ before else before)
+TellsOne stripe ops file (entry.Issue node f count id) before after =
+    after ≡ (if f == file then TellsIssue node.0 count (name_of id) ∷ before else before)
+TellsOne stripe ops file (entry.Commit node f count id) before after =
+    after ≡ (if f == file then TellsCommit node.0 count (name_of id) ∷ before else before)
+TellsOne stripe ops file (entry.Answer node f id count bytes) before after =
+    AnswerTells stripe ops node.0 id count bytes before after (f == file)
+TellsOne stripe ops file _ before after = after ≡ before
+
+-- The trace tells them one by one.
+abbrev pub Tells : ℕ → (ℕ × ℕ → Op) → ℕ → List Entry → List heads.Entry → List heads.Entry → Type 0
+Tells stripe ops file [] before after = after ≡ before
+Tells stripe ops file (e ∷ r) before after =
+    (mid : List heads.Entry) × TellsOne stripe ops file e before mid × Tells stripe ops file r mid after
+
+-- Where what a trace tells of a file fits one order, each claim of the trace is borne out by the order of writes that the trace
+-- itself gives, and no write stands there twice.
+abbrev pub TracesAreOnOneOrder : Type 0
+TracesAreOnOneOrder =
+    (stripe : ℕ) (ops : ℕ × ℕ → Op) (file : ℕ) (entries : List Entry) (es : List heads.Entry)
+    → Tells stripe ops file entries [] es → AreOnOneOrder stripe ops [] es → IsOneOrder file entries × AreDistinct file entries
