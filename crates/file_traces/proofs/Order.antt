@@ -20,6 +20,11 @@ use Rattle.file_traces.proofs.Lists.{length_mapped, mapped_append, get_mapped, g
 name_is : (a b : OpId) → name_of a ≡ name_of b → a ≡ b
 name_is a b is = ap (λ (p : ℕ × ℕ). let o : OpId = record { client = record { 0 = p.0 }; number = p.1 } in o) is
 
+pub named : (id : OpId) (os : List OpId) (c : ℕ) (n : ℕ × ℕ) → slice_get (map name_of os) c ≡ Some n → n ≡ name_of id → slice_get os c ≡ Some id
+named id [] c n is same = absurd (cc)
+named id (o ∷ os) zero n is same = ap Some (name_is o id (let first : name_of o ≡ n = cc in first ∙ same))
+named id (o ∷ os) (suc c) n is same = named id os c n is same
+
 -- a claim appends to both orders, or to none
 claimed : (order : List OpId) (claim : Claim) → map name_of (order_by order (Some claim)) ≡ order_told claim.count (name_of claim.id) (map name_of order)
 claimed order claim =
@@ -31,7 +36,7 @@ claimed order claim =
     at false = refl
 
 module _ (stripe : ℕ) (ops : ℕ × ℕ → Op) (file : ℕ) where
-  abbrev Same : List OpId → List heads.Entry → Type 0
+  abbrev pub Same : List OpId → List heads.Entry → Type 0
   Same order es = map name_of order ≡ order_of [] es
 
   same_after : (order : List OpId) (before after : List heads.Entry) → after ≡ before → Same order before → Same order after
@@ -47,7 +52,7 @@ module _ (stripe : ℕ) (ops : ℕ × ℕ → Op) (file : ℕ) where
   answered n id count bytes (ReadOk node c size object body) before is = refl
   answered n id count bytes (WriteOk node c i) before is = refl
 
-  one : (e : Entry) (order : List OpId) (before after : List heads.Entry) → TellsOne stripe ops file e before after → Same order before → Same (order_by order (claim_on file e)) after
+  pub one : (e : Entry) (order : List OpId) (before after : List heads.Entry) → TellsOne stripe ops file e before after → Same order before → Same (order_by order (claim_on file e)) after
   one (entry.Times lease drift) order before after told same = same_after order before after told same
   one (entry.File number location) order before after told same = same_after order before after told same
   one (entry.Clock node clock) order before after told same = same_after order before after told same
@@ -78,12 +83,12 @@ module _ (stripe : ℕ) (ops : ℕ × ℕ → Op) (file : ℕ) where
       at false told = same_after order before after told same
   one (entry.Done client number outcome) order before after told same = same_after order before after told same
 
-  all : (entries : List Entry) (order : List OpId) (before after : List heads.Entry) → Tells stripe ops file entries before after → Same order before → Same (fold (λ (o : List OpId) e. order_by o (claim_on file e)) order entries) after
+  pub all : (entries : List Entry) (order : List OpId) (before after : List heads.Entry) → Tells stripe ops file entries before after → Same order before → Same (fold (λ (o : List OpId) e. order_by o (claim_on file e)) order entries) after
   all [] order before after told same = same_after order before after told same
   all (e ∷ r) order before after (mid, told, rest) same = all r (order_by order (claim_on file e)) mid after rest (one e order before mid told same)
 
   -- what is on one order was on it before
-  abbrev Holds : List heads.Entry → Type 0
+  abbrev pub Holds : List heads.Entry → Type 0
   Holds es = AreOnOneOrder stripe ops [] es
 
   was : (e : Entry) (before after : List heads.Entry) → TellsOne stripe ops file e before after → Holds after → Holds before
@@ -117,7 +122,7 @@ module _ (stripe : ℕ) (ops : ℕ × ℕ → Op) (file : ℕ) where
       at false told = subst Holds told holds
   was (entry.Done client number outcome) before after told holds = subst Holds told holds
 
-  was_all : (entries : List Entry) (before after : List heads.Entry) → Tells stripe ops file entries before after → Holds after → Holds before
+  pub was_all : (entries : List Entry) (before after : List heads.Entry) → Tells stripe ops file entries before after → Holds after → Holds before
   was_all [] before after told holds = subst Holds told holds
   was_all (e ∷ r) before after (mid, told, rest) holds = was e before mid told (was_all r mid after rest holds)
 
@@ -156,14 +161,9 @@ module _ (stripe : ℕ) (ops : ℕ × ℕ → Op) (file : ℕ) where
   borne : (order : List OpId) (claim : Claim) → IsEnd (map name_of order) claim.count (name_of claim.id) → Bears order claim
   borne order claim (long, last) = (sym (length_mapped name_of order) ∙ long, at claim.count long last)
     where
-      named : (os : List OpId) (c : ℕ) (n : ℕ × ℕ) → slice_get (map name_of os) c ≡ Some n → n ≡ name_of claim.id → slice_get os c ≡ Some claim.id
-      named [] c n is same = absurd (cc)
-      named (o ∷ os) zero n is same = ap Some (name_is o claim.id (let first : name_of o ≡ n = cc in first ∙ same))
-      named (o ∷ os) (suc c) n is same = named os c n is same
-
       at : (count : ℕ) → length (map name_of order) ≡ count → last_of (map name_of order) ≡ name_of claim.id → (count ≡ 0) ⊎ (slice_get order (count - 1) ≡ Some claim.id)
       at zero long last = inl refl
-      at (suc c) long last = inr (ap (slice_get order) (let one_less : suc c - 1 ≡ c = omega (arith) in one_less) ∙ named order c (last_of (map name_of order)) (get_last (map name_of order) c long) last)
+      at (suc c) long last = inr (ap (slice_get order) (let one_less : suc c - 1 ≡ c = omega (arith) in one_less) ∙ named claim.id order c (last_of (map name_of order)) (get_last (map name_of order) c long) last)
 
   bears : (before : List Entry) (e : Entry) (after : List Entry) (claim : Claim) (order : List OpId) (first last : List heads.Entry) → Tells stripe ops file (before ++ e ∷ after) first last → Same order first → claim_on file e ≡ Some claim → Holds last → Bears (fold (λ (o : List OpId) e. order_by o (claim_on file e)) order (before ++ e ∷ [])) claim
   bears [] e after claim order first last (mid, told, rest) same is holds =

@@ -1,11 +1,15 @@
 -- When the trace of a world tells, of one file, the entries of a world of heads.
-use Rattle.std.specs.Prelude.{◌≡◌, ℕ, Bool, true, false, ◌==◌, if◌then◌else◌, List, [], ◌∷◌}
+use Rattle.std.specs.Prelude.{◌≡◌, ℕ, ◌-◌, Bool, true, false, ◌==◌, if◌then◌else◌, List, [], ◌∷◌, length, map, slice_get, Some}
 use Rattle.xt_base.specs.declared.ids.OpId.{OpId}
+use Rattle.xt_base.specs.declared.ids.NodeId.{NodeId}
 use Rattle.xt_base.specs.declared.file.Op.{Op}
+use Rattle.xt_base.specs.declared.file.Op.TheVariants as op
+use Rattle.time_line.specs.Content.{place_of, content_of, range_of}
 use Rattle.cluster_runs.specs.declared.Entry.{Entry}
 use Rattle.cluster_runs.specs.declared.Entry.TheVariants as entry
-use Rattle.cluster_runs.specs.Clauses.{IsOneOrder, AreDistinct}
-use Rattle.replica_runs.specs.HeadOrder.{AreOnOneOrder}
+use Rattle.cluster_runs.specs.TimeLine.{write_order}
+use Rattle.cluster_runs.specs.Clauses.{IsBefore, IsOneOrder, AreDistinct}
+use Rattle.replica_runs.specs.HeadOrder.{AreOnOneOrder, AreChanges, order_of}
 use Rattle.replica_runs.specs.HeadWorld.{TellsActive, TellsIssue, TellsCommit}
 use Rattle.replica_runs.specs.HeadWorld as heads
 use Rattle.osd_replica_views.specs.Seen.{IsAnswer, name_of}
@@ -35,9 +39,32 @@ Tells stripe ops file [] before after = after ≡ before
 Tells stripe ops file (e ∷ r) before after =
     (mid : List heads.Entry) × TellsOne stripe ops file e before mid × Tells stripe ops file r mid after
 
+-- What an answer shows, where this is the order of writes before it: a read the length of the order and the asked range of its
+-- content, a write or truncation its place.
+abbrev pub Shows : ℕ → (ℕ × ℕ → Op) → List OpId → OpId → ℕ → List ℕ → Op → Type 0
+Shows stripe ops order id count bytes (op.Read object at len) =
+    (count ≡ length order)
+    × (bytes ≡ range_of (content_of stripe (map ops (map name_of order))) (place_of stripe object at) len)
+Shows stripe ops order id count bytes (op.Write object at body) = (slice_get order (count - 1) ≡ Some id) × (bytes ≡ [])
+Shows stripe ops order id count bytes (op.Truncate size) = (slice_get order (count - 1) ≡ Some id) × (bytes ≡ [])
+
+-- Each answer on the file shows the order as it was, as its call asks.
+abbrev pub AnswersFit : ℕ → (ℕ × ℕ → Op) → ℕ → List Entry → Type 0
+AnswersFit stripe ops file entries =
+    (before : List Entry) (node : NodeId) (id : OpId) (count : ℕ) (bytes : List ℕ)
+    → IsBefore before (entry.Answer node file id count bytes) entries
+    → Shows stripe ops (write_order file before) id count bytes (ops (name_of id))
+
 -- Where what a trace tells of a file fits one order, each claim of the trace is borne out by the order of writes that the trace
 -- itself gives, and no write stands there twice.
 abbrev pub TracesAreOnOneOrder : Type 0
 TracesAreOnOneOrder =
     (stripe : ℕ) (ops : ℕ × ℕ → Op) (file : ℕ) (entries : List Entry) (es : List heads.Entry)
     → Tells stripe ops file entries [] es → AreOnOneOrder stripe ops [] es → IsOneOrder file entries × AreDistinct file entries
+
+-- And where only writes and truncations stand in that order, each answer shows it as it was.
+abbrev pub TracesShow : Type 0
+TracesShow =
+    (stripe : ℕ) (ops : ℕ × ℕ → Op) (file : ℕ) (entries : List Entry) (es : List heads.Entry)
+    → Tells stripe ops file entries [] es → AreOnOneOrder stripe ops [] es → AreChanges ops (order_of [] es)
+    → AnswersFit stripe ops file entries

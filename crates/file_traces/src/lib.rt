@@ -1,10 +1,16 @@
 //! What `replica_runs` proves of a file, in the words of the trace of a whole world.
 #![tactic(auto)]
 
-ghost use Rattle.file_traces.specs.Traces.{TracesAreOnOneOrder};
+ghost use Rattle.file_traces.specs.Traces.{TracesAreOnOneOrder, TracesShow};
 
 /// Where what a trace tells of a file fits one order of writes, each claim of the trace is borne out by the order that the trace
 /// itself gives, and no write stands there twice.
 pub fn traces_are_on_one_order()
     ensures { TracesAreOnOneOrder }
+{}
+
+/// Where only writes and truncations stand in that order, each answer in the trace shows it as it was: a read its length and the
+/// asked range of its content, a write its place.
+pub fn traces_show()
+    ensures { TracesShow }
 {}
