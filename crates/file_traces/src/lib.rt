@@ -1,6 +1,7 @@
 //! What `replica_runs` proves of a file, in the words of the trace of a whole world.
 #![tactic(auto)]
 
+ghost use Rattle.file_traces.specs.Runs.{RunsAreSafe};
 ghost use Rattle.file_traces.specs.Traces.{TracesAreOnOneOrder, TracesShow};
 
 /// Where what a trace tells of a file fits one order of writes, each claim of the trace is borne out by the order that the trace
@@ -13,4 +14,10 @@ pub fn traces_are_on_one_order()
 /// asked range of its content, a write its place.
 pub fn traces_show()
     ensures { TracesShow }
+{}
+
+/// Every run of a file among OSDs (`file_runs`) that begins with nothing written has a trace of one order of writes, where no
+/// write stands twice and which each answer shows as it was.
+pub fn every_run_of_a_file_is_safe()
+    ensures { RunsAreSafe }
 {}
