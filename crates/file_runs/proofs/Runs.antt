@@ -71,7 +71,7 @@ module _ (stripe : ℕ) (some : 0 < stripe) (ops : ℕ × ℕ → Op) (members :
     pub node : v.nodes n ≡ (local_of (seen_at x v tenure)).node
     pub fits : Fits members n (seen_at x v tenure)
 
-  abbrev Shape : FileNode → world.World → ℕ → Option FileState → Type 0
+  abbrev pub Shape : FileNode → world.World → ℕ → Option FileState → Type 0
   Shape x v n None = Down x v n
   Shape x v n (Some s) = Up x v n s
 

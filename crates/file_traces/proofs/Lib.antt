@@ -1,4 +1,5 @@
 pub mod Lists
 pub mod Order
 pub mod Shown
+pub mod Named
 pub mod Runs

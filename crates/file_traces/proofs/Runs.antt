@@ -14,9 +14,10 @@ use Rattle.replica_runs.specs.HeadOrder.{AreOnOneOrder, AreChanges, order_of}
 use Rattle.osd_replica_views.specs.Seen.{AreTold, name_of}
 use Rattle.file_runs.specs.FileRuns.{Tale, after_all, IsOnOneOrder}
 use Rattle.file_runs.specs.FileRuns as files
-use Rattle.file_runs.proofs.Runs.{on_one_order}
+use Rattle.file_runs.proofs.Runs.{begins_inv, on_one_order}
 use Rattle.file_traces.specs.Traces.{Tells, AnswerTells}
-use Rattle.file_traces.specs.Runs.{AreOf, TalesAreOf, trace_of, RunsAreSafe}
+use Rattle.file_traces.specs.Runs.{trace_of, RunsAreSafe}
+use Rattle.file_traces.proofs.Named.{AreOf, TalesAreOf, all_named}
 use Rattle.file_traces.proofs.Order.{hold}
 use Rattle.file_traces.proofs.Shown.{show}
 
@@ -66,9 +67,12 @@ module _ (stripe : ℕ) (ops : ℕ × ℕ → Op) (file : ℕ) where
       (marked (record { 0 = t.node }) t.marks before es of.0 last)
 
 pub runs : RunsAreSafe
-runs stripe ops file members start w events some distinct begins empty at may of =
+runs stripe ops file members start w events some distinct begins empty at are may =
     record { one_order = (hold stripe ops file entries is.entries told fit).0; distinct = (hold stripe ops file entries is.entries told fit).1; answers = show stripe ops file entries is.entries told fit changes }
   where
+    of : TalesAreOf file (after_all w events).tales
+    of = (all_named stripe some ops members distinct start file w events may (begins_inv stripe some ops members distinct start w begins at) (are, subst (TalesAreOf file) (sym at.untold) tt)).1
+
     entries : List Entry
     entries = trace_of (after_all w events).tales
 

@@ -1,8 +1,6 @@
 -- The trace of a run of a file among OSDs.
 use Rattle.std.specs.Prelude.{◌≡◌, ℕ, ◌≤◌, List, [], ◌∷◌, ◌++◌, map}
 use Rattle.xt_base.specs.declared.ids.NodeId.{NodeId}
-use Rattle.xt_base.specs.declared.event.Mark.{Mark}
-use Rattle.xt_base.specs.declared.event.Mark.TheVariants as mark
 use Rattle.xt_base.specs.declared.file.Op.{Op}
 use Rattle.cluster_runs.specs.declared.Entry.{Entry}
 use Rattle.cluster_runs.specs.Clauses.{IsOneOrder}
@@ -15,22 +13,6 @@ use Rattle.replica_runs.specs.Marks.{Begins}
 use Rattle.file_runs.specs.FileRuns.{Tale, FileWorld, Event, BeginsFile, MayAll, after_all}
 use Rattle.file_traces.specs.Traces.{AnswersFit}
 
--- a mark that acts on a file acts on this one
-abbrev pub IsOf : ℕ → Mark → Type 0
-IsOf file (mark.Active f count id) = f ≡ file
-IsOf file (mark.Issue f count id) = f ≡ file
-IsOf file (mark.Commit f count id) = f ≡ file
-IsOf file (mark.Answer f id count bytes) = f ≡ file
-IsOf file _ = Unit {0}
-
-abbrev pub AreOf : ℕ → List Mark → Type 0
-AreOf file [] = Unit {0}
-AreOf file (m ∷ ms) = IsOf file m × AreOf file ms
-
-abbrev pub TalesAreOf : ℕ → List Tale → Type 0
-TalesAreOf file [] = Unit {0}
-TalesAreOf file (t ∷ ts) = AreOf file t.marks × TalesAreOf file ts
-
 -- the trace of these tales, of which the newest stands first
 abbrev pub trace_of : List Tale → List Entry
 trace_of [] = []
@@ -42,10 +24,10 @@ pub record IsSafe (stripe : ℕ) (ops : ℕ × ℕ → Op) (file : ℕ) (entries
   pub distinct : clauses.AreDistinct file entries
   pub answers : AnswersFit stripe ops file entries
 
--- Every run of a file among OSDs which begins with nothing written, and whose marks are of the file, has such a trace.
+-- Every run of the file of this number among OSDs, which begins with nothing written, has such a trace.
 abbrev pub RunsAreSafe : Type 0
 RunsAreSafe =
     (stripe : ℕ) (ops : ℕ × ℕ → Op) (file : ℕ) (members : List ℕ) (start : Start) (w : FileWorld) (events : List Event) → 1 ≤ stripe
     → AreDistinct members → Begins (IsMade stripe ops) members start → start.line ≡ [] → BeginsFile stripe members start w
-    → MayAll stripe ops members w events → TalesAreOf file (after_all w events).tales
+    → ((r : ℕ) → (w.nodes r).kept.file.number ≡ file) → MayAll stripe ops members w events
     → IsSafe stripe ops file (trace_of (after_all w events).tales)
