@@ -1,0 +1,5 @@
+pub mod Entries
+pub mod Fresh
+pub mod Said
+pub mod PrimaryIds
+pub mod FileIds
