@@ -1,4 +1,4 @@
-//! What `replica_runs` proves of a file, in the words of the trace of a whole world.
+//! What `replica_runs` and `file_runs` prove of a file, in the words of a trace (`cluster_runs`). The crate has no code to run.
 #![tactic(auto)]
 
 ghost use Rattle.file_traces.specs.Runs.{RunsAreSafe};
