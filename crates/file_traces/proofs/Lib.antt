@@ -3,3 +3,4 @@ pub mod Order
 pub mod Shown
 pub mod Named
 pub mod Runs
+pub mod Standing

@@ -1,5 +1,5 @@
 -- When the trace of a world tells, of one file, the entries of a world of heads.
-use Rattle.std.specs.Prelude.{◌≡◌, ℕ, ◌-◌, Bool, true, false, ◌==◌, if◌then◌else◌, List, [], ◌∷◌, length, map, slice_get, Some}
+use Rattle.std.specs.Prelude.{◌≡◌, ℕ, ◌-◌, ◌≤◌, Bool, true, false, ◌==◌, if◌then◌else◌, List, [], ◌∷◌, length, map, slice_get, Some}
 use Rattle.xt_base.specs.declared.ids.OpId.{OpId}
 use Rattle.xt_base.specs.declared.ids.NodeId.{NodeId}
 use Rattle.xt_base.specs.declared.file.Op.{Op}
@@ -7,9 +7,10 @@ use Rattle.xt_base.specs.declared.file.Op.TheVariants as op
 use Rattle.time_line.specs.Content.{place_of, content_of, range_of}
 use Rattle.cluster_runs.specs.declared.Entry.{Entry}
 use Rattle.cluster_runs.specs.declared.Entry.TheVariants as entry
-use Rattle.cluster_runs.specs.TimeLine.{write_order}
-use Rattle.cluster_runs.specs.Clauses.{IsBefore, IsOneOrder, AreDistinct}
-use Rattle.replica_runs.specs.HeadOrder.{AreOnOneOrder, AreChanges, order_of}
+use Rattle.cluster_runs.specs.TimeLine.{write_order, operation_begun, stripe_of}
+use Rattle.cluster_runs.specs.Clauses.{IsBefore, IsMoment, IsOneOrder, AreDistinct, AnswersShow}
+use Rattle.replica_safety.specs.Lists.{Has}
+use Rattle.replica_runs.specs.HeadOrder.{AreOnOneOrder, AreChanges, IsChange, order_of}
 use Rattle.replica_runs.specs.HeadWorld.{TellsActive, TellsIssue, TellsCommit}
 use Rattle.replica_runs.specs.HeadWorld as heads
 use Rattle.osd_replica_views.specs.Seen.{IsAnswer, name_of}
@@ -68,3 +69,19 @@ TracesShow =
     (stripe : ℕ) (ops : ℕ × ℕ → Op) (file : ℕ) (entries : List Entry) (es : List heads.Entry)
     → Tells stripe ops file entries [] es → AreOnOneOrder stripe ops [] es → AreChanges ops (order_of [] es)
     → AnswersFit stripe ops file entries
+
+-- Calls have begun as the operations of the ids say: each before it is answered, and each that stands in the order before that.
+-- The place of a change is counted from 1.
+pub record HaveBegun (ops : ℕ × ℕ → Op) (file : ℕ) (entries : List Entry) : Type 0 where
+  pub answered : (before : List Entry) (node : NodeId) (id : OpId) (count : ℕ) (bytes : List ℕ)
+      → IsBefore before (entry.Answer node file id count bytes) entries → operation_begun file before id ≡ Some (ops (name_of id))
+  pub ordered : (before : List Entry) (id : OpId) → IsMoment before entries → Has id (write_order file before)
+      → operation_begun file before id ≡ Some (ops (name_of id))
+  pub counted : (before : List Entry) (node : NodeId) (id : OpId) (count : ℕ) (bytes : List ℕ)
+      → IsBefore before (entry.Answer node file id count bytes) entries → IsChange (ops (name_of id)) → 1 ≤ count
+
+-- Answers that show the order as it was show the file as it stands, where the calls have begun so.
+abbrev pub FitsShow : Type 0
+FitsShow =
+    (stripe : ℕ) (ops : ℕ × ℕ → Op) (file : ℕ) (entries : List Entry) → stripe_of file entries ≡ stripe → HaveBegun ops file entries
+    → AnswersFit stripe ops file entries → AnswersShow file entries
