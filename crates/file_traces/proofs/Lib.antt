@@ -4,3 +4,4 @@ pub mod Shown
 pub mod Named
 pub mod Runs
 pub mod Standing
+pub mod Once

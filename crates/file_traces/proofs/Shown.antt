@@ -34,7 +34,7 @@ grows_one x order (Some claim) has = at (claim.count == length order + 1)
     at true = subst (Has x) (sym (mapped_append name_of order (claim.id ∷ []))) (has_left x (map name_of order) (name_of claim.id ∷ []) has)
     at false = has
 
-grows : (file : ℕ) (x : ℕ × ℕ) (entries : List Entry) (order : List OpId) → Has x (map name_of order) → Has x (map name_of (fold (λ (o : List OpId) e. order_by o (claim_on file e)) order entries))
+pub grows : (file : ℕ) (x : ℕ × ℕ) (entries : List Entry) (order : List OpId) → Has x (map name_of order) → Has x (map name_of (fold (λ (o : List OpId) e. order_by o (claim_on file e)) order entries))
 grows file x [] order has = has
 grows file x (e ∷ r) order has = grows file x r (order_by order (claim_on file e)) (grows_one x order (claim_on file e) has)
 

@@ -1,5 +1,5 @@
 -- When the trace of a world tells, of one file, the entries of a world of heads.
-use Rattle.std.specs.Prelude.{◌≡◌, ℕ, ◌-◌, ◌≤◌, Bool, true, false, ◌==◌, if◌then◌else◌, List, [], ◌∷◌, length, map, slice_get, Some}
+use Rattle.std.specs.Prelude.{◌≡◌, ℕ, ◌+◌, ◌-◌, ◌≤◌, Bool, true, false, ◌==◌, if◌then◌else◌, List, [], ◌∷◌, length, map, slice_get, Some}
 use Rattle.xt_base.specs.declared.ids.OpId.{OpId}
 use Rattle.xt_base.specs.declared.ids.NodeId.{NodeId}
 use Rattle.xt_base.specs.declared.file.Op.{Op}
@@ -7,8 +7,8 @@ use Rattle.xt_base.specs.declared.file.Op.TheVariants as op
 use Rattle.time_line.specs.Content.{place_of, content_of, range_of}
 use Rattle.cluster_runs.specs.declared.Entry.{Entry}
 use Rattle.cluster_runs.specs.declared.Entry.TheVariants as entry
-use Rattle.cluster_runs.specs.TimeLine.{write_order, operation_begun, stripe_of}
-use Rattle.cluster_runs.specs.Clauses.{IsBefore, IsMoment, IsOneOrder, AreDistinct, AnswersShow}
+use Rattle.cluster_runs.specs.TimeLine.{Claim, claim_on, write_order, operation_begun, stripe_of}
+use Rattle.cluster_runs.specs.Clauses.{IsBefore, IsMoment, IsOneOrder, AreDistinct, AreOnce, AnswersShow}
 use Rattle.replica_safety.specs.Lists.{Has}
 use Rattle.replica_runs.specs.HeadOrder.{AreOnOneOrder, AreChanges, IsChange, order_of}
 use Rattle.replica_runs.specs.HeadWorld.{TellsActive, TellsIssue, TellsCommit}
@@ -70,15 +70,25 @@ TracesShow =
     → Tells stripe ops file entries [] es → AreOnOneOrder stripe ops [] es → AreChanges ops (order_of [] es)
     → AnswersFit stripe ops file entries
 
--- Calls have begun as the operations of the ids say: each before it is answered, and each that stands in the order before that.
+-- Calls have begun as the operations of the ids say: each before it is answered, and each
+-- that stands in the order before it was put there.
 -- The place of a change is counted from 1.
 pub record HaveBegun (ops : ℕ × ℕ → Op) (file : ℕ) (entries : List Entry) : Type 0 where
   pub answered : (before : List Entry) (node : NodeId) (id : OpId) (count : ℕ) (bytes : List ℕ)
       → IsBefore before (entry.Answer node file id count bytes) entries → operation_begun file before id ≡ Some (ops (name_of id))
+  pub claimed : (before : List Entry) (e : Entry) (claim : Claim) → IsBefore before e entries → claim_on file e ≡ Some claim
+      → claim.count ≡ length (write_order file before) + 1 → operation_begun file before claim.id ≡ Some (ops (name_of claim.id))
   pub ordered : (before : List Entry) (id : OpId) → IsMoment before entries → Has id (write_order file before)
       → operation_begun file before id ≡ Some (ops (name_of id))
   pub counted : (before : List Entry) (node : NodeId) (id : OpId) (count : ℕ) (bytes : List ℕ)
       → IsBefore before (entry.Answer node file id count bytes) entries → IsChange (ops (name_of id)) → 1 ≤ count
+
+-- Where only writes and truncations stand in the order, each stands there once, and had begun before.
+abbrev pub TracesAreOnce : Type 0
+TracesAreOnce =
+    (stripe : ℕ) (ops : ℕ × ℕ → Op) (file : ℕ) (entries : List Entry) (es : List heads.Entry)
+    → Tells stripe ops file entries [] es → AreOnOneOrder stripe ops [] es → AreChanges ops (order_of [] es) → HaveBegun ops file entries
+    → AreOnce file entries
 
 -- Answers that show the order as it was show the file as it stands, where the calls have begun so.
 abbrev pub FitsShow : Type 0

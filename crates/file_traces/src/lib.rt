@@ -2,7 +2,7 @@
 #![tactic(auto)]
 
 ghost use Rattle.file_traces.specs.Runs.{RunsAreSafe};
-ghost use Rattle.file_traces.specs.Traces.{TracesAreOnOneOrder, TracesShow, FitsShow};
+ghost use Rattle.file_traces.specs.Traces.{TracesAreOnOneOrder, TracesShow, TracesAreOnce, FitsShow};
 
 /// Where what a trace tells of a file fits one order of writes, each claim of the trace is borne out by the order that the trace
 /// itself gives, and no write stands there twice.
@@ -25,4 +25,9 @@ pub fn every_run_of_a_file_is_safe()
 /// Where the calls have begun as the operations of the ids say, answers that show the order as it was show the file as it stands.
 pub fn fitting_answers_show_the_file()
     ensures { FitsShow }
+{}
+
+/// And then each write stands in the order once, and had begun before.
+pub fn writes_stand_once()
+    ensures { TracesAreOnce }
 {}
