@@ -1,20 +1,17 @@
 -- a primary that draws an epoch records a promise that its replica may note
-use Rattle.std.proofs.Common.{◌≡◌, ◌∙◌, ℕ, Bool, true, false, refl, ap, sym, subst, Option, Some, None, List, cond, arith, ◌<◌, ◌^◌, ◌+◌}
+use Rattle.std.proofs.Common.{◌≡◌, ℕ, Bool, true, false, refl, sym, subst, List, arith, ◌<◌, ◌^◌, ◌+◌}
 use Rattle.std.specs.Prelude.{IfSome, max, nat_lt, ◌||◌}
 use Rattle.std.proofs.lemmas.Bool.{ltb-true}
 use Rattle.xt_base.specs.declared.ids.NodeId.{NodeId}
-use Rattle.xt_base.specs.declared.ids.Epoch.{Epoch}
 use Rattle.xt_base.specs.declared.file.FileHead.{FileHead}
 use Rattle.xt_base.specs.declared.record.FileRow.{FileRow}
 use Rattle.xt_base.specs.declared.TheConstants.{COUNTS}
 use Rattle.xt_base.specs.Limits.{FitsEpoch, is_at_most}
 use Rattle.xt_protocol.specs.declared.Turned.{Turned}
 use Rattle.osd_rows.specs.declared.Place.{Place}
-use Rattle.osd_rows.specs.Primaries.{Led}
 use Rattle.osd_rows.specs.PrimaryRows.{epoch_drawn, epoch_above}
 use Rattle.replica_state.specs.Kept.{IsNotable}
 use Rattle.osd_core.proofs.Rows.{lt_true}
-use Rattle.osd_core.proofs.News.{either_by}
 
 or_true : (a b : Bool) → a ≡ true → (a || b) ≡ true
 or_true true b is = refl

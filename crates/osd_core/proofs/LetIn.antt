@@ -6,7 +6,7 @@ use Rattle.xt_base.specs.declared.file.Capability.{Capability}
 use Rattle.xt_base.specs.declared.file.Op.{Op}
 use Rattle.xt_protocol.specs.declared.Turned.{Turned}
 use Rattle.osd_rows.specs.declared.WaitingAsk.{WaitingAsk}
-use Rattle.osd_rows.specs.FileStates.{FileState, Site, FileStep, steps_to, and_then}
+use Rattle.osd_rows.specs.FileStates.{FileState, Site, steps_to, and_then}
 use Rattle.osd_rows.specs.Turns.{keeps}
 use Rattle.osd_rows.specs.AskRows.{ask_rows, ask_let_in, view_record, waiting_ask, ask_handled, refusal_of}
 use Rattle.xt_base.specs.declared.reply.Reply.{Reply}

@@ -5,3 +5,5 @@ pub mod Drawn
 pub mod Woken
 pub mod Served
 pub mod LetIn
+pub mod Over
+pub mod Plain

@@ -1,5 +1,5 @@
 -- what the news of a round say of the lease
-use Rattle.std.proofs.Common.{◌≡◌, ◌∙◌, ℕ, Bool, true, false, refl, ap, sym, subst, Option, Some, None, List, cond, IsTrue}
+use Rattle.std.proofs.Common.{◌≡◌, ◌∙◌, ℕ, Bool, true, false, refl, ap, sym, Option, Some, None, cond, IsTrue}
 use Rattle.std.specs.Option.{is_some}
 use Rattle.xt_base.specs.TimeSettings.{TimeSettings}
 use Rattle.xt_base.specs.declared.ids.NodeId.{NodeId}
@@ -11,13 +11,13 @@ use Rattle.xt_base.specs.declared.message.Payload.{Payload}
 use Rattle.xt_base.specs.declared.message.Payload.TheVariants as payload
 use Rattle.flease_register.specs.Answers.{shown_read, shown_write}
 use Rattle.file_lease.specs.Shown.{shown_news}
-use Rattle.file_lease.specs.Moves.{turn_of, IsSettled}
+use Rattle.file_lease.specs.Moves.{turn_of}
 use Rattle.osd_invariants.specs.Sound.{IsStored, ListUnder}
 use Rattle.xt_protocol.specs.Register as register
 use Rattle.xt_protocol.specs.Register.{Round, Took, ignored, counted, write_to, alive, on_promise, same_ballot, lease_of, on_acceptance}
-use Rattle.xt_protocol.specs.LeaseRows.{LeaseState, LeaseStep, LeaseNews, Held, Renewing, Written, Turn, free, asking, writing, held, has_turn, is_inside, on_answer, on_renewal, renewal_under, renewal_answered, renewal_promised, renewal_accepted, renewal_won, news_of_renewal, news_of_targets, targets_of, asked_by, asking_answered, writing_answered, writing_accepted, step_of_asking, step_of_written, round_won, lease_won, won_too_late, written_won, written_still, round_over, outrun_learnt, without_renewal, with_renewal, renewed, no_news, renewal_ignores, renewal_outrun, nothing, sends_write, holds, finds, ends}
-use Rattle.osd_core.specs.Answers.{read_answer, write_answer, news_of, HasTurn, HoldBy}
-use Rattle.osd_core.specs.Owners.{Owner, owner_of, owner_of_round, owner_of_proposer, renewer_in}
+use Rattle.xt_protocol.specs.LeaseRows.{LeaseState, LeaseStep, LeaseNews, Held, Renewing, Written, Turn, free, asking, writing, held, has_turn, is_inside, on_answer, renewal_under, renewal_answered, renewal_promised, renewal_accepted, renewal_won, news_of_renewal, news_of_targets, targets_of, asked_by, asking_answered, writing_answered, writing_accepted, step_of_asking, step_of_written, round_won, lease_won, won_too_late, written_won, written_still, round_over, outrun_learnt, without_renewal, with_renewal, renewed, no_news, renewal_ignores, renewal_outrun, nothing, sends_write, holds, finds, ends}
+use Rattle.osd_core.specs.Answers.{read_answer, write_answer, news_of, HoldBy}
+use Rattle.osd_core.specs.Owners.{Owner, owner_of, owner_of_proposer, renewer_in}
 use Rattle.osd_core.proofs.Owned.{IsOwn, either}
 
 pub read_back : (a : register.ReadAnswer) → read_answer (shown_read a) ≡ a

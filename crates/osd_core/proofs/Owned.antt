@@ -1,5 +1,5 @@
 -- whatever becomes of a lease, it stays this node's, by its times
-use Rattle.std.proofs.Common.{◌≡◌, ◌∙◌, ℕ, Bool, true, false, refl, ap, sym, Option, Some, None, List, [], ◌∷◌, cond, map}
+use Rattle.std.proofs.Common.{◌≡◌, ◌∙◌, ℕ, Bool, true, false, refl, Option, Some, None, List, [], ◌∷◌, cond, map}
 use Rattle.std.specs.Prelude.{nat_le, count_by}
 use Rattle.std.specs.List.{list_any}
 use Rattle.xt_base.specs.declared.ids.NodeId.{NodeId}
@@ -9,7 +9,7 @@ use Rattle.xt_base.specs.declared.ids.Lease.{Lease}
 use Rattle.xt_base.specs.declared.message.Payload.{Payload}
 use Rattle.xt_base.specs.declared.message.Payload.TheVariants as payload
 use Rattle.xt_protocol.specs.Register.{Round, Promised, Took, ignored, counted, write_to, alive, on_promise, report_taken, promise_counted, promise_ignored, same_ballot, lease_of, on_acceptance, with_promise, counted_pairs, majority_of, has_promise, report_after_write, live_report, bars, awaits_promise}
-use Rattle.xt_protocol.specs.LeaseRows.{LeaseState, LeaseStep, LeaseNews, Proposer, Held, Renewing, Asked, asked_still, asked_write, asked_found, asked_by, Written, Renewal, written_still, written_won, written_late, free, asking, writing, held, lease_expired, has_run_out, has_turn, is_inside, renewal_left, on_answer, on_renewal, renewal_under, renewal_answered, renewal_promised, renewal_accepted, renewal_won, renewal_ignores, renewal_outrun, asking_answered, writing_answered, step_of_asking, step_of_written, round_won, round_over, lease_won, won_too_late, outrun_learnt, can_ask, round_starts, is_renewal_due, renewal_starts, without_renewal, with_renewal, no_news, renewed, ends, nothing, news_of_targets, targets_of, writing_accepted}
+use Rattle.xt_protocol.specs.LeaseRows.{LeaseState, LeaseStep, Held, Renewing, asked_by, Written, written_still, written_won, free, asking, writing, held, lease_expired, has_run_out, has_turn, is_inside, renewal_left, on_answer, renewal_under, renewal_answered, renewal_promised, renewal_accepted, renewal_ignores, renewal_outrun, asking_answered, writing_answered, step_of_asking, step_of_written, round_won, round_over, lease_won, won_too_late, outrun_learnt, can_ask, round_starts, is_renewal_due, renewal_starts, without_renewal, with_renewal, no_news, renewed, ends, nothing, news_of_targets, targets_of, writing_accepted}
 use Rattle.file_lease.specs.Moves.{asks_at, renews_at}
 use Rattle.osd_core.specs.Owners.{Owner, owner_of, renewer_of, renewer_in, owner_of_round, owner_of_proposer}
 

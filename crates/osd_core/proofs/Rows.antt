@@ -1,5 +1,5 @@
 -- from the row of a file that has changed to the row of the file before it
-use Rattle.std.proofs.Common.{◌≡◌, ◌∙◌, ℕ, Bool, true, false, refl, ap, sym, subst, Option, Some, None, Result, Ok, Err, List, cond, arith, ◌<◌}
+use Rattle.std.proofs.Common.{◌≡◌, ◌∙◌, ℕ, Bool, true, false, refl, ap, sym, subst, Result, Ok, Err, List, cond, arith, ◌<◌}
 use Rattle.std.specs.Prelude.{◌==◌, nat_lt}
 use Rattle.std.specs.Result.{IfOk}
 use Rattle.xt_base.specs.declared.ids.FileId.{FileId}

@@ -1,9 +1,9 @@
 -- what becomes of an ask, by what the code tests
-use Rattle.std.proofs.Common.{◌≡◌, ◌∙◌, ℕ, Bool, true, false, refl, ap, sym, subst, Option, Some, None, List, cond}
+use Rattle.std.proofs.Common.{◌≡◌, ◌∙◌, ℕ, Bool, true, false, refl, ap, sym, Option, Some, None, cond}
 use Rattle.std.specs.Prelude.{◌&&◌, is_some}
 use Rattle.xt_base.specs.declared.record.Record.{Record}
 use Rattle.xt_protocol.specs.declared.Turned.{Turned}
-use Rattle.xt_protocol.specs.LeaseRows.{LeaseState, Proposer, Held, Turn, free, asking, writing, held, has_turn}
+use Rattle.xt_protocol.specs.LeaseRows.{LeaseState, Proposer, Turn, free, asking, writing, held, has_turn}
 use Rattle.file_lease.specs.Moves.{turn_of, is_free, IsSettled}
 use Rattle.osd_rows.specs.declared.Asks.{Asks}
 use Rattle.osd_rows.specs.declared.PrimaryState.{PrimaryState}
@@ -13,7 +13,7 @@ use Rattle.osd_rows.specs.Primaries.{Led, issued_by, is_active}
 use Rattle.osd_rows.specs.ReplicaRows.{kept_after}
 use Rattle.osd_rows.specs.Serving.{writes}
 use Rattle.osd_rows.specs.Turns.{quiet, joined}
-use Rattle.osd_rows.specs.Asks.{Served, is_read, serves, write_done, waits, read_answer}
+use Rattle.osd_rows.specs.Asks.{Served, is_read, serves, write_done, waits}
 use Rattle.osd_rows.specs.AskRows.{ask_served, ask_under, ask_waits}
 use Rattle.osd_invariants.proofs.Kept.{served_none}
 use Rattle.osd_core.specs.Asking.{asks_once_done}

@@ -4,7 +4,7 @@ use Rattle.xt_base.specs.declared.record.Record.{Record}
 use Rattle.xt_protocol.specs.declared.Turned.{Turned}
 use Rattle.xt_protocol.specs.LeaseRows.{LeaseState, Held, Turn, free, asking, writing, held, has_turn}
 use Rattle.file_lease.specs.Moves.{turn_of, IsSettled}
-use Rattle.osd_rows.specs.FileStates.{FileState, Site, FileStep, ground_of, nothing}
+use Rattle.osd_rows.specs.FileStates.{FileState, Site, ground_of, nothing}
 use Rattle.osd_rows.specs.ReplicaRows.{kept_after}
 use Rattle.osd_rows.specs.Serving.{wakes}
 use Rattle.osd_rows.specs.FileSteps.{wake_of_file, wakes_under_lease, renews}

@@ -1,5 +1,5 @@
 -- what a register and a lease tell, in the rows' terms
-use Rattle.std.specs.Prelude.{ℕ, Option, Some, None, [], ◌∷◌, IsTrue, is_some}
+use Rattle.std.specs.Prelude.{ℕ, Option, [], ◌∷◌, IsTrue, is_some}
 use Rattle.xt_base.specs.declared.ids.NodeId.{NodeId}
 use Rattle.xt_base.specs.declared.ids.FileId.{FileId}
 use Rattle.xt_base.specs.declared.ids.Ballot.{Ballot}

@@ -1,11 +1,16 @@
--- what an ask makes of a file's list and of its open asks
-use Rattle.std.specs.Prelude.{Bool, false, Option, Some, None, if◌then◌else◌, is_some}
+-- what an ask makes of a file's list and of its open asks, and what a Fetch gives
+use Rattle.std.specs.Prelude.{ℕ, Bool, false, Option, Some, None, [], ◌∷◌, if◌then◌else◌, is_some}
+use Rattle.xt_base.specs.declared.ids.NodeId.{NodeId}
+use Rattle.xt_base.specs.declared.ids.Epoch.{Epoch}
+use Rattle.xt_base.specs.declared.ids.Stamp.{Stamp}
 use Rattle.xt_base.specs.declared.ids.FileId.{FileId}
+use Rattle.osd_rows.specs.FileStates.{FileState, Site, FileStep, steps_to}
+use Rattle.osd_rows.specs.ReplicaRows.{fetched_from}
+use Rattle.osd_rows.specs.Turns.{sends, message}
 use Rattle.xt_base.specs.declared.file.Location.{Location}
 use Rattle.xt_base.specs.declared.record.Record.{Record}
 use Rattle.xt_base.specs.declared.record.Record.TheVariants as kept
 use Rattle.osd_rows.specs.declared.Asks.{Asks}
-use Rattle.osd_rows.specs.declared.IssuedAsk.{IssuedAsk}
 use Rattle.osd_rows.specs.declared.WaitingAsk.{WaitingAsk}
 
 -- the record of a file's first list
@@ -23,3 +28,8 @@ abbrev pub asks_once_done : Asks → Bool → WaitingAsk → Asks
 asks_once_done asks issued ask =
     if is_some asks.issued then asks
     else record asks { issued = if issued then Some (record { ask = ask; told = false }) else None }
+
+-- the answer to a Fetch
+abbrev pub fetch_row : Site → FileState → NodeId → Epoch → ℕ → Stamp → FileStep
+fetch_row site s from epoch object version =
+    steps_to s (sends (message site.node from (fetched_from s.kept.file s.kept.held (site.body s.kept.file) epoch object version) ∷ []))

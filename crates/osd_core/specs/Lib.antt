@@ -4,3 +4,4 @@ pub mod Answers
 pub mod Asking
 pub mod Views
 pub mod Rows
+pub mod Settled

@@ -7,6 +7,7 @@
 #![tactic(auto)]
 
 mod asks;
+mod hearing;
 mod lead;
 mod leases;
 mod overdue;

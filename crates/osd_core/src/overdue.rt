@@ -2,8 +2,11 @@ ghost use Rattle.std.specs.Prelude.{◌≡◌, ◌<◌, ◌^◌, ℕ, IfOk};
 ghost use Rattle.osd_rows.specs.Overdue as rows;
 ghost use Rattle.osd_core.specs.Views.{shown};
 ghost use Rattle.osd_core.specs.Rows.{IsRow};
+ghost use Rattle.osd_core.specs.Settled.{Settles};
+ghost use Rattle.file_lease.specs.Moves.{IsSettled};
 
 use crate::parts::Parts;
+use file_lease::Expiry;
 use step_outputs::sends;
 use xt_base::{OutOfMemory, Reply};
 use xt_protocol::Turned;
@@ -25,4 +28,17 @@ fn lease_lapses(file: &mut Parts) -> Result<Turned, OutOfMemory>
 {
     file.lead.idle();
     no_lease_for_all(file)
+}
+
+/// Lease lapses, or round runs out: what comes of it; none where the lease stands, and then deadlines may have come.
+pub fn settle(file: &mut Parts, now: u64) -> Result<Option<Turned>, OutOfMemory>
+    requires { now < 2 ^ 62 }
+    ensures row { IfOk result (λ over. Settles now (shown file.old) (shown file.new) over) }
+    ensures settled { IfOk result (λ over. IsSettled file.new.lease now) }
+{
+    match file.lease.expire(now) {
+        Expiry::Lapsed => Ok(Some(lease_lapses(file)?)),
+        Expiry::RanOut => Ok(Some(no_lease_for_all(file)?)),
+        Expiry::Stands => Ok(None),
+    }
 }

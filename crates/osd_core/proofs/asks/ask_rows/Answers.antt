@@ -1,4 +1,4 @@
-use Rattle.std.proofs.Common.{◌≡◌, ◌∙◌, sym, false}
+use Rattle.std.proofs.Common.{◌∙◌, sym}
 use Rattle.xt_protocol.specs.SeenBodies.{body_by}
 use Rattle.osd_rows.specs.Asks.{asked_already}
 use Rattle.osd_rows.specs.AskRows.{ask_under, ask_rows}

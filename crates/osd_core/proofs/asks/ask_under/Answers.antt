@@ -1,6 +1,5 @@
-use Rattle.std.proofs.Common.{◌≡◌, ◌∙◌, ap, sym, refl, true, false}
-use Rattle.std.specs.Prelude.{◌&&◌, is_some}
-use Rattle.xt_protocol.specs.LeaseRows.{LeaseState, Proposer, free}
+use Rattle.std.proofs.Common.{◌∙◌, ap, sym}
+use Rattle.xt_protocol.specs.LeaseRows.{LeaseState}
 use Rattle.xt_protocol.specs.SeenBodies.{body_by}
 use Rattle.osd_rows.specs.AskRows.{ask_served, ask_under}
 use Rattle.osd_rows.specs.FileStates.{FileState, Site, FileStep}

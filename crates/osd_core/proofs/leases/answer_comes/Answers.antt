@@ -1,13 +1,13 @@
-use Rattle.std.proofs.Common.{◌≡◌, ◌∙◌, ap, sym, subst, ℕ}
-use Rattle.xt_protocol.specs.LeaseRows.{LeaseState, LeaseNews, on_answer, renewal_takes_under}
+use Rattle.std.proofs.Common.{◌∙◌, ap, sym, subst}
+use Rattle.xt_protocol.specs.LeaseRows.{LeaseState, on_answer}
 use Rattle.file_lease.specs.declared.news.News.{News}
 use Rattle.file_lease.specs.Shown.{shown_news}
-use Rattle.osd_rows.specs.FileLeases.{lease_news, answer_comes, end_after_answer, running_round}
-use Rattle.osd_rows.specs.FileStates.{FileState, Site, FileStep}
+use Rattle.osd_rows.specs.FileLeases.{lease_news, answer_comes}
+use Rattle.osd_rows.specs.FileStates.{FileState}
 use Rattle.osd_core.specs.Answers.{news_of, HoldBy}
 use Rattle.osd_core.specs.Owners.{owner_at, owner_of, renewer_of}
 use Rattle.osd_core.specs.Views.{shown, site_at}
-use Rattle.osd_core.proofs.Owned.{IsOwn, answered_own}
+use Rattle.osd_core.proofs.Owned.{answered_own}
 use Rattle.osd_core.proofs.News.{answer_holds, news_back}
 use Rattle.osd_core.proofs.Rows.{rows_from, answered}
 use Rattle.osd_core.proofs.leases.answer_comes.Goals as goal

@@ -1,4 +1,4 @@
-use Rattle.std.proofs.Common.{◌<◌, ◌^◌, ◌≡◌, ◌∙◌, ℕ, subst, sym}
+use Rattle.std.proofs.Common.{◌<◌, ◌^◌, ◌∙◌, subst, sym}
 use Rattle.xt_base.specs.declared.ids.NodeId.{NodeId}
 use Rattle.osd_rows.specs.FileStates.{members_of}
 use Rattle.osd_core.specs.Leads.{place_of}

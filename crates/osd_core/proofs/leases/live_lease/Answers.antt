@@ -1,4 +1,4 @@
-use Rattle.std.proofs.Common.{◌∙◌, ap, sym, ◌≡◌, true, false, ℕ}
+use Rattle.std.proofs.Common.{◌∙◌, ap, sym, ◌≡◌, true, false}
 use Rattle.std.specs.Prelude.{◌==◌}
 use Rattle.xt_base.specs.declared.ids.NodeId.{NodeId}
 use Rattle.xt_base.specs.declared.reply.Reply.TheVariants as reply

@@ -1,12 +1,11 @@
-use Rattle.std.proofs.Common.{◌≡◌, ◌∙◌, ap, sym, subst, rules, None}
+use Rattle.std.proofs.Common.{◌≡◌, ◌∙◌, ap, sym, rules, None}
 use Rattle.xt_base.specs.declared.ids.NodeId.{NodeId}
 use Rattle.xt_base.specs.declared.ids.FileId.{FileId}
-use Rattle.xt_protocol.specs.LeaseRows.{Held}
 use Rattle.file_lease.specs.Moves.{turn_of}
 use Rattle.osd_rows.specs.declared.Place.{Place}
 use Rattle.osd_rows.specs.Serving.{wakes}
 use Rattle.osd_rows.specs.FileSteps.{wake_of_file, renews}
-use Rattle.osd_rows.specs.FileStates.{Site, FileState, FileStep, ground_of, stripe_of}
+use Rattle.osd_rows.specs.FileStates.{Site, FileState, FileStep, stripe_of}
 use Rattle.osd_core.specs.Views.{shown, site_at}
 use Rattle.osd_core.proofs.Rows.{joins_on}
 use Rattle.osd_core.proofs.Woken.{held_by, woken, sleeps}
