@@ -7,6 +7,7 @@ use Rattle.std.proofs.lemmas.Bool.Decides.{nat_tests}
 use Rattle.std.proofs.lemmas.Grind.{common_steps, fold-append}
 use Rattle.std.proofs.lemmas.List.{append_assoc, append-nil}
 use Rattle.std.proofs.lemmas.Option.{slice_get_within}
+use Rattle.xt_base.specs.declared.ids.NodeId.{NodeId}
 use Rattle.xt_base.specs.declared.ids.OpId.{OpId}
 use Rattle.xt_base.specs.declared.file.Op.{Op}
 use Rattle.xt_base.specs.declared.event.Call.{Call}
@@ -139,3 +140,23 @@ position-front file xs ys position some within =
 
 pub position-grown : (file : ℕ) (xs ys : List Entry) (id : OpId) (position : ℕ) → HasPosition file xs id position → HasPosition file (xs ++ ys) id position
 position-grown file xs ys id position h = (h.0, position-front file xs ys position h.0 (position-within file xs id position h) ∙ h.1)
+
+-- ---- answers
+
+-- these entries have an answer on the file, behind the beginning of the call
+pub record HasAnswer (file : ℕ) (entries : List Entry) (id : OpId) (count : ℕ) (bytes : List ℕ) : Type 0 where
+  pub front : List Entry
+  pub node : NodeId
+  pub rest : List Entry
+  pub split : entries ≡ front ++ entry.Answer node file id count bytes ∷ rest
+  pub has_begun : HasBegunOn file front id
+
+pub answer-grown : (file : ℕ) (xs ys : List Entry) (id : OpId) (count : ℕ) (bytes : List ℕ) → HasAnswer file xs id count bytes → HasAnswer file (xs ++ ys) id count bytes
+answer-grown file xs ys id count bytes a =
+    record {
+      front = a.front;
+      node = a.node;
+      rest = a.rest ++ ys;
+      split = ap (λ es. es ++ ys) a.split ∙ append_assoc a.front (entry.Answer a.node file id count bytes ∷ a.rest) ys;
+      has_begun = a.has_begun;
+    }

@@ -12,7 +12,7 @@ use Rattle.cluster_runs.specs.declared.Entry.{Entry}
 use Rattle.cluster_runs.specs.declared.Entry.TheVariants as entry
 use Rattle.cluster_runs.specs.TimeLine.{begun, stripe_of, operation_begun, Claim, claim_on, order_by, write_order, HasPosition}
 use Rattle.cluster_runs.specs.Clauses.{is_change, is_reading, ok_entry, HasBegunOn, IsChange, IsReading, IsBefore, IsShown, AreOnce, AnswersShow, BeginsBehind, EndsWell, EndsAreAnswered, ReadsSeeWrites, ReadsDoNotGoBack, WritesKeepOrder, AreFresh}
-use Rattle.world_ends.proofs.Entries.{two_fronts, get-push, has_begun, operation-same, begun_on-grown, order-push, order-length, position-within, position-front, position-grown}
+use Rattle.world_ends.proofs.Entries.{HasAnswer, two_fronts, get-push, has_begun, operation-same, begun_on-grown, order-push, order-length, position-within, position-front, position-grown}
 
 -- a contained item splits the list
 contains-split : {X : Type 0} (xs : List X) (x : X) → Contains xs x → (front : List X) × (rest : List X) × (xs ≡ front ++ x ∷ rest)
@@ -42,14 +42,6 @@ shown_reading stripe file es id count bytes None h e = absurd h
 shown_reading stripe file es id count bytes (Some (op.Read object at len)) h e = h.0
 shown_reading stripe file es id count bytes (Some (op.Write object at body)) h e = absurd cc
 shown_reading stripe file es id count bytes (Some (op.Truncate size)) h e = absurd cc
-
--- these entries have an answer on the file, behind the beginning of the call
-record HasAnswer (file : ℕ) (entries : List Entry) (id : OpId) (count : ℕ) (bytes : List ℕ) : Type 0 where
-  pub front : List Entry
-  pub node : NodeId
-  pub rest : List Entry
-  pub split : entries ≡ front ++ entry.Answer node file id count bytes ∷ rest
-  pub has_begun : HasBegunOn file front id
 
 module _ (file : ℕ) (es : List Entry) (answered : EndsAreAnswered file es) (once : AreOnce file es) (shows : AnswersShow file es) where
   -- a call on the file that had ended in a front was answered in it

@@ -3,3 +3,8 @@ pub mod Fresh
 pub mod Said
 pub mod PrimaryIds
 pub mod FileIds
+pub mod OsdIds
+pub mod Calls
+pub mod Growth
+pub mod Steps
+pub mod Runs

@@ -70,7 +70,7 @@ module _ (Q : OpId → Type 0) (file : ℕ) where
   reply_more marks more to number (reply.TooFar object) within said = tt
   reply_more marks more to number reply.ClientsFull within said = tt
 
-  one_more : (marks more : List Mark) (to : NodeId) (content : Payload) → ((k : Mark) → Has k marks → Has k more) → Said Q file marks to content → Said Q file more to content
+  pub one_more : (marks more : List Mark) (to : NodeId) (content : Payload) → ((k : Mark) → Has k marks → Has k more) → Said Q file marks to content → Said Q file more to content
   one_more marks more to (payload.Reply number f answer) within said = reply_more marks more to number answer within said
   one_more marks more to (payload.Ask number capability asked) within said = absurd said
   one_more marks more to _ within said = tt

@@ -1,12 +1,25 @@
 //! The ends of calls in the world: what a client is told was answered so by an OSD before, behind the beginning of the call; and where
-//! the writes are on one order and answers show it, the ends of calls are fresh.
+//! each write stands once in the order and answers show the file, the ends of calls are fresh.
 //!
-//! That ends are fresh is said of the trace alone: it is the order of what began, was answered and ended.
+//! The first is said of every list of lines and every room, and of a line that ended early. The second is said of the trace alone: it
+//! is the order of what began, was answered and ended.
 #![tactic(auto)]
 
-ghost use Rattle.std.specs.Prelude.{ℕ, List};
+ghost use Rattle.std.specs.Prelude.{◌≡◌, ℕ, None, List, [], ◌∷◌, ◌++◌};
 ghost use Rattle.cluster_runs.specs.declared.Entry.{Entry};
+ghost use Rattle.cluster_runs.specs.declared.Line.{Line};
+ghost use Rattle.cluster_runs.specs.NodeSteps.{Room};
+ghost use Rattle.cluster_runs.specs.Rules.{refusal};
+ghost use Rattle.cluster_runs.specs.Bounds.{AreLines};
+ghost use Rattle.cluster_runs.specs.Runs.{run_of, IsRunInto};
 ghost use Rattle.cluster_runs.specs.Clauses.{AreOnce, AnswersShow, EndsAreAnswered, AreFresh};
+
+/// A call on a file that ends well, with a count and bytes, was answered so on that file before, and had begun on it before that
+/// answer: in every run of any lines, and behind some steps of a line more.
+pub fn ends_are_answered()
+    ensures whole { (room : Room) (lines : List Line) (file : ℕ) → AreLines lines → EndsAreAnswered file (run_of room lines).entries }
+    ensures part { (room : Room) (lines : List Line) (l : Line) (file : ℕ) (entries : List Entry) → AreLines (lines ++ l ∷ []) → refusal (run_of room lines) l ≡ None → IsRunInto room lines l entries → EndsAreAnswered file entries }
+{}
 
 /// Where the ends of calls on a file were answered, each write stands once in the order, and answers show the file, the ends are
 /// fresh: a read counts the writes that had ended well before it began, and no fewer than an earlier read; and writes keep the
