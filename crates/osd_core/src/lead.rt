@@ -75,13 +75,6 @@ impl Lead {
         }
     }
 
-    /// The file.
-    pub fn file(&self) -> FileId
-        ensures { result ≡ self.now.file }
-    {
-        self.file
-    }
-
     /// Where the file is, if a list is stored.
     pub fn location(&self) -> Option<Location>
         ensures { result ≡ self.now.location }

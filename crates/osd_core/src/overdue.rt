@@ -42,3 +42,12 @@ pub fn settle(file: &mut Parts, now: u64) -> Result<Option<Turned>, OutOfMemory>
         Expiry::Stands => Ok(None),
     }
 }
+
+/// Deadlines come: the asks that are due are told this, those that wait first; the issued write stays.
+pub fn deadlines_come(file: &mut Parts, now: u64, reply: &Reply) -> Result<Turned, OutOfMemory>
+    ensures { IfOk result (λ turned. IsRow (λ site s. rows.deadlines_come site s reply.now) now (shown file.old) (shown file.new) turned) }
+{
+    let (alloc, node, id) = (file.alloc, file.awake.node(), file.replica.file());
+    let outs = file.asks.tell_due(alloc, node, &id, now, reply)?;
+    Ok(sends(alloc, outs))
+}
