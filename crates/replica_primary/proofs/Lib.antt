@@ -1,1 +1,5 @@
 pub mod Stands
+pub mod Fed
+pub mod Rises
+pub mod Acks
+pub mod Hears

@@ -6,7 +6,7 @@ use Rattle.xt_base.specs.declared.file.FileHead.{FileHead}
 use Rattle.xt_base.specs.declared.reply.Reply.{Reply}
 use Rattle.osd_rows.specs.declared.IssuedUpdate.{IssuedUpdate}
 use Rattle.osd_rows.specs.declared.Tenure.{Tenure}
-use Rattle.osd_rows.specs.Turns.{quiet, answers, tells}
+use Rattle.osd_rows.specs.Turns.{answers, tells}
 use Rattle.osd_rows.specs.Writes as rows
 use Rattle.osd_rows.specs.Primaries.{Ground}
 use Rattle.osd_rows.specs.PrimaryRows.{goes_on, unmoved}

@@ -2,3 +2,4 @@ pub mod Committed
 pub mod PrimaryViews
 pub mod Phases
 pub mod Written
+pub mod Moves

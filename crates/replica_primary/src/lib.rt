@@ -1,12 +1,18 @@
-//! The primary of a file, in its turns: it draws an epoch, and sends again what wasn't answered.
+//! The primary of a file, in its turns: it draws an epoch, gathers statuses, chooses a head and fetches its bodies, feeds its
+//! peers, serves reads, issues updates and counts who has acknowledged them; a wake sends again what wasn't answered.
 //!
-//! Each call computes exactly its row of the definitions in `osd_rows`; where it fails, the primary is as it was. Contracts see
-//! where the primary stands, its state in the rows' own terms, and its tie: what it knows of its own replica's head. While it is
-//! active that head is the committed one, or the one after the issued update, but for the promise; then a commit takes the
-//! update into the committed head in place, and copies no head. Only where the tie is lost is the own head copied.
+//! Each call computes exactly its row of the definitions in `osd_rows`. Contracts see where the primary stands, and its state in
+//! the rows' own terms. Where a message can't be taken for want of memory or for a fault, the primary is idle; where any other
+//! call fails, it is as it was. The head that a commit leaves is a copy of the own one.
 #![tactic(auto)]
 
+mod acking;
 mod drawing;
+mod feeding;
+mod fetching;
+mod gathering;
+mod hearing;
+mod moving;
 mod primary;
 mod serving;
 mod waking;

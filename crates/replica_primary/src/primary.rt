@@ -1,17 +1,19 @@
-ghost use Rattle.std.specs.Prelude.{◌≡◌, List, None, Some, MatchOption, IfOk, IfNone, OnErr};
+ghost use Rattle.std.specs.Prelude.{◌≡◌, List, None, Some, MatchOption, IfOk, IfNone, IsTrue, OnErr};
 ghost use Rattle.osd_rows.specs.Primaries as rows;
-ghost use Rattle.osd_rows.specs.PrimaryRows.{epoch_drawn};
+ghost use Rattle.osd_rows.specs.PrimaryRows.{epoch_drawn, hears};
 ghost use Rattle.osd_rows.specs.Serving.{reads, wakes, writes};
 ghost use Rattle.xt_base.specs.declared.file.FileHead.{FileHead};
 ghost use Rattle.xt_base.specs.declared.file.ObjectVersion.{ObjectVersion};
 ghost use Rattle.xt_base.specs.Limits.{FitsOp, FitsStripe};
 ghost use Rattle.kept_bodies.specs.KeptBodies.{fault_of, ReadsOnly};
+ghost use Rattle.version_lists.specs.Rising.{HeadRises, held_rise};
 ghost use Rattle.replica_primary.specs.Written.{ground};
 ghost use Rattle.replica_primary.specs.Phases.{phase_in, phase_of};
 ghost use Rattle.std.specs.Option.{option_map};
 ghost use Rattle.replica_primary.specs.PrimaryViews.{chosen_by, rests_by};
 
 use crate::drawing::epoch_drawn;
+use crate::hearing::hears_in;
 use crate::serving::{Written, put_issued, read_served, writes};
 use crate::waking::wakes;
 use flease_lease::Turn;
@@ -20,7 +22,10 @@ use osd_peers::{peer_in, statuses_counted};
 use osd_rows::{Peer, PeerState, Place, PrimaryState, Progress, Tenure};
 use std::alloc::Global;
 use std::marker::Model;
-use xt_base::{FileHead, FileId, Members, NodeId, Op, OpId, OutOfMemory, Reply};
+use step_outputs::quiet;
+use xt_base::{
+    FileHead, FileId, HeldPairs, Members, NodeId, Op, OpId, OutOfMemory, Payload, Reply,
+};
 use xt_protocol::Turned;
 
 /// The primary of one file at one node. Contracts see where it stands and its state.
@@ -212,6 +217,41 @@ impl Primary {
                 Ok(Some(turned))
             }
         }
+    }
+
+    /// A message to the primary, in this turn: `own` and `held` are the head and the held versions of its own replica. Where
+    /// memory is out or a body can't be read, the primary is idle.
+    #[tactic(auto, unfolding(osd_rows::specs::PrimaryRows::hears), using(crate::proofs::Rises::hears_rises))]
+    pub fn take<B: Bodies>(
+        &mut self,
+        turn: &Turn<'_>,
+        bodies: &mut B,
+        own: &FileHead,
+        held: &HeldPairs,
+        from: NodeId,
+        payload: &Payload,
+    ) -> Result<Turned, StepErr>
+        requires turn { turn.now.node ≡ self.old.place.node }
+        requires own { HeadRises own.now }
+        requires held { IsTrue (held_rise held.now) }
+        ensures state { IfOk result (λ led. self.new ≡ record self.old { state = (hears (ground self.old.place (B.records bodies.old) own.now held.now) self.old.state from payload.now).primary }) }
+        ensures led { IfOk result (λ led. led ≡ (hears (ground self.old.place (B.records bodies.old) own.now held.now) self.old.state from payload.now).turned) }
+        ensures idle { OnErr result (self.new ≡ record self.old { state = rows.idle self.old.state }) }
+        ensures reads { ReadsOnly B.records B.fault_count bodies.old bodies.new (fault_of result) }
+    {
+        let _turn = turn;
+        let (alloc, learnt) = (self.alloc, self.state.learnt);
+        let Some(tenure) = self.state.tenure.take() else {
+            return Ok(quiet(alloc));
+        };
+        let place = &self.place;
+        let held = held.as_slice();
+        let heard = hears_in(
+            bodies, alloc, place, learnt, tenure, own, held, from, payload,
+        )?;
+        self.state.learnt = heard.learnt;
+        self.state.tenure = heard.tenure;
+        Ok(heard.turned)
     }
 
     /// How far the primary is, and how many have answered what it waits for.

@@ -1,0 +1,17 @@
+use Rattle.std.proofs.Common.{◌≡◌, ◌∙◌, ◌∷◌, ◌++◌, [], ℕ, Bool, List, Option, Some, None, ap, sym, rules}
+use Rattle.xt_base.specs.declared.file.ObjectVersion.{ObjectVersion}
+use Rattle.osd_rows.specs.PrimaryRows.{target_in}
+use Rattle.replica_primary.specs.Written.{ground}
+use Rattle.replica_primary.specs.Moves.{feeds_any}
+use Rattle.replica_primary.proofs.Fed.{missed_fed}
+use Rattle.replica_primary.proofs.feeding.body_missed.Goals as goal
+
+pub returns-clause-value : goal.returns-clause-value
+returns-clause-value g c =
+    λ learnt held state is.
+    let t = c.args.tenure in
+    let target = target_in c.args.own.now t.epoch t.progress in
+    let stands = ground c.args.place.now (g.B.Bodies.records c.args.bodies.now) c.args.own.now held in
+    c.in_ok-feeds_any.ensures.value learnt held
+    ∙ ap (λ (known : Option (List ObjectVersion)). feeds_any stands learnt t target c.args.from known) c.without_any-known.ensures
+    ∙ missed_fed stands learnt t c.args.from c.args.version target state c.args.known is

@@ -1,0 +1,26 @@
+use Rattle.std.proofs.Common.{◌≡◌, ◌∙◌, ◌∷◌, ◌++◌, [], ℕ, Bool, List, Option, Some, None, ap, sym, rules}
+use Rattle.osd_rows.specs.declared.Peer.{Peer}
+use Rattle.xt_base.specs.declared.file.FileHead.{FileHead}
+use Rattle.xt_base.specs.declared.ids.NodeId.{NodeId}
+use Rattle.std.specs.Prelude.{nat_le}
+use Rattle.osd_rows.specs.Primaries.{majority_among, reports_of, statuses_counted}
+use Rattle.osd_rows.specs.PrimaryRows.{chooses}
+use Rattle.replica_primary.specs.Written.{ground}
+use Rattle.replica_primary.proofs.Hears.{majority_told}
+use Rattle.replica_primary.proofs.gathering.status_counted.Goals as goal
+
+pub returns-clause-value : goal.returns-clause-value
+returns-clause-value g c =
+    λ learnt held.
+    let t = c.args.tenure in
+    let peers = c.as_slice-peers.result.now in
+    let majority =
+        ap (λ (ps : List Peer). nat_le (majority_among ps) (statuses_counted ps)) (sym c.as_slice-peers.ensures)
+        ∙ ap (λ (n : ℕ). nat_le (majority_among peers) n) (sym c.statuses_counted.ensures.counted)
+        ∙ sym c.is_majority.ensures
+        ∙ c.if-not-is_majority.false in
+    let stands = ground c.args.place.now (g.B.Bodies.records c.args.bodies.now) c.args.own.now held in
+    c.in_ok-chooses.ensures.value learnt held
+    ∙ ap (λ (reports : List (NodeId × FileHead)). chooses stands learnt t reports)
+    (c.as_slice.ensures ∙ c.in_ok-reports.ensures ∙ ap (λ (ps : List Peer). reports_of ps) c.as_slice-peers.ensures)
+    ∙ majority_told stands learnt t majority

@@ -1,0 +1,107 @@
+-- what a message makes of a tenure
+use Rattle.std.specs.Prelude.{ℕ, Bool, true, false, ◌≡◌, Option, Some, None, List, [], ◌∷◌}
+use Rattle.xt_base.specs.declared.ids.FileId.{FileId}
+use Rattle.xt_base.specs.declared.ids.Epoch.{Epoch}
+use Rattle.xt_base.specs.declared.ids.Stamp.{Stamp}
+use Rattle.xt_base.specs.declared.ids.NodeId.{NodeId}
+use Rattle.xt_base.specs.declared.file.ObjectVersion.{ObjectVersion}
+use Rattle.xt_base.specs.declared.file.FileHead.{FileHead}
+use Rattle.xt_base.specs.declared.message.Payload.{Payload}
+use Rattle.xt_base.specs.declared.message.Payload.TheVariants as payload
+use Rattle.xt_base.specs.declared.record.Record.{Record}
+use Rattle.xt_base.specs.declared.record.Record.TheVariants as kept
+use Rattle.xt_protocol.specs.SeenBodies.{body_by}
+use Rattle.osd_rows.specs.declared.Place.{Place}
+use Rattle.osd_rows.specs.declared.Peer.{Peer}
+use Rattle.osd_rows.specs.declared.PeerState.{PeerState}
+use Rattle.osd_rows.specs.declared.PeerState.TheVariants as peer
+use Rattle.xt_protocol.specs.Stamps.{without_version}
+use Rattle.osd_rows.specs.declared.Progress.{Progress}
+use Rattle.osd_rows.specs.declared.Progress.TheVariants as progress
+use Rattle.osd_rows.specs.declared.Tenure.{Tenure}
+use Rattle.osd_rows.specs.Primaries.{Ground, Led, with_known, with_peer}
+use Rattle.osd_rows.specs.PrimaryRows.{body_beyond, feeds, goes_on, unmoved}
+use Rattle.replica_primary.specs.declared.moving.FetchedBody.{FetchedBody}
+use Rattle.replica_primary.specs.declared.moving.Heard.{Heard}
+use Rattle.replica_primary.specs.declared.moving.Moved.{Moved}
+
+-- a primary that goes on in its tenure
+abbrev pub led_on : ℕ → Moved → Led
+led_on learnt moved = goes_on learnt moved.tenure moved.turned
+
+-- a primary that has heard a message
+abbrev pub led_by : Heard → Led
+led_by heard = record { primary = record { learnt = heard.learnt; tenure = heard.tenure }; turned = heard.turned }
+
+-- a tenure by its parts
+abbrev pub tenure_of : Epoch → List Peer → Progress → Tenure
+tenure_of epoch peers p = record { epoch = epoch; peers = peers; progress = p }
+
+-- the record of a body that was just fetched, where there is one
+abbrev pub kept_of : FileId → Option FetchedBody → Option Record
+kept_of file None = None
+kept_of file (Some b) = Some (kept.Stage file b.object b.version b.bytes)
+
+-- what a body is: the one that was just fetched, else the one that these records keep
+abbrev pub body_seen : List Record → FileId → Option FetchedBody → ℕ → Stamp → List ℕ
+body_seen records file fetched object version = body_beyond file (kept_of file fetched) (body_by records file) object version
+
+-- what a primary stands on that sees the body that was just fetched
+abbrev pub ground_beyond : Place → List Record → Option FetchedBody → FileHead → List ObjectVersion → Ground
+ground_beyond place records fetched own held =
+    record { place = place; own = own; held = held; body = body_beyond place.file (kept_of place.file fetched) (body_by records place.file) }
+
+-- the wanted versions are none; or the first one and those after it
+abbrev pub IsSplit : List ObjectVersion → Option (ObjectVersion × List ObjectVersion) → Type 0
+IsSplit wanted None = wanted ≡ []
+IsSplit wanted (Some s) = wanted ≡ s.0 ∷ s.1
+
+-- what is known of a peer that was sent a body or a head
+abbrev pub known_of : PeerState → Option (List ObjectVersion)
+known_of (peer.Feeding known object version body) = Some known
+known_of (peer.Heading known head) = Some known
+known_of _ = None
+
+-- what is known of a peer that was sent a head
+abbrev pub known_at_head : PeerState → Option (List ObjectVersion)
+known_at_head (peer.Heading known head) = Some known
+known_at_head _ = None
+
+-- a peer is fed on, where something is known of it, and there is a head to which peers are brought
+abbrev pub feeds_any : Ground → ℕ → Tenure → Option FileHead → NodeId → Option (List ObjectVersion) → Led
+feeds_any g learnt t (Some target) from (Some known) = feeds g learnt t from target known
+feeds_any g learnt t None from _ = unmoved learnt t
+feeds_any g learnt t (Some target) from None = unmoved learnt t
+
+-- these versions and this one, where something is known
+abbrev pub with_any : Option (List ObjectVersion) → ObjectVersion → Option (List ObjectVersion)
+with_any None v = None
+with_any (Some known) v = Some (with_known known v)
+
+-- these versions without this one, where something is known
+abbrev pub without_any : Option (List ObjectVersion) → ObjectVersion → Option (List ObjectVersion)
+without_any None v = None
+without_any (Some known) v = Some (without_version known v)
+
+-- whether a message is one after which a tenure goes on
+abbrev pub keeps_tenure : Payload → Bool
+keeps_tenure (payload.Missing file epoch object version) = false
+keeps_tenure (payload.Refused file epoch promised) = false
+keeps_tenure _ = true
+
+-- the peers after an acknowledgement, which may have made its sender current
+abbrev pub peers_after : List Peer → NodeId → Bool → List Peer
+peers_after peers from true = with_peer peers from peer.Current
+peers_after peers from false = peers
+
+-- a report, where there is one
+abbrev pub any_report : Option (NodeId × FileHead) → List (NodeId × FileHead)
+any_report None = []
+any_report (Some report) = report ∷ []
+
+-- from whom bodies are fetched, if they are
+abbrev pub source_in : Progress → Option NodeId
+source_in (progress.Fetching chosen source asked later) = Some source
+source_in progress.Gathering = None
+source_in (progress.Installing chosen acked) = None
+source_in (progress.Active committed issued) = None

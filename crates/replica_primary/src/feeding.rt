@@ -1,0 +1,274 @@
+ghost use Rattle.std.specs.Prelude.{◌≡◌, ℕ, List, None, Some, IfOk};
+ghost use Rattle.xt_base.specs.declared.file.ObjectVersion.{ObjectVersion};
+ghost use Rattle.xt_base.specs.declared.file.FileHead.{FileHead};
+ghost use Rattle.osd_rows.specs.declared.PeerState.{PeerState};
+ghost use Rattle.osd_rows.specs.Primaries as rows;
+ghost use Rattle.osd_rows.specs.PrimaryRows.{body_missed, body_staged, feeds, peer_sent, target_in, with_state};
+ghost use Rattle.osd_rows.specs.Turns.{sends};
+ghost use Rattle.kept_bodies.specs.KeptBodies.{fault_of, ReadsOnly};
+ghost use Rattle.replica_primary.specs.Written.{ground};
+ghost use Rattle.replica_primary.specs.Moves.{body_seen, feeds_any, known_at_head, known_of, led_on, with_any, without_any};
+
+use crate::moving::{FetchedBody, Moved, unmoved};
+use kept_bodies::{Bodies, StepErr, seen};
+use osd_peers::{add_known, first_unknown, last_sent, peer_in, remove_version, send_any, set_peer};
+use osd_rows::{Peer, PeerState, Place, Progress, Tenure};
+use std::alloc::Global;
+use step_outputs::sends;
+use version_lists::{is_epoch, is_stamp};
+use xt_base::{
+    Copies, Epoch, FileHead, FileId, HeldPairs, NodeId, ObjectVersion, Octets, OutOfMemory, Seq,
+    Stamp,
+};
+
+/// A body as a row sees it: the one that was just fetched, else the one that is kept.
+fn body_seen<B: Bodies>(
+    bodies: &mut B,
+    alloc: Global,
+    file: &FileId,
+    fetched: &Option<FetchedBody>,
+    object: u64,
+    version: &Stamp,
+) -> Result<Octets, StepErr>
+    ensures value { IfOk result (λ bytes. bytes ≡ body_seen (B.records bodies.old) file.now fetched.now object version.now) }
+    ensures reads { ReadsOnly B.records B.fault_count bodies.old bodies.new (fault_of result) }
+{
+    match fetched {
+        Some(body) if body.object == object && is_stamp(body.version, *version) => {
+            Ok(body.bytes.copy(alloc)?)
+        }
+        _ => seen(bodies, alloc, file, object, version),
+    }
+}
+
+/// Fed: a peer of which these versions are known, on its way to this head.
+#[tactic(auto, unfolding(osd_rows::specs::Primaries::fed))]
+pub fn fed<B: Bodies>(
+    bodies: &mut B,
+    alloc: Global,
+    file: &FileId,
+    fetched: &Option<FetchedBody>,
+    target: &FileHead,
+    known: HeldPairs,
+) -> Result<PeerState, StepErr>
+    ensures value { IfOk result (λ state. state ≡ rows.fed (body_seen (B.records bodies.old) file.now fetched.now) target.now known) }
+    ensures reads { ReadsOnly B.records B.fault_count bodies.old bodies.new (fault_of result) }
+{
+    match first_unknown(known.as_slice(), target.versions.as_slice()) {
+        Some(ObjectVersion { object, version }) => Ok(PeerState::Feeding {
+            known,
+            object,
+            version,
+            body: body_seen(bodies, alloc, file, fetched, object, &version)?,
+        }),
+        None => Ok(PeerState::Heading {
+            known,
+            head: target.copy(alloc)?,
+        }),
+    }
+}
+
+/// The head to which peers are brought: the own one once it is of the epoch, and before that the chosen one under the epoch.
+pub fn target_of(
+    alloc: Global,
+    own: &FileHead,
+    epoch: Epoch,
+    chosen: &FileHead,
+) -> Result<FileHead, OutOfMemory>
+    ensures { IfOk result (λ target. target ≡ rows.target_of own.now epoch chosen.now) }
+{
+    if is_epoch(own.stamp.epoch, epoch) {
+        return own.copy(alloc);
+    }
+    let mut target = chosen.copy(alloc)?;
+    target.promised = epoch;
+    target.stamp.epoch = epoch;
+    Ok(target)
+}
+
+/// The head to which peers are brought; none before one is installed.
+fn target_in(
+    alloc: Global,
+    own: &FileHead,
+    epoch: Epoch,
+    progress: &Progress,
+) -> Result<Option<FileHead>, OutOfMemory>
+    ensures { IfOk result (λ target. target ≡ target_in own.now epoch progress.now) }
+{
+    match progress {
+        Progress::Installing { chosen, .. } => Ok(Some(target_of(alloc, own, epoch, chosen)?)),
+        Progress::Active { .. } => Ok(Some(own.copy(alloc)?)),
+        _ => Ok(None),
+    }
+}
+
+/// A peer gets this state, and the message that leads to it.
+fn peer_sent(
+    alloc: Global,
+    place: &Place,
+    tenure: Tenure,
+    node: NodeId,
+    state: PeerState,
+) -> Result<Moved, OutOfMemory>
+    ensures { IfOk result (λ moved. moved ≡ record { tenure = with_state tenure node state; turned = sends (rows.if_any place.now.node node (rows.last_sent place.now.file tenure.epoch state)) }) }
+{
+    let mut tenure = tenure;
+    let content = last_sent(alloc, &place.file, tenure.epoch, &state)?;
+    let mut outs = Seq::new(alloc);
+    send_any(&mut outs, place.node, node, content)?;
+    set_peer(&mut tenure.peers, node, state);
+    Ok(Moved {
+        tenure,
+        turned: sends(alloc, outs),
+    })
+}
+
+/// A peer is fed on: these versions are known of it.
+pub fn feeds<B: Bodies>(
+    bodies: &mut B,
+    alloc: Global,
+    place: &Place,
+    tenure: Tenure,
+    node: NodeId,
+    target: &FileHead,
+    known: HeldPairs,
+) -> Result<Moved, StepErr>
+    ensures value { IfOk result (λ moved. (learnt : ℕ) (own : FileHead) (held : List ObjectVersion) → led_on learnt moved ≡ feeds (ground place.now (B.records bodies.old) own held) learnt tenure node target.now known) }
+    ensures reads { ReadsOnly B.records B.fault_count bodies.old bodies.new (fault_of result) }
+{
+    let state = fed(bodies, alloc, &place.file, &None, target, known)?;
+    Ok(peer_sent(alloc, place, tenure, node, state)?)
+}
+
+/// What is known of a peer that was sent a body or a head.
+fn known_of(alloc: Global, state: &PeerState) -> Result<Option<HeldPairs>, OutOfMemory>
+    ensures { IfOk result (λ known. known ≡ known_of state.now) }
+{
+    match state {
+        PeerState::Feeding { known, .. } | PeerState::Heading { known, .. } => {
+            Ok(Some(known.copy(alloc)?))
+        }
+        _ => Ok(None),
+    }
+}
+
+/// What is known of a peer that was sent a head.
+fn known_at_head(alloc: Global, state: &PeerState) -> Result<Option<HeldPairs>, OutOfMemory>
+    ensures { IfOk result (λ known. known ≡ known_at_head state.now) }
+{
+    match state {
+        PeerState::Heading { known, .. } => Ok(Some(known.copy(alloc)?)),
+        _ => Ok(None),
+    }
+}
+
+/// A peer is fed on, where something is known of it, and there is a head to which peers are brought.
+fn feeds_any<B: Bodies>(
+    bodies: &mut B,
+    alloc: Global,
+    place: &Place,
+    tenure: Tenure,
+    own: &FileHead,
+    from: NodeId,
+    known: Option<HeldPairs>,
+) -> Result<Moved, StepErr>
+    ensures value { IfOk result (λ moved. (learnt : ℕ) (held : List ObjectVersion) → led_on learnt moved ≡ feeds_any (ground place.now (B.records bodies.old) own.now held) learnt tenure (target_in own.now tenure.epoch tenure.progress) from known) }
+    ensures reads { ReadsOnly B.records B.fault_count bodies.old bodies.new (fault_of result) }
+{
+    let target = target_in(alloc, own, tenure.epoch, &tenure.progress)?;
+    match (target, known) {
+        (Some(target), Some(known)) => {
+            Ok(feeds(bodies, alloc, place, tenure, from, &target, known)?)
+        }
+        _ => Ok(unmoved(alloc, tenure)),
+    }
+}
+
+/// Body staged: it is known of the peer, which is fed on. `known` is what was known of it, if it was sent a body or a head.
+#[tactic(auto, using(crate::proofs::Fed::staged_fed))]
+pub fn body_staged<B: Bodies>(
+    bodies: &mut B,
+    alloc: Global,
+    place: &Place,
+    tenure: Tenure,
+    own: &FileHead,
+    from: NodeId,
+    known: Option<HeldPairs>,
+    version: ObjectVersion,
+) -> Result<Moved, StepErr>
+    ensures value { IfOk result (λ moved. (learnt : ℕ) (held : List ObjectVersion) (state : PeerState) → known ≡ known_of state → led_on learnt moved ≡ body_staged (ground place.now (B.records bodies.old) own.now held) learnt tenure (target_in own.now tenure.epoch tenure.progress) from state version) }
+    ensures reads { ReadsOnly B.records B.fault_count bodies.old bodies.new (fault_of result) }
+{
+    let known = with_any(known, version)?;
+    Ok(feeds_any(bodies, alloc, place, tenure, own, from, known)?)
+}
+
+/// Body missed: it is no longer known of the peer, which is fed on. `known` is what was known of it, if it was sent a head.
+#[tactic(auto, using(crate::proofs::Fed::missed_fed))]
+pub fn body_missed<B: Bodies>(
+    bodies: &mut B,
+    alloc: Global,
+    place: &Place,
+    tenure: Tenure,
+    own: &FileHead,
+    from: NodeId,
+    known: Option<HeldPairs>,
+    version: ObjectVersion,
+) -> Result<Moved, StepErr>
+    ensures value { IfOk result (λ moved. (learnt : ℕ) (held : List ObjectVersion) (state : PeerState) → known ≡ known_at_head state → led_on learnt moved ≡ body_missed (ground place.now (B.records bodies.old) own.now held) learnt tenure (target_in own.now tenure.epoch tenure.progress) from state version) }
+    ensures reads { ReadsOnly B.records B.fault_count bodies.old bodies.new (fault_of result) }
+{
+    let known = without_any(known, version);
+    Ok(feeds_any(bodies, alloc, place, tenure, own, from, known)?)
+}
+
+/// These versions and this one, where something is known.
+fn with_any(
+    known: Option<HeldPairs>,
+    version: ObjectVersion,
+) -> Result<Option<HeldPairs>, OutOfMemory>
+    ensures { IfOk result (λ after. after ≡ with_any known version) }
+{
+    let Some(mut known) = known else {
+        return Ok(None);
+    };
+    add_known(&mut known, version)?;
+    Ok(Some(known))
+}
+
+/// These versions without this one, where something is known.
+fn without_any(known: Option<HeldPairs>, version: ObjectVersion) -> Option<HeldPairs>
+    ensures { result ≡ without_any known version }
+{
+    let mut known = known?;
+    remove_version(&mut known, version);
+    Some(known)
+}
+
+/// What is known of this peer, if it was sent a body or a head.
+pub fn known_told(
+    alloc: Global,
+    peers: &[Peer],
+    from: NodeId,
+) -> Result<Option<HeldPairs>, OutOfMemory>
+    ensures { IfOk result (λ known. (state : PeerState) → rows.peer_in peers.now from ≡ Some state → known ≡ known_of state) }
+{
+    match peer_in(peers, from) {
+        Some(state) => known_of(alloc, state),
+        None => Ok(None),
+    }
+}
+
+/// What is known of this peer, if it was sent a head.
+pub fn known_of_head(
+    alloc: Global,
+    peers: &[Peer],
+    from: NodeId,
+) -> Result<Option<HeldPairs>, OutOfMemory>
+    ensures { IfOk result (λ known. (state : PeerState) → rows.peer_in peers.now from ≡ Some state → known ≡ known_at_head state) }
+{
+    match peer_in(peers, from) {
+        Some(state) => known_at_head(alloc, state),
+        None => Ok(None),
+    }
+}
