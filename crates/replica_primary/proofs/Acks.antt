@@ -1,5 +1,5 @@
 -- what an acknowledgement does, by how it is tested
-use Rattle.std.proofs.Common.{◌≡◌, ◌∷◌, [], ℕ, Bool, true, false, Option, Some, None, List, refl, ap, sym}
+use Rattle.std.proofs.Common.{◌≡◌, ◌∷◌, [], ℕ, Bool, true, false, Option, Some, List, refl, ap, sym}
 use Rattle.std.specs.Prelude.{cond, not}
 use Rattle.xt_base.specs.declared.ids.NodeId.{NodeId}
 use Rattle.xt_base.specs.declared.ids.Stamp.{Stamp}
@@ -12,7 +12,7 @@ use Rattle.osd_rows.specs.declared.PeerState.TheVariants as peer
 use Rattle.osd_rows.specs.declared.Progress.TheVariants as progress
 use Rattle.osd_rows.specs.declared.Tenure.{Tenure}
 use Rattle.osd_rows.specs.Turns.{message, sends}
-use Rattle.osd_rows.specs.Primaries.{Ground, carries, with_node, with_peer}
+use Rattle.osd_rows.specs.Primaries.{Ground, carries, with_node}
 use Rattle.osd_rows.specs.PrimaryRows.{acked_below, activated, committed, goes_on, head_acked, hears_ack, unmoved, update_acked, with_state}
 use Rattle.replica_primary.specs.Moves.{peers_after}
 

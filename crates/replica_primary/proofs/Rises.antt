@@ -1,5 +1,5 @@
 -- the committed head of a primary that has heard a message rises, where the own head does
-use Rattle.std.proofs.Common.{◌≡◌, ℕ, List, [], ◌∷◌, Bool, true, false}
+use Rattle.std.proofs.Common.{ℕ, List, [], ◌∷◌, Bool, true, false}
 use Rattle.std.specs.Prelude.{Option, Some, None, cond, not, ◌&&◌, ◌==◌, max, nat_lt, nat_le}
 use Rattle.xt_base.specs.declared.ids.NodeId.{NodeId}
 use Rattle.xt_base.specs.declared.ids.Epoch.{Epoch}
@@ -21,7 +21,7 @@ use Rattle.osd_rows.specs.declared.Progress.TheVariants as progress
 use Rattle.osd_rows.specs.declared.Tenure.{Tenure}
 use Rattle.osd_rows.specs.ReplicaRows.{stage_record}
 use Rattle.osd_rows.specs.Primaries.{Ground, Led, carries, is_unknown, majority_among, nodes_of, peer_in, reports_of, statuses_counted, with_node}
-use Rattle.osd_rows.specs.PrimaryRows.{activated, epoch_drawn, epoch_above, epoch_told, installs, fetches, head_acked, head_chosen, chooses, status_counted, status_told, with_state, body_beyond, hears_object, body_staged, body_missed, hears_missing, target_in, update_acked, acked_below, hears_ack, hears_status, makes_current, hears_peer, hears_member, hears_epoch, hears_in, outpromised, committed, unmoved}
+use Rattle.osd_rows.specs.PrimaryRows.{epoch_drawn, epoch_above, epoch_told, fetches, head_chosen, chooses, status_counted, status_told, with_state, body_beyond, hears_object, body_staged, body_missed, hears_missing, target_in, update_acked, acked_below, hears_ack, makes_current, hears_peer, hears_member, hears_epoch, hears_in, committed}
 use Rattle.version_lists.specs.Rising.{HeadRises}
 use Rattle.replica_primary.specs.Committed.{CommittedRises, CommittedUnder}
 

@@ -1,5 +1,5 @@
 -- a write by how it stands, as the code tells it
-use Rattle.std.proofs.Common.{◌≡◌, ℕ, Option, Some, None, [], ap, refl}
+use Rattle.std.proofs.Common.{◌≡◌, ℕ, Option, Some, [], ap, refl}
 use Rattle.xt_base.specs.declared.ids.OpId.{OpId}
 use Rattle.xt_base.specs.declared.file.Op.{Op}
 use Rattle.xt_base.specs.declared.file.FileHead.{FileHead}
@@ -11,7 +11,6 @@ use Rattle.osd_rows.specs.Writes as rows
 use Rattle.osd_rows.specs.Primaries.{Ground}
 use Rattle.osd_rows.specs.PrimaryRows.{goes_on, unmoved}
 use Rattle.osd_rows.specs.Serving.{write_stands, issues_unless}
-use Rattle.osd_writes.specs.declared.judging.Standing.{Standing}
 use Rattle.osd_writes.specs.declared.judging.Standing.TheVariants as standing
 use Rattle.osd_writes.specs.Shown.{shown_standing}
 

@@ -16,9 +16,7 @@ use osd_rows::{IssuedUpdate, Nodes, PeerState, Peers, Place, Progress, Tenure};
 use std::alloc::Global;
 use step_outputs::{answers, join, message, quiet, sends_one, shows};
 use version_lists::is_below;
-use xt_base::{
-    Copies, Epoch, FileHead, Mark, NodeId, Octets, OutOfMemory, Payload, Stamp, Update,
-};
+use xt_base::{Copies, Epoch, FileHead, Mark, NodeId, Octets, OutOfMemory, Payload, Stamp, Update};
 use xt_protocol::Turned;
 
 /// Whether an acknowledgement makes the peer current: it isn't below the head that was sent to it, or it is the own node's.

@@ -273,7 +273,12 @@ fn status_counted<B: Bodies>(
 }
 
 /// A status of an unknown peer is counted, or kept until the head is installed.
-fn status_kept(alloc: Global, tenure: Tenure, from: NodeId, head: &FileHead) -> Result<Tenure, OutOfMemory>
+fn status_kept(
+    alloc: Global,
+    tenure: Tenure,
+    from: NodeId,
+    head: &FileHead,
+) -> Result<Tenure, OutOfMemory>
     ensures { IfOk result (λ after. after ≡ rows.with_state tenure from (peer.Reported head.now)) }
 {
     let mut tenure = tenure;
@@ -300,9 +305,7 @@ pub fn status_told<B: Bodies>(
             let tenure = status_kept(alloc, tenure, from, head)?;
             Ok(status_counted(bodies, alloc, place, tenure, own)?)
         }
-        Progress::Fetching { .. } => {
-            Ok(unmoved(alloc, status_kept(alloc, tenure, from, head)?))
-        }
+        Progress::Fetching { .. } => { Ok(unmoved(alloc, status_kept(alloc, tenure, from, head)?)) }
         Progress::Installing { chosen, .. } => {
             let target = target_of(alloc, own, tenure.epoch, chosen)?;
             Ok(feeds(bodies, alloc, place, tenure, from, &target, Seq::new(alloc))?)

@@ -22,9 +22,7 @@ use osd_rows::{Peer, PeerState, Place, Tenure};
 use std::alloc::Global;
 use step_outputs::{message, sends_one};
 use version_lists::{is_earlier, is_epoch};
-use xt_base::{
-    Copies, Epoch, FileHead, NodeId, ObjectVersion, OutOfMemory, Payload, Stamp,
-};
+use xt_base::{Copies, Epoch, FileHead, NodeId, ObjectVersion, OutOfMemory, Payload, Stamp};
 
 /// Whether nothing is known of this peer.
 fn is_unknown(peers: &[Peer], from: NodeId) -> bool
@@ -160,10 +158,14 @@ fn goes_on_hearing<B: Bodies>(
             ..
         } => {
             let version = version_of(*object, *version);
-            Ok(hears_object(bodies, alloc, place, tenure, own, held, from, version, bytes)?)
+            Ok(hears_object(
+                bodies, alloc, place, tenure, own, held, from, version, bytes,
+            )?)
         }
         Payload::Staged {
-            object, version, ..
+            object,
+            version,
+            ..
         } => {
             let known = known_told(alloc, tenure.peers.as_slice(), from)?;
             let version = version_of(*object, *version);
@@ -203,7 +205,9 @@ fn hears_peer<B: Bodies>(
 {
     match payload {
         Payload::Missing {
-            object, version, ..
+            object,
+            version,
+            ..
         } => {
             let version = version_of(*object, *version);
             Ok(hears_missing(bodies, alloc, place, learnt, tenure, own, from, version)?)

@@ -1,4 +1,4 @@
-use Rattle.std.proofs.Common.{◌≡◌, ◌∙◌, ◌∷◌, ◌++◌, [], ℕ, Bool, List, Option, Some, None, ap, sym, rules}
+use Rattle.std.proofs.Common.{◌∙◌, Option, ap, sym}
 use Rattle.osd_rows.specs.declared.Progress.TheVariants as progress
 use Rattle.osd_rows.specs.declared.IssuedUpdate.{IssuedUpdate}
 use Rattle.osd_rows.specs.PrimaryRows.{acked_below}

@@ -1,4 +1,4 @@
-use Rattle.std.proofs.Common.{◌≡◌, ◌∙◌, ap, sym}
+use Rattle.std.proofs.Common.{◌∙◌, ap, sym}
 use Rattle.osd_rows.specs.declared.Progress.{Progress}
 use Rattle.osd_rows.specs.PrimaryRows.{hears_ack}
 use Rattle.replica_primary.specs.Written.{ground}

@@ -1,4 +1,4 @@
-use Rattle.std.proofs.Common.{◌≡◌, ◌∙◌, ◌∷◌, ◌++◌, [], ℕ, Bool, List, Option, Some, None, ap, sym, rules}
+use Rattle.std.proofs.Common.{◌∙◌, sym}
 use Rattle.osd_rows.specs.PrimaryRows.{target_in}
 use Rattle.replica_primary.specs.Written.{ground}
 use Rattle.replica_primary.proofs.Hears.{fed_any}

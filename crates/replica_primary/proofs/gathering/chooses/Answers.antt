@@ -1,4 +1,4 @@
-use Rattle.std.proofs.Common.{◌≡◌, ◌∙◌, ◌∷◌, ◌++◌, [], ℕ, Bool, List, Option, Some, None, ap, sym, rules, ◌<◌, length}
+use Rattle.std.proofs.Common.{◌∙◌, ap, rules, ◌<◌, length}
 use Rattle.xt_base.specs.declared.file.FileHead.{FileHead}
 use Rattle.osd_rows.specs.PrimaryRows.{head_chosen}
 use Rattle.replica_primary.specs.Written.{ground}

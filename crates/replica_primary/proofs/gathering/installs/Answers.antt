@@ -1,4 +1,4 @@
-use Rattle.std.proofs.Common.{◌≡◌, ◌∙◌, ◌∷◌, ◌++◌, [], ℕ, Bool, List, Option, Some, None, ap, sym, rules}
+use Rattle.std.proofs.Common.{◌∙◌, ◌∷◌, List, ap}
 use Rattle.osd_rows.specs.declared.Peer.{Peer}
 use Rattle.replica_primary.specs.Moves.{ground_beyond}
 use Rattle.xt_base.specs.declared.message.Payload.TheVariants as payload

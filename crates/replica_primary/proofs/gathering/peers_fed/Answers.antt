@@ -1,7 +1,6 @@
 use Rattle.std.proofs.Common.{◌∙◌, [], List, ap}
-use Rattle.osd_rows.specs.declared.Peer.{Peer}
 use Rattle.xt_base.specs.declared.record.Record.{Record}
-use Rattle.osd_rows.specs.PrimaryRows.{peer_fed, peers_fed}
+use Rattle.osd_rows.specs.PrimaryRows.{peer_fed}
 use Rattle.replica_primary.specs.Moves.{ground_beyond}
 use Rattle.replica_primary.proofs.Hears.{fed_more}
 use Rattle.replica_primary.proofs.gathering.peers_fed.Goals as goal

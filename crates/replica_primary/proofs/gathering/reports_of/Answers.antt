@@ -1,4 +1,4 @@
-use Rattle.std.proofs.Common.{◌≡◌, ◌∙◌, ◌∷◌, ◌++◌, [], ℕ, Bool, List, Option, Some, None, ap, sym, take}
+use Rattle.std.proofs.Common.{◌∙◌, ◌++◌, List, Option, ap, sym, take}
 use Rattle.xt_base.specs.declared.file.FileHead.{FileHead}
 use Rattle.xt_base.specs.declared.ids.NodeId.{NodeId}
 use Rattle.osd_rows.specs.Primaries.{reports_of}

@@ -1,4 +1,4 @@
-use Rattle.std.proofs.Common.{◌≡◌, ◌∙◌, ◌∷◌, ◌++◌, [], ℕ, Bool, List, Option, Some, None, ap, sym, rules}
+use Rattle.std.proofs.Common.{◌∙◌, ℕ, List, ap, sym}
 use Rattle.osd_rows.specs.declared.Peer.{Peer}
 use Rattle.xt_base.specs.declared.file.FileHead.{FileHead}
 use Rattle.xt_base.specs.declared.ids.NodeId.{NodeId}
@@ -15,10 +15,10 @@ returns-clause-value g c =
     let t = c.args.tenure in
     let peers = c.as_slice-peers.result.now in
     let majority =
-        ap (λ (ps : List Peer). nat_le (majority_among ps) (statuses_counted ps)) (sym c.as_slice-peers.ensures)
-        ∙ ap (λ (n : ℕ). nat_le (majority_among peers) n) (sym c.statuses_counted.ensures.counted)
-        ∙ sym c.is_majority.ensures
-        ∙ c.if-not-is_majority.false in
+    ap (λ (ps : List Peer). nat_le (majority_among ps) (statuses_counted ps)) (sym c.as_slice-peers.ensures)
+    ∙ ap (λ (n : ℕ). nat_le (majority_among peers) n) (sym c.statuses_counted.ensures.counted)
+    ∙ sym c.is_majority.ensures
+    ∙ c.if-not-is_majority.false in
     let stands = ground c.args.place.now (g.B.Bodies.records c.args.bodies.now) c.args.own.now held in
     c.in_ok-chooses.ensures.value learnt held
     ∙ ap (λ (reports : List (NodeId × FileHead)). chooses stands learnt t reports)

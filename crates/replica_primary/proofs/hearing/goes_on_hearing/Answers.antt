@@ -1,4 +1,4 @@
-use Rattle.std.proofs.Common.{◌≡◌, ◌∙◌, ◌∷◌, ◌++◌, [], ℕ, Bool, List, Option, Some, None, ap, sym, rules}
+use Rattle.std.proofs.Common.{◌∙◌, Bool, List, ap, sym}
 use Rattle.osd_rows.specs.declared.Peer.{Peer}
 use Rattle.xt_base.specs.declared.file.ObjectVersion.{ObjectVersion}
 use Rattle.xt_base.specs.declared.message.Payload.{Payload}

@@ -1,4 +1,4 @@
-use Rattle.std.proofs.Common.{◌≡◌, ◌∙◌, ◌∷◌, ◌++◌, [], ℕ, Bool, List, Option, Some, None, ap, sym, rules}
+use Rattle.std.proofs.Common.{◌∙◌, ap, sym}
 use Rattle.xt_base.specs.declared.message.Payload.{Payload}
 use Rattle.osd_rows.specs.PrimaryRows.{hears_peer}
 use Rattle.replica_primary.specs.Written.{ground}

@@ -1,4 +1,4 @@
-use Rattle.std.proofs.Common.{◌≡◌, ◌∙◌, ◌∷◌, ◌++◌, [], ℕ, Bool, List, Option, Some, None, ap, sym, rules}
+use Rattle.std.proofs.Common.{◌∙◌, List, ap, sym}
 use Rattle.osd_rows.specs.declared.Peer.{Peer}
 use Rattle.osd_rows.specs.Primaries.{peer_in}
 use Rattle.replica_primary.specs.Written.{ground}
