@@ -1,12 +1,10 @@
 -- What a client asks has begun, and its calls end well only as they were answered.
-use Rattle.std.proofs.Common.{◌≡◌, ℕ, ◌≤◌, ◌+◌, ◌⊎◌, inl, inr, List, [], ◌∷◌, ◌++◌, map, refl, ap, subst, sym, ◌∙◌, arith, Option, Some, None, Bool, true, false}
-use Rattle.std.specs.Prelude.{cond, max, not, filter, nat_lt, nat_le, ◌==◌, ◌&&◌, if◌then◌else◌}
+use Rattle.std.proofs.Common.{◌≡◌, ℕ, inl, inr, List, [], ◌∷◌, refl, subst, sym, arith, Option, Some, None, Bool, true, false}
+use Rattle.std.specs.Prelude.{cond, max, not, filter, nat_le, ◌==◌, ◌&&◌, if◌then◌else◌}
 use Rattle.std.proofs.lemmas.Bool.Decides.{nat_tests}
 use Rattle.xt_base.specs.TimeSettings.{TimeSettings}
 use Rattle.xt_base.specs.declared.ids.NodeId.{NodeId}
 use Rattle.xt_base.specs.declared.ids.OpId.{OpId}
-use Rattle.xt_base.specs.declared.file.Capability.{Capability}
-use Rattle.xt_base.specs.declared.file.Op.{Op}
 use Rattle.xt_base.specs.declared.reply.Reply.{Reply}
 use Rattle.xt_base.specs.declared.reply.Reply.TheVariants as reply
 use Rattle.xt_base.specs.declared.reply.Retry.{Retry}
@@ -14,7 +12,6 @@ use Rattle.xt_base.specs.declared.reply.Retry.TheVariants as retry
 use Rattle.xt_base.specs.declared.message.Msg.{Msg}
 use Rattle.xt_base.specs.declared.message.Payload.{Payload}
 use Rattle.xt_base.specs.declared.message.Payload.TheVariants as payload
-use Rattle.xt_base.specs.declared.event.Call.{Call}
 use Rattle.xt_base.specs.declared.event.Event.{Event}
 use Rattle.xt_base.specs.declared.event.Event.TheVariants as event
 use Rattle.xt_base.specs.declared.event.Mark.{Mark}
@@ -151,7 +148,6 @@ module _ (es : List Entry) (node : NodeId) (next : ℕ) where
   unfolding step_of_client
   client_step_is times c reading happens fits is = at happens is
     where
-
       at : (e : Event) → EventIs e → Is (clients.event_comes (record { node = node; times = times; now = max reading c.last }) (record c { last = max reading c.last }) e)
       at (event.Deliver msg) is = message_is (record { node = node; times = times; now = max reading c.last }) refl (record c { last = max reading c.last }) msg.from msg.payload fits is
       at event.Wake is = wakes_is (record { node = node; times = times; now = max reading c.last }) refl (record c { last = max reading c.last }) c.running fits fits.0

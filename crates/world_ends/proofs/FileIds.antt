@@ -1,6 +1,6 @@
 -- A file's asks and its issued update are of asks that have come, and each Ok of its steps is marked and of such an ask.
-use Rattle.std.proofs.Common.{◌≡◌, ℕ, ◌⊎◌, inl, inr, List, [], ◌∷◌, ◌++◌, map, refl, ap, subst, sym, Option, Some, None, Bool, true, false}
-use Rattle.std.specs.Prelude.{cond, not, ◌&&◌, ◌==◌, ◌/◌, ◌+◌, ◌<◌, nat_lt, nat_le, is_some, if◌then◌else◌, length, filter}
+use Rattle.std.proofs.Common.{◌≡◌, ℕ, ◌⊎◌, inl, inr, List, [], ◌∷◌, ◌++◌, refl, ap, subst, sym, Option, Some, None, Bool, true, false}
+use Rattle.std.specs.Prelude.{cond, not, ◌&&◌, ◌==◌, ◌+◌, nat_lt, nat_le, is_some, if◌then◌else◌, length, filter}
 use Rattle.std.specs.List.{fold}
 use Rattle.xt_base.specs.MemberList.{has_node}
 use Rattle.xt_base.specs.declared.ids.NodeId.{NodeId}
@@ -21,11 +21,9 @@ use Rattle.xt_base.specs.declared.file.Op.{Op}
 use Rattle.xt_base.specs.declared.file.Update.{Update}
 use Rattle.xt_base.specs.declared.reply.Denial.{Denial}
 use Rattle.xt_base.specs.declared.reply.Denial.TheVariants as denial
-use Rattle.xt_base.specs.declared.message.Msg.{Msg}
 use Rattle.xt_base.specs.declared.message.Payload.{Payload}
 use Rattle.xt_base.specs.declared.message.Payload.TheVariants as payload
 use Rattle.xt_base.specs.declared.record.FileRow.{FileRow}
-use Rattle.xt_base.specs.declared.record.Record.{Record}
 use Rattle.xt_base.specs.declared.event.Mark.{Mark}
 use Rattle.xt_base.specs.declared.event.Mark.TheVariants as mark
 use Rattle.xt_base.specs.declared.reply.Reply.{Reply}
@@ -43,20 +41,18 @@ use Rattle.osd_rows.specs.declared.IssuedAsk.{IssuedAsk}
 use Rattle.osd_rows.specs.declared.PrimaryState.{PrimaryState}
 use Rattle.osd_rows.specs.declared.Tenure.{Tenure}
 use Rattle.osd_rows.specs.declared.WaitingAsk.{WaitingAsk}
-use Rattle.osd_rows.specs.Turns.{quiet, keeps, joined, reply_to, message}
+use Rattle.osd_rows.specs.Turns.{quiet, keeps, reply_to, message}
 use Rattle.osd_rows.specs.Primaries.{Ground, Led, is_active, is_ready, if_any, have_in, majority_among}
 use Rattle.osd_rows.specs.PrimaryRows.{hears}
-use Rattle.osd_rows.specs.ReplicaRows.{kept_after, gathered, fetched_from, staged, headed, updated, as_promised, head_offered, head_taken, head_fits, first_missing, update_offered, stage_record}
-use Rattle.osd_rows.specs.Serving.{reads, reads_under, reads_in, writes, wakes}
+use Rattle.osd_rows.specs.ReplicaRows.{gathered, fetched_from, staged, headed, updated, as_promised, head_offered, head_taken, head_fits, first_missing, update_offered, stage_record}
+use Rattle.osd_rows.specs.Serving.{reads, writes, wakes}
 use Rattle.osd_rows.specs.Asks.{Served, WAITING, no_asks, waits, stays, is_read, read_answer, newly_issued, write_done, serves, serves_waiting, serves_all, comes_back, asks_follow, asked_already, tells_each, tells_untold}
 use Rattle.osd_rows.specs.FileStates.{FileState, Site, FileStep, nothing, steps_to, and_then, members_of, ground_of}
 use Rattle.osd_rows.specs.Overdue.{is_due, issued_due, newly_due, deadlines_under, lease_became, expired}
 use Rattle.osd_rows.specs.FileLeases.{read_comes, write_comes, answer_comes, answer_to_read, answers_to_write, end_after_answer, waiting_told, led_on, lease_news}
-use Rattle.osd_rows.specs.AskRows.{reads_of, ask_waits, ask_served, elsewhere, ask_without_lease, ask_under, ask_rows, ask_let_in, refusal_of, capability_refused, capability_list_range, list_and_range, with_member, list_against, in_range, same_list, leaves_object, ask_handled, waiting_ask, view_record}
+use Rattle.osd_rows.specs.AskRows.{ask_waits, ask_served, elsewhere, ask_without_lease, ask_under, ask_rows, ask_let_in, refusal_of, capability_refused, capability_list_range, list_and_range, with_member, list_against, same_list, leaves_object, ask_handled, waiting_ask, view_record}
 use Rattle.osd_rows.specs.FileSteps.{ask_comes, primary_hears, message_comes, renews, step_of_file, wakes_under_lease, wake_of_file}
-use Rattle.osd_invariants.proofs.Kept.{wake_keeps}
 use Rattle.osd_lease_views.proofs.LeaseSteps.{expired_keeps}
-use Rattle.osd_lease_views.specs.OsdView.{wake_step}
 use Rattle.cluster_runs.specs.TimeLine.{id_of}
 use Rattle.world_leases.proofs.Lists.{has_in, has_filter}
 use Rattle.world_ends.proofs.Said.{IsNo, IsNoIfAny, AreSaid, no_said, both_said, joined_said, map_said, said_more}

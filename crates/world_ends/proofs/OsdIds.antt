@@ -1,5 +1,5 @@
 -- An OSD's asks have begun on their files, and it tells of such calls alone.
-use Rattle.std.proofs.Common.{◌≡◌, ℕ, ◌⊎◌, inl, inr, List, [], ◌∷◌, ◌++◌, map, refl, ap, subst, sym, ◌∙◌, Option, Some, None, Bool, true, false}
+use Rattle.std.proofs.Common.{◌≡◌, ℕ, inl, inr, List, [], ◌∷◌, ◌++◌, refl, ap, subst, sym, ◌∙◌, Option, Some, None, Bool, true, false}
 use Rattle.std.specs.Prelude.{cond, max}
 use Rattle.xt_base.specs.declared.ids.NodeId.{NodeId}
 use Rattle.xt_base.specs.declared.ids.FileId.{FileId}
@@ -20,7 +20,7 @@ use Rattle.lease_safety.specs.State.{Has}
 use Rattle.osd_rows.specs.FileStates.{FileState, Site, FileStep, file_from}
 use Rattle.osd_rows.specs.FileSteps.{step_of_file, wake_of_file}
 use Rattle.osd_rows.specs.Overdue.{expired}
-use Rattle.osd_rows.specs.OsdSteps.{Outside, OsdState, file_at, with_file, each_file, asks_dir, file_concerned, message_handled, woken, event_handled, handled_awake, step_of_osd}
+use Rattle.osd_rows.specs.OsdSteps.{Outside, OsdState, file_at, each_file, file_concerned, message_handled, woken, event_handled, handled_awake, step_of_osd}
 use Rattle.osd_invariants.proofs.Kept.{step_follows, wake_follows}
 use Rattle.osd_lease_views.specs.ActsView.{AreActs, MarksAre, no_marks, won, acting}
 use Rattle.osd_lease_views.specs.OsdView.{site_of}

@@ -1,6 +1,6 @@
 -- The update that a primary has issued is of an ask that has come, and each Ok of its rows is marked and of such an ask.
-use Rattle.std.proofs.Common.{◌≡◌, ℕ, inl, inr, List, [], ◌∷◌, ◌++◌, map, refl, ap, subst, sym, Option, Some, None, Bool, true, false}
-use Rattle.std.specs.Prelude.{cond, length, not, ◌&&◌, ◌==◌, ◌+◌, ◌<◌, max, nat_lt, nat_le, is_some, if◌then◌else◌}
+use Rattle.std.proofs.Common.{ℕ, inl, inr, List, [], ◌∷◌, refl, Option, Some, None, Bool, true, false}
+use Rattle.std.specs.Prelude.{cond, length, not, ◌&&◌, ◌==◌, ◌+◌, max, nat_lt, nat_le, if◌then◌else◌}
 use Rattle.xt_base.specs.MemberList.{has_node}
 use Rattle.xt_base.specs.declared.ids.NodeId.{NodeId}
 use Rattle.xt_base.specs.declared.ids.OpId.{OpId}
@@ -12,11 +12,9 @@ use Rattle.xt_base.specs.declared.file.Session.{Session}
 use Rattle.xt_base.specs.declared.file.Update.{Update}
 use Rattle.xt_base.specs.declared.file.Op.{Op}
 use Rattle.xt_base.specs.declared.file.Op.TheVariants as op
-use Rattle.xt_base.specs.declared.reply.Reply.{Reply}
 use Rattle.xt_base.specs.declared.reply.Reply.TheVariants as reply
 use Rattle.xt_base.specs.declared.message.Payload.{Payload}
 use Rattle.xt_base.specs.declared.message.Payload.TheVariants as payload
-use Rattle.xt_base.specs.declared.event.Mark.{Mark}
 use Rattle.xt_base.specs.declared.TheConstants.{COUNTS, OBJECTS, CLIENTS}
 use Rattle.xt_protocol.specs.Folds.{body_of}
 use Rattle.xt_protocol.specs.Heads.{session_of}
@@ -31,7 +29,7 @@ use Rattle.osd_rows.specs.declared.PrimaryState.{PrimaryState}
 use Rattle.osd_rows.specs.declared.Tenure.{Tenure}
 use Rattle.osd_rows.specs.ReplicaRows.{stage_record}
 use Rattle.osd_rows.specs.Turns.{message}
-use Rattle.osd_rows.specs.Writes.{Standing, repeated, older, turned_away, fresh, standing, by_session, known_client, judged, reach, room_for_client, is_old_epoch, too_far, update_of}
+use Rattle.osd_rows.specs.Writes.{Standing, repeated, older, turned_away, fresh, standing, by_session, judged, reach, room_for_client, is_old_epoch, too_far, update_of}
 use Rattle.osd_rows.specs.Primaries.{Ground, Led, carries, fed, if_any, is_unknown, known_of_report, majority_among, nodes_of, peer_in, reports_of, statuses_counted, target_of, with_node}
 use Rattle.osd_rows.specs.PrimaryRows.{epoch_drawn, epoch_above, installs, peers_fed, fetches, head_chosen, chooses, status_counted, feeds, status_told, with_state, hears_status, body_fetched, body_beyond, hears_object, body_staged, body_missed, hears_missing, target_in, head_acked, update_acked, acked_below, hears_ack, makes_current, outpromised, hears_peer, hears_member, hears_epoch, hears_in, epoch_told, hears}
 use Rattle.osd_rows.specs.Serving.{issues, issues_unless, write_stands, writes_in, writes_under, writes, next_update_of, current_others, gather_unknown, unacked, sent_again, wakes_in, wakes_under, wakes}

@@ -1,14 +1,12 @@
 -- In every run the calls that ended well were answered so before.
-use Rattle.std.proofs.Common.{◌≡◌, ℕ, inl, inr, List, [], ◌∷◌, ◌++◌, map, refl, ap, subst, sym, ◌∙◌, arith, ◌≤◌, Option, Some, None}
+use Rattle.std.proofs.Common.{◌≡◌, ℕ, inl, inr, List, [], ◌∷◌, ◌++◌, map, refl, subst, sym, ◌∙◌, arith, Some, None}
 use Rattle.std.proofs.lemmas.List.{append-nil}
 use Rattle.xt_base.specs.declared.ids.NodeId.{NodeId}
 use Rattle.xt_base.specs.declared.ids.OpId.{OpId}
 use Rattle.xt_base.specs.declared.message.Msg.{Msg}
 use Rattle.xt_base.specs.declared.message.Payload.{Payload}
 use Rattle.xt_base.specs.declared.message.Payload.TheVariants as payload
-use Rattle.xt_base.specs.declared.record.Record.{Record}
 use Rattle.xt_base.specs.declared.record.Record.TheVariants as kept
-use Rattle.xt_base.specs.declared.record.FileRow.{FileRow}
 use Rattle.xt_base.specs.declared.event.Event.{Event}
 use Rattle.xt_base.specs.declared.event.Event.TheVariants as event
 use Rattle.xt_protocol.specs.declared.Turned.{Turned}
@@ -22,12 +20,11 @@ use Rattle.cluster_runs.specs.declared.Entry.{Entry}
 use Rattle.cluster_runs.specs.declared.Entry.TheVariants as entry
 use Rattle.cluster_runs.specs.declared.Line.{Line}
 use Rattle.cluster_runs.specs.declared.Role.TheVariants as role
-use Rattle.cluster_runs.specs.declared.ClientState.{ClientState}
 use Rattle.cluster_runs.specs.Bounds.{AreLines}
 use Rattle.cluster_runs.specs.Rules.{refusal}
 use Rattle.cluster_runs.specs.Clients.{new_client, knows, aimed, step_of_client}
 use Rattle.cluster_runs.specs.Clauses.{HasBegunOn, EndsAreAnswered}
-use Rattle.cluster_runs.specs.World.{World, start_world, Node, Running, Core, osd, client, node_in, with_node}
+use Rattle.cluster_runs.specs.World.{World, Node, Running, Core, osd, client, node_in, with_node}
 use Rattle.cluster_runs.specs.NodeSteps.{Room, halted}
 use Rattle.cluster_runs.specs.Lines.{begins, steps, so_far, runs, first_boot, next_boot, osd_starting, ticked, declared_file, epoch_of, declared_capability, uses, no_longer_pending}
 use Rattle.cluster_runs.specs.Runs.{run_of, IsRunInto}
@@ -38,8 +35,8 @@ use Rattle.world_leases.proofs.Walk.{IsKept, NodeStep, of_osd, of_client, of_cal
 use Rattle.world_ends.proofs.FileIds.{FileIs}
 use Rattle.world_ends.proofs.OsdIds.{FilesAre, HasBegun, EventHasBegun, new_is}
 use Rattle.world_ends.proofs.Calls.{ContentIs, EventIs, client_step_is}
-use Rattle.world_ends.proofs.Growth.{AreAnswered, UpIs, CoreIs, EndsFit, FreshFrom, answered-none, fresh-none, ends_answered}
-use Rattle.world_ends.proofs.Steps.{Fits, NodesFit, IsInert, Owes, told_fit, changed_fit, same_nodes, put_fit, add_fit, tick_fit, stepped_fits, osd_owes, client_owes, call_owes}
+use Rattle.world_ends.proofs.Growth.{UpIs, CoreIs, EndsFit, answered-none, fresh-none, ends_answered}
+use Rattle.world_ends.proofs.Steps.{Fits, Owes, told_fit, changed_fit, same_nodes, put_fit, add_fit, tick_fit, stepped_fits, osd_owes, client_owes, call_owes}
 
 -- ---- any step of a node
 

@@ -1,6 +1,6 @@
 -- Each thing that may happen in a line leaves the world as it should be.
-use Rattle.std.proofs.Common.{◌≡◌, ◌≢◌, ℕ, ◌≤◌, ◌+◌, ◌⊎◌, inl, inr, List, [], ◌∷◌, ◌++◌, map, refl, ap, subst, sym, ◌∙◌, arith, Option, Some, None, Bool, true, false}
-use Rattle.std.specs.Prelude.{cond, filter, not, is_some, nat_lt, max, ◌==◌, ◌&&◌, if◌then◌else◌}
+use Rattle.std.proofs.Common.{◌≡◌, ℕ, ◌≤◌, ◌+◌, ◌⊎◌, inl, inr, List, [], ◌∷◌, ◌++◌, map, refl, ap, subst, sym, ◌∙◌, arith, Option, Some, None, Bool, true, false}
+use Rattle.std.specs.Prelude.{filter, not, is_some, nat_lt, max, ◌==◌, ◌&&◌, if◌then◌else◌}
 use Rattle.std.specs.Option.{option_or, option_map}
 use Rattle.std.proofs.lemmas.Bool.Decides.{nat_tests}
 use Rattle.std.proofs.lemmas.List.{append-nil, map-append}
@@ -10,54 +10,35 @@ use Rattle.xt_base.specs.declared.ids.OpId.{OpId}
 use Rattle.xt_base.specs.declared.file.Capability.{Capability}
 use Rattle.xt_base.specs.declared.file.Op.{Op}
 use Rattle.xt_base.specs.declared.file.Op.TheVariants as op
-use Rattle.xt_base.specs.declared.file.Location.{Location}
 use Rattle.xt_base.specs.declared.message.Msg.{Msg}
-use Rattle.xt_base.specs.declared.message.Payload.{Payload}
-use Rattle.xt_base.specs.declared.message.Payload.TheVariants as payload
-use Rattle.xt_base.specs.declared.record.Record.{Record}
-use Rattle.xt_base.specs.declared.record.Record.TheVariants as kept
-use Rattle.xt_base.specs.declared.record.FileRow.{FileRow}
 use Rattle.xt_base.specs.declared.event.Call.{Call}
 use Rattle.xt_base.specs.declared.event.Call.TheVariants as call
 use Rattle.xt_base.specs.declared.event.Event.{Event}
-use Rattle.xt_base.specs.declared.event.Event.TheVariants as event
 use Rattle.xt_base.specs.declared.event.Mark.{Mark}
-use Rattle.xt_base.specs.declared.event.Mark.TheVariants as mark
-use Rattle.xt_base.specs.declared.event.Outcome.{Outcome}
 use Rattle.xt_base.specs.declared.TheConstants.{COUNTS}
 use Rattle.xt_protocol.specs.declared.Turned.{Turned}
-use Rattle.xt_protocol.specs.Folds.{fold_of}
-use Rattle.xt_protocol.specs.LeaseRows.{Awake}
-use Rattle.time_line.specs.declared.entry.Halt.{Halt}
-use Rattle.time_line.specs.declared.entry.Halt.TheVariants as halt
 use Rattle.lease_safety.specs.State.{Has}
-use Rattle.osd_rows.specs.FileStates.{FileState, file_from}
 use Rattle.osd_rows.specs.OsdSteps.{OsdState, step_of_osd}
 use Rattle.cluster_runs.specs.declared.Entry.{Entry}
 use Rattle.cluster_runs.specs.declared.Entry.TheVariants as entry
-use Rattle.cluster_runs.specs.declared.Line.{Line}
-use Rattle.cluster_runs.specs.declared.Role.TheVariants as role
 use Rattle.cluster_runs.specs.declared.Sent.{Sent}
 use Rattle.cluster_runs.specs.declared.ClientState.{ClientState}
-use Rattle.cluster_runs.specs.declared.RunningCall.{RunningCall}
 use Rattle.cluster_runs.specs.Steps.{Step, stays}
-use Rattle.cluster_runs.specs.Clients.{ClientSite, new_client, knows, aimed, step_of_client, call_of_client, call_comes, begins_call}
+use Rattle.cluster_runs.specs.Clients.{call_of_client, begins_call}
 use Rattle.cluster_runs.specs.Rules.{called_file}
 use Rattle.cluster_runs.specs.TimeLine.{id_of, begun, call_begun, operation_on}
 use Rattle.cluster_runs.specs.Clauses.{HasBegunOn}
-use Rattle.cluster_runs.specs.World.{World, start_world, Node, Running, Core, osd, client, node_in, with_node}
-use Rattle.cluster_runs.specs.NodeSteps.{entry_of, pending, numbered, to_itself, after_turn, halted, outside_of}
-use Rattle.cluster_runs.specs.Lines.{tells, runs, first_boot, next_boot, starts_as, osd_starting, ticked, declared_file, operation_of, no_longer_pending}
-use Rattle.cluster_runs.specs.Runs.{with_line}
-use Rattle.world_leases.specs.View.{node_id, messages, awake_as}
-use Rattle.world_leases.proofs.Lists.{has_in, has_left, has_right, has_filter, has_map, map_same}
-use Rattle.world_leases.proofs.Tables.{same, nobody, node_in-id, node_in-new, node_in-other, node_in-last, node_in-before, node_in-ticked}
+use Rattle.cluster_runs.specs.World.{World, Node, Running, Core, osd, client, node_in, with_node}
+use Rattle.cluster_runs.specs.NodeSteps.{entry_of, pending, numbered, to_itself, after_turn, outside_of}
+use Rattle.cluster_runs.specs.Lines.{ticked, operation_of}
+use Rattle.world_leases.specs.View.{node_id, messages}
+use Rattle.world_leases.proofs.Lists.{has_in, has_left, has_right, has_filter, map_same}
+use Rattle.world_leases.proofs.Tables.{same, node_in-id, node_in-new, node_in-other, node_in-last, node_in-before, node_in-ticked}
 use Rattle.world_leases.proofs.Frame.{next_node}
-use Rattle.world_leases.proofs.Walk.{IsKept, NodeStep, of_osd, of_client, of_call, Reaches, call_step, same_messages}
 use Rattle.world_ends.proofs.Entries.{begun-append}
-use Rattle.world_ends.proofs.OsdIds.{FilesAre, HasBegun, EventHasBegun, new_is, osd_step_is}
-use Rattle.world_ends.proofs.Calls.{ContentIs, CallIs, OutcomeIs, Ending, silent, ended, ClientStepIs, EventIs, client_step_is}
-use Rattle.world_ends.proofs.Growth.{AreAnswered, EndIs, FreshFrom, Quiet, UpIs, CoreIs, ClientIs, EndsFit, answered-push, answered-none, answered-marks, fresh-grown, quiet-none, quiet-one, quiet-marks, files-grown, call-grown, content-grown, core-grown, up-grown, told_is}
+use Rattle.world_ends.proofs.OsdIds.{FilesAre, EventHasBegun, osd_step_is}
+use Rattle.world_ends.proofs.Calls.{ContentIs, CallIs, Ending, silent, ended, ClientStepIs}
+use Rattle.world_ends.proofs.Growth.{AreAnswered, EndIs, FreshFrom, Quiet, UpIs, CoreIs, ClientIs, EndsFit, answered-push, answered-marks, fresh-grown, quiet-none, quiet-one, quiet-marks, files-grown, call-grown, content-grown, up-grown, told_is}
 
 abbrev pub Fits : World → List Msg → Type 0
 Fits w own = EndsFit w.nodes w.entries (own ++ messages w)
