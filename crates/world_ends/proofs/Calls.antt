@@ -2,6 +2,7 @@
 use Rattle.std.proofs.Common.{◌≡◌, ℕ, inl, inr, List, [], ◌∷◌, refl, subst, sym, arith, Option, Some, None, Bool, true, false}
 use Rattle.std.specs.Prelude.{cond, max, not, filter, nat_le, ◌==◌, ◌&&◌, if◌then◌else◌}
 use Rattle.std.proofs.lemmas.Bool.Decides.{nat_tests}
+use Rattle.xt_base.specs.Limits.{FitsOp}
 use Rattle.xt_base.specs.TimeSettings.{TimeSettings}
 use Rattle.xt_base.specs.declared.ids.NodeId.{NodeId}
 use Rattle.xt_base.specs.declared.ids.OpId.{OpId}
@@ -26,8 +27,7 @@ use Rattle.cluster_runs.specs.declared.ClientState.{ClientState}
 use Rattle.cluster_runs.specs.Steps.{Step, stays}
 use Rattle.cluster_runs.specs.Clients.{ClientSite, step_of_client}
 use Rattle.cluster_runs.specs.Clients as clients
-use Rattle.cluster_runs.specs.TimeLine.{id_of}
-use Rattle.cluster_runs.specs.Clauses.{HasBegunOn}
+use Rattle.cluster_runs.specs.TimeLine.{id_of, operation_begun}
 use Rattle.world_ends.proofs.Entries.{HasAnswer}
 
 -- these entries have an answer of the call, on some file
@@ -39,16 +39,16 @@ abbrev pub ReplyIs : List Entry → NodeId → ℕ → Reply → Type 0
 ReplyIs es to number (reply.Ok count size bytes) = IsAnswered es (id_of to number) count bytes
 ReplyIs es to number _ = Unit {0}
 
--- a message that was sent: an ask has begun, and an Ok was answered so
+-- a message that was sent: an ask has begun with its operation, which is within its limits, and an Ok was answered so
 abbrev pub ContentIs : List Entry → NodeId → NodeId → Payload → Type 0
-ContentIs es from to (payload.Ask number capability asked) = HasBegunOn capability.file.number es (id_of from number)
+ContentIs es from to (payload.Ask number capability asked) = (operation_begun capability.file.number es (id_of from number) ≡ Some asked) × FitsOp asked
 ContentIs es from to (payload.Reply number file answer) = ReplyIs es to number answer
 ContentIs es from to _ = Unit {0}
 
--- the running call of a client has begun
+-- the running call of a client has begun with its operation
 abbrev pub CallIs : List Entry → NodeId → Option RunningCall → Type 0
 CallIs es node None = Unit {0}
-CallIs es node (Some call) = HasBegunOn call.capability.file.number es (id_of node call.number)
+CallIs es node (Some call) = (operation_begun call.capability.file.number es (id_of node call.number) ≡ Some call.op) × FitsOp call.op
 
 -- an outcome: a call ends well only as it was answered
 abbrev pub OutcomeIs : List Entry → OpId → Outcome → Type 0
@@ -87,7 +87,7 @@ module _ (es : List Entry) (node : NodeId) (next : ℕ) where
     asks_is c call target fits begun = record { call = begun; number = fits.1; sent = sent; marks = silent refl }
       where
         sent : (m : Msg) → Has m (clients.asks site c call target).turned.outs → ContentIs es m.from m.to m.payload
-        sent m (inl e) = subst (λ (k : Msg). ContentIs es k.from k.to k.payload) (sym e) (subst (λ (n : NodeId). HasBegunOn call.capability.file.number es (id_of n call.number)) (sym here) begun)
+        sent m (inl e) = subst (λ (k : Msg). ContentIs es k.from k.to k.payload) (sym e) (subst (λ (n : NodeId). operation_begun call.capability.file.number es (id_of n call.number) ≡ Some call.op) (sym here) begun.0, begun.1)
         sent m (inr h) = absurd h
 
     ends_is : (c : ClientState) (call : RunningCall) (how : Outcome) → c.next ≡ next → OutcomeIs es (id_of node call.number) how → Is (clients.ends_call c call how)

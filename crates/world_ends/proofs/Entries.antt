@@ -79,6 +79,9 @@ operation-same file xs ys id h =
 pub begun_on-grown : (file : ℕ) (xs ys : List Entry) (id : OpId) → HasBegunOn file xs id → HasBegunOn file (xs ++ ys) id
 begun_on-grown file xs ys id h = (h.0, operation-same file xs ys id h ∙ h.1)
 
+pub operation-grown : (file : ℕ) (xs ys : List Entry) (id : OpId) (operation : Op) → operation_begun file xs id ≡ Some operation → operation_begun file (xs ++ ys) id ≡ Some operation
+operation-grown file xs ys id operation is = operation-same file xs ys id (operation, is) ∙ is
+
 -- a call is on one file
 same_file : (f g : ℕ) (o : Option Call) (a b : Op) → operation_on f o ≡ Some a → operation_on g o ≡ Some b → f ≡ g
 same_file f g None a b p q = absurd cc

@@ -29,7 +29,7 @@ use Rattle.cluster_runs.specs.Clauses.{IsBefore, ok_entry, HasBegunOn, EndsAreAn
 use Rattle.cluster_runs.specs.World.{Node, Running, Core, osd, client, node_in}
 use Rattle.cluster_runs.specs.NodeSteps.{entry_of}
 use Rattle.world_leases.specs.View.{node_id}
-use Rattle.world_ends.proofs.Entries.{HasAnswer, begun-append, begun_on-grown, answer-grown, one_file}
+use Rattle.world_ends.proofs.Entries.{HasAnswer, begun-append, begun_on-grown, operation-grown, answer-grown, one_file}
 use Rattle.world_ends.proofs.Said.{Said, ReplySaid}
 use Rattle.world_ends.proofs.PrimaryIds.{IssuedIs, ProgressIs, TenureIs}
 use Rattle.world_ends.proofs.FileIds.{IssuedAskIs, FileIs}
@@ -170,7 +170,7 @@ files-grown es more files are f h =
 
 pub call-grown : (es more : List Entry) (node : NodeId) (o : Option RunningCall) → CallIs es node o → CallIs (es ++ more) node o
 call-grown es more node None is = tt
-call-grown es more node (Some call) is = begun_on-grown call.capability.file.number es more (id_of node call.number) is
+call-grown es more node (Some call) is = (operation-grown call.capability.file.number es more (id_of node call.number) call.op is.0, is.1)
 
 reply-grown : (es more : List Entry) (to : NodeId) (number : ℕ) (answer : Reply) → ReplyIs es to number answer → ReplyIs (es ++ more) to number answer
 reply-grown es more to number (reply.Ok count size bytes) is = (is.0, answer-grown is.0 es more (id_of to number) count bytes is.1)
@@ -184,7 +184,7 @@ reply-grown es more to number (reply.TooFar object) is = tt
 reply-grown es more to number reply.ClientsFull is = tt
 
 pub content-grown : (es more : List Entry) (from to : NodeId) (content : Payload) → ContentIs es from to content → ContentIs (es ++ more) from to content
-content-grown es more from to (payload.Ask number capability asked) is = begun_on-grown capability.file.number es more (id_of from number) is
+content-grown es more from to (payload.Ask number capability asked) is = (operation-grown capability.file.number es more (id_of from number) asked is.0, is.1)
 content-grown es more from to (payload.Reply number file answer) is = reply-grown es more to number answer is
 content-grown es more from to _ is = tt
 

@@ -26,22 +26,23 @@ use Rattle.cluster_runs.specs.Clients.{new_client, knows, aimed, step_of_client}
 use Rattle.cluster_runs.specs.Clauses.{HasBegunOn, EndsAreAnswered}
 use Rattle.cluster_runs.specs.World.{World, Node, Running, Core, osd, client, node_in, with_node}
 use Rattle.cluster_runs.specs.NodeSteps.{Room, halted}
-use Rattle.cluster_runs.specs.Lines.{begins, steps, so_far, runs, first_boot, next_boot, osd_starting, ticked, declared_file, epoch_of, declared_capability, uses, no_longer_pending}
+use Rattle.cluster_runs.specs.Lines.{Next, finished, opens, goes_on, ends, begins, steps, so_far, runs, first_boot, next_boot, osd_starting, ticked, declared_file, epoch_of, declared_capability, uses, no_longer_pending}
 use Rattle.cluster_runs.specs.Runs.{run_of, IsRunInto}
 use Rattle.world_leases.specs.View.{node_id, messages}
 use Rattle.world_leases.proofs.Lists.{has_in, has_left, has_right, has_map}
 use Rattle.world_leases.proofs.Tables.{nobody}
-use Rattle.world_leases.proofs.Walk.{IsKept, NodeStep, of_osd, of_client, of_call, Reaches, same_messages, run_kept, steps_into, so_far_kept}
+use Rattle.world_leases.proofs.Walk.{IsKept, NodeStep, of_osd, of_client, of_call, Reaches, same_messages, run_kept, NextIs, steps_into, so_far_kept}
+use Rattle.world_ends.specs.Asks.{HasBegunSo, AsksHaveBegun, NextHasBegun}
 use Rattle.world_ends.proofs.FileIds.{FileIs}
 use Rattle.world_ends.proofs.OsdIds.{FilesAre, HasBegun, EventHasBegun, new_is}
 use Rattle.world_ends.proofs.Calls.{ContentIs, EventIs, client_step_is}
 use Rattle.world_ends.proofs.Growth.{UpIs, CoreIs, EndsFit, answered-none, fresh-none, ends_answered}
-use Rattle.world_ends.proofs.Steps.{Fits, Owes, told_fit, changed_fit, same_nodes, put_fit, add_fit, tick_fit, stepped_fits, osd_owes, client_owes, call_owes}
+use Rattle.world_ends.proofs.Steps.{Fits, Owes, told_fit, changed_fit, same_nodes, put_fit, add_fit, tick_fit, stepped_fits, osd_owes, client_owes, fits_so, call_owes}
 
 -- ---- any step of a node
 
 content_begun : (es : List Entry) (from to : NodeId) (content : Payload) → ContentIs es from to content → HasBegun es from content
-content_begun es from to (payload.Ask number capability asked) is = is
+content_begun es from to (payload.Ask number capability asked) is = (asked, is.0)
 content_begun es from to _ is = tt
 
 event_begun : (w : World) (was : List Msg) (node : NodeId) (happens : Event) → Fits w was → Reaches w was node happens → EventHasBegun w.entries happens
@@ -68,7 +69,7 @@ node_owes w was node r _ _ found is_up fit (of_client c happens is_client reache
 node_owes w was node r _ _ found is_up fit (of_call c k number location asked is_client resting bound called declared does) =
     let core = subst (CoreIs w.entries node.id) is_client (core_of w was node r found is_up fit) in
     let capability = declared_capability number location (epoch_of c (declared_file number) k) in
-    call_owes w.entries node.id w.times (uses c capability) r.clock capability k asked fit.ends core called does
+    call_owes w.entries node.id w.times (uses c capability) r.clock capability k asked fit.ends core called does (fits_so k asked bound does)
 
 -- ---- what else may happen
 
@@ -176,3 +177,24 @@ parts_answered room lines l file entries are allowed into =
     let fit : Fits (so_far (steps into.1.0 room (begins (run_of room lines) l))) []
     = so_far_kept Fits ends_kept (steps into.1.0 room (begins (run_of room lines) l)) (steps_into Fits ends_kept room lines l into.1.0 are allowed) in
     subst (EndsAreAnswered file) into.2 (subst (λ (part : World). EndsAreAnswered file part.entries) into.1.2 (ends_answered part.entries file fit.ends))
+
+-- ---- asks
+
+ask_begun : (es : List Entry) (from to : NodeId) (content : Payload) → ContentIs es from to content → HasBegunSo es from content
+ask_begun es from to (payload.Ask number capability asked) is = is
+ask_begun es from to _ is = tt
+
+asks_begun : (w : World) (own : List Msg) → Fits w own → AsksHaveBegun w own
+asks_begun w own fit m h = ask_begun w.entries m.from m.to m.payload (fit.messages m h)
+
+next_begun : (next : Next) → NextIs Fits ends_kept next → NextHasBegun next
+next_begun (finished w) fit = asks_begun w [] fit
+next_begun (opens l w) fit = asks_begun w [] fit.0
+next_begun (goes_on d) fit = asks_begun d.world d.own fit
+next_begun (ends cause w) fit = asks_begun w [] fit
+
+pub runs_begun : (room : Room) (lines : List Line) → AreLines lines → AsksHaveBegun (run_of room lines) []
+runs_begun room lines are = asks_begun (run_of room lines) [] (run_kept Fits ends_kept room lines are)
+
+pub steps_begun : (room : Room) (lines : List Line) (l : Line) (k : ℕ) → AreLines (lines ++ l ∷ []) → refusal (run_of room lines) l ≡ None → NextHasBegun (steps k room (begins (run_of room lines) l))
+steps_begun room lines l k are allowed = next_begun (steps k room (begins (run_of room lines) l)) (steps_into Fits ends_kept room lines l k are allowed)

@@ -5,6 +5,7 @@ use Rattle.std.specs.Option.{option_or, option_map}
 use Rattle.std.proofs.lemmas.Bool.Decides.{nat_tests}
 use Rattle.std.proofs.lemmas.List.{append-nil, map-append}
 use Rattle.xt_base.specs.TimeSettings.{TimeSettings}
+use Rattle.xt_base.specs.Limits.{FitsOp}
 use Rattle.xt_base.specs.declared.ids.NodeId.{NodeId}
 use Rattle.xt_base.specs.declared.ids.OpId.{OpId}
 use Rattle.xt_base.specs.declared.file.Capability.{Capability}
@@ -25,9 +26,9 @@ use Rattle.cluster_runs.specs.declared.Sent.{Sent}
 use Rattle.cluster_runs.specs.declared.ClientState.{ClientState}
 use Rattle.cluster_runs.specs.Steps.{Step, stays}
 use Rattle.cluster_runs.specs.Clients.{call_of_client, begins_call}
+use Rattle.cluster_runs.specs.Bounds.{FitsCall}
 use Rattle.cluster_runs.specs.Rules.{called_file}
-use Rattle.cluster_runs.specs.TimeLine.{id_of, begun, call_begun, operation_on}
-use Rattle.cluster_runs.specs.Clauses.{HasBegunOn}
+use Rattle.cluster_runs.specs.TimeLine.{id_of, begun, call_begun, operation_on, operation_begun}
 use Rattle.cluster_runs.specs.World.{World, Node, Running, Core, osd, client, node_in, with_node}
 use Rattle.cluster_runs.specs.NodeSteps.{entry_of, pending, numbered, to_itself, after_turn, outside_of}
 use Rattle.cluster_runs.specs.Lines.{ticked, operation_of}
@@ -225,6 +226,15 @@ does_so (call.Report user group file) number asked of_file is = absurd cc
 does_so (call.Meta user group request) number asked of_file is = absurd cc
 does_so (call.Registry request) number asked of_file is = absurd cc
 
+-- a call within its limits does what is within its own
+pub fits_so : (k : Call) (asked : Op) → FitsCall k → operation_of k ≡ Some asked → FitsOp asked
+fits_so (call.Read file object at len) asked fits is = (let same_op : op.Read object at len ≡ asked = cc in subst FitsOp same_op (fits.1, fits.2, fits.3, fits.4))
+fits_so (call.Write file object at bytes) asked fits is = (let same_op : op.Write object at bytes ≡ asked = cc in subst FitsOp same_op (fits.1, fits.2, fits.3, fits.4))
+fits_so (call.Truncate file size epoch) asked fits is = (let same_op : op.Truncate size ≡ asked = cc in subst FitsOp same_op fits.1)
+fits_so (call.Report user group file) asked fits is = absurd cc
+fits_so (call.Meta user group request) asked fits is = absurd cc
+fits_so (call.Registry request) asked fits is = absurd cc
+
 own_begins : (node : NodeId) (k : ℕ) (c : Call) → call_begun (id_of node k) (entry.Begin node k c) ≡ Some c
 own_begins node k c = grind (arith, nat_tests)
 
@@ -250,27 +260,27 @@ none_begun id es e none is = begun-append id es (e ∷ []) ∙ at (begun id es) 
     at (Some y) p none is = absurd cc
 
 pub call_owes : (es : List Entry) (node : NodeId) (times : TimeSettings) (c : ClientState) (reading : ℕ) (capability : Capability) (k : Call) (asked : Op) → AreAnswered es → ClientIs es node c
-    → called_file k ≡ Some capability.file.number → operation_of k ≡ Some asked
+    → called_file k ≡ Some capability.file.number → operation_of k ≡ Some asked → FitsOp asked
     → (let step = call_of_client node times c reading capability k asked in Owes es node (client step.state) step.turned)
 unfolding call_of_client
-call_owes es node times c reading capability k asked answered is of_file does = at (nat_lt c.next COUNTS)
+call_owes es node times c reading capability k asked answered is of_file does fits = at (nat_lt c.next COUNTS)
   where
     begin : Entry
     begin = entry.Begin node c.next k
 
-    has_begun : HasBegunOn capability.file.number (es ++ entry.Begin node c.next k ∷ []) (id_of node c.next)
+    has_begun : operation_begun capability.file.number (es ++ entry.Begin node c.next k ∷ []) (id_of node c.next) ≡ Some asked
     has_begun =
-        (asked, ap (operation_on capability.file.number) (first_begun (id_of node c.next) es (entry.Begin node c.next k) k (is.1 c.next (omega arith)) (own_begins node c.next k)) ∙ does_so k capability.file.number asked of_file does)
+        ap (operation_on capability.file.number) (first_begun (id_of node c.next) es (entry.Begin node c.next k) k (is.1 c.next (omega arith)) (own_begins node c.next k)) ∙ does_so k capability.file.number asked of_file does
 
     fresh : FreshFrom (es ++ entry.Begin node c.next k ∷ []) node (c.next + 1)
     fresh j above = none_begun (id_of node j) es (entry.Begin node c.next k) (is.1 j (omega arith)) (other_number node j c.next k above)
 
     at : (b : Bool) → (let step = (if b then begins_call (record { node = node; times = times; now = max reading c.last }) (record c { last = max reading c.last }) capability k asked else stays ClientState (record c { last = max reading c.last })) in
         Owes es node (client step.state) step.turned)
-    at true = record { core_is = (has_begun, fresh); sent = sent; ends = answered-push es (entry.Begin node c.next k) answered tt }
+    at true = record { core_is = ((has_begun, fits), fresh); sent = sent; ends = answered-push es (entry.Begin node c.next k) answered tt }
       where
         sent : (m : Msg) → Has m (begins_call (record { node = node; times = times; now = max reading c.last }) (record c { last = max reading c.last }) capability k asked).turned.outs → ContentIs (es ++ entry.Begin node c.next k ∷ []) m.from m.to m.payload
-        sent m (inl e) = subst (λ (x : Msg). ContentIs (es ++ entry.Begin node c.next k ∷ []) x.from x.to x.payload) (sym e) has_begun
+        sent m (inl e) = subst (λ (x : Msg). ContentIs (es ++ entry.Begin node c.next k ∷ []) x.from x.to x.payload) (sym e) (has_begun, fits)
         sent m (inr h) = absurd h
     at false =
         record {
