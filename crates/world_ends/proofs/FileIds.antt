@@ -55,8 +55,8 @@ use Rattle.osd_rows.specs.FileSteps.{ask_comes, primary_hears, message_comes, re
 use Rattle.osd_lease_views.proofs.LeaseSteps.{expired_keeps}
 use Rattle.cluster_runs.specs.TimeLine.{id_of}
 use Rattle.world_leases.proofs.Lists.{has_in, has_filter}
-use Rattle.world_ends.proofs.Said.{IsNo, IsNoIfAny, AreSaid, no_said, both_said, joined_said, map_said, said_more}
-use Rattle.world_ends.proofs.PrimaryIds.{TenureIs, LedSaid, LedSaidIfAny, drawn_said, hears_said, writes_said, wakes_said}
+use Rattle.world_ends.proofs.Said.{IsNo, IsNoIfAny, AreSaid, AreMarked, both_marked, no_said, both_said, joined_said, map_said, said_more}
+use Rattle.world_ends.proofs.PrimaryIds.{wakes_marks, TenureIs, LedSaid, LedSaidIfAny, drawn_said, hears_said, writes_said, wakes_said}
 
 -- ---- asks that are turned away
 
@@ -122,11 +122,13 @@ module _ (Q : OpId → Type 0) where
     pub asks : AsksAre s.asks
     pub tenure : TenureIs Q s.primary.tenure
     pub said : AreSaid Q file s.turned.marks s.turned.outs
+    pub marks : AreMarked Q file s.turned.marks
 
   -- what a step of a file owes
   pub record StepIs (file : ℕ) (step : FileStep) : Type 0 where
     pub state : FileIs step.state
     pub said : AreSaid Q file step.turned.marks step.turned.outs
+    pub marks : AreMarked Q file step.turned.marks
 
   pub none_are : AsksAre no_asks
   none_are = record { waiting = λ w h. absurd h; issued = tt }
@@ -154,9 +156,9 @@ module _ (Q : OpId → Type 0) where
       at false = tt
 
   done_is : (file : ℕ) (s : Served) (ask : WaitingAsk) (o : Option Led) (left : Asks) → ServedIs file s → AsksAre left → Q ask.id → LedSaidIfAny Q file o → ServedIs file (write_done s ask o left)
-  done_is file s ask None left is behind q led = record { asks = behind; tenure = is.tenure; said = is.said }
+  done_is file s ask None left is behind q led = record { asks = behind; tenure = is.tenure; said = is.said; marks = is.marks }
   done_is file s ask (Some l) left is behind q led =
-      record { asks = at (is_some s.asks.issued); tenure = led.tenure; said = joined_said Q file s.turned l.turned is.said led.said }
+      record { asks = at (is_some s.asks.issued); tenure = led.tenure; said = joined_said Q file s.turned l.turned is.said led.said; marks = both_marked Q file s.turned.marks l.turned.marks is.marks led.marks }
     where
       at : (b : Bool) → AsksAre (if b then s.asks else record s.asks { issued = newly_issued l.primary.tenure ask })
       at true = is.asks
@@ -166,6 +168,10 @@ module _ (Q : OpId → Type 0) where
   read_said g id (Some (reply.Ok count size bytes)) q = ((q, inl refl), tt)
   read_said g id _ q = tt
 
+  read_marked : (g : Ground) (id : OpId) (o : Option Reply) → Q id → AreMarked Q g.place.file.number (read_answer g id o).marks
+  read_marked g id (Some (reply.Ok count size bytes)) q = ((refl, q), tt)
+  read_marked g id _ q = tt
+
   either_served : (file : ℕ) (b : Bool) (x y : Served) → ServedIs file x → ServedIs file y → ServedIs file (cond b x y)
   either_served file true x y p q = p
   either_served file false x y p q = q
@@ -173,7 +179,7 @@ module _ (Q : OpId → Type 0) where
   serves_is : (g : Ground) (s : Served) (ask : WaitingAsk) (left : Asks) → ServedIs g.place.file.number s → AsksAre left → Q ask.id → ServedIs g.place.file.number (serves g s ask left)
   serves_is g s ask left is behind q =
       either_served g.place.file.number (is_read ask.op) _ _
-      (record { asks = is.asks; tenure = is.tenure; said = joined_said Q g.place.file.number s.turned (read_answer g ask.id (reads g s.primary ask.op)) is.said (read_said g ask.id (reads g s.primary ask.op) q) })
+      (record { asks = is.asks; tenure = is.tenure; said = joined_said Q g.place.file.number s.turned (read_answer g ask.id (reads g s.primary ask.op)) is.said (read_said g ask.id (reads g s.primary ask.op) q); marks = both_marked Q g.place.file.number s.turned.marks (read_answer g ask.id (reads g s.primary ask.op)).marks is.marks (read_marked g ask.id (reads g s.primary ask.op) q) })
       (done_is g.place.file.number s ask (writes g s.primary ask.id ask.epoch ask.op) left is behind q (writes_said Q g s.primary ask.id ask.epoch ask.op is.tenure q))
 
   each_is : (g : Ground) (waiting : List WaitingAsk) (s : Served) → ServedIs g.place.file.number s → ((w : WaitingAsk) → Has w waiting → Q w.id) → ServedIs g.place.file.number (fold (serves_waiting g) s waiting)
@@ -181,12 +187,12 @@ module _ (Q : OpId → Type 0) where
   each_is g (ask ∷ waiting) s is each = each_is g waiting (serves_waiting g s ask) (at (not (is_read ask.op) && is_some s.asks.issued)) (λ w h. each w (inr h))
     where
       at : (b : Bool) → ServedIs g.place.file.number (if b then record s { asks = stays s.asks ask } else serves g s ask (stays s.asks ask))
-      at true = record { asks = pushed s.asks ask is.asks (each ask (inl refl)); tenure = is.tenure; said = is.said }
+      at true = record { asks = pushed s.asks ask is.asks (each ask (inl refl)); tenure = is.tenure; said = is.said; marks = is.marks }
       at false = serves_is g s ask (stays s.asks ask) is (pushed s.asks ask is.asks (each ask (inl refl))) (each ask (inl refl))
 
   all_is : (g : Ground) (p : PrimaryState) (waiting : List WaitingAsk) → TenureIs Q p.tenure → ((w : WaitingAsk) → Has w waiting → Q w.id) → ServedIs g.place.file.number (serves_all g p waiting)
   unfolding serves_all
-  all_is g p waiting h each = each_is g waiting (record { primary = p; asks = no_asks; turned = quiet }) (record { asks = none_are; tenure = h; said = tt }) each
+  all_is g p waiting h each = each_is g waiting (record { primary = p; asks = no_asks; turned = quiet }) (record { asks = none_are; tenure = h; said = tt; marks = tt }) each
 
   back_are : (asks : Asks) → AsksAre asks → AsksAre (comes_back asks)
   back_are asks are = at asks.issued are.issued
@@ -203,8 +209,8 @@ module _ (Q : OpId → Type 0) where
   follow_is g before asks led are said =
       either_served g.place.file.number (is_ready led.primary.tenure && not (is_ready before)) _ _
       (let all = all_is g led.primary asks.waiting said.tenure are.waiting in
-      record { asks = all.asks; tenure = all.tenure; said = joined_said Q g.place.file.number led.turned (serves_all g led.primary asks.waiting).turned said.said all.said })
-      (record { asks = at (is_active led.primary.tenure); tenure = said.tenure; said = said.said })
+      record { asks = all.asks; tenure = all.tenure; said = joined_said Q g.place.file.number led.turned (serves_all g led.primary asks.waiting).turned said.said all.said; marks = both_marked Q g.place.file.number led.turned.marks (serves_all g led.primary asks.waiting).turned.marks said.marks all.marks })
+      (record { asks = at (is_active led.primary.tenure); tenure = said.tenure; said = said.said; marks = said.marks })
     where
       at : (b : Bool) → AsksAre (if b then asks else comes_back asks)
       at true = are
@@ -238,7 +244,7 @@ module _ (Q : OpId → Type 0) where
     due_is (Some i) q = q
 
     deadlines_is : (s : FileState) (o : Option Tenure) → FileIs s → Stay (deadlines_under site s o)
-    deadlines_is s None is = record { state = is; said = tt }
+    deadlines_is s None is = record { state = is; said = tt; marks = tt }
     deadlines_is s (Some t) is =
         let answer = reply.NoMajority (have_in t.peers t.progress) (majority_among t.peers) in
         record {
@@ -247,6 +253,7 @@ module _ (Q : OpId → Type 0) where
             tenure = is.tenure;
           };
           said = both_said Q file [] _ _ (each_no file site.node s.kept.file (filter (is_due site.now) s.asks.waiting) answer tt) (untold_no file site.node s.kept.file (newly_due site.now s.asks.issued) answer tt);
+          marks = tt;
         }
 
     no_lease_said : (s : FileState) → AreSaid Q file [] (tells_untold site.node s.kept.file s.asks.issued (reply.NoLease s.last_end) ++ tells_each site.node s.kept.file s.asks.waiting (reply.NoLease s.last_end))
@@ -255,9 +262,9 @@ module _ (Q : OpId → Type 0) where
         (untold_no file site.node s.kept.file s.asks.issued (reply.NoLease s.last_end) tt) (each_no file site.node s.kept.file s.asks.waiting (reply.NoLease s.last_end) tt)
 
     became_is : (s : FileState) (before after : LeaseState) → FileIs s → Stay (lease_became site s before after)
-    became_is s (held h) (free p) is = record { state = record { asks = none_are; tenure = tt }; said = no_lease_said s }
-    became_is s (asking r) (free p) is = record { state = record { asks = none_are; tenure = is.tenure }; said = no_lease_said s }
-    became_is s (writing r) (free p) is = record { state = record { asks = none_are; tenure = is.tenure }; said = no_lease_said s }
+    became_is s (held h) (free p) is = record { state = record { asks = none_are; tenure = tt }; said = no_lease_said s; marks = tt }
+    became_is s (asking r) (free p) is = record { state = record { asks = none_are; tenure = is.tenure }; said = no_lease_said s; marks = tt }
+    became_is s (writing r) (free p) is = record { state = record { asks = none_are; tenure = is.tenure }; said = no_lease_said s; marks = tt }
     became_is s (free p) after is = deadlines_is s s.primary.tenure is
     became_is s (held h) (held k) is = deadlines_is s s.primary.tenure is
     became_is s (held h) (asking r) is = deadlines_is s s.primary.tenure is
@@ -277,28 +284,28 @@ module _ (Q : OpId → Type 0) where
 
     told_is : (s : FileState) (answer : Reply) → IsNo answer → FileIs s → Stay (waiting_told site s answer)
     told_is s answer off is =
-        record { state = record { asks = record { waiting = λ w h. absurd h; issued = is.asks.issued }; tenure = is.tenure }; said = each_no file site.node s.kept.file s.asks.waiting answer off }
+        record { state = record { asks = record { waiting = λ w h. absurd h; issued = is.asks.issued }; tenure = is.tenure }; said = each_no file site.node s.kept.file s.asks.waiting answer off; marks = tt }
 
     led_is : (s : FileState) (o : Option Tenure) → FileIs s → Stay (led_on site s o)
-    led_is s (Some t) is = record { state = is; said = tt }
+    led_is s (Some t) is = record { state = is; said = tt; marks = tt }
     led_is s None is =
         let drawn = drawn_said Q file (ground_of site s).place s.primary.learnt s.kept.head (members_of s.kept.location) in
-        record { state = record { asks = is.asks; tenure = drawn.tenure }; said = drawn.said }
+        record { state = record { asks = is.asks; tenure = drawn.tenure }; said = drawn.said; marks = drawn.marks }
 
-    held_is : (s : FileState) (o : Option Tenure) (marks : List Mark) → FileIs s → FileIs (led_on site s o).state × AreSaid Q file (marks ++ (led_on site s o).turned.marks) (led_on site s o).turned.outs
-    held_is s o marks is = let led = led_is s o is in (led.state, said_more Q file (led_on site s o).turned.marks (marks ++ (led_on site s o).turned.marks) (led_on site s o).turned.outs (λ k h. behind k marks _ h) led.said)
+    held_is : (s : FileState) (o : Option Tenure) (marks : List Mark) → FileIs s → FileIs (led_on site s o).state × AreSaid Q file (marks ++ (led_on site s o).turned.marks) (led_on site s o).turned.outs × AreMarked Q file (led_on site s o).turned.marks
+    held_is s o marks is = let led = led_is s o is in (led.state, said_more Q file (led_on site s o).turned.marks (marks ++ (led_on site s o).turned.marks) (led_on site s o).turned.outs (λ k h. behind k marks _ h) led.said, led.marks)
       where
         behind : (k : Mark) (xs ys : List Mark) → Has k ys → Has k (xs ++ ys)
         behind k [] ys h = h
         behind k (x ∷ xs) ys h = inr (behind k xs ys h)
 
     news_is : (s : FileState) (news : LeaseNews) → FileIs s → Stay (lease_news site s news)
-    news_is s lease.nothing is = record { state = is; said = tt }
+    news_is s lease.nothing is = record { state = is; said = tt; marks = tt }
     news_is s (sends_write ballot l targets) is =
-        record { state = record { asks = is.asks; tenure = is.tenure }; said = map_said Q file [] (λ (target : NodeId × Boot). message site.node target.0 (payload.Write s.kept.file ballot target.1 l)) targets (λ target. tt) }
+        record { state = record { asks = is.asks; tenure = is.tenure }; said = map_said Q file [] (λ (target : NodeId × Boot). message site.node target.0 (payload.Write s.kept.file ballot target.1 l)) targets (λ target. tt); marks = tt }
     news_is s (holds end) is =
         let both = held_is (record s { last_end = end }) s.primary.tenure (mark.Held s.kept.file.number end ∷ []) (record { asks = is.asks; tenure = is.tenure }) in
-        record { state = both.0; said = both.1 }
+        record { state = both.0; said = both.1; marks = (tt, both.2) }
     news_is s (finds l) is = either_step (l.node.0 == site.node.0) (waiting_told site s (reply.NoLease s.last_end)) (waiting_told site s (reply.Elsewhere l.node l.end))
         (told_is s (reply.NoLease s.last_end) tt is) (told_is s (reply.Elsewhere l.node l.end) tt is)
     news_is s ends is = told_is s (reply.NoLease s.last_end) tt is
@@ -310,7 +317,7 @@ module _ (Q : OpId → Type 0) where
 
     read_is : (s : FileState) (from : NodeId) (ballot : Ballot) → FileIs s → Stay (read_comes site s from ballot)
     unfolding read_comes
-    read_is s from ballot is = record { state = record { asks = is.asks; tenure = is.tenure }; said = at (on_read s.acceptor ballot).answer }
+    read_is s from ballot is = record { state = record { asks = is.asks; tenure = is.tenure }; said = at (on_read s.acceptor ballot).answer; marks = tt }
       where
         at : (answer : ReadAnswer) → AreSaid Q file [] (message site.node from (answer_to_read s.kept.file s.acceptor.boot ballot answer) ∷ [])
         at (promise report) = (tt, tt)
@@ -318,7 +325,7 @@ module _ (Q : OpId → Type 0) where
 
     write_is : (s : FileState) (from : NodeId) (ballot : Ballot) (boot : Boot) (l : Lease) → FileIs s → Stay (write_comes site s from ballot boot l)
     unfolding write_comes
-    write_is s from ballot boot l is = record { state = record { asks = is.asks; tenure = is.tenure }; said = at (on_write s.acceptor ballot boot l).answer }
+    write_is s from ballot boot l is = record { state = record { asks = is.asks; tenure = is.tenure }; said = at (on_write s.acceptor ballot boot l).answer; marks = tt }
       where
         at : (answer : WriteAnswer) → AreSaid Q file [] (answers_to_write site s from ballot boot answer)
         at accepted = (tt, tt)
@@ -387,13 +394,13 @@ module _ (Q : OpId → Type 0) where
     either_keeps file false x y p q = q
 
     waits_is : (s : FileState) (ask : WaitingAsk) → FileIs s → Q ask.id → Keeps s (ask_waits s ask)
-    waits_is s ask is q = record { state = record { asks = waits_are s.asks ask is.asks q; tenure = is.tenure }; said = tt }
+    waits_is s ask is q = record { state = record { asks = waits_are s.asks ask is.asks q; tenure = is.tenure }; said = tt; marks = tt }
 
     under_is : (s : FileState) (l : LeaseState) (ask : WaitingAsk) → FileIs s → Q ask.id → Keeps s (ask_under site s l ask)
     under_is s (held h) ask is q =
         either_keeps s.kept.file.number (is_active s.primary.tenure) (ask_served site s ask) (ask_waits s ask)
-        (let served = serves_is (ground_of site s) (record { primary = s.primary; asks = s.asks; turned = quiet }) ask (waits s.asks ask) (record { asks = is.asks; tenure = is.tenure; said = tt }) (waits_are s.asks ask is.asks q) q in
-        record { state = record { asks = served.asks; tenure = served.tenure }; said = served.said })
+        (let served = serves_is (ground_of site s) (record { primary = s.primary; asks = s.asks; turned = quiet }) ask (waits s.asks ask) (record { asks = is.asks; tenure = is.tenure; said = tt; marks = tt }) (waits_are s.asks ask is.asks q) q in
+        record { state = record { asks = served.asks; tenure = served.tenure }; said = served.said; marks = served.marks })
         (waits_is s ask is q)
     under_is s (asking r) ask is q = waits_is s ask is q
     under_is s (writing r) ask is q = waits_is s ask is q
@@ -403,19 +410,20 @@ module _ (Q : OpId → Type 0) where
         r = round_starts p site.now (members_of s.kept.location)
 
         at : (o : Option Reply) → IsNoIfAny o → Keeps s (ask_without_lease site s p ask o)
-        at (Some answer) off = record { state = record { asks = is.asks; tenure = is.tenure }; said = (no_said Q s.kept.file.number [] ask.id.client ask.id.number answer off, tt) }
+        at (Some answer) off = record { state = record { asks = is.asks; tenure = is.tenure }; said = (no_said Q s.kept.file.number [] ask.id.client ask.id.number answer off, tt); marks = tt }
         at None off = either_keeps s.kept.file.number (can_ask p) _ _
             (record {
               state = record { asks = waits_are s.asks ask is.asks q; tenure = is.tenure };
               said = map_said Q s.kept.file.number [] (λ (to : NodeId). message site.node to (payload.Read s.kept.file r.ballot)) (members_of s.kept.location) (λ to. tt);
+              marks = tt;
             })
-            (record { state = is; said = tt })
+            (record { state = is; said = tt; marks = tt })
 
     rows_is : (s : FileState) (ask : WaitingAsk) → FileIs s → Q ask.id → Keeps s (ask_rows site s ask)
-    rows_is s ask is q = either_keeps s.kept.file.number (asked_already s.asks ask.id) (nothing s) (ask_under site s s.lease ask) (record { state = is; said = tt }) (under_is s s.lease ask is q)
+    rows_is s ask is q = either_keeps s.kept.file.number (asked_already s.asks ask.id) (nothing s) (ask_under site s s.lease ask) (record { state = is; said = tt; marks = tt }) (under_is s s.lease ask is q)
 
     let_in_is : (s : FileState) (id : OpId) (capability : Capability) (asked : Op) (o : Option Reply) → IsNoIfAny o → FileIs s → Q id → Keeps s (ask_let_in site s id capability asked o)
-    let_in_is s id capability asked (Some answer) off is q = record { state = record { asks = is.asks; tenure = is.tenure }; said = (no_said Q s.kept.file.number [] id.client id.number answer off, tt) }
+    let_in_is s id capability asked (Some answer) off is q = record { state = record { asks = is.asks; tenure = is.tenure }; said = (no_said Q s.kept.file.number [] id.client id.number answer off, tt); marks = tt }
     let_in_is s id capability asked None off is q = stored s.kept.location
       where
         ask : WaitingAsk
@@ -425,13 +433,13 @@ module _ (Q : OpId → Type 0) where
         rows t same its = subst (λ n. StepIs n (ask_rows site t ask)) same (rows_is t ask its q)
 
         stored : (was : Option Location) → Keeps s (and_then (steps_to (record s { used = site.now }) (keeps (view_record s capability.location was))) (λ state. ask_rows site state ask))
-        stored None = let p = rows (steps_to (record s { used = site.now }) (keeps (view_record s capability.location None))).state refl (record { asks = is.asks; tenure = is.tenure }) in record { state = p.state; said = p.said }
-        stored (Some location) = let p = rows (steps_to (record s { used = site.now }) (keeps (view_record s capability.location (Some location)))).state refl (record { asks = is.asks; tenure = is.tenure }) in record { state = p.state; said = p.said }
+        stored None = let p = rows (steps_to (record s { used = site.now }) (keeps (view_record s capability.location None))).state refl (record { asks = is.asks; tenure = is.tenure }) in record { state = p.state; said = p.said; marks = p.marks }
+        stored (Some location) = let p = rows (steps_to (record s { used = site.now }) (keeps (view_record s capability.location (Some location)))).state refl (record { asks = is.asks; tenure = is.tenure }) in record { state = p.state; said = p.said; marks = p.marks }
 
     asks_is : (s : FileState) (k : Kind) (id : OpId) (capability : Capability) (asked : Op) → FileIs s → Q id → Keeps s (ask_comes site s k id capability asked)
     unfolding ask_handled
     asks_is s kind.Replicated id capability asked is q = let_in_is s id capability asked (refusal_of site s.kept.location capability asked) (refusal_no site s.kept.location capability asked) is q
-    asks_is s kind.Striped id capability asked is q = record { state = is; said = tt }
+    asks_is s kind.Striped id capability asked is q = record { state = is; said = tt; marks = tt }
 
     -- ---- a message, and a Wake
 
@@ -439,10 +447,10 @@ module _ (Q : OpId → Type 0) where
     heard_is s (held h) from content is =
         let g = ground_of site s in
         let served = follow_is g s.primary.tenure s.asks (hears g s.primary from content) is.asks (hears_said Q g s.primary from content is.tenure) in
-        record { state = record { asks = served.asks; tenure = served.tenure }; said = served.said }
-    heard_is s (free p) from content is = record { state = is; said = tt }
-    heard_is s (asking r) from content is = record { state = is; said = tt }
-    heard_is s (writing r) from content is = record { state = is; said = tt }
+        record { state = record { asks = served.asks; tenure = served.tenure }; said = served.said; marks = served.marks }
+    heard_is s (free p) from content is = record { state = is; said = tt; marks = tt }
+    heard_is s (asking r) from content is = record { state = is; said = tt; marks = tt }
+    heard_is s (writing r) from content is = record { state = is; said = tt; marks = tt }
 
     -- a message that is an ask has come
     abbrev pub HasCome : NodeId → Payload → Type 0
@@ -456,15 +464,15 @@ module _ (Q : OpId → Type 0) where
     message_is s from (payload.Promise f ballot boot report) is q = answer_is site s.kept.file.number s from (payload.Promise f ballot boot report) is
     message_is s from (payload.Accepted f ballot boot) is q = answer_is site s.kept.file.number s from (payload.Accepted f ballot boot) is
     message_is s from (payload.Outrun f ballot seen) is q = answer_is site s.kept.file.number s from (payload.Outrun f ballot seen) is
-    message_is s from (payload.Gather f epoch) is q = record { state = record { asks = is.asks; tenure = is.tenure }; said = gathered_plain site s.kept.file.number s.kept.file s.kept.head epoch site.node from }
+    message_is s from (payload.Gather f epoch) is q = record { state = record { asks = is.asks; tenure = is.tenure }; said = gathered_plain site s.kept.file.number s.kept.file s.kept.head epoch site.node from; marks = tt }
     message_is s from (payload.Fetch f epoch object version) is q =
-        record { state = record { asks = is.asks; tenure = is.tenure }; said = fetched_plain site s.kept.file.number s.kept.file s.kept.held (site.body s.kept.file) epoch object version site.node from }
+        record { state = record { asks = is.asks; tenure = is.tenure }; said = fetched_plain site s.kept.file.number s.kept.file s.kept.held (site.body s.kept.file) epoch object version site.node from; marks = tt }
     message_is s from (payload.Stage f epoch object version bytes) is q =
-        record { state = record { asks = is.asks; tenure = is.tenure }; said = staged_plain site s.kept.file.number s.kept.file s.kept.head s.kept.held epoch object version bytes site.node from }
+        record { state = record { asks = is.asks; tenure = is.tenure }; said = staged_plain site s.kept.file.number s.kept.file s.kept.head s.kept.held epoch object version bytes site.node from; marks = tt }
     message_is s from (payload.Head f epoch head) is q =
-        record { state = record { asks = is.asks; tenure = is.tenure }; said = headed_plain site s.kept.file.number s.kept.file s.kept.head s.kept.held epoch head site.node from }
+        record { state = record { asks = is.asks; tenure = is.tenure }; said = headed_plain site s.kept.file.number s.kept.file s.kept.head s.kept.held epoch head site.node from; marks = tt }
     message_is s from (payload.Update f update) is q =
-        record { state = record { asks = is.asks; tenure = is.tenure }; said = updated_plain site s.kept.file.number s.kept.file s.kept.head update site.node from }
+        record { state = record { asks = is.asks; tenure = is.tenure }; said = updated_plain site s.kept.file.number s.kept.file s.kept.head update site.node from; marks = tt }
     message_is s from content is q = heard_is s s.lease from content is
 
     pub step_is : (s : FileState) (from : NodeId) (content : Payload) → FileIs s → HasCome from content → Keeps s (step_of_file site s from content)
@@ -477,6 +485,7 @@ module _ (Q : OpId → Type 0) where
           state = rest.state;
           said = joined_said Q s.kept.file.number (expired site s).turned (message_comes site (expired site s).state from content).turned first.said
               (subst (λ n. AreSaid Q n (message_comes site (expired site s).state from content).turned.marks (message_comes site (expired site s).state from content).turned.outs) same rest.said);
+          marks = both_marked Q s.kept.file.number (expired site s).turned.marks (message_comes site (expired site s).state from content).turned.marks first.marks (subst (λ n. AreMarked Q n (message_comes site (expired site s).state from content).turned.marks) same rest.marks);
         }
 
     renews_is : (file : ℕ) (s : FileState) (h : Held) → FileIs s → StepIs file (renews site s h)
@@ -485,8 +494,9 @@ module _ (Q : OpId → Type 0) where
         (record {
           state = record { asks = is.asks; tenure = is.tenure };
           said = map_said Q file [] (λ (to : NodeId). message site.node to (payload.Read s.kept.file (round_starts h.proposer site.now (members_of s.kept.location)).ballot)) (members_of s.kept.location) (λ to. tt);
+          marks = tt;
         })
-        (record { state = is; said = tt })
+        (record { state = is; said = tt; marks = tt })
 
     woken_is : (file : ℕ) (s : FileState) (l : LeaseState) → FileIs s → StepIs file (wakes_under_lease site s l)
     woken_is file s (held h) is =
@@ -495,10 +505,11 @@ module _ (Q : OpId → Type 0) where
         record {
           state = rest.state;
           said = joined_said Q file woke (renews site (steps_to s woke).state h).turned (said_more Q file [] woke.marks woke.outs (λ k h. absurd h) (wakes_said Q file (ground_of site s).place s.primary)) rest.said;
+          marks = both_marked Q file woke.marks (renews site (steps_to s woke).state h).turned.marks (subst (AreMarked Q file) (sym (wakes_marks (ground_of site s).place s.primary)) tt) rest.marks;
         }
-    woken_is file s (free p) is = record { state = is; said = tt }
-    woken_is file s (asking r) is = record { state = is; said = tt }
-    woken_is file s (writing r) is = record { state = is; said = tt }
+    woken_is file s (free p) is = record { state = is; said = tt; marks = tt }
+    woken_is file s (asking r) is = record { state = is; said = tt; marks = tt }
+    woken_is file s (writing r) is = record { state = is; said = tt; marks = tt }
 
     pub wake_is : (file : ℕ) (s : FileState) → FileIs s → StepIs file (wake_of_file site s)
     unfolding wake_of_file

@@ -1,5 +1,5 @@
 -- What holds of the world at every moment, and what of it stays with entries behind.
-use Rattle.std.proofs.Common.{◌≡◌, ◌≢◌, ℕ, ◌≤◌, ◌⊎◌, inl, inr, List, [], ◌∷◌, ◌++◌, map, refl, ap, subst, sym, ◌∙◌, arith, Option, Some, None}
+use Rattle.std.proofs.Common.{Bool, true, false, ◌==◌, if◌then◌else◌, ◌≡◌, ◌≢◌, ℕ, ◌≤◌, ◌⊎◌, inl, inr, List, [], ◌∷◌, ◌++◌, map, refl, ap, subst, sym, ◌∙◌, arith, Option, Some, None}
 use Rattle.std.specs.Option.{option_or}
 use Rattle.std.proofs.lemmas.Bool.Decides.{nat_tests}
 use Rattle.std.proofs.lemmas.List.{append_assoc, append-nil, map-append}
@@ -29,8 +29,9 @@ use Rattle.cluster_runs.specs.Clauses.{IsBefore, ok_entry, HasBegunOn, EndsAreAn
 use Rattle.cluster_runs.specs.World.{Node, Running, Core, osd, client, node_in}
 use Rattle.cluster_runs.specs.NodeSteps.{entry_of}
 use Rattle.world_leases.specs.View.{node_id}
+use Rattle.world_ends.specs.Acts.{acted_for, ActsHaveBegun}
 use Rattle.world_ends.proofs.Entries.{HasAnswer, begun-append, begun_on-grown, operation-grown, answer-grown, one_file}
-use Rattle.world_ends.proofs.Said.{Said, ReplySaid}
+use Rattle.world_ends.proofs.Said.{IsMarked, AreMarked, Said, ReplySaid}
 use Rattle.world_ends.proofs.PrimaryIds.{IssuedIs, ProgressIs, TenureIs}
 use Rattle.world_ends.proofs.FileIds.{IssuedAskIs, FileIs}
 use Rattle.world_ends.proofs.OsdIds.{FilesAre, EndsNone, NoneEnds, IsTold}
@@ -38,14 +39,16 @@ use Rattle.world_ends.proofs.Calls.{IsAnswered, ReplyIs, ContentIs, CallIs, Outc
 
 -- ---- the trace
 
--- Each call that ended well was answered so before.
-abbrev pub AreAnswered : List Entry → Type 0
-AreAnswered es = (before : List Entry) (id : OpId) (count : ℕ) (bytes : List ℕ) → IsBefore before (ok_entry id count bytes) es → IsAnswered before id count bytes
+-- What stands behind an entry: a call ends well only as it was answered; what is issued, committed or answered has begun.
+abbrev pub EntryIs : List Entry → Entry → Type 0
+EntryIs es (entry.Done caller number how) = OutcomeIs es (id_of caller number) how
+EntryIs es (entry.Issue node file count id) = HasBegunOn file es id
+EntryIs es (entry.Commit node file count id) = HasBegunOn file es id
+EntryIs es (entry.Answer node file id count bytes) = HasBegunOn file es id
+EntryIs es _ = Unit {0}
 
--- an entry that ends a call well, behind these
-abbrev pub EndIs : List Entry → Entry → Type 0
-EndIs es (entry.Done caller number how) = OutcomeIs es (id_of caller number) how
-EndIs es _ = Unit {0}
+abbrev pub EntriesAre : List Entry → Type 0
+EntriesAre es = (before : List Entry) (e : Entry) → IsBefore before e es → EntryIs before e
 
 push_split : {X : Type 0} (xs : List X) (y : X) (before after : List X) (x : X) → xs ++ y ∷ [] ≡ before ++ x ∷ after → ((xs ≡ before) × (y ≡ x)) ⊎ ((rest : List X) × (xs ≡ before ++ x ∷ rest))
 push_split [] y [] after x e = inl (refl, cc)
@@ -60,36 +63,44 @@ push_split {X} (a ∷ xs) y (b ∷ bs) after x e =
       | inr h ↦ (let same : xs ≡ bs ++ x ∷ h.0 = h.1 in inr (h.0, cc))
     ]
 
-pub answered-push : (es : List Entry) (e : Entry) → AreAnswered es → EndIs es e → AreAnswered (es ++ e ∷ [])
-answered-push es e are is before id count bytes there =
-    elim (push_split es e before there.0 (ok_entry id count bytes) there.1) [
-      | inl h ↦ subst (λ (xs : List Entry). IsAnswered xs id count bytes) h.0 (subst (EndIs es) h.1 is)
-      | inr h ↦ are before id count bytes h
+pub entries-push : (es : List Entry) (e : Entry) → EntriesAre es → EntryIs es e → EntriesAre (es ++ e ∷ [])
+entries-push es e are is before x there =
+    elim (push_split es e before there.0 x there.1) [
+      | inl h ↦ subst (λ (xs : List Entry). EntryIs xs x) h.0 (subst (EntryIs es) h.1 is)
+      | inr h ↦ are before x h
     ]
 
-pub answered-none : AreAnswered []
-answered-none before id count bytes there = absurd (nothing before (ok_entry id count bytes) there.0 there.1)
+pub entries-none : EntriesAre []
+entries-none before e there = absurd (nothing before e there.0 there.1)
   where
     nothing : (before : List Entry) (e : Entry) (after : List Entry) → [] ≡ before ++ e ∷ after → ⊥
     nothing [] e after h = absurd cc
     nothing (x ∷ xs) e after h = absurd cc
 
--- marks that end no call
-plain_end : (es : List Entry) (node : NodeId) (m : Mark) → EndsNone m → EndIs es (entry_of node m)
-plain_end es node (mark.Active k count write) is = tt
-plain_end es node (mark.Issue k count write) is = tt
-plain_end es node (mark.Commit k count write) is = tt
-plain_end es node (mark.Answer k write count bytes) is = tt
-plain_end es node (mark.Begin k c) is = tt
-plain_end es node (mark.Done k how) is = absurd is
-plain_end es node (mark.File k location) is = tt
-plain_end es node (mark.Held k end) is = tt
+-- marks of an OSD: they end no call, and what they name has begun
+mark_is : (es more : List Entry) (file : ℕ) (node : NodeId) (m : Mark) → EndsNone m → IsMarked (λ (id : OpId). HasBegunOn file es id) file m → EntryIs (es ++ more) (entry_of node m)
+mark_is es more file node (mark.Active k count write) none is = tt
+mark_is es more file node (mark.Issue k count write) none is = begun_on-grown k es more write (subst (λ (f : ℕ). HasBegunOn f es write) (sym is.0) is.1)
+mark_is es more file node (mark.Commit k count write) none is = begun_on-grown k es more write (subst (λ (f : ℕ). HasBegunOn f es write) (sym is.0) is.1)
+mark_is es more file node (mark.Answer k write count bytes) none is = begun_on-grown k es more write (subst (λ (f : ℕ). HasBegunOn f es write) (sym is.0) is.1)
+mark_is es more file node (mark.Begin k c) none is = tt
+mark_is es more file node (mark.Done k how) none is = absurd none
+mark_is es more file node (mark.File k location) none is = tt
+mark_is es more file node (mark.Held k end) none is = tt
 
-pub answered-marks : (node : NodeId) (es : List Entry) (ms : List Mark) → AreAnswered es → NoneEnds ms → AreAnswered (es ++ map (entry_of node) ms)
-answered-marks node es [] are none = subst AreAnswered (sym (append-nil es)) are
-answered-marks node es (m ∷ ms) are none =
-    subst AreAnswered (append_assoc es (entry_of node m ∷ []) (map (entry_of node) ms))
-    (answered-marks node (es ++ entry_of node m ∷ []) ms (answered-push es (entry_of node m) are (plain_end es node m none.0)) none.1)
+marks_are : (file : ℕ) (node : NodeId) (es more : List Entry) (ms : List Mark) → EntriesAre (es ++ more) → NoneEnds ms → AreMarked (λ (id : OpId). HasBegunOn file es id) file ms
+    → EntriesAre ((es ++ more) ++ map (entry_of node) ms)
+marks_are file node es more [] are none marked = subst EntriesAre (sym (append-nil (es ++ more))) are
+marks_are file node es more (m ∷ ms) are none marked =
+    let e = entry_of node m in
+    let here : EntriesAre ((es ++ more) ++ entry_of node m ∷ []) = entries-push (es ++ more) e are (mark_is es more file node m none.0 marked.0) in
+    let rest = marks_are file node es (more ++ entry_of node m ∷ []) ms (subst EntriesAre (append_assoc es more (e ∷ [])) here) none.1 marked.1 in
+    subst EntriesAre (append_assoc (es ++ more) (e ∷ []) (map (entry_of node) ms)) (subst (λ (xs : List Entry). EntriesAre (xs ++ map (entry_of node) ms)) (sym (append_assoc es more (e ∷ []))) rest)
+
+pub entries-marks : (file : ℕ) (node : NodeId) (es : List Entry) (ms : List Mark) → EntriesAre es → NoneEnds ms → AreMarked (λ (id : OpId). HasBegunOn file es id) file ms → EntriesAre (es ++ map (entry_of node) ms)
+entries-marks file node es ms are none marked =
+    subst (λ (xs : List Entry). EntriesAre (xs ++ map (entry_of node) ms)) (append-nil es)
+    (marks_are file node es [] ms (subst EntriesAre (sym (append-nil es)) are) none marked)
 
 -- no call of this client has begun from this number on
 abbrev pub FreshFrom : List Entry → NodeId → ℕ → Type 0
@@ -251,7 +262,7 @@ pub record EndsFit (nodes : List Node) (es : List Entry) (sent : List Msg) : Typ
   pub nodes_are : (n : ℕ) (node : Node) → node_in nodes n ≡ Some node → UpIs es node.id node.up
   pub strangers : (n : ℕ) → node_in nodes n ≡ None → FreshFrom es (node_id n) 0
   pub messages : (m : Msg) → Has m sent → ContentIs es m.from m.to m.payload
-  pub ends : AreAnswered es
+  pub ends : EntriesAre es
 
 pub core-grown : (es more : List Entry) (node : NodeId) (core : Core) → Quiet more node → CoreIs es node core → CoreIs (es ++ more) node core
 core-grown es more node (osd s) quiet is = files-grown es more s.files is
@@ -262,12 +273,38 @@ up-grown es more node None quiet is = tt
 up-grown es more node (Some r) quiet is = core-grown es more node r.core quiet is
 
 -- the clause of a file
-pub ends_answered : (es : List Entry) (file : ℕ) → AreAnswered es → EndsAreAnswered file es
+pub ends_answered : (es : List Entry) (file : ℕ) → EntriesAre es → EndsAreAnswered file es
 ends_answered es file are before id count bytes there on_file =
-    let is = are before id count bytes there in
+    let is : IsAnswered before id count bytes = are before (ok_entry id count bytes) there in
     let a = is.1 in
     let in_before = begun_on-grown is.0 a.front (entry.Answer a.node is.0 id count bytes ∷ a.rest) id a.has_begun in
     let in_all = begun_on-grown is.0 before (ok_entry id count bytes ∷ there.0) id (subst (λ (xs : List Entry). HasBegunOn is.0 xs id) (sym a.split) in_before) in
     let same = one_file is.0 file es id (subst (λ (xs : List Entry). HasBegunOn is.0 xs id) (sym there.1) in_all) on_file in
     let here = subst (λ (f : ℕ). HasAnswer f before id count bytes) same a in
     (here.front, here.node, (here.rest, here.split), here.has_begun)
+
+-- what is issued, committed or answered on a file has begun on it
+pub acts_begun : (es : List Entry) (file : ℕ) → EntriesAre es → ActsHaveBegun file es
+acts_begun es file are before e id there acts = at e (are before e there) acts
+  where
+    same : (b : Bool) (f : ℕ) (write : OpId) → (f == file) ≡ b → HasBegunOn f before write → (if b then Some write else None) ≡ Some id → HasBegunOn file before id
+    same false f write test begun is = absurd cc
+    same true f write test begun is =
+        let here : write ≡ id = cc in
+        let of_file : f ≡ file = grind (arith, nat_tests) in
+        subst (HasBegunOn file before) here (subst (λ (k : ℕ). HasBegunOn k before write) of_file begun)
+
+    at : (x : Entry) → EntryIs before x → acted_for file x ≡ Some id → HasBegunOn file before id
+    at (entry.Issue node f count write) is acts = same (f == file) f write refl is acts
+    at (entry.Commit node f count write) is acts = same (f == file) f write refl is acts
+    at (entry.Answer node f write count bytes) is acts = same (f == file) f write refl is acts
+    at (entry.Times lease drift) is acts = absurd cc
+    at (entry.File number location) is acts = absurd cc
+    at (entry.Clock node clock) is acts = absurd cc
+    at (entry.Tick count) is acts = absurd cc
+    at (entry.Up node boot clock) is acts = absurd cc
+    at (entry.Down node clock how) is acts = absurd cc
+    at (entry.Begin caller number c) is acts = absurd cc
+    at (entry.Held node f end) is acts = absurd cc
+    at (entry.Active node f count write) is acts = absurd cc
+    at (entry.Done caller number how) is acts = absurd cc

@@ -34,7 +34,7 @@ use Rattle.cluster_runs.specs.Clauses.{HasBegunOn}
 use Rattle.world_leases.proofs.Lists.{has_in, has_left, has_right}
 use Rattle.world_leases.proofs.Files.{file_after}
 use Rattle.world_leases.proofs.Rising.{with_file_has}
-use Rattle.world_ends.proofs.Said.{Said, one_more, said_of}
+use Rattle.world_ends.proofs.Said.{Said, AreMarked, one_more, said_of}
 use Rattle.world_ends.proofs.FileIds.{FileIs, StepIs, HasCome, none_are, expired_is, step_is, wake_is}
 
 -- ---- marks that end no call
@@ -83,6 +83,7 @@ pub record OsdIs (es : List Entry) (files : List FileState) (turned : Turned) : 
   pub files_are : FilesAre es files
   pub told : (m : Msg) → Has m turned.outs → IsTold es turned.marks m
   pub plain : NoneEnds turned.marks
+  pub marked : (file : ℕ) × AreMarked (λ (id : OpId). HasBegunOn file es id) file turned.marks
 
 told_more : (es : List Entry) (marks more : List Mark) (m : Msg) → ((k : Mark) → Has k marks → Has k more) → IsTold es marks m → IsTold es more m
 told_more es marks more m within told = (told.0, one_more (λ (id : OpId). HasBegunOn told.0 es id) told.0 marks more m.to m.payload within told.1)
@@ -110,7 +111,7 @@ come_as es site file f from _ concerns same begun = tt
 
 message_is : (es : List Entry) (site : Site) (awake : Awake) (files : List FileState) (msg : Msg) (o : Option FileId) → file_concerned msg.payload ≡ o → FilesAre es files → HasBegun es msg.from msg.payload
     → OsdIs es (message_handled site awake files msg o).files (message_handled site awake files msg o).turned
-message_is es site awake files msg None concerns are begun = record { files_are = are; told = λ m h. absurd h; plain = tt }
+message_is es site awake files msg None concerns are begun = record { files_are = are; told = λ m h. absurd h; plain = tt; marked = (0, tt) }
 message_is es site awake files msg (Some file) concerns are begun =
     let s = file_at awake files file in
     let step = step_of_file site s msg.from msg.payload in
@@ -127,6 +128,7 @@ message_is es site awake files msg (Some file) concerns are begun =
       ];
       told = λ m h. ((file_at awake files file).kept.file.number, said_of (λ (id : OpId). HasBegunOn (file_at awake files file).kept.file.number es id) (file_at awake files file).kept.file.number step.turned.marks step.turned.outs m is.said h);
       plain = marks_end_none s.kept.file (settled_row site s).lease step.turned.marks (step_marks site s msg.from msg.payload);
+      marked = ((file_at awake files file).kept.file.number, is.marks);
     }
 
 -- ---- a Wake
@@ -178,6 +180,7 @@ woken_is es site files are =
             ]
       ];
       plain = subst NoneEnds (sym (woken_quiet site files).0) tt;
+      marked = (0, subst (AreMarked (λ (id : OpId). HasBegunOn 0 es id) 0) (sym (woken_quiet site files).0) tt);
     }
 
 -- ---- any event
@@ -191,7 +194,7 @@ handled_is : (es : List Entry) (site : Site) (awake : Awake) (files : List FileS
     → OsdIs es (event_handled site awake files happens).files (event_handled site awake files happens).turned
 handled_is es site awake files (event.Deliver msg) are begun = message_is es site awake files msg (file_concerned msg.payload) refl are begun
 handled_is es site awake files event.Wake are begun = woken_is es site files are
-handled_is es site awake files (event.Call call) are begun = record { files_are = are; told = λ m h. absurd h; plain = tt }
+handled_is es site awake files (event.Call call) are begun = record { files_are = are; told = λ m h. absurd h; plain = tt; marked = (0, tt) }
 
 pub osd_step_is : (es : List Entry) (outside : Outside) (s : OsdState) (reading : ℕ) (happens : Event) → FilesAre es s.files → EventHasBegun es happens
     → OsdIs es (step_of_osd outside s reading happens).osd.files (step_of_osd outside s reading happens).turned
@@ -199,7 +202,7 @@ unfolding step_of_osd
 osd_step_is es outside s reading happens are begun = at (awake_at s.started (max reading s.last))
   where
     at : (a : Option Awake) → OsdIs es (handled_awake outside s (max reading s.last) happens a).osd.files (handled_awake outside s (max reading s.last) happens a).turned
-    at None = record { files_are = are; told = λ m h. absurd h; plain = tt }
+    at None = record { files_are = are; told = λ m h. absurd h; plain = tt; marked = (0, tt) }
     at (Some awake) =
         let is = handled_is es (site_of outside awake (max reading s.last)) awake s.files happens are begun in
-        record { files_are = is.files_are; told = is.told; plain = is.plain }
+        record { files_are = is.files_are; told = is.told; plain = is.plain; marked = is.marked }

@@ -32,11 +32,12 @@ use Rattle.world_leases.specs.View.{node_id, messages}
 use Rattle.world_leases.proofs.Lists.{has_in, has_left, has_right, has_map}
 use Rattle.world_leases.proofs.Tables.{nobody}
 use Rattle.world_leases.proofs.Walk.{IsKept, NodeStep, of_osd, of_client, of_call, Reaches, same_messages, run_kept, NextIs, steps_into, so_far_kept}
+use Rattle.world_ends.specs.Acts.{ActsHaveBegun}
 use Rattle.world_ends.specs.Asks.{HasBegunSo, AsksHaveBegun, NextHasBegun}
 use Rattle.world_ends.proofs.FileIds.{FileIs}
 use Rattle.world_ends.proofs.OsdIds.{FilesAre, HasBegun, EventHasBegun, new_is}
 use Rattle.world_ends.proofs.Calls.{ContentIs, EventIs, client_step_is}
-use Rattle.world_ends.proofs.Growth.{UpIs, CoreIs, EndsFit, answered-none, fresh-none, ends_answered}
+use Rattle.world_ends.proofs.Growth.{UpIs, CoreIs, EndsFit, entries-none, fresh-none, ends_answered, acts_begun}
 use Rattle.world_ends.proofs.Steps.{Fits, Owes, told_fit, changed_fit, same_nodes, put_fit, add_fit, tick_fit, stepped_fits, osd_owes, client_owes, fits_so, call_owes}
 
 -- ---- any step of a node
@@ -120,7 +121,7 @@ nothing_fits =
       nodes_are = λ n node is. absurd (let none : None ≡ Some node = sym (nobody n) ∙ is in cc);
       strangers = λ n none. fresh-none (node_id n) 0;
       messages = λ m h. absurd h;
-      ends = answered-none;
+      ends = entries-none;
     }
 
 ends_kept : IsKept Fits
@@ -177,6 +178,18 @@ parts_answered room lines l file entries are allowed into =
     let fit : Fits (so_far (steps into.1.0 room (begins (run_of room lines) l))) []
     = so_far_kept Fits ends_kept (steps into.1.0 room (begins (run_of room lines) l)) (steps_into Fits ends_kept room lines l into.1.0 are allowed) in
     subst (EndsAreAnswered file) into.2 (subst (λ (part : World). EndsAreAnswered file part.entries) into.1.2 (ends_answered part.entries file fit.ends))
+
+-- ---- acts
+
+pub runs_acts_begun : (room : Room) (lines : List Line) (file : ℕ) → AreLines lines → ActsHaveBegun file (run_of room lines).entries
+runs_acts_begun room lines file are = acts_begun (run_of room lines).entries file (run_kept Fits ends_kept room lines are).ends
+
+pub parts_acts_begun : (room : Room) (lines : List Line) (l : Line) (file : ℕ) (entries : List Entry) → AreLines (lines ++ l ∷ []) → refusal (run_of room lines) l ≡ None → IsRunInto room lines l entries → ActsHaveBegun file entries
+parts_acts_begun room lines l file entries are allowed into =
+    let part = so_far (steps into.1.0 room (begins (run_of room lines) l)) in
+    let fit : Fits (so_far (steps into.1.0 room (begins (run_of room lines) l))) []
+    = so_far_kept Fits ends_kept (steps into.1.0 room (begins (run_of room lines) l)) (steps_into Fits ends_kept room lines l into.1.0 are allowed) in
+    subst (ActsHaveBegun file) into.2 (subst (λ (part : World). ActsHaveBegun file part.entries) into.1.2 (acts_begun part.entries file fit.ends))
 
 -- ---- asks
 

@@ -1,5 +1,5 @@
 -- Of what an OSD tells clients, and of which asks: each Ok is marked, and of an ask that has come.
-use Rattle.std.proofs.Common.{ℕ, inl, inr, List, [], ◌∷◌, ◌++◌, map, subst, sym, Option, Some, None}
+use Rattle.std.proofs.Common.{◌≡◌, ℕ, inl, inr, List, [], ◌∷◌, ◌++◌, map, subst, sym, Option, Some, None}
 use Rattle.std.specs.Prelude.{flat_map}
 use Rattle.xt_base.specs.declared.ids.NodeId.{NodeId}
 use Rattle.xt_base.specs.declared.ids.FileId.{FileId}
@@ -47,7 +47,22 @@ abbrev pub AreSaid : (OpId → Type 0) → ℕ → List Mark → List Msg → Ty
 AreSaid Q file marks [] = Unit {0}
 AreSaid Q file marks (m ∷ ms) = Said Q file marks m.to m.payload × AreSaid Q file marks ms
 
+-- a mark of an OSD: what is issued, committed or answered is of an ask that has come, on this file
+abbrev pub IsMarked : (OpId → Type 0) → ℕ → Mark → Type 0
+IsMarked Q file (mark.Issue f count id) = (f ≡ file) × Q id
+IsMarked Q file (mark.Commit f count id) = (f ≡ file) × Q id
+IsMarked Q file (mark.Answer f id count bytes) = (f ≡ file) × Q id
+IsMarked Q file _ = Unit {0}
+
+abbrev pub AreMarked : (OpId → Type 0) → ℕ → List Mark → Type 0
+AreMarked Q file [] = Unit {0}
+AreMarked Q file (m ∷ ms) = IsMarked Q file m × AreMarked Q file ms
+
 module _ (Q : OpId → Type 0) (file : ℕ) where
+  pub both_marked : (xs ys : List Mark) → AreMarked Q file xs → AreMarked Q file ys → AreMarked Q file (xs ++ ys)
+  both_marked [] ys p q = q
+  both_marked (x ∷ xs) ys p q = (p.0, both_marked xs ys p.1 q)
+
   pub no_said : (marks : List Mark) (to : NodeId) (number : ℕ) (answer : Reply) → IsNo answer → ReplySaid Q file marks to number answer
   no_said marks to number (reply.Ok count size bytes) is = absurd is
   no_said marks to number (reply.NoLease end) is = tt

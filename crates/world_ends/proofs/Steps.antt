@@ -39,7 +39,7 @@ use Rattle.world_leases.proofs.Frame.{next_node}
 use Rattle.world_ends.proofs.Entries.{begun-append}
 use Rattle.world_ends.proofs.OsdIds.{FilesAre, EventHasBegun, osd_step_is}
 use Rattle.world_ends.proofs.Calls.{ContentIs, CallIs, Ending, silent, ended, ClientStepIs}
-use Rattle.world_ends.proofs.Growth.{AreAnswered, EndIs, FreshFrom, Quiet, UpIs, CoreIs, ClientIs, EndsFit, answered-push, answered-marks, fresh-grown, quiet-none, quiet-one, quiet-marks, files-grown, call-grown, content-grown, up-grown, told_is}
+use Rattle.world_ends.proofs.Growth.{EntriesAre, EntryIs, FreshFrom, Quiet, UpIs, CoreIs, ClientIs, EndsFit, entries-push, entries-marks, fresh-grown, quiet-none, quiet-one, quiet-marks, files-grown, call-grown, content-grown, up-grown, told_is}
 
 abbrev pub Fits : World → List Msg → Type 0
 Fits w own = EndsFit w.nodes w.entries (own ++ messages w)
@@ -57,7 +57,7 @@ pub record NodesFit (nodes after : List Node) (es : List Entry) : Type 0 where
 -- an entry that begins and ends no call
 pub record IsInert (e : Entry) : Type 0 where
   pub begins : (id : OpId) → call_begun id e ≡ None
-  pub ends : (es : List Entry) → EndIs es e
+  pub ends : (es : List Entry) → EntryIs es e
 
 pub told_fit : (nodes after : List Node) (es : List Entry) (sent : List Msg) (e : Entry) → IsInert e → NodesFit nodes after es → EndsFit nodes es sent → EndsFit after (es ++ e ∷ []) sent
 told_fit nodes after es sent e inert fits fit =
@@ -65,7 +65,7 @@ told_fit nodes after es sent e inert fits fit =
       nodes_are = λ n x is. up-grown es (e ∷ []) x.id x.up (quiet-one e x.id (λ k. inert.begins (id_of x.id k))) (fits.each n x is);
       strangers = λ n none. fresh-grown es (e ∷ []) (node_id n) 0 (quiet-one e (node_id n) (λ k. inert.begins (id_of (node_id n) k))) (fits.strangers n none);
       messages = λ m h. content-grown es (e ∷ []) m.from m.to m.payload (fit.messages m h);
-      ends = answered-push es e fit.ends (inert.ends es);
+      ends = entries-push es e fit.ends (inert.ends es);
     }
 
 pub changed_fit : (nodes after : List Node) (es : List Entry) (sent : List Msg) → NodesFit nodes after es → EndsFit nodes es sent → EndsFit after es sent
@@ -128,7 +128,7 @@ tick_fit nodes es sent count fit = record { each = λ n x is. each n x (node_in 
 pub record Owes (es : List Entry) (node : NodeId) (core : Core) (turned : Turned) : Type 0 where
   pub core_is : CoreIs (es ++ map (entry_of node) turned.marks) node core
   pub sent : (m : Msg) → Has m turned.outs → ContentIs (es ++ map (entry_of node) turned.marks) m.from m.to m.payload
-  pub ends : AreAnswered (es ++ map (entry_of node) turned.marks)
+  pub ends : EntriesAre (es ++ map (entry_of node) turned.marks)
 
 -- a message after a step is one of the step's, or was there
 came : (own was outs : List Msg) (w : World) (node : NodeId) (nodes : List Node) (m : Msg) → ((k : Msg) → Has k own → Has k was)
@@ -185,7 +185,7 @@ stepped_fits w was own node r next turned outs within fewer found owes fit =
 
 -- ---- what each step owes
 
-pub osd_owes : (es : List Entry) (node : Node) (s : OsdState) (reading : ℕ) (happens : Event) → AreAnswered es → FilesAre es s.files → EventHasBegun es happens
+pub osd_owes : (es : List Entry) (node : Node) (s : OsdState) (reading : ℕ) (happens : Event) → EntriesAre es → FilesAre es s.files → EventHasBegun es happens
     → Owes es node.id (osd (step_of_osd (outside_of node.kept) s reading happens).osd) (step_of_osd (outside_of node.kept) s reading happens).turned
 osd_owes es node s reading happens answered are begun =
     let step = step_of_osd (outside_of node.kept) s reading happens in
@@ -193,7 +193,7 @@ osd_owes es node s reading happens answered are begun =
     record {
       core_is = files-grown es (map (entry_of node.id) step.turned.marks) step.osd.files is.files_are;
       sent = λ m h. told_is es node.id step.turned.marks m (is.told m h);
-      ends = answered-marks node.id es step.turned.marks answered is.plain;
+      ends = entries-marks is.marked.0 node.id es step.turned.marks answered is.plain is.marked.1;
     }
 
 -- what a client marks on an event begins no call
@@ -202,12 +202,12 @@ ending_quiet es node marks (silent none) = subst (λ (ms : List Mark). Quiet (ma
 ending_quiet es node marks (ended number how is answered) =
     subst (λ (ms : List Mark). Quiet (map (entry_of node) ms) node) (sym is) (quiet-one (entry.Done node number how) node (λ k. refl))
 
-ending_answered : (es : List Entry) (node : NodeId) (marks : List Mark) → AreAnswered es → Ending es node marks → AreAnswered (es ++ map (entry_of node) marks)
-ending_answered es node marks are (silent none) = subst (λ (ms : List Mark). AreAnswered (es ++ map (entry_of node) ms)) (sym none) (subst AreAnswered (sym (append-nil es)) are)
+ending_answered : (es : List Entry) (node : NodeId) (marks : List Mark) → EntriesAre es → Ending es node marks → EntriesAre (es ++ map (entry_of node) marks)
+ending_answered es node marks are (silent none) = subst (λ (ms : List Mark). EntriesAre (es ++ map (entry_of node) ms)) (sym none) (subst EntriesAre (sym (append-nil es)) are)
 ending_answered es node marks are (ended number how is answered) =
-    subst (λ (ms : List Mark). AreAnswered (es ++ map (entry_of node) ms)) (sym is) (answered-push es (entry.Done node number how) are answered)
+    subst (λ (ms : List Mark). EntriesAre (es ++ map (entry_of node) ms)) (sym is) (entries-push es (entry.Done node number how) are answered)
 
-pub client_owes : (es : List Entry) (node : NodeId) (c : ClientState) (step : Step ClientState) → AreAnswered es → FreshFrom es node c.next → ClientStepIs es node c.next step → Owes es node (client step.state) step.turned
+pub client_owes : (es : List Entry) (node : NodeId) (c : ClientState) (step : Step ClientState) → EntriesAre es → FreshFrom es node c.next → ClientStepIs es node c.next step → Owes es node (client step.state) step.turned
 client_owes es node c step answered fresh is =
     let more = map (entry_of node) step.turned.marks in
     let quiet = ending_quiet es node step.turned.marks is.marks in
@@ -259,7 +259,7 @@ none_begun id es e none is = begun-append id es (e ∷ []) ∙ at (begun id es) 
     at None (Some x) none is = absurd cc
     at (Some y) p none is = absurd cc
 
-pub call_owes : (es : List Entry) (node : NodeId) (times : TimeSettings) (c : ClientState) (reading : ℕ) (capability : Capability) (k : Call) (asked : Op) → AreAnswered es → ClientIs es node c
+pub call_owes : (es : List Entry) (node : NodeId) (times : TimeSettings) (c : ClientState) (reading : ℕ) (capability : Capability) (k : Call) (asked : Op) → EntriesAre es → ClientIs es node c
     → called_file k ≡ Some capability.file.number → operation_of k ≡ Some asked → FitsOp asked
     → (let step = call_of_client node times c reading capability k asked in Owes es node (client step.state) step.turned)
 unfolding call_of_client
@@ -277,7 +277,7 @@ call_owes es node times c reading capability k asked answered is of_file does fi
 
     at : (b : Bool) → (let step = (if b then begins_call (record { node = node; times = times; now = max reading c.last }) (record c { last = max reading c.last }) capability k asked else stays ClientState (record c { last = max reading c.last })) in
         Owes es node (client step.state) step.turned)
-    at true = record { core_is = ((has_begun, fits), fresh); sent = sent; ends = answered-push es (entry.Begin node c.next k) answered tt }
+    at true = record { core_is = ((has_begun, fits), fresh); sent = sent; ends = entries-push es (entry.Begin node c.next k) answered tt }
       where
         sent : (m : Msg) → Has m (begins_call (record { node = node; times = times; now = max reading c.last }) (record c { last = max reading c.last }) capability k asked).turned.outs → ContentIs (es ++ entry.Begin node c.next k ∷ []) m.from m.to m.payload
         sent m (inl e) = subst (λ (x : Msg). ContentIs (es ++ entry.Begin node c.next k ∷ []) x.from x.to x.payload) (sym e) (has_begun, fits)
@@ -286,5 +286,5 @@ call_owes es node times c reading capability k asked answered is of_file does fi
         record {
           core_is = (subst (λ (xs : List Entry). CallIs xs node c.running) (sym (append-nil es)) is.0, subst (λ (xs : List Entry). FreshFrom xs node c.next) (sym (append-nil es)) is.1);
           sent = λ m h. absurd h;
-          ends = subst AreAnswered (sym (append-nil es)) answered;
+          ends = subst EntriesAre (sym (append-nil es)) answered;
         }

@@ -14,6 +14,7 @@ ghost use Rattle.cluster_runs.specs.Bounds.{AreLines};
 ghost use Rattle.cluster_runs.specs.Runs.{run_of, IsRunInto};
 ghost use Rattle.cluster_runs.specs.Lines.{begins, steps};
 ghost use Rattle.cluster_runs.specs.Clauses.{AreOnce, AnswersShow, EndsAreAnswered, AreFresh};
+ghost use Rattle.world_ends.specs.Acts.{ActsHaveBegun};
 ghost use Rattle.world_ends.specs.Asks.{AsksHaveBegun, NextHasBegun};
 
 /// Every ask that was ever sent is of a call that has begun on its file: it asks what that call does, within its limits. So it is in
@@ -21,6 +22,13 @@ ghost use Rattle.world_ends.specs.Asks.{AsksHaveBegun, NextHasBegun};
 pub fn asks_have_begun()
     ensures whole { (room : Room) (lines : List Line) → AreLines lines → AsksHaveBegun (run_of room lines) [] }
     ensures steps { (room : Room) (lines : List Line) (l : Line) (k : ℕ) → AreLines (lines ++ l ∷ []) → refusal (run_of room lines) l ≡ None → NextHasBegun (steps k room (begins (run_of room lines) l)) }
+{}
+
+/// A write that is issued or committed on a file, and a call that is answered on it, had begun on that file before: in every run of any
+/// lines, and behind some steps of a line more.
+pub fn acts_have_begun()
+    ensures whole { (room : Room) (lines : List Line) (file : ℕ) → AreLines lines → ActsHaveBegun file (run_of room lines).entries }
+    ensures part { (room : Room) (lines : List Line) (l : Line) (file : ℕ) (entries : List Entry) → AreLines (lines ++ l ∷ []) → refusal (run_of room lines) l ≡ None → IsRunInto room lines l entries → ActsHaveBegun file entries }
 {}
 
 /// A call on a file that ends well, with a count and bytes, was answered so on that file before, and had begun on it before that
