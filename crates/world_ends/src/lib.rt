@@ -1,8 +1,8 @@
-//! The ends of calls in the world: what a client is told was answered so by an OSD before, behind the beginning of the call; and where
-//! each write stands once in the order and answers show the file, the ends of calls are fresh.
+//! The ends of calls in the world: what an OSD is asked, and what it acts for, has begun; what a client is told was answered so by an
+//! OSD before; and where each write stands once in the order and answers show the file, the ends of calls are fresh.
 //!
-//! The first is said of every list of lines and every room, and of a line that ended early. The second is said of the trace alone: it
-//! is the order of what began, was answered and ended.
+//! All but the last is said of every list of lines and every room, and of a line that ended early. The last is said of the trace
+//! alone: it is the order of what began, was answered and ended.
 #![tactic(auto)]
 
 ghost use Rattle.std.specs.Prelude.{◌≡◌, ℕ, None, List, [], ◌∷◌, ◌++◌};
