@@ -65,6 +65,16 @@ module _ (file : FileId) (w : World) (node : Node) (found : node_in w.nodes node
       ∙ (ap (λ (s : Option FileState). at_node n (kept_seen file (one_more node.kept rec) s) (nodes_seen file w)) (sym is)
       ∙ sym (put_seen file w (record node { kept = one_more node.kept rec; up = up }) node found))))
 
+  -- it stops, and keeps a record that isn't of the file, or none
+  pub lost : (rec : Option Record) → IsNotOf file rec
+      → at_node node.id.0 (keeping (v.nodes node.id.0) None None) v.nodes ≡ nodes_seen file (put w (record node { kept = one_more node.kept rec; up = None }))
+  lost rec away =
+      let n = node.id.0 in
+      own None None None refl tt
+      ∙ (put_seen file w (record node { up = None }) node found
+      ∙ (ap (λ (x : FileNode). at_node n x (nodes_seen file w)) (sym (keeps_other file node.kept None rec away))
+      ∙ sym (put_seen file w (record node { kept = one_more node.kept rec; up = None }) node found)))
+
 -- ---- all nodes
 
 -- a node is declared that doesn't run as an OSD
