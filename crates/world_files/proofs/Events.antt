@@ -1,6 +1,6 @@
 -- what the nodes of a file do where a node of the world steps, stops or starts
 use Rattle.std.proofs.Common.{◌≡◌, ℕ, inl, inr, List, [], ◌∷◌, ◌++◌, map, refl, ap, sym, ◌∙◌, subst, Option, Some, None, Bool, true, false}
-use Rattle.std.specs.Prelude.{cond, max}
+use Rattle.std.specs.Prelude.{cond, max, ◌⊎◌}
 use Rattle.xt_base.specs.declared.ids.FileId.{FileId}
 use Rattle.xt_base.specs.declared.ids.Boot.{Boot}
 use Rattle.xt_base.specs.declared.event.Event.{Event}
@@ -153,3 +153,66 @@ silent_rest file w node r s happens outs v its silent sees =
 pub stops_show : (file : FileId) (w : World) (node : Node) (r : Running) (how : Halt) (x : FileState) (site : Site) (happens : Happening) (v : FileWorld)
     → node_in w.nodes node.id.0 ≡ Some node → Sees file w v → Sees file (halted w node r how) (after v (acts node.id.0 x site happens stops_lost))
 stops_show file w node r how x site happens v found sees = lost file w node found v sees None tt
+
+-- ---- a Wake
+
+pub wakes_show : (file : FileId) (w : World) (node : Node) (r : Running) (s : OsdState) (outs : List Msg) (v : FileWorld) → RunsAs w node r s → IsAwake r s → Sees file w v
+    → Sees file (stepped w node r s event.Wake outs) (after v (acts node.id.0 (file_seen file s) (site_at node r s) wake goes_on))
+    ⊎ Sees file (stepped w node r s event.Wake outs) v
+wakes_show file w node r s outs v its awake sees = at (at_map (λ (x : FileState). (wake_step site x).state) (awake_as s.started) s.files file (λ x. ap (λ (row : FileRow). row.file) (wake_step_kept site x)))
+  where
+    site : Site
+    site = site_at node r s
+
+    whole : OsdStep
+    whole = step_at node r s event.Wake
+
+    is_whole : whole ≡ woke_all (outside_of node.kept) s (max r.clock s.last) (awake_as s.started)
+    is_whole = woken_step (outside_of node.kept) s r.clock (awake_as s.started) awake
+
+    none : whole.turned.rec ≡ None
+    none = ap (λ (o : OsdStep). o.turned.rec) is_whole ∙ (woken_quiet site s.files).1
+
+    same_start : whole.osd.started ≡ s.started
+    same_start = ap (λ (o : OsdStep). o.osd.started) is_whole
+
+    files_are : file_seen file whole.osd ≡ file_at (awake_as s.started) (map (λ (x : FileState). (wake_step site x).state) s.files) file
+    files_are =
+        ap (λ (t : Silent). file_at (awake_as t) whole.osd.files file) same_start
+        ∙ ap (λ (fs : List FileState). file_at (awake_as s.started) fs file) (wake_shows (outside_of node.kept) s r.clock (awake_as s.started) awake).files
+
+    at : AtMap (λ (x : FileState). (wake_step site x).state) (awake_as s.started) s.files file
+        → Sees file (stepped w node r s event.Wake outs) (after v (acts node.id.0 (file_seen file s) (site_at node r s) wake goes_on)) ⊎ Sees file (stepped w node r s event.Wake outs) v
+    at (found_at has is) =
+        inl (took file w node r s v its sees whole.osd (record whole.turned { outs = outs }) (wake_step site (file_seen file s)) (files_are ∙ is)
+        (none ∙ sym (wake_step_rec site (file_seen file s))) (none_is_of file (wake_step site (file_seen file s)).turned.rec (wake_step_rec site (file_seen file s))))
+    at (found_nowhere nowhere is) =
+        inr (rested file w node r s v its sees whole.osd (record whole.turned { outs = outs }) (files_are ∙ is) (none_of file whole.turned.rec none))
+
+-- ---- starts
+
+started_at : (awake : Awake) (rows : List FileRow) (file : FileId) → file_at awake (map (file_from awake) rows) file ≡ file_from awake (row_in rows file)
+unfolding file_at row_in
+started_at awake [] file = refl
+started_at awake (x ∷ xs) file = at (is_file x.file file) (started_at awake xs file)
+  where
+    at : (b : Bool) → file_at awake (map (file_from awake) xs) file ≡ file_from awake (row_in xs file)
+        → cond b (file_from awake x) (file_at awake (map (file_from awake) xs) file) ≡ file_from awake (cond b x (row_in xs file))
+    at true rest = refl
+    at false rest = rest
+
+pub starts_show : (file : FileId) (w : World) (node : Node) (clock : ℕ) (v : FileWorld) → node_in w.nodes node.id.0 ≡ Some node → node.up ≡ None → Sees file w v
+    → Sees file (starts_as w node (next_boot node.kept) clock) (after v (starts node.id.0 (record { node = node.id; boot = next_boot node.kept; times = w.times })))
+starts_show file w node clock v found down sees =
+    let n = node.id.0 in
+    let boot = next_boot node.kept in
+    let awake : Awake = record { node = node.id; boot = boot; times = w.times } in
+    let up : Option Running = Some (runs boot clock (osd (osd_starting w.times node boot clock))) in
+    let there = here file w node found v sees in
+    let row = row_in (fold_of node.kept).files file in
+    let begun : Option FileState = Some (file_from awake row) in
+    ap (λ (x : FileNode). at_node n (record x { state = Some (file_from awake x.kept) }) v.nodes) there
+    ∙ (ap (λ (nodes : ℕ → FileNode). at_node n (kept_seen file node.kept begun) nodes) sees
+    ∙ (ap (λ (x : FileNode). at_node n x (nodes_seen file w)) (sym (keeps_other file node.kept begun (Some (kept.Boot boot)) tt))
+    ∙ (ap (λ (x : FileState). at_node n (kept_seen file (one_more node.kept (Some (kept.Boot boot))) (Some x)) (nodes_seen file w)) (sym (started_at awake (fold_of node.kept).files file))
+    ∙ sym (put_seen file w (record node { kept = node.kept ++ kept.Boot boot ∷ []; up = up }) node found))))

@@ -13,7 +13,7 @@ use Rattle.cluster_runs.specs.World.{World, Node, Running, node_in, with_node}
 use Rattle.cluster_runs.specs.NodeSteps.{one_more}
 use Rattle.cluster_runs.specs.Lines.{ticked}
 use Rattle.world_leases.proofs.Tables.{node_in-new, node_in-other, node_in-last, node_in-before, node_in-ticked}
-use Rattle.world_files.specs.Seen.{up_state, kept_seen, node_seen, nodes_seen, Sees, IsOf, IsNotOf}
+use Rattle.world_files.specs.Seen.{core_state, up_state, kept_seen, node_seen, nodes_seen, Sees, IsOf, IsNotOf}
 use Rattle.world_files.proofs.Records.{keeps_own, keeps_other}
 
 same_number : (a b : ℕ) → (a == b) ≡ true → a ≡ b
@@ -99,3 +99,16 @@ ticked_seen file w count = fun_ext (λ n. at (node_in w.nodes n) ∙ ap (node_se
     at : (found : Option Node) → node_seen file found ≡ node_seen file (option_map (ticked count) found)
     at None = refl
     at (Some node) = ap (kept_seen file node.kept) (by_up node node.up refl)
+
+-- ---- what doesn't show
+
+pub plans_rest : (file : FileId) (w : World) (node : Node) (r q : Running) (v : FileWorld) → node_in w.nodes node.id.0 ≡ Some node → node.up ≡ Some r
+    → core_state file q.core ≡ core_state file r.core → Sees file w v → Sees file (put w (record node { up = Some q })) v
+plans_rest file w node r q v found up same sees = other file w node found v sees (Some q) None (same ∙ sym (ap (up_state file) up)) tt
+
+pub ticks_rest : (file : FileId) (w : World) (count : ℕ) (v : FileWorld) → Sees file w v → Sees file (record w { nodes = map (ticked count) w.nodes }) v
+ticks_rest file w count v sees = sees ∙ ticked_seen file w count
+
+pub declared_rest : (file : FileId) (w : World) (node : Node) (v : FileWorld) → node_in w.nodes node.id.0 ≡ None → node_seen file (Some node) ≡ node_seen file None
+    → Sees file w v → Sees file (record w { nodes = w.nodes ++ node ∷ [] }) v
+declared_rest file w node v free is sees = sees ∙ added_seen file w node free is

@@ -1,5 +1,5 @@
 -- what the nodes of a file do where a node of the world steps, stops or starts
-use Rattle.std.specs.Prelude.{◌≡◌, ◌⊎◌, false, ℕ, Option, Some, None, List, ◌∷◌, [], ◌++◌, max}
+use Rattle.std.specs.Prelude.{◌≡◌, ◌⊎◌, false, ℕ, Option, Some, None, List, ◌∷◌, [], ◌++◌, max, map}
 use Rattle.xt_base.specs.declared.ids.FileId.{FileId}
 use Rattle.xt_base.specs.declared.event.Event.{Event}
 use Rattle.xt_base.specs.declared.event.Event.TheVariants as event
@@ -12,11 +12,11 @@ use Rattle.osd_rows.specs.FileStates.{FileState, Site}
 use Rattle.osd_rows.specs.OsdSteps.{OsdState, OsdStep, step_of_osd, file_concerned}
 use Rattle.osd_lease_views.specs.OsdView.{site_of}
 use Rattle.file_runs.specs.FileRuns.{FileWorld, Happening, message, wake, goes_on, stops_kept, stops_lost, acts, starts, after}
-use Rattle.cluster_runs.specs.World.{World, Node, Running, osd, node_in}
+use Rattle.cluster_runs.specs.World.{World, Node, Running, osd, node_in, with_node}
 use Rattle.cluster_runs.specs.NodeSteps.{outside_of, after_turn, halted}
-use Rattle.cluster_runs.specs.Lines.{starts_as, next_boot}
+use Rattle.cluster_runs.specs.Lines.{starts_as, next_boot, ticked}
 use Rattle.world_leases.specs.View.{awake_as}
-use Rattle.world_files.specs.Seen.{file_seen, Sees, IsNotOf}
+use Rattle.world_files.specs.Seen.{file_seen, core_state, node_seen, Sees}
 
 -- a running OSD of a world
 pub record RunsAs (w : World) (node : Node) (r : Running) (s : OsdState) : Type 0 where
@@ -90,6 +90,21 @@ StopsShow =
 -- An OSD that starts has of every file what its records say.
 abbrev pub StartsShow : Type 0
 StartsShow =
-    (file : FileId) (w : World) (node : Node) (clock : ℕ) (v : FileWorld) → node_in w.nodes node.id.0 ≡ Some node → Sees file w v
+    (file : FileId) (w : World) (node : Node) (clock : ℕ) (v : FileWorld) → node_in w.nodes node.id.0 ≡ Some node → node.up ≡ None → Sees file w v
     → Sees file (starts_as w node (next_boot node.kept) clock)
     (after v (starts node.id.0 (record { node = node.id; boot = next_boot node.kept; times = w.times })))
+
+-- What no step of an OSD reads of a node doesn't show: its clock, and where it is to stop; nor does what a client has.
+abbrev pub PlansRest : Type 0
+PlansRest =
+    (file : FileId) (w : World) (node : Node) (r q : Running) (v : FileWorld) → node_in w.nodes node.id.0 ≡ Some node → node.up ≡ Some r
+    → core_state file q.core ≡ core_state file r.core → Sees file w v → Sees file (record w { nodes = with_node w.nodes (record node { up = Some q }) }) v
+
+abbrev pub TicksRest : Type 0
+TicksRest = (file : FileId) (w : World) (count : ℕ) (v : FileWorld) → Sees file w v → Sees file (record w { nodes = map (ticked count) w.nodes }) v
+
+-- Nor does a node that is declared: an OSD doesn't run yet, and a client never is one.
+abbrev pub DeclaredRest : Type 0
+DeclaredRest =
+    (file : FileId) (w : World) (node : Node) (v : FileWorld) → node_in w.nodes node.id.0 ≡ None → node_seen file (Some node) ≡ node_seen file None
+    → Sees file w v → Sees file (record w { nodes = w.nodes ++ node ∷ [] }) v

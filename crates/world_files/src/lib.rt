@@ -1,7 +1,7 @@
 //! Each file of a world of OSDs as a world of that file alone: what a line does to the nodes of the world, a run of the file
 //! (`file_runs`) does to the nodes of the file.
 //!
-//! The crate has no code to run. It says so of a message, of the silence at a start, and of a stop.
+//! The crate has no code to run. It says so of each thing that may happen to a node.
 #![tactic(auto)]
 
 ghost use Rattle.std.specs.Prelude.{◌≡◌, Option, List};
@@ -11,7 +11,7 @@ ghost use Rattle.osd_rows.specs.FileStates.{FileState};
 ghost use Rattle.file_runs.specs.FileRuns.{keeping};
 ghost use Rattle.cluster_runs.specs.NodeSteps.{one_more};
 ghost use Rattle.world_files.specs.Seen.{kept_seen, IsOf, IsNotOf};
-ghost use Rattle.world_files.specs.Events.{MessagesShow, OthersRest, SilentRest, StopsShow};
+ghost use Rattle.world_files.specs.Events.{MessagesShow, OthersRest, SilentRest, WakesShow, StopsShow, StartsShow, PlansRest, TicksRest, DeclaredRest};
 
 /// One record more changes what a node keeps of the file that it is of, and of no other file.
 pub fn records_are_of_a_file()
@@ -30,4 +30,21 @@ pub fn messages_are_steps_of_a_file()
 /// A node that stops loses its state of every file, and keeps its records and bodies.
 pub fn stops_lose_the_state()
     ensures { StopsShow }
+{}
+
+/// A Wake of an OSD is a step of each file that it has met; a file that it hasn't met rests.
+pub fn wakes_are_steps_of_each_file()
+    ensures { WakesShow }
+{}
+
+/// An OSD that starts has of every file what its records say.
+pub fn starts_read_the_records()
+    ensures { StartsShow }
+{}
+
+/// Clocks and plans to stop don't show in any file; nor does what a client has, nor a node that is declared.
+pub fn what_does_not_show()
+    ensures plans { PlansRest }
+    ensures ticks { TicksRest }
+    ensures declared { DeclaredRest }
 {}
