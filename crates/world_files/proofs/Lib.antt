@@ -1,3 +1,4 @@
 pub mod Records
 pub mod Nodes
 pub mod Events
+pub mod May

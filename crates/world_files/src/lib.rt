@@ -12,6 +12,7 @@ ghost use Rattle.file_runs.specs.FileRuns.{keeping};
 ghost use Rattle.cluster_runs.specs.NodeSteps.{one_more};
 ghost use Rattle.world_files.specs.Seen.{kept_seen, IsOf, IsNotOf};
 ghost use Rattle.world_files.specs.Events.{MessagesShow, OthersRest, SilentRest, WakesShow, StopsShow, StartsShow, PlansRest, TicksRest, DeclaredRest};
+ghost use Rattle.world_files.specs.May.{StepsStand, HoldersMakeRoom};
 
 /// One record more changes what a node keeps of the file that it is of, and of no other file.
 pub fn records_are_of_a_file()
@@ -47,4 +48,14 @@ pub fn what_does_not_show()
     ensures plans { PlansRest }
     ensures ticks { TicksRest }
     ensures declared { DeclaredRest }
+{}
+
+/// In a world that is in order a step of a file at an OSD stands on what the file's node is, and an unlapsed tenure leads.
+pub fn steps_stand_on_the_node()
+    ensures { StepsStand }
+{}
+
+/// Where nobody but one node leads a file, whoever else held it may lose it, and who leads still holds.
+pub fn holders_make_room()
+    ensures { HoldersMakeRoom }
 {}
