@@ -50,7 +50,7 @@ of_marks file f l ms is (no_marks none) = subst (AreOf file) (sym none) tt
 of_marks file f l ms is (won end busy one) = subst (AreOf file) (sym one) (tt, tt)
 of_marks file f l ms is (acting leads are) = of_acts file f.number ms is are
 
-of_step : (file : ℕ) (site : Site) (s : FileState) (happens : Happening) → s.kept.file.number ≡ file → AreOf file (step_on site s happens).turned.marks
+pub of_step : (file : ℕ) (site : Site) (s : FileState) (happens : Happening) → s.kept.file.number ≡ file → AreOf file (step_on site s happens).turned.marks
 of_step file site s (message from content) is = of_marks file s.kept.file _ _ is (step_marks site s from content)
 of_step file site s wake is = subst (AreOf file) (sym (wake_step_marks site s)) tt
 

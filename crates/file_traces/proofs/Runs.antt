@@ -29,11 +29,11 @@ own f file is = at (f == file) refl
     at false other = grind (arith, nat_tests)
 
 module _ (stripe : ℕ) (ops : ℕ × ℕ → Op) (file : ℕ) where
-  joined : (xs ys : List Entry) (a b c : List heads.Entry) → Tells stripe ops file xs a b → Tells stripe ops file ys b c → Tells stripe ops file (xs ++ ys) a c
+  pub joined : (xs ys : List Entry) (a b c : List heads.Entry) → Tells stripe ops file xs a b → Tells stripe ops file ys b c → Tells stripe ops file (xs ++ ys) a c
   joined [] ys a b c is told = subst (λ (es : List heads.Entry). Tells stripe ops file ys es c) is told
   joined (x ∷ xs) ys a b c (mid, one, rest) told = (mid, one, joined xs ys mid b c rest told)
 
-  marked : (node : NodeId) (ms : List Mark) (before after : List heads.Entry) → AreOf file ms → AreTold stripe ops node.0 ms before after → Tells stripe ops file (map (entry_of node) ms) before after
+  pub marked : (node : NodeId) (ms : List Mark) (before after : List heads.Entry) → AreOf file ms → AreTold stripe ops node.0 ms before after → Tells stripe ops file (map (entry_of node) ms) before after
   marked node [] before after of told = sym told
   marked node (mark.File f location ∷ ms) before after of told = (before, refl, marked node ms before after of.1 told)
   marked node (mark.Begin number c ∷ ms) before after of told = (before, refl, marked node ms before after of.1 told)

@@ -2,3 +2,4 @@ pub mod Records
 pub mod Nodes
 pub mod Events
 pub mod May
+pub mod Tellings

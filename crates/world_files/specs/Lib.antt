@@ -1,3 +1,4 @@
 pub mod Seen
 pub mod Events
 pub mod May
+pub mod Tellings

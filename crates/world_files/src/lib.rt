@@ -13,6 +13,7 @@ ghost use Rattle.cluster_runs.specs.NodeSteps.{one_more};
 ghost use Rattle.world_files.specs.Seen.{kept_seen, IsOf, IsNotOf};
 ghost use Rattle.world_files.specs.Events.{MessagesShow, OthersRest, SilentRest, WakesShow, StopsShow, StartsShow, PlansRest, TicksRest, DeclaredRest};
 ghost use Rattle.world_files.specs.May.{StepsStand, HoldersMakeRoom};
+ghost use Rattle.world_files.specs.Tellings.{AlwaysTelling, TellingIsSafe};
 
 /// One record more changes what a node keeps of the file that it is of, and of no other file.
 pub fn records_are_of_a_file()
@@ -58,4 +59,12 @@ pub fn steps_stand_on_the_node()
 /// Where nobody but one node leads a file, whoever else held it may lose it, and who leads still holds.
 pub fn holders_make_room()
     ensures { HoldersMakeRoom }
+{}
+
+/// What the steps of a file mark, its tales tell; and no other entry of the trace tells anything of the file. Where a trace tells so
+/// what the tales of a run of the file tell, it has one order of the file's writes, none stands there twice, and each answer on the
+/// file shows it as it was.
+pub fn traces_tell_the_tales()
+    ensures telling { AlwaysTelling }
+    ensures safe { TellingIsSafe }
 {}
