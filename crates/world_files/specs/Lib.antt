@@ -2,3 +2,4 @@ pub mod Seen
 pub mod Events
 pub mod May
 pub mod Tellings
+pub mod Asks

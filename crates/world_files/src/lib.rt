@@ -13,6 +13,7 @@ ghost use Rattle.cluster_runs.specs.NodeSteps.{one_more};
 ghost use Rattle.world_files.specs.Seen.{kept_seen, IsOf, IsNotOf};
 ghost use Rattle.world_files.specs.Events.{MessagesShow, OthersRest, SilentRest, WakesShow, StopsShow, StartsShow, PlansRest, TicksRest, DeclaredRest};
 ghost use Rattle.world_files.specs.May.{StepsStand, HoldersMakeRoom};
+ghost use Rattle.world_files.specs.Asks.{MessagesCome, OutsideIsIdle, OperationsAre};
 ghost use Rattle.world_files.specs.Tellings.{AlwaysTelling, TellingIsSafe};
 
 /// One record more changes what a node keeps of the file that it is of, and of no other file.
@@ -67,4 +68,12 @@ pub fn holders_make_room()
 pub fn traces_tell_the_tales()
     ensures telling { AlwaysTelling }
     ensures safe { TellingIsSafe }
+{}
+
+/// A message that concerns a file may come to it, but for an ask for what leaves the object: that is refused, and does to the file what
+/// a message does that may always come. The operations of the calls in a trace are theirs at each moment of it.
+pub fn messages_may_come()
+    ensures come { MessagesCome }
+    ensures outside { OutsideIsIdle }
+    ensures operations { OperationsAre }
 {}

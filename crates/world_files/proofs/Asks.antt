@@ -1,0 +1,98 @@
+-- which asks may come to a file, and what becomes of the others
+use Rattle.std.proofs.Common.{◌≡◌, ℕ, inl, inr, List, [], ◌∷◌, ◌++◌, refl, ap, sym, ◌∙◌, subst, Option, Some, None, Bool, true, false}
+use Rattle.std.specs.Prelude.{◌⊎◌, cond}
+use Rattle.xt_base.specs.Limits.{FitsOp}
+use Rattle.xt_base.specs.declared.ids.NodeId.{NodeId}
+use Rattle.xt_base.specs.declared.ids.FileId.{FileId}
+use Rattle.xt_base.specs.declared.ids.OpId.{OpId}
+use Rattle.xt_base.specs.declared.ids.Stamp.{Stamp}
+use Rattle.xt_base.specs.declared.ids.Epoch.{Epoch}
+use Rattle.xt_base.specs.declared.file.Capability.{Capability}
+use Rattle.xt_base.specs.declared.file.Kind.{Kind}
+use Rattle.xt_base.specs.declared.file.Kind.TheVariants as kind
+use Rattle.xt_base.specs.declared.file.Location.{Location}
+use Rattle.xt_base.specs.declared.file.Op.{Op}
+use Rattle.xt_base.specs.declared.reply.Reply.{Reply}
+use Rattle.xt_base.specs.declared.reply.Reply.TheVariants as reply
+use Rattle.xt_base.specs.declared.reply.Denial.{Denial}
+use Rattle.xt_base.specs.declared.reply.Denial.TheVariants as denial
+use Rattle.xt_base.specs.declared.message.Payload.{Payload}
+use Rattle.xt_base.specs.declared.message.Payload.TheVariants as payload
+use Rattle.osd_rows.specs.AskRows.{leaves_object, list_and_range, with_member, list_against, capability_refused, capability_list_range, refusal_of, ask_let_in, ask_handled}
+use Rattle.osd_rows.specs.FileStates.{FileState, Site, FileStep, and_then}
+use Rattle.osd_rows.specs.FileSteps.{message_comes, ask_comes, step_of_file}
+use Rattle.osd_rows.specs.OsdSteps.{file_concerned}
+use Rattle.osd_rows.specs.Overdue.{expired}
+use Rattle.osd_replica_views.specs.FileView.{IsList, AskComes}
+use Rattle.osd_replica_views.specs.Seen.{name_of}
+use Rattle.cluster_runs.specs.declared.DeclaredFile.{DeclaredFile}
+use Rattle.cluster_runs.specs.declared.Entry.{Entry}
+use Rattle.cluster_runs.specs.TimeLine.{id_of, operation_begun}
+use Rattle.cluster_runs.specs.World.{file_in}
+use Rattle.world_leases.specs.Worlds.{AskFits}
+use Rattle.world_ends.specs.Asks.{HasBegunSo}
+use Rattle.world_ends.proofs.Entries.{operation-grown}
+use Rattle.world_files.specs.Asks.{operation_or_none, operations_of, AreOperations, IsOutside, DeclaredList, IsSameButSent}
+
+same_file : (a b : FileId) → Some a ≡ Some b → a ≡ b
+same_file a b is = cc
+
+pub messages_come : (stripe : ℕ) (ops : ℕ × ℕ → Op) (members : List ℕ) (files : List DeclaredFile) (entries : List Entry) (file : FileId) (from : NodeId) (content : Payload)
+    → file_concerned content ≡ Some file → AskFits files content → HasBegunSo entries from content → AreOperations ops file.number entries
+    → DeclaredList files file.number stripe members → AskComes stripe ops members from content ⊎ IsOutside content
+messages_come stripe ops members files entries file from (payload.Ask number capability asked) concerns fits begun are lists = at (leaves_object capability.location.stripe asked) refl
+  where
+    its_file : capability.file.number ≡ file.number
+    its_file = ap (λ (f : FileId). f.number) (same_file capability.file file concerns)
+
+    list : IsList stripe members capability.location
+    list = lists capability.location (sym (ap (file_in files) its_file) ∙ fits.1)
+
+    asked_so : ops (from.0, number) ≡ asked
+    asked_so = are (id_of from number) asked (sym (ap (λ (k : ℕ). operation_begun k entries (id_of from number)) its_file) ∙ begun.0)
+
+    at : (b : Bool) → leaves_object capability.location.stripe asked ≡ b → AskComes stripe ops members from (payload.Ask number capability asked) ⊎ IsOutside (payload.Ask number capability asked)
+    at true is = inr is
+    at false is = inl (list, λ deadline. record { allowed = record { fits = begun.1; inside = sym (ap (λ (k : ℕ). leaves_object k asked) list.0) ∙ is }; asked = asked_so })
+messages_come stripe ops members files entries file from _ concerns fits begun are lists = inl tt
+
+-- ---- what leaves the object
+
+refused_so : (site : Site) (stored : Option Location) (capability : Capability) (asked : Op) → leaves_object capability.location.stripe asked ≡ true → (answer : Reply) × (refusal_of site stored capability asked ≡ Some answer)
+unfolding refusal_of
+refused_so site stored capability asked is = by_capability (capability_refused site capability asked)
+  where
+    by_list : (o : Option Reply) → (answer : Reply) × (list_and_range capability.location asked o ≡ Some answer)
+    by_list None = (reply.Denied denial.Range, ap (λ (b : Bool). cond b (Some (reply.Denied denial.Range)) None) is)
+    by_list (Some answer) = (answer, refl)
+
+    by_capability : (o : Option Denial) → (answer : Reply) × (capability_list_range site stored capability asked o ≡ Some answer)
+    by_capability None = by_list (with_member site capability.location (list_against stored capability.location))
+    by_capability (Some why) = (reply.Denied why, refl)
+
+pub outside_is_idle : (site : Site) (s : FileState) (from : NodeId) (content : Payload) (file : FileId) (epoch : Epoch) (object : ℕ) (version : Stamp) → IsOutside content
+    → IsSameButSent (step_of_file site s from content) (step_of_file site s from (payload.Fetch file epoch object version))
+unfolding step_of_file ask_handled
+outside_is_idle site s from (payload.Ask number capability asked) file epoch object version is = by_kind capability.location.kind
+  where
+    id : OpId
+    id = record { client = from; number = number }
+
+    fetches : FileStep
+    fetches = and_then (expired site s) (λ state. message_comes site state from (payload.Fetch file epoch object version))
+
+    by_refusal : (o : Option Reply) → (answer : Reply) → o ≡ Some answer → IsSameButSent (and_then (expired site s) (λ state. ask_let_in site state id capability asked o)) fetches
+    by_refusal o answer refused = subst (λ (o : Option Reply). IsSameButSent (and_then (expired site s) (λ state. ask_let_in site state id capability asked o)) fetches) (sym refused) (record { state = refl; rec = refl; marks = refl })
+
+    by_kind : (k : Kind) → IsSameButSent (and_then (expired site s) (λ state. ask_comes site state k id capability asked)) fetches
+    by_kind kind.Replicated =
+        let refused = refused_so site (expired site s).state.kept.location capability asked is in
+        by_refusal (refusal_of site (expired site s).state.kept.location capability asked) refused.0 refused.1
+    by_kind kind.Striped = record { state = refl; rec = refl; marks = refl }
+outside_is_idle site s from _ file epoch object version is = absurd is
+
+-- ---- operations
+
+pub operations_are : (file : ℕ) (entries moment after : List Entry) → entries ≡ moment ++ after → AreOperations (operations_of file entries) file moment
+operations_are file entries moment after whole id asked is =
+    ap operation_or_none (ap (λ (es : List Entry). operation_begun file es id) whole ∙ operation-grown file moment after id asked is)
