@@ -3,3 +3,4 @@ pub mod Events
 pub mod May
 pub mod Tellings
 pub mod Asks
+pub mod Leaders

@@ -13,6 +13,7 @@ ghost use Rattle.cluster_runs.specs.NodeSteps.{one_more};
 ghost use Rattle.world_files.specs.Seen.{kept_seen, IsOf, IsNotOf};
 ghost use Rattle.world_files.specs.Events.{MessagesShow, OthersRest, SilentRest, WakesShow, StopsShow, StartsShow, PlansRest, TicksRest, DeclaredRest};
 ghost use Rattle.world_files.specs.May.{StepsStand, HoldersMakeRoom};
+ghost use Rattle.world_files.specs.Leaders.{StepsMay, LeadersGoOn, LeadersStop};
 ghost use Rattle.world_files.specs.Asks.{MessagesCome, OutsideIsIdle, OperationsAre};
 ghost use Rattle.world_files.specs.Tellings.{AlwaysTelling, TellingIsSafe};
 
@@ -76,4 +77,12 @@ pub fn messages_may_come()
     ensures come { MessagesCome }
     ensures outside { OutsideIsIdle }
     ensures operations { OperationsAre }
+{}
+
+/// Where who leads in the world holds the file in the file's world, a step of the file may come there; and behind a step, and behind a
+/// stop, who leads holds.
+pub fn steps_may_come()
+    ensures may { StepsMay }
+    ensures leaders { LeadersGoOn }
+    ensures stopped { LeadersStop }
 {}
