@@ -7,3 +7,4 @@ pub mod Served
 pub mod LetIn
 pub mod Over
 pub mod Plain
+pub mod Counted

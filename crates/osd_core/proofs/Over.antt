@@ -1,12 +1,23 @@
 -- what is overdue at a file, by what became of its lease
-use Rattle.std.proofs.Common.{◌≡◌, ◌∙◌, ℕ, Bool, true, false, refl, ap, sym, subst, cond}
-use Rattle.xt_protocol.specs.LeaseRows.{LeaseState, free, asking, writing, held, lease_expired, has_run_out, has_turn, round_over, renewal_left}
+use Rattle.std.proofs.Common.{◌≡◌, ◌∙◌, ℕ, Bool, true, false, refl, ap, sym, subst, cond, Option, Some, None, List, []}
+use Rattle.xt_base.specs.declared.ids.FileId.{FileId}
+use Rattle.xt_base.specs.declared.ids.Stamp.{Stamp}
+use Rattle.xt_base.specs.declared.file.Capability.{Capability}
+use Rattle.xt_base.specs.declared.reply.Reply.{Reply}
+use Rattle.xt_protocol.specs.declared.Turned.{Turned}
+use Rattle.xt_protocol.specs.LeaseRows.{Awake, LeaseState, free, asking, writing, held, lease_expired, has_run_out, has_turn, round_over, renewal_left}
 use Rattle.file_lease.specs.declared.news.Expiry.{Expiry}
 use Rattle.file_lease.specs.declared.news.Expiry.TheVariants.{Stands, RanOut, Lapsed}
 use Rattle.file_lease.specs.Shown.{expiry_of}
 use Rattle.file_lease.specs.Moves.{IsSettled}
-use Rattle.osd_rows.specs.FileStates.{FileState, Site, FileStep}
-use Rattle.osd_rows.specs.Overdue.{expired, lease_became, lease_lapses, no_lease_for_all, deadlines_under}
+use Rattle.osd_rows.specs.declared.Tenure.{Tenure}
+use Rattle.osd_rows.specs.Turns.{quiet}
+use Rattle.osd_rows.specs.FileStates.{FileState, Site, FileStep, nothing}
+use Rattle.osd_rows.specs.Overdue.{expired, lease_became, lease_lapses, no_lease_for_all, deadlines_come, deadlines_under}
+use Rattle.osd_core.specs.Counts.{no_majority}
+use Rattle.osd_core.specs.Rows.{IsRow}
+use Rattle.osd_core.specs.Settled as lease
+use Rattle.osd_core.specs.Views.{FileView, site_at}
 
 -- the row that is meant by what was overdue
 abbrev pub row_of : Expiry → Site → FileState → FileStep
@@ -68,3 +79,48 @@ settled (held h) now =
 
 pub settled_so : (l old : LeaseState) (now : ℕ) → l ≡ lease_expired old now → IsSettled l now
 settled_so l old now is = let P : LeaseState → Type 0 = λ x. IsSettled x now in subst P (sym is) (settled old now)
+
+-- Deadlines, where the lease stands.
+
+abbrev told_under : Site → FileState → Option Reply → FileStep
+told_under site s None = nothing s
+told_under site s (Some answer) = deadlines_come site s answer
+
+deadlines_by : (site : Site) (s : FileState) (tenure : Option Tenure) → deadlines_under site s tenure ≡ told_under site s (no_majority tenure)
+deadlines_by site s None = refl
+deadlines_by site s (Some t) = refl
+
+overdue_by : (now : ℕ) (old mid : FileView) (o : Option Reply) → lease.Stands now old mid → o ≡ no_majority mid.state.primary.tenure → (sealed : Capability → Bool) (body : FileId → ℕ → Stamp → List ℕ)
+    → expired (site_at old.awake now sealed body) old.state ≡ told_under (site_at mid.awake now sealed body) mid.state o
+overdue_by now old mid o stands is sealed body =
+    let site = site_at old.awake now sealed body in
+    stands.left sealed body ∙ deadlines_by site mid.state mid.state.primary.tenure ∙ ap (told_under site mid.state) (sym is)
+    ∙ ap (λ (a : Awake). told_under (site_at a now sealed body) mid.state o) (sym stands.here)
+
+-- the asks that are due were told
+pub told_row : (now : ℕ) (old mid new : FileView) (answer : Reply) (turned : Turned) → lease.Stands now old mid → Some answer ≡ no_majority mid.state.primary.tenure
+    → IsRow (λ site s. deadlines_come site s answer) now mid new turned → IsRow expired now old new turned
+told_row now old mid new answer turned stands is row =
+    λ sealed body. record { here = (row sealed body).here ∙ stands.here; step = overdue_by now old mid (Some answer) stands is sealed body ∙ (row sealed body).step }
+
+-- a file that has no deadlines
+pub untold_row : (now : ℕ) (old mid : FileView) (turned : Turned) → lease.Stands now old mid → None ≡ no_majority mid.state.primary.tenure → turned ≡ quiet
+    → IsRow expired now old mid turned
+untold_row now old mid turned stands is still =
+    λ sealed body.
+    record {
+      here = stands.here;
+      step = overdue_by now old mid None stands is sealed body ∙ ap (λ (t : Turned). let made : FileStep = record { state = mid.state; turned = t } in made) (sym still);
+    }
+
+-- telling leaves the lease
+pub told_settled : (now : ℕ) (mid new : FileView) (answer : Reply) (turned : Turned) → IsSettled mid.state.lease now
+    → IsRow (λ site s. deadlines_come site s answer) now mid new turned → IsSettled new.state.lease now
+told_settled now mid new answer turned is row =
+    let P : LeaseState → Type 0 = λ l. IsSettled l now in
+    subst P (ap (λ (st : FileStep). st.state.lease) (row (λ _. true) (λ _ _ _. [])).step) is
+
+-- the lease stands where nothing came of it
+pub stands_when : (now : ℕ) (old mid : FileView) (o : Option Turned) → o ≡ None → lease.Settles now old mid o → lease.Stands now old mid
+stands_when now old mid None is settles = settles
+stands_when now old mid (Some turned) is settles = absurd cc

@@ -5,3 +5,4 @@ pub mod Asking
 pub mod Views
 pub mod Rows
 pub mod Settled
+pub mod Counts

@@ -1,7 +1,8 @@
-ghost use Rattle.std.specs.Prelude.{◌≡◌, IfOk, IfNone, OnErr, List, None, Some, is_none, is_some};
+ghost use Rattle.std.specs.Prelude.{◌≡◌, ◌≤◌, ◌+◌, ◌/◌, IfOk, IfNone, OnErr, List, None, Some, is_none, is_some};
 ghost use Rattle.xt_base.specs.Limits.{FitsStripe};
 ghost use Rattle.osd_invariants.specs.Sound.{IsStored};
 ghost use Rattle.osd_rows.specs.Primaries as rows;
+ghost use Rattle.xt_base.specs.declared.reply.Reply.TheVariants as reply;
 ghost use Rattle.xt_base.specs.declared.ids.NodeId.{NodeId};
 ghost use Rattle.xt_base.specs.declared.ids.FileId.{FileId};
 ghost use Rattle.osd_rows.specs.PrimaryRows.{epoch_drawn};
@@ -15,6 +16,7 @@ ghost use Rattle.replica_primary.specs.Written.{ground};
 ghost use Rattle.osd_rows.specs.FileStates.{members_of};
 ghost use Rattle.osd_core.specs.Leads.{location_in, primary_in, place_of, StandsAt};
 ghost use Rattle.osd_core.specs.Asking.{first_list, list_after};
+ghost use Rattle.osd_core.specs.Counts.{heard_at, IsCountedIn, no_majority, no_majority_at};
 
 use flease_lease::Turn;
 use kept_bodies::{Bodies, StepErr};
@@ -43,12 +45,13 @@ pub struct Lead {
 
 impl Model for Lead {
     ghost use Rattle.osd_core.specs.Leads.{LeadView, location_in, primary_in, StandsAt};
+    ghost use Rattle.osd_core.specs.Counts.{IsCountedIn};
 
     ghost Value = { LeadView };
 
     ghost view = { λ l. record { node = l.node; file = l.file; location = location_in l.listed; primary = primary_in l.listed } };
 
-    ghost invariant = { λ l. StandsAt l.node l.file l.listed };
+    ghost invariant = { λ l. StandsAt l.node l.file l.listed × IsCountedIn l.listed };
 }
 
 /// Ends the primary's tenure, if there is one.
@@ -56,9 +59,36 @@ fn idle(listed: &mut Option<Listed>)
     ensures location { location_in listed.new ≡ location_in listed.old }
     ensures primary { primary_in listed.new ≡ rows.idle (primary_in listed.old) }
     ensures stands { (node : NodeId) (file : FileId) → StandsAt node file listed.old → StandsAt node file listed.new }
+    ensures counted { IsCountedIn listed.new }
 {
     if let Some(listed) = listed {
         listed.primary.idle();
+    }
+}
+
+/// So many of the members have answered, and more than half of them are needed.
+fn too_few(have: usize, members: usize) -> Reply
+    requires have { have ≤ 9 }
+    requires members { members ≤ 9 }
+    ensures { result ≡ reply.NoMajority have (members / 2 + 1) }
+{
+    Reply::NoMajority {
+        have: have as u8,
+        need: (members / 2 + 1) as u8,
+    }
+}
+
+/// What asks that are due are told of a primary that is so far, among so many members; none while it is idle.
+fn no_majority_at(members: usize, phase: Phase) -> Option<Reply>
+    requires members { members ≤ 9 }
+    requires heard { heard_at phase ≤ 9 }
+    ensures { result ≡ no_majority_at members phase }
+{
+    match phase {
+        Phase::Idle => None,
+        Phase::Gathering { have } => Some(too_few(have, members)),
+        Phase::Fetching => Some(too_few(0, members)),
+        Phase::Installing { have } | Phase::Active { have, .. } => Some(too_few(have, members)),
     }
 }
 
@@ -119,6 +149,20 @@ impl Lead {
         match &self.listed {
             Some(listed) => matches!(listed.primary.phase(), Phase::Idle),
             None => true,
+        }
+    }
+
+    /// What asks that are due are told: how many have answered what the primary waits for, and how many it needs. None while it
+    /// is idle.
+    pub fn no_majority(&self) -> Option<Reply>
+        ensures { result ≡ no_majority self.now.primary.tenure }
+    {
+        match &self.listed {
+            Some(listed) => {
+                let members = listed.location.members.as_slice().len();
+                no_majority_at(members, listed.primary.phase())
+            }
+            None => None,
         }
     }
 

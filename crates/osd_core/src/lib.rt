@@ -1,5 +1,5 @@
-//! A file at an OSD that is awake, and what comes of its events: of asks, of the messages of its register and its lease, and of
-//! a wake.
+//! A file at an OSD that is awake, and what comes of its events: of asks, of the messages of its register, its lease and its
+//! replica, of a wake, and of what is overdue.
 //!
 //! Each call equals its row of `osd_rows` on the state that contracts see: it leaves the file in the row's state, and gives what
 //! the row gives. Want of memory, and a body that can't be read, are all that it may answer beside that; then the file isn't to
@@ -13,3 +13,11 @@ mod leases;
 mod overdue;
 mod parts;
 mod waking;
+
+pub use asks::ask_handled;
+pub use hearing::{fetch_comes, gather_comes, head_comes, stage_comes, update_comes};
+pub use lead::Lead;
+pub use leases::{answer_comes, read_comes, write_comes};
+pub use overdue::expire;
+pub use parts::Parts;
+pub use waking::wake_of_file;

@@ -7,7 +7,7 @@ ghost use Rattle.file_lease.specs.Moves.{IsSettled};
 
 use crate::parts::Parts;
 use file_lease::Expiry;
-use step_outputs::sends;
+use step_outputs::{quiet, sends};
 use xt_base::{OutOfMemory, Reply};
 use xt_protocol::Turned;
 
@@ -31,7 +31,7 @@ fn lease_lapses(file: &mut Parts) -> Result<Turned, OutOfMemory>
 }
 
 /// Lease lapses, or round runs out: what comes of it; none where the lease stands, and then deadlines may have come.
-pub fn settle(file: &mut Parts, now: u64) -> Result<Option<Turned>, OutOfMemory>
+fn settle(file: &mut Parts, now: u64) -> Result<Option<Turned>, OutOfMemory>
     requires { now < 2 ^ 62 }
     ensures row { IfOk result (λ over. Settles now (shown file.old) (shown file.new) over) }
     ensures settled { IfOk result (λ over. IsSettled file.new.lease now) }
@@ -44,10 +44,25 @@ pub fn settle(file: &mut Parts, now: u64) -> Result<Option<Turned>, OutOfMemory>
 }
 
 /// Deadlines come: the asks that are due are told this, those that wait first; the issued write stays.
-pub fn deadlines_come(file: &mut Parts, now: u64, reply: &Reply) -> Result<Turned, OutOfMemory>
+fn deadlines_come(file: &mut Parts, now: u64, reply: &Reply) -> Result<Turned, OutOfMemory>
     ensures { IfOk result (λ turned. IsRow (λ site s. rows.deadlines_come site s reply.now) now (shown file.old) (shown file.new) turned) }
 {
     let (alloc, node, id) = (file.alloc, file.awake.node(), file.replica.file());
     let outs = file.asks.tell_due(alloc, node, &id, now, reply)?;
     Ok(sends(alloc, outs))
+}
+
+/// What is overdue at a file: its lease lapses, a round runs out, or the deadlines of asks come.
+pub fn expire(file: &mut Parts, now: u64) -> Result<Turned, OutOfMemory>
+    requires { now < 2 ^ 62 }
+    ensures row { IfOk result (λ turned. IsRow rows.expired now (shown file.old) (shown file.new) turned) }
+    ensures settled { IfOk result (λ turned. IsSettled file.new.lease now) }
+{
+    if let Some(turned) = settle(file, now)? {
+        return Ok(turned);
+    }
+    match file.lead.no_majority() {
+        Some(reply) => deadlines_come(file, now, &reply),
+        None => Ok(quiet(file.alloc)),
+    }
 }

@@ -13,7 +13,7 @@ returns-in-Some-clause-value g c =
     let inside = c.self.inside in
     let l = c.in-Some.listed in
     let kept = g.B.Bodies.records c.args.bodies.now in
-    let stands : StandsAt inside.node inside.file (Some l) = subst (StandsAt inside.node inside.file) c.in-Some.is c.self.invariant in
+    let stands : StandsAt inside.node inside.file (Some l) = subst (StandsAt inside.node inside.file) c.in-Some.is c.self.invariant.0 in
     let R : Place → Type 0 = λ p. IfOk c.read.result (λ answer. (own : FileHead) (held : List ObjectVersion) → answer ≡ reads (ground p kept own held) l.primary.state c.args.op.now) in
     let P : LeadView → Type 0 = λ v. IfOk c.read.result (λ answer. (own : FileHead) (held : List ObjectVersion) → answer ≡ reads (ground (place_of v) kept own held) v.primary c.args.op.now) in
     let view : Option Listed → LeadView = λ o. record { node = inside.node; file = inside.file; location = location_in o; primary = primary_in o } in
