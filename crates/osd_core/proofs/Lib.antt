@@ -8,3 +8,4 @@ pub mod LetIn
 pub mod Over
 pub mod Plain
 pub mod Counted
+pub mod Acked

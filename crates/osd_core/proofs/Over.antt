@@ -11,7 +11,6 @@ use Rattle.file_lease.specs.declared.news.Expiry.TheVariants.{Stands, RanOut, La
 use Rattle.file_lease.specs.Shown.{expiry_of}
 use Rattle.file_lease.specs.Moves.{IsSettled}
 use Rattle.osd_rows.specs.declared.Tenure.{Tenure}
-use Rattle.osd_rows.specs.Turns.{quiet}
 use Rattle.osd_rows.specs.FileStates.{FileState, Site, FileStep, nothing}
 use Rattle.osd_rows.specs.Overdue.{expired, lease_became, lease_lapses, no_lease_for_all, deadlines_come, deadlines_under}
 use Rattle.osd_core.specs.Counts.{no_majority}
@@ -102,16 +101,6 @@ pub told_row : (now : ℕ) (old mid new : FileView) (answer : Reply) (turned : T
     → IsRow (λ site s. deadlines_come site s answer) now mid new turned → IsRow expired now old new turned
 told_row now old mid new answer turned stands is row =
     λ sealed body. record { here = (row sealed body).here ∙ stands.here; step = overdue_by now old mid (Some answer) stands is sealed body ∙ (row sealed body).step }
-
--- a file that has no deadlines
-pub untold_row : (now : ℕ) (old mid : FileView) (turned : Turned) → lease.Stands now old mid → None ≡ no_majority mid.state.primary.tenure → turned ≡ quiet
-    → IsRow expired now old mid turned
-untold_row now old mid turned stands is still =
-    λ sealed body.
-    record {
-      here = stands.here;
-      step = overdue_by now old mid None stands is sealed body ∙ ap (λ (t : Turned). let made : FileStep = record { state = mid.state; turned = t } in made) (sym still);
-    }
 
 -- telling leaves the lease
 pub told_settled : (now : ℕ) (mid new : FileView) (answer : Reply) (turned : Turned) → IsSettled mid.state.lease now

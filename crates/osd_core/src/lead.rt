@@ -1,16 +1,17 @@
-ghost use Rattle.std.specs.Prelude.{◌≡◌, ◌≤◌, ◌+◌, ◌/◌, IfOk, IfNone, OnErr, List, None, Some, is_none, is_some};
+ghost use Rattle.std.specs.Prelude.{◌≡◌, ◌≤◌, ◌+◌, ◌/◌, IfOk, IfNone, IsTrue, OnErr, List, None, Some, is_none, is_some};
 ghost use Rattle.xt_base.specs.Limits.{FitsStripe};
 ghost use Rattle.osd_invariants.specs.Sound.{IsStored};
 ghost use Rattle.osd_rows.specs.Primaries as rows;
 ghost use Rattle.xt_base.specs.declared.reply.Reply.TheVariants as reply;
 ghost use Rattle.xt_base.specs.declared.ids.NodeId.{NodeId};
 ghost use Rattle.xt_base.specs.declared.ids.FileId.{FileId};
-ghost use Rattle.osd_rows.specs.PrimaryRows.{epoch_drawn};
+ghost use Rattle.osd_rows.specs.PrimaryRows.{epoch_drawn, hears};
 ghost use Rattle.osd_rows.specs.Serving.{reads, wakes, writes};
 ghost use Rattle.std.specs.Option.{option_map};
 ghost use Rattle.xt_base.specs.Limits.{FitsOp};
 ghost use Rattle.xt_base.specs.declared.file.FileHead.{FileHead};
 ghost use Rattle.xt_base.specs.declared.file.ObjectVersion.{ObjectVersion};
+ghost use Rattle.version_lists.specs.Rising.{HeadRises, held_rise};
 ghost use Rattle.kept_bodies.specs.KeptBodies.{fault_of, ReadsOnly};
 ghost use Rattle.replica_primary.specs.Written.{ground};
 ghost use Rattle.osd_rows.specs.FileStates.{members_of};
@@ -24,7 +25,9 @@ use replica_primary::{Phase, Primary};
 use std::alloc::Global;
 use std::marker::Model;
 use step_outputs::quiet;
-use xt_base::{FileHead, FileId, Location, NodeId, Op, OpId, OutOfMemory, Record, Reply};
+use xt_base::{
+    FileHead, FileId, HeldPairs, Location, NodeId, Op, OpId, OutOfMemory, Payload, Record, Reply,
+};
 use xt_protocol::Turned;
 
 /// Where a file is, and the primary that stands on that.
@@ -247,6 +250,32 @@ impl Lead {
     {
         match &mut self.listed {
             Some(listed) => listed.primary.issue(turn, bodies, id, epoch, op),
+            None => unreachable!(),
+        }
+    }
+
+    /// A message to the primary, in this turn: `own` and `held` are the head and the held versions of its own replica. Where
+    /// memory is out or a body can't be read, the primary is idle.
+    pub fn take<B: Bodies>(
+        &mut self,
+        turn: &Turn<'_>,
+        bodies: &mut B,
+        own: &FileHead,
+        held: &HeldPairs,
+        from: NodeId,
+        payload: &Payload,
+    ) -> Result<Turned, StepErr>
+        requires turn { turn.now.node ≡ self.old.node }
+        requires stored { IsStored self.old.location }
+        requires own { HeadRises own.now }
+        requires held { IsTrue (held_rise held.now) }
+        ensures state { IfOk result (λ led. self.new ≡ record self.old { primary = (hears (ground (place_of self.old) (B.records bodies.old) own.now held.now) self.old.primary from payload.now).primary }) }
+        ensures led { IfOk result (λ led. led ≡ (hears (ground (place_of self.old) (B.records bodies.old) own.now held.now) self.old.primary from payload.now).turned) }
+        ensures idle { OnErr result (self.new ≡ record self.old { primary = rows.idle self.old.primary }) }
+        ensures reads { ReadsOnly B.records B.fault_count bodies.old bodies.new (fault_of result) }
+    {
+        match &mut self.listed {
+            Some(listed) => listed.primary.take(turn, bodies, own, held, from, payload),
             None => unreachable!(),
         }
     }
