@@ -5,3 +5,4 @@ pub mod May
 pub mod Tellings
 pub mod Asks
 pub mod Leaders
+pub mod Winners

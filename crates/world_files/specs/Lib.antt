@@ -4,3 +4,4 @@ pub mod May
 pub mod Tellings
 pub mod Asks
 pub mod Leaders
+pub mod Winners

@@ -14,6 +14,7 @@ ghost use Rattle.world_files.specs.Seen.{kept_seen, IsOf, IsNotOf};
 ghost use Rattle.world_files.specs.Events.{MessagesShow, OthersRest, SilentRest, WakesShow, StopsShow, StartsShow, PlansRest, TicksRest, DeclaredRest};
 ghost use Rattle.world_files.specs.May.{StepsStand, HoldersMakeRoom};
 ghost use Rattle.world_files.specs.Leaders.{StepsMay, LeadersGoOn, LeadersStop};
+ghost use Rattle.world_files.specs.Winners.{WinsInTime, WinnersAreAlone};
 ghost use Rattle.world_files.specs.Asks.{MessagesCome, OutsideIsIdle, OperationsAre};
 ghost use Rattle.world_files.specs.Tellings.{AlwaysTelling, TellingIsSafe};
 
@@ -85,4 +86,11 @@ pub fn steps_may_come()
     ensures may { StepsMay }
     ensures leaders { LeadersGoOn }
     ensures stopped { LeadersStop }
+{}
+
+/// A lease that a step wins isn't over yet; and nobody else leads a file whose lease a node holds so, where no two nodes hold it by the
+/// trace.
+pub fn winners_are_alone()
+    ensures time { WinsInTime }
+    ensures alone { WinnersAreAlone }
 {}
