@@ -134,6 +134,13 @@ pub messages_show : (file : FileId) (w : World) (node : Node) (r : Running) (s :
     → file_concerned msg.payload ≡ Some file → Sees file w v → ShowsMessage file w node r s msg v
 messages_show file w node r s msg v its awake concerns sees = message_taken file node r s msg awake concerns w v its sees
 
+-- what the OSD has of the file behind the message
+pub message_leaves : (file : FileId) (node : Node) (r : Running) (s : OsdState) (msg : Msg) (awake : IsAwake r s) (concerns : file_concerned msg.payload ≡ Some file)
+    → file_seen file (step_at node r s (event.Deliver msg)).osd ≡ (step_of_file (site_at node r s) (file_seen file s) msg.from msg.payload).state
+message_leaves file node r s msg awake concerns =
+    leaves file node r s msg awake concerns file
+    ∙ put_here (step_of_file (site_at node r s) (file_seen file s) msg.from msg.payload).state (file_seen file s) file (its_file file node r s msg awake concerns)
+
 pub others_show : (file k : FileId) (w : World) (node : Node) (r : Running) (s : OsdState) (msg : Msg) (v : FileWorld) → RunsAs w node r s → IsAwake r s
     → file_concerned msg.payload ≡ Some file → is_file file k ≡ false → Sees k w v → ShowsOthers k w node r s msg v
 others_show file k w node r s msg v its awake concerns differ sees = others_rest file node r s msg awake concerns k w v differ its sees

@@ -33,10 +33,10 @@ steps_may stripe ops members file w own node r s v happens how order its sees le
     let stand = steps_stand file w own node r s v order its sees in
     record { runs = stand.runs; here = stand.here; bodies = stand.bodies; comes = comes; holds = λ t is. leaders node.id.0 (stand.leads t is); alone = alone; ends = ends }
 
-same_number : (a b : ℕ) → (a == b) ≡ true → a ≡ b
+pub same_number : (a b : ℕ) → (a == b) ≡ true → a ≡ b
 same_number a b is = grind (arith, nat_tests)
 
-other_number : (a b : ℕ) → (a == b) ≡ false → a ≢ b
+pub other_number : (a b : ℕ) → (a == b) ≡ false → a ≢ b
 other_number a b is = grind (arith, nat_tests)
 
 same_node : (a b : Node) → Some a ≡ Some b → a ≡ b
@@ -49,7 +49,7 @@ same_state : (a b : OsdState) → osd a ≡ osd b → a ≡ b
 same_state a b is = cc
 
 -- of the other nodes those lead that did
-led_before : (file : FileId) (w after : World) (node : Node) (m : ℕ) → after.nodes ≡ with_node w.nodes node → m ≢ node.id.0 → Leads after file m → Leads w file m
+pub led_before : (file : FileId) (w after : World) (node : Node) (m : ℕ) → after.nodes ≡ with_node w.nodes node → m ≢ node.id.0 → Leads after file m → Leads w file m
 led_before file w after node m is ne lead =
     record {
       node = lead.node;
@@ -57,6 +57,19 @@ led_before file w after node m is ne lead =
       state = lead.state;
       tenure = lead.tenure;
       found = sym (node_in-other w.nodes node m ne) ∙ (ap (λ (ns : List Node). node_in ns m) (sym is) ∙ lead.found);
+      up = lead.up;
+      core = lead.core;
+      leads = lead.leads;
+    }
+
+pub led_after : (file : FileId) (w after : World) (node : Node) (m : ℕ) → after.nodes ≡ with_node w.nodes node → m ≢ node.id.0 → Leads w file m → Leads after file m
+led_after file w after node m is ne lead =
+    record {
+      node = lead.node;
+      running = lead.running;
+      state = lead.state;
+      tenure = lead.tenure;
+      found = ap (λ (ns : List Node). node_in ns m) is ∙ (node_in-other w.nodes node m ne ∙ lead.found);
       up = lead.up;
       core = lead.core;
       leads = lead.leads;

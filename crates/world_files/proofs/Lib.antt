@@ -6,3 +6,4 @@ pub mod Tellings
 pub mod Asks
 pub mod Leaders
 pub mod Winners
+pub mod Steps

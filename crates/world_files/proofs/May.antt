@@ -23,7 +23,7 @@ use Rattle.world_files.specs.Events.{RunsAs, site_at}
 use Rattle.world_files.specs.May.{StandsFor, LeadersHold, IsFreed}
 use Rattle.world_files.proofs.Nodes.{here}
 
-later : (a b : ℕ) → b ≤ a → max a b ≡ a
+pub later : (a b : ℕ) → b ≤ a → max a b ≡ a
 later a b below = grind (arith, below)
 
 pub steps_stand : (file : FileId) (w : World) (own : List Msg) (node : Node) (r : Running) (s : OsdState) (v : FileWorld) → IsInOrder w own → RunsAs w node r s

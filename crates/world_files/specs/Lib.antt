@@ -5,3 +5,4 @@ pub mod Tellings
 pub mod Asks
 pub mod Leaders
 pub mod Winners
+pub mod Steps

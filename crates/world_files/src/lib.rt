@@ -15,6 +15,7 @@ ghost use Rattle.world_files.specs.Events.{MessagesShow, OthersRest, SilentRest,
 ghost use Rattle.world_files.specs.May.{StepsStand, HoldersMakeRoom};
 ghost use Rattle.world_files.specs.Leaders.{StepsMay, LeadersGoOn, LeadersStop};
 ghost use Rattle.world_files.specs.Winners.{WinsInTime, WinnersAreAlone};
+ghost use Rattle.world_files.specs.Steps.{MessagesRun};
 ghost use Rattle.world_files.specs.Asks.{MessagesCome, OutsideIsIdle, OperationsAre};
 ghost use Rattle.world_files.specs.Tellings.{AlwaysTelling, TellingIsSafe};
 
@@ -93,4 +94,10 @@ pub fn steps_may_come()
 pub fn winners_are_alone()
     ensures time { WinsInTime }
     ensures alone { WinnersAreAlone }
+{}
+
+/// A message to an OSD is a few events of the world of the file that it concerns, which may come there: who doesn't lead loses the file,
+/// where the step wins it; and then the file's step. They lead to what the world shows of the file, and who leads holds.
+pub fn messages_are_runs_of_a_file()
+    ensures { MessagesRun }
 {}

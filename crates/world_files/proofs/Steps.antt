@@ -1,0 +1,158 @@
+-- a step of the world, as events of a file's world
+use Rattle.std.proofs.Common.{◌≡◌, ◌≢◌, ℕ, ◌≤◌, inl, inr, List, [], ◌∷◌, ◌++◌, refl, arith, ap, sym, ◌∙◌, subst, Option, Some, None, Bool, true, false}
+use Rattle.std.specs.Prelude.{◌⊎◌, ◌==◌, max}
+use Rattle.xt_base.specs.declared.ids.FileId.{FileId}
+use Rattle.xt_base.specs.declared.event.Event.TheVariants as event
+use Rattle.xt_base.specs.declared.file.Op.{Op}
+use Rattle.xt_base.specs.declared.message.Msg.{Msg}
+use Rattle.xt_protocol.specs.LeaseRows.{LeaseState, free, asking, writing, held, lease_expired}
+use Rattle.osd_invariants.specs.Sound.{IsHeld, IsSound, LedUnder}
+use Rattle.osd_invariants.proofs.SoundSteps
+use Rattle.osd_lease_views.specs.LeaseView.{settled_row}
+use Rattle.osd_lease_views.proofs.OsdLeases.{file_at-with_file, at_file, step_keeps, message_step, put_here}
+use Rattle.osd_rows.specs.FileStates.{FileState, Site, FileStep}
+use Rattle.osd_rows.specs.OsdSteps.{OsdState, OsdStep, file_concerned}
+use Rattle.osd_rows.specs.declared.Tenure.{Tenure}
+use Rattle.osd_replica_views.specs.FileView.{IsFree}
+use Rattle.file_runs.specs.FileRuns.{FileWorld, Event, Happening, Sent, Tale, message, goes_on, acts, step_on, sent_by, Comes, May, MayAll, after, after_all}
+use Rattle.cluster_runs.specs.Clauses.{AreApart}
+use Rattle.cluster_runs.specs.World.{World, Node, Running, osd, node_in, with_node}
+use Rattle.cluster_runs.specs.NodeSteps.{outside_of, one_more}
+use Rattle.world_leases.specs.View.{awake_as}
+use Rattle.world_leases.specs.Worlds.{IsInOrder, Leads, CoreFits, UpFits}
+use Rattle.world_leases.proofs.Files.{at_fits}
+use Rattle.world_leases.proofs.Tables.{node_in-new}
+use Rattle.world_files.specs.Seen.{file_seen, Sees}
+use Rattle.world_files.specs.Events.{RunsAs, IsAwake, site_at, step_at, stepped}
+use Rattle.world_files.specs.May.{LeadersHold, IsFreed}
+use Rattle.world_files.specs.Steps.{IsRun}
+use Rattle.world_files.proofs.Events.{messages_show, message_leaves}
+use Rattle.world_files.proofs.May.{later, holders_make_room}
+use Rattle.world_files.proofs.Leaders.{steps_may, leaders_go_on, led_before, led_after, same_number, other_number}
+use Rattle.world_files.proofs.Winners.{wins_in_time, winners_are_alone}
+
+led_held : (l : LeaseState) (o : Option Tenure) (t : Tenure) → o ≡ Some t → LedUnder l o → IsHeld l
+led_held l None t is led = absurd (cc)
+led_held l (Some x) t is led = led
+
+may_push : (stripe : ℕ) (ops : ℕ × ℕ → Op) (members : List ℕ) (v : FileWorld) (es : List Event) (e : Event) → MayAll stripe ops members v es → May stripe ops members (after_all v es) e → MayAll stripe ops members v (es ++ e ∷ [])
+may_push stripe ops members v [] e all one = (one, tt)
+may_push stripe ops members v (x ∷ xs) e all one = (all.0, may_push stripe ops members (after v x) xs e all.1 one)
+
+after_push : (v : FileWorld) (es : List Event) (e : Event) → after_all v (es ++ e ∷ []) ≡ after (after_all v es) e
+after_push v [] e = refl
+after_push v (x ∷ xs) e = after_push (after v x) xs e
+
+held_or_not : (l : LeaseState) → IsHeld l ⊎ (IsHeld l → ⊥)
+held_or_not (free p) = inr (λ h. h)
+held_or_not (asking r) = inr (λ h. h)
+held_or_not (writing r) = inr (λ h. h)
+held_or_not (held h) = inl tt
+
+module _ (stripe : ℕ) (ops : ℕ × ℕ → Op) (members : List ℕ) (file : FileId) (w : World) (own own_after outs : List Msg) (node : Node) (r : Running) (s : OsdState) (msg : Msg)
+    (order : IsInOrder w own) (order_after : IsInOrder (stepped w node r s (event.Deliver msg) outs) own_after)
+    (apart : AreApart file.number w.entries) (apart_after : AreApart file.number (stepped w node r s (event.Deliver msg) outs).entries)
+    (its : RunsAs w node r s) (awake : IsAwake r s) (concerns : file_concerned msg.payload ≡ Some file) where
+  abbrev n : ℕ
+  n = node.id.0
+
+  abbrev site : Site
+  site = site_at node r s
+
+  abbrev happens : Happening
+  happens = message msg.from msg.payload
+
+  abbrev step : FileStep
+  step = step_on site (file_seen file s) happens
+
+  abbrev behind : World
+  behind = stepped w node r s (event.Deliver msg) outs
+
+  abbrev next : OsdState
+  next = (step_at node r s (event.Deliver msg)).osd
+
+  abbrev running : Running
+  running = record r { core = osd next }
+
+  abbrev node_after : Node
+  node_after = record node { kept = one_more node.kept (step_at node r s (event.Deliver msg)).turned.rec; up = Some running }
+
+  its_after : RunsAs behind node_after running next
+  its_after = record { found = node_in-new w.nodes node_after node its.found; up = refl; core = refl }
+
+  fits : CoreFits w.times w.files node.id node.kept r (osd s)
+  fits = subst (CoreFits w.times w.files node.id node.kept r) its.core (subst (UpFits w.times w.files node.id node.kept) its.up (order.nodes n node its.found).up)
+
+  now_is : max r.clock s.last ≡ r.clock
+  now_is = later r.clock s.last fits.0.last
+
+  is_state : file_seen file next ≡ step.state
+  is_state = message_leaves file node r s msg awake concerns
+
+  -- nobody else led, where the lease is held behind the step
+  alone_before : IsHeld step.state.lease → (m : ℕ) → Leads w file m → m ≡ n
+  alone_before is m lead = at (wins_in_time site (file_seen file s) happens is)
+    where
+      by_number : (b : Bool) → (m == n) ≡ b → ((m ≢ n) → m ≡ n) → m ≡ n
+      by_number true same other = same_number m n same
+      by_number false differs other = other (other_number m n differs)
+
+      at : IsHeld (settled_row site (file_seen file s)).lease ⊎ IsHeld (lease_expired step.state.lease site.now) → m ≡ n
+      at (inl before) = winners_are_alone file w own node r s order apart its (subst (λ (c : ℕ). IsHeld (lease_expired (file_seen file s).lease c)) now_is before) m lead
+      at (inr now) =
+          by_number (m == n) refl (λ ne. winners_are_alone file behind own_after node_after running next order_after apart_after its_after
+          (subst (λ (x : FileState). IsHeld (lease_expired x.lease r.clock)) (sym is_state) (subst (λ (c : ℕ). IsHeld (lease_expired step.state.lease c)) now_is now))
+          m (led_after file w behind node_after m refl ne lead))
+
+  -- nor does anybody else behind it
+  alone_behind : (t : Tenure) → step.state.primary.tenure ≡ Some t → (m : ℕ) → Leads behind file m → m ≡ n
+  alone_behind t is m lead = at (m == n) refl
+    where
+      sound : IsSound step.state
+      sound = SoundSteps.step_so site (file_seen file s) msg.from msg.payload (at_fits w.files (awake_as s.started) s.files file fits.0.fits).sound
+
+      at : (b : Bool) → (m == n) ≡ b → m ≡ n
+      at true same = same_number m n same
+      at false differs = alone_before (led_held step.state.lease step.state.primary.tenure t is sound.led) m (led_before file w behind node_after m refl (other_number m n differs) lead)
+
+  acting : (v : FileWorld) → Comes stripe ops members v happens → Sees file w v → LeadersHold file w v → (IsHeld step.state.lease → IsFree n v.holder)
+      → (May stripe ops members v (acts n (file_seen file s) site happens goes_on)) × Sees file behind (after v (acts n (file_seen file s) site happens goes_on)) × LeadersHold file behind (after v (acts n (file_seen file s) site happens goes_on))
+  acting v comes sees leaders alone = (
+    steps_may stripe ops members file w own node r s v happens goes_on order its sees leaders comes alone tt,
+    (messages_show file w node r s msg v its awake concerns sees).takes outs,
+    leaders_go_on file w behind node_after running next v step refl its_after is_state alone_behind leaders,
+  )
+
+  abbrev acts_now : Event
+  acts_now = acts n (file_seen file s) site happens goes_on
+
+  ran : (v : FileWorld) → Comes stripe ops members v happens → Sees file w v → LeadersHold file w v → IsRun stripe ops members file behind n v step
+  ran v comes sees leaders = at (held_or_not step.state.lease)
+    where
+      with_room : IsFreed stripe ops members file w n v → IsRun stripe ops members file behind n v step
+      with_room room =
+          let v1 = after_all v room.lost in
+          let comes_then = subst (λ (k : List Sent). Comes stripe ops members (record v { sent = k }) happens) (sym room.same_sent) comes in
+          let p = acting v1 comes_then room.sees room.leaders (λ is. room.free) in
+          let same = after_push v room.lost acts_now in
+          record {
+            events = room.lost ++ acts_now ∷ [];
+            may = may_push stripe ops members v room.lost acts_now room.may p.0;
+            sees = subst (Sees file behind) (sym same) p.1;
+            leaders = subst (LeadersHold file behind) (sym same) p.2;
+            sent = ap (λ (k : FileWorld). k.sent) same ∙ ap (λ (k : List Sent). sent_by n step.turned.outs ++ k) room.same_sent;
+            tales = ap (λ (k : FileWorld). k.tales) same ∙ ap (λ (k : List Tale). record { node = n; marks = step.turned.marks } ∷ k) room.same_tales;
+          }
+
+      at : IsHeld step.state.lease ⊎ (IsHeld step.state.lease → ⊥) → IsRun stripe ops members file behind n v step
+      at (inl is) = with_room (holders_make_room stripe ops members file w n v sees leaders (alone_before is))
+      at (inr lacks) = (let p = acting v comes sees leaders (λ is. absurd (lacks is)) in record { events = acts_now ∷ []; may = (p.0, tt); sees = p.1; leaders = p.2; sent = refl; tales = refl })
+
+pub messages_run : (stripe : ℕ) (ops : ℕ × ℕ → Op) (members : List ℕ) (file : FileId) (w : World) (own own_after outs : List Msg) (node : Node) (r : Running) (s : OsdState) (msg : Msg) (v : FileWorld)
+    → IsInOrder w own → IsInOrder (stepped w node r s (event.Deliver msg) outs) own_after
+    → AreApart file.number w.entries → AreApart file.number (stepped w node r s (event.Deliver msg) outs).entries
+    → RunsAs w node r s → IsAwake r s → file_concerned msg.payload ≡ Some file → Comes stripe ops members v (message msg.from msg.payload)
+    → Sees file w v → LeadersHold file w v
+    → IsRun stripe ops members file (stepped w node r s (event.Deliver msg) outs) node.id.0 v (step_on (site_at node r s) (file_seen file s) (message msg.from msg.payload))
+messages_run stripe ops members file w own own_after outs node r s msg v order order_after apart apart_after its awake concerns comes sees leaders =
+    ran stripe ops members file w own own_after outs node r s msg order order_after apart apart_after its awake concerns v comes sees leaders
