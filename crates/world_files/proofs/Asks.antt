@@ -1,7 +1,6 @@
 -- which asks may come to a file, and what becomes of the others
-use Rattle.std.proofs.Common.{◌≡◌, ℕ, inl, inr, List, [], ◌∷◌, ◌++◌, refl, ap, sym, ◌∙◌, subst, Option, Some, None, Bool, true, false}
+use Rattle.std.proofs.Common.{◌≡◌, ℕ, inl, inr, List, ◌++◌, refl, ap, sym, ◌∙◌, subst, Option, Some, None, Bool, true, false}
 use Rattle.std.specs.Prelude.{◌⊎◌, cond}
-use Rattle.xt_base.specs.Limits.{FitsOp}
 use Rattle.xt_base.specs.declared.ids.NodeId.{NodeId}
 use Rattle.xt_base.specs.declared.ids.FileId.{FileId}
 use Rattle.xt_base.specs.declared.ids.OpId.{OpId}
@@ -24,7 +23,6 @@ use Rattle.osd_rows.specs.FileSteps.{message_comes, ask_comes, step_of_file}
 use Rattle.osd_rows.specs.OsdSteps.{file_concerned}
 use Rattle.osd_rows.specs.Overdue.{expired}
 use Rattle.osd_replica_views.specs.FileView.{IsList, AskComes}
-use Rattle.osd_replica_views.specs.Seen.{name_of}
 use Rattle.cluster_runs.specs.declared.DeclaredFile.{DeclaredFile}
 use Rattle.cluster_runs.specs.declared.Entry.{Entry}
 use Rattle.cluster_runs.specs.TimeLine.{id_of, operation_begun}

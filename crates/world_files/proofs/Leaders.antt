@@ -1,5 +1,5 @@
 -- that a step of a node is an event that may come in the file's world, and that who leads still holds behind it
-use Rattle.std.proofs.Common.{◌≡◌, ◌≢◌, ℕ, inl, inr, List, [], refl, arith, ap, sym, ◌∙◌, subst, Option, Some, None, Bool, true, false}
+use Rattle.std.proofs.Common.{◌≡◌, ◌≢◌, ℕ, inl, inr, List, refl, arith, ap, sym, ◌∙◌, subst, Option, Some, None, Bool, true, false}
 use Rattle.std.specs.Prelude.{◌⊎◌, ◌==◌, cond}
 use Rattle.std.proofs.lemmas.Bool.Decides.{nat_tests}
 use Rattle.xt_base.specs.declared.ids.FileId.{FileId}
@@ -14,7 +14,7 @@ use Rattle.osd_replica_views.specs.FileView.{IsFree, settled}
 use Rattle.osd_replica_views.proofs.Files.{expired_tenure}
 use Rattle.replica_runs.specs.Steps.{without}
 use Rattle.file_runs.specs.FileRuns.{FileWorld, Happening, Ending, goes_on, stops_lost, acts, step_on, acted, holder_after, Comes, MayEnd, May}
-use Rattle.cluster_runs.specs.World.{World, Node, Running, Core, osd, node_in, with_node}
+use Rattle.cluster_runs.specs.World.{World, Node, Running, osd, node_in, with_node}
 use Rattle.cluster_runs.specs.NodeSteps.{outside_of}
 use Rattle.world_leases.specs.View.{awake_as}
 use Rattle.world_leases.specs.Worlds.{IsInOrder, Leads}

@@ -1,5 +1,5 @@
 -- what a step of a file rests on, and who holds the file
-use Rattle.std.proofs.Common.{◌≡◌, ◌≢◌, ℕ, List, [], ◌∷◌, refl, arith, ap, sym, ◌∙◌, subst, Option, Some, None, Bool, true, false}
+use Rattle.std.proofs.Common.{◌≡◌, ℕ, List, [], ◌∷◌, refl, arith, ap, sym, ◌∙◌, subst, Option, Some, None, Bool, true, false}
 use Rattle.std.specs.Prelude.{cond, max, ◌≤◌, ◌==◌}
 use Rattle.std.proofs.lemmas.Bool.Decides.{nat_tests}
 use Rattle.xt_base.specs.declared.ids.FileId.{FileId}
@@ -8,18 +8,17 @@ use Rattle.xt_base.specs.declared.message.Msg.{Msg}
 use Rattle.xt_protocol.specs.LeaseRows.{Silent}
 use Rattle.osd_rows.specs.OsdSteps.{OsdState}
 use Rattle.osd_rows.specs.Overdue.{expired}
-use Rattle.osd_rows.specs.declared.Tenure.{Tenure}
 use Rattle.osd_lease_views.specs.OsdView.{site_of}
 use Rattle.osd_lease_views.proofs.OsdLeases.{at_file}
-use Rattle.osd_replica_views.specs.FileView.{settled, IsFree}
+use Rattle.osd_replica_views.specs.FileView.{IsFree}
 use Rattle.replica_runs.specs.Steps.{without}
-use Rattle.file_runs.specs.FileRuns.{FileNode, FileWorld, Event, lapses, after, MayAll, after_all}
+use Rattle.file_runs.specs.FileRuns.{FileNode, FileWorld, lapses}
 use Rattle.cluster_runs.specs.World.{World, Node, Running, osd}
 use Rattle.cluster_runs.specs.NodeSteps.{outside_of, body_by}
 use Rattle.world_leases.specs.View.{awake_as}
 use Rattle.world_leases.specs.Worlds.{IsInOrder, Leads, CoreFits, UpFits}
-use Rattle.world_files.specs.Seen.{file_seen, core_state, up_state, kept_seen, Sees}
-use Rattle.world_files.specs.Events.{RunsAs, site_at}
+use Rattle.world_files.specs.Seen.{file_seen, core_state, up_state, Sees}
+use Rattle.world_files.specs.Events.{RunsAs}
 use Rattle.world_files.specs.May.{StandsFor, LeadersHold, IsFreed}
 use Rattle.world_files.proofs.Nodes.{here}
 

@@ -1,5 +1,5 @@
 -- what one record more changes of a file: its row and its bodies, where it is of the file, and nothing else
-use Rattle.std.proofs.Common.{◌≡◌, ℕ, List, [], ◌∷◌, ◌++◌, refl, ap, sym, ◌∙◌, Option, Some, None, Bool, true, false}
+use Rattle.std.proofs.Common.{◌≡◌, ℕ, List, [], ◌∷◌, ◌++◌, refl, ap, sym, ◌∙◌, Option, Some, None, Bool}
 use Rattle.std.specs.Prelude.{cond, ◌&&◌, ◌==◌, unwrap_or}
 use Rattle.std.proofs.Math.Path.{fun_ext}
 use Rattle.xt_base.specs.declared.ids.FileId.{FileId}

@@ -1,5 +1,5 @@
 -- a step of the world, as events of a file's world
-use Rattle.std.proofs.Common.{◌≡◌, ◌≢◌, ℕ, ◌≤◌, inl, inr, List, [], ◌∷◌, ◌++◌, refl, arith, ap, sym, ◌∙◌, subst, Option, Some, None, Bool, true, false}
+use Rattle.std.proofs.Common.{◌≡◌, ◌≢◌, ℕ, inl, inr, List, [], ◌∷◌, ◌++◌, refl, ap, sym, ◌∙◌, subst, Option, Some, None, Bool, true, false}
 use Rattle.std.specs.Prelude.{◌⊎◌, ◌==◌, max}
 use Rattle.xt_base.specs.declared.ids.FileId.{FileId}
 use Rattle.xt_base.specs.declared.event.Event.TheVariants as event
@@ -9,15 +9,14 @@ use Rattle.xt_protocol.specs.LeaseRows.{LeaseState, free, asking, writing, held,
 use Rattle.osd_invariants.specs.Sound.{IsHeld, IsSound, LedUnder}
 use Rattle.osd_invariants.proofs.SoundSteps
 use Rattle.osd_lease_views.specs.LeaseView.{settled_row}
-use Rattle.osd_lease_views.proofs.OsdLeases.{file_at-with_file, at_file, step_keeps, message_step, put_here}
 use Rattle.osd_rows.specs.FileStates.{FileState, Site, FileStep}
-use Rattle.osd_rows.specs.OsdSteps.{OsdState, OsdStep, file_concerned}
+use Rattle.osd_rows.specs.OsdSteps.{OsdState, file_concerned}
 use Rattle.osd_rows.specs.declared.Tenure.{Tenure}
 use Rattle.osd_replica_views.specs.FileView.{IsFree}
 use Rattle.file_runs.specs.FileRuns.{FileWorld, Event, Happening, Sent, Tale, message, goes_on, acts, step_on, sent_by, Comes, May, MayAll, after, after_all}
 use Rattle.cluster_runs.specs.Clauses.{AreApart}
-use Rattle.cluster_runs.specs.World.{World, Node, Running, osd, node_in, with_node}
-use Rattle.cluster_runs.specs.NodeSteps.{outside_of, one_more}
+use Rattle.cluster_runs.specs.World.{World, Node, Running, osd}
+use Rattle.cluster_runs.specs.NodeSteps.{one_more}
 use Rattle.world_leases.specs.View.{awake_as}
 use Rattle.world_leases.specs.Worlds.{IsInOrder, Leads, CoreFits, UpFits}
 use Rattle.world_leases.proofs.Files.{at_fits}

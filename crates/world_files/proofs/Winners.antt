@@ -1,5 +1,5 @@
 -- that nobody else leads where a step leaves the lease held
-use Rattle.std.proofs.Common.{◌≡◌, ℕ, inl, inr, List, [], ◌++◌, refl, ap, sym, ◌∙◌, subst, Option, Some, None, Bool, true, false}
+use Rattle.std.proofs.Common.{◌≡◌, ℕ, inl, inr, List, [], refl, ap, sym, subst, Option, Some, None, Bool, true, false}
 use Rattle.std.specs.Prelude.{◌⊎◌, cond}
 use Rattle.std.proofs.lemmas.List.{append-nil}
 use Rattle.xt_base.specs.declared.ids.NodeId.{NodeId}
@@ -14,7 +14,7 @@ use Rattle.lease_runs.specs.LeaseWorld.{LeaseSetting, LeaseRow, row_handles, row
 use Rattle.lease_runs.proofs.Tests.{same_node}
 use Rattle.osd_invariants.specs.Sound.{IsHeld, LedUnder}
 use Rattle.osd_invariants.proofs.SoundSteps
-use Rattle.osd_lease_views.specs.LeaseView.{lease_row_of, lease_setting, settled_row, Follows, handles, asks, stays, Wakes, renewing, resting}
+use Rattle.osd_lease_views.specs.LeaseView.{lease_setting, settled_row, Follows, handles, asks, stays, Wakes, renewing, resting}
 use Rattle.osd_lease_views.specs.OsdView.{site_of, wake_step}
 use Rattle.osd_lease_views.proofs.LeaseSteps.{step_follows, expired_shows}
 use Rattle.osd_lease_views.proofs.OsdLeases.{each_wakes}
@@ -26,7 +26,7 @@ use Rattle.osd_rows.specs.declared.Tenure.{Tenure}
 use Rattle.file_runs.specs.FileRuns.{Happening, message, wake, step_on}
 use Rattle.cluster_runs.specs.Clauses.{AreApart}
 use Rattle.cluster_runs.specs.TimeLine.{holds}
-use Rattle.cluster_runs.specs.World.{World, Node, Running, osd}
+use Rattle.cluster_runs.specs.World.{World, Node, Running}
 use Rattle.cluster_runs.specs.NodeSteps.{outside_of}
 use Rattle.world_leases.specs.View.{node_id, awake_as}
 use Rattle.world_leases.specs.Worlds.{IsInOrder, Leads, CoreFits, UpFits}

@@ -1,5 +1,5 @@
 -- what the nodes of a file do where a node of the world steps, stops or starts
-use Rattle.std.specs.Prelude.{◌≡◌, ◌⊎◌, false, ℕ, Option, Some, None, List, ◌∷◌, [], ◌++◌, max, map}
+use Rattle.std.specs.Prelude.{◌≡◌, ◌⊎◌, false, ℕ, Some, None, List, ◌∷◌, [], ◌++◌, max, map}
 use Rattle.xt_base.specs.declared.ids.FileId.{FileId}
 use Rattle.xt_base.specs.declared.event.Event.{Event}
 use Rattle.xt_base.specs.declared.event.Event.TheVariants as event

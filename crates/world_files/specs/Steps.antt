@@ -1,12 +1,12 @@
 -- a step of the world, as events of a file's world
-use Rattle.std.specs.Prelude.{◌≡◌, ℕ, Some, List, [], ◌∷◌, ◌++◌}
+use Rattle.std.specs.Prelude.{◌≡◌, ℕ, Some, List, ◌∷◌, ◌++◌}
 use Rattle.xt_base.specs.declared.ids.FileId.{FileId}
 use Rattle.xt_base.specs.declared.file.Op.{Op}
 use Rattle.xt_base.specs.declared.event.Event.TheVariants as event
 use Rattle.xt_base.specs.declared.message.Msg.{Msg}
 use Rattle.osd_rows.specs.FileStates.{FileStep}
 use Rattle.osd_rows.specs.OsdSteps.{OsdState, file_concerned}
-use Rattle.file_runs.specs.FileRuns.{FileWorld, Event, Happening, message, step_on, sent_by, Comes, MayAll, after_all}
+use Rattle.file_runs.specs.FileRuns.{FileWorld, Event, message, step_on, sent_by, Comes, MayAll, after_all}
 use Rattle.cluster_runs.specs.Clauses.{AreApart}
 use Rattle.cluster_runs.specs.World.{World, Node, Running}
 use Rattle.world_leases.specs.Worlds.{IsInOrder}

@@ -1,5 +1,5 @@
 -- what the trace of a world tells of a file, and what the tales of the file's world do
-use Rattle.std.specs.Prelude.{◌≡◌, ◌≤◌, false, ◌==◌, ℕ, Option, Some, None, List, [], ◌∷◌, ◌++◌, map}
+use Rattle.std.specs.Prelude.{◌≡◌, ◌≤◌, false, ◌==◌, ℕ, None, List, [], ◌∷◌, ◌++◌, map}
 use Rattle.xt_base.specs.declared.ids.NodeId.{NodeId}
 use Rattle.xt_base.specs.declared.event.Mark.{Mark}
 use Rattle.xt_base.specs.declared.file.Op.{Op}
