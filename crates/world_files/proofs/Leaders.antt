@@ -22,6 +22,7 @@ use Rattle.world_leases.proofs.Tables.{node_in-other}
 use Rattle.world_files.specs.Seen.{file_seen, Sees}
 use Rattle.world_files.specs.Events.{RunsAs, site_at}
 use Rattle.world_files.specs.May.{LeadersHold}
+use Rattle.world_files.proofs.Nodes.{same_number, other_number}
 use Rattle.world_files.proofs.May.{steps_stand}
 
 pub steps_may : (stripe : ℕ) (ops : ℕ × ℕ → Op) (members : List ℕ) (file : FileId) (w : World) (own : List Msg) (node : Node) (r : Running) (s : OsdState) (v : FileWorld)
@@ -32,12 +33,6 @@ pub steps_may : (stripe : ℕ) (ops : ℕ × ℕ → Op) (members : List ℕ) (f
 steps_may stripe ops members file w own node r s v happens how order its sees leaders comes alone ends =
     let stand = steps_stand file w own node r s v order its sees in
     record { runs = stand.runs; here = stand.here; bodies = stand.bodies; comes = comes; holds = λ t is. leaders node.id.0 (stand.leads t is); alone = alone; ends = ends }
-
-pub same_number : (a b : ℕ) → (a == b) ≡ true → a ≡ b
-same_number a b is = grind (arith, nat_tests)
-
-pub other_number : (a b : ℕ) → (a == b) ≡ false → a ≢ b
-other_number a b is = grind (arith, nat_tests)
 
 same_node : (a b : Node) → Some a ≡ Some b → a ≡ b
 same_node a b is = cc

@@ -16,10 +16,10 @@ use Rattle.world_leases.proofs.Tables.{node_in-new, node_in-other, node_in-last,
 use Rattle.world_files.specs.Seen.{core_state, up_state, kept_seen, node_seen, nodes_seen, Sees, IsOf, IsNotOf}
 use Rattle.world_files.proofs.Records.{keeps_own, keeps_other}
 
-same_number : (a b : ℕ) → (a == b) ≡ true → a ≡ b
+pub same_number : (a b : ℕ) → (a == b) ≡ true → a ≡ b
 same_number a b is = grind (arith, nat_tests)
 
-other_number : (a b : ℕ) → (a == b) ≡ false → a ≢ b
+pub other_number : (a b : ℕ) → (a == b) ≡ false → a ≢ b
 other_number a b is = grind (arith, nat_tests)
 
 abbrev pub put : World → Node → World

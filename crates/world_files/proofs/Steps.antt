@@ -26,13 +26,10 @@ use Rattle.world_files.specs.Events.{RunsAs, IsAwake, site_at, step_at, stepped}
 use Rattle.world_files.specs.May.{LeadersHold, IsFreed}
 use Rattle.world_files.specs.Steps.{IsRun}
 use Rattle.world_files.proofs.Events.{messages_show, message_leaves}
+use Rattle.world_files.proofs.Nodes.{same_number, other_number}
 use Rattle.world_files.proofs.May.{later, holders_make_room}
-use Rattle.world_files.proofs.Leaders.{steps_may, leaders_go_on, led_before, led_after, same_number, other_number}
-use Rattle.world_files.proofs.Winners.{wins_in_time, winners_are_alone}
-
-led_held : (l : LeaseState) (o : Option Tenure) (t : Tenure) → o ≡ Some t → LedUnder l o → IsHeld l
-led_held l None t is led = absurd (cc)
-led_held l (Some x) t is led = led
+use Rattle.world_files.proofs.Leaders.{steps_may, leaders_go_on, led_before, led_after}
+use Rattle.world_files.proofs.Winners.{led_held, wins_in_time, winners_are_alone}
 
 may_push : (stripe : ℕ) (ops : ℕ × ℕ → Op) (members : List ℕ) (v : FileWorld) (es : List Event) (e : Event) → MayAll stripe ops members v es → May stripe ops members (after_all v es) e → MayAll stripe ops members v (es ++ e ∷ [])
 may_push stripe ops members v [] e all one = (one, tt)

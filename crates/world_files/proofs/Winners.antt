@@ -118,7 +118,7 @@ wins_in_time site s wake = at (each_wakes site s)
 
 -- ---- who leads
 
-led_held : (l : LeaseState) (o : Option Tenure) (t : Tenure) → o ≡ Some t → LedUnder l o → IsHeld l
+pub led_held : (l : LeaseState) (o : Option Tenure) (t : Tenure) → o ≡ Some t → LedUnder l o → IsHeld l
 led_held l None t is led = absurd (cc)
 led_held l (Some x) t is led = led
 
