@@ -12,6 +12,8 @@ use Rattle.xt_base.specs.declared.record.Record.TheVariants as kept
 use Rattle.xt_base.specs.declared.record.FileRow.{FileRow}
 use Rattle.xt_protocol.specs.FileIds.{is_file}
 use Rattle.xt_protocol.specs.Folds.{fold_of, row_in}
+use Rattle.xt_protocol.proofs.Folds.{file-itself}
+use Rattle.lease_safety.specs.State.{Has}
 use Rattle.xt_protocol.specs.LeaseRows.{Silent, Awake, awake_at}
 use Rattle.xt_protocol.specs.declared.Turned.{Turned}
 use Rattle.time_line.specs.declared.entry.Halt.{Halt}
@@ -195,6 +197,36 @@ wakes_show file w node r s outs v its awake sees = at (at_map (λ (x : FileState
         (none ∙ sym (wake_step_rec site (file_seen file s))) (none_is_of file (wake_step site (file_seen file s)).turned.rec (wake_step_rec site (file_seen file s))))
     at (found_nowhere nowhere is) =
         inr (rested file w node r s v its sees whole.osd (record whole.turned { outs = outs }) (files_are ∙ is) (none_of file whole.turned.rec none))
+
+-- a Wake of an OSD that has met the file
+pub wake_leaves : (file : FileId) (node : Node) (r : Running) (s : OsdState) → IsAwake r s → Has (file_seen file s) s.files
+    → file_seen file (step_at node r s event.Wake).osd ≡ (wake_step (site_at node r s) (file_seen file s)).state
+wake_leaves file node r s awake met =
+    ap (λ (t : Silent). file_at (awake_as t) whole.osd.files file) (ap (λ (o : OsdStep). o.osd.started) (woken_step (outside_of node.kept) s r.clock (awake_as s.started) awake))
+    ∙ (ap (λ (fs : List FileState). file_at (awake_as s.started) fs file) (wake_shows (outside_of node.kept) s r.clock (awake_as s.started) awake).files
+    ∙ at (at_map (λ (x : FileState). (wake_step site x).state) (awake_as s.started) s.files file (λ x. ap (λ (row : FileRow). row.file) (wake_step_kept site x))))
+  where
+    site : Site
+    site = site_at node r s
+
+    whole : OsdStep
+    whole = step_at node r s event.Wake
+
+    its_own : is_file (file_seen file s).kept.file file ≡ true
+    its_own = ap (λ (f : FileId). is_file f file) (at_file (awake_as s.started) s.files file) ∙ file-itself file
+
+    at : AtMap (λ (x : FileState). (wake_step site x).state) (awake_as s.started) s.files file → file_at (awake_as s.started) (map (λ (x : FileState). (wake_step site x).state) s.files) file ≡ (wake_step site (file_seen file s)).state
+    at (found_at has is) = is
+    at (found_nowhere nowhere is) = absurd (let differs = nowhere (file_seen file s) met in cc (differs, its_own))
+
+pub wake_taken : (file : FileId) (w : World) (node : Node) (r : Running) (s : OsdState) (outs : List Msg) (v : FileWorld) → RunsAs w node r s → IsAwake r s → Has (file_seen file s) s.files → Sees file w v
+    → Sees file (stepped w node r s event.Wake outs) (after v (acts node.id.0 (file_seen file s) (site_at node r s) wake goes_on))
+wake_taken file w node r s outs v its awake met sees =
+    let site = site_at node r s in
+    let whole = step_at node r s event.Wake in
+    let none = ap (λ (o : OsdStep). o.turned.rec) (woken_step (outside_of node.kept) s r.clock (awake_as s.started) awake) ∙ (woken_quiet site s.files).1 in
+    took file w node r s v its sees whole.osd (record whole.turned { outs = outs }) (wake_step site (file_seen file s)) (wake_leaves file node r s awake met)
+    (none ∙ sym (wake_step_rec site (file_seen file s))) (none_is_of file (wake_step site (file_seen file s)).turned.rec (wake_step_rec site (file_seen file s)))
 
 -- ---- starts
 

@@ -1,19 +1,22 @@
 -- a step of the world, as events of a file's world
-use Rattle.std.proofs.Common.{◌≡◌, ◌≢◌, ℕ, inl, inr, List, [], ◌∷◌, ◌++◌, refl, ap, sym, ◌∙◌, subst, Option, Some, None, Bool, true, false}
+use Rattle.std.proofs.Common.{◌≡◌, ◌≢◌, ℕ, inl, inr, List, [], ◌∷◌, ◌++◌, refl, ap, sym, ◌∙◌, subst, Some, Bool, true, false}
 use Rattle.std.specs.Prelude.{◌⊎◌, ◌==◌, max}
 use Rattle.xt_base.specs.declared.ids.FileId.{FileId}
+use Rattle.xt_base.specs.declared.event.Event as NodeEvent
 use Rattle.xt_base.specs.declared.event.Event.TheVariants as event
 use Rattle.xt_base.specs.declared.file.Op.{Op}
 use Rattle.xt_base.specs.declared.message.Msg.{Msg}
 use Rattle.xt_protocol.specs.LeaseRows.{LeaseState, free, asking, writing, held, lease_expired}
-use Rattle.osd_invariants.specs.Sound.{IsHeld, IsSound, LedUnder}
+use Rattle.lease_safety.specs.State.{Has}
+use Rattle.osd_rows.specs.Overdue.{expired}
+use Rattle.osd_invariants.specs.Sound.{IsHeld, IsSound}
 use Rattle.osd_invariants.proofs.SoundSteps
 use Rattle.osd_lease_views.specs.LeaseView.{settled_row}
 use Rattle.osd_rows.specs.FileStates.{FileState, Site, FileStep}
 use Rattle.osd_rows.specs.OsdSteps.{OsdState, file_concerned}
 use Rattle.osd_rows.specs.declared.Tenure.{Tenure}
 use Rattle.osd_replica_views.specs.FileView.{IsFree}
-use Rattle.file_runs.specs.FileRuns.{FileWorld, Event, Happening, Sent, Tale, message, goes_on, acts, step_on, sent_by, Comes, May, MayAll, after, after_all}
+use Rattle.file_runs.specs.FileRuns.{FileWorld, Event, Happening, Sent, Tale, message, wake, goes_on, acts, step_on, sent_by, Comes, May, MayAll, after, after_all}
 use Rattle.cluster_runs.specs.Clauses.{AreApart}
 use Rattle.cluster_runs.specs.World.{World, Node, Running, osd}
 use Rattle.cluster_runs.specs.NodeSteps.{one_more}
@@ -25,7 +28,7 @@ use Rattle.world_files.specs.Seen.{file_seen, Sees}
 use Rattle.world_files.specs.Events.{RunsAs, IsAwake, site_at, step_at, stepped}
 use Rattle.world_files.specs.May.{LeadersHold, IsFreed}
 use Rattle.world_files.specs.Steps.{IsRun}
-use Rattle.world_files.proofs.Events.{messages_show, message_leaves}
+use Rattle.world_files.proofs.Events.{messages_show, message_leaves, wake_leaves, wake_taken}
 use Rattle.world_files.proofs.Nodes.{same_number, other_number}
 use Rattle.world_files.proofs.May.{later, holders_make_room}
 use Rattle.world_files.proofs.Leaders.{steps_may, leaders_go_on, led_before, led_after}
@@ -45,33 +48,33 @@ held_or_not (asking r) = inr (λ h. h)
 held_or_not (writing r) = inr (λ h. h)
 held_or_not (held h) = inl tt
 
-module _ (stripe : ℕ) (ops : ℕ × ℕ → Op) (members : List ℕ) (file : FileId) (w : World) (own own_after outs : List Msg) (node : Node) (r : Running) (s : OsdState) (msg : Msg)
-    (order : IsInOrder w own) (order_after : IsInOrder (stepped w node r s (event.Deliver msg) outs) own_after)
-    (apart : AreApart file.number w.entries) (apart_after : AreApart file.number (stepped w node r s (event.Deliver msg) outs).entries)
-    (its : RunsAs w node r s) (awake : IsAwake r s) (concerns : file_concerned msg.payload ≡ Some file) where
+module _ (stripe : ℕ) (ops : ℕ × ℕ → Op) (members : List ℕ) (file : FileId) (w : World) (own own_after outs : List Msg) (node : Node) (r : Running) (s : OsdState) (comes_in : NodeEvent.Event) (happens : Happening)
+    (order : IsInOrder w own) (order_after : IsInOrder (stepped w node r s comes_in outs) own_after)
+    (apart : AreApart file.number w.entries) (apart_after : AreApart file.number (stepped w node r s comes_in outs).entries)
+    (its : RunsAs w node r s)
+    (is_state : file_seen file (step_at node r s comes_in).osd ≡ (step_on (site_at node r s) (file_seen file s) happens).state)
+    (shows : (v : FileWorld) → Sees file w v → Sees file (stepped w node r s comes_in outs) (after v (acts node.id.0 (file_seen file s) (site_at node r s) happens goes_on)))
+    (stays_sound : IsSound (file_seen file s) → IsSound (step_on (site_at node r s) (file_seen file s) happens).state) where
   abbrev n : ℕ
   n = node.id.0
 
   abbrev site : Site
   site = site_at node r s
 
-  abbrev happens : Happening
-  happens = message msg.from msg.payload
-
   abbrev step : FileStep
   step = step_on site (file_seen file s) happens
 
   abbrev behind : World
-  behind = stepped w node r s (event.Deliver msg) outs
+  behind = stepped w node r s comes_in outs
 
   abbrev next : OsdState
-  next = (step_at node r s (event.Deliver msg)).osd
+  next = (step_at node r s comes_in).osd
 
   abbrev running : Running
   running = record r { core = osd next }
 
   abbrev node_after : Node
-  node_after = record node { kept = one_more node.kept (step_at node r s (event.Deliver msg)).turned.rec; up = Some running }
+  node_after = record node { kept = one_more node.kept (step_at node r s comes_in).turned.rec; up = Some running }
 
   its_after : RunsAs behind node_after running next
   its_after = record { found = node_in-new w.nodes node_after node its.found; up = refl; core = refl }
@@ -81,9 +84,6 @@ module _ (stripe : ℕ) (ops : ℕ × ℕ → Op) (members : List ℕ) (file : F
 
   now_is : max r.clock s.last ≡ r.clock
   now_is = later r.clock s.last fits.0.last
-
-  is_state : file_seen file next ≡ step.state
-  is_state = message_leaves file node r s msg awake concerns
 
   -- nobody else led, where the lease is held behind the step
   alone_before : IsHeld step.state.lease → (m : ℕ) → Leads w file m → m ≡ n
@@ -105,7 +105,7 @@ module _ (stripe : ℕ) (ops : ℕ × ℕ → Op) (members : List ℕ) (file : F
   alone_behind t is m lead = at (m == n) refl
     where
       sound : IsSound step.state
-      sound = SoundSteps.step_so site (file_seen file s) msg.from msg.payload (at_fits w.files (awake_as s.started) s.files file fits.0.fits).sound
+      sound = stays_sound (at_fits w.files (awake_as s.started) s.files file fits.0.fits).sound
 
       at : (b : Bool) → (m == n) ≡ b → m ≡ n
       at true same = same_number m n same
@@ -115,7 +115,7 @@ module _ (stripe : ℕ) (ops : ℕ × ℕ → Op) (members : List ℕ) (file : F
       → (May stripe ops members v (acts n (file_seen file s) site happens goes_on)) × Sees file behind (after v (acts n (file_seen file s) site happens goes_on)) × LeadersHold file behind (after v (acts n (file_seen file s) site happens goes_on))
   acting v comes sees leaders alone = (
     steps_may stripe ops members file w own node r s v happens goes_on order its sees leaders comes alone tt,
-    (messages_show file w node r s msg v its awake concerns sees).takes outs,
+    shows v sees,
     leaders_go_on file w behind node_after running next v step refl its_after is_state alone_behind leaders,
   )
 
@@ -151,4 +151,16 @@ pub messages_run : (stripe : ℕ) (ops : ℕ × ℕ → Op) (members : List ℕ)
     → Sees file w v → LeadersHold file w v
     → IsRun stripe ops members file (stepped w node r s (event.Deliver msg) outs) node.id.0 v (step_on (site_at node r s) (file_seen file s) (message msg.from msg.payload))
 messages_run stripe ops members file w own own_after outs node r s msg v order order_after apart apart_after its awake concerns comes sees leaders =
-    ran stripe ops members file w own own_after outs node r s msg order order_after apart apart_after its awake concerns v comes sees leaders
+    ran stripe ops members file w own own_after outs node r s (event.Deliver msg) (message msg.from msg.payload) order order_after apart apart_after its
+    (message_leaves file node r s msg awake concerns) (λ v sees. (messages_show file w node r s msg v its awake concerns sees).takes outs)
+    (SoundSteps.step_so (site_at node r s) (file_seen file s) msg.from msg.payload) v comes sees leaders
+
+pub wakes_run : (stripe : ℕ) (ops : ℕ × ℕ → Op) (members : List ℕ) (file : FileId) (w : World) (own own_after outs : List Msg) (node : Node) (r : Running) (s : OsdState) (v : FileWorld)
+    → IsInOrder w own → IsInOrder (stepped w node r s event.Wake outs) own_after
+    → AreApart file.number w.entries → AreApart file.number (stepped w node r s event.Wake outs).entries
+    → RunsAs w node r s → IsAwake r s → Has (file_seen file s) s.files → Sees file w v → LeadersHold file w v
+    → IsRun stripe ops members file (stepped w node r s event.Wake outs) node.id.0 v (step_on (site_at node r s) (file_seen file s) wake)
+wakes_run stripe ops members file w own own_after outs node r s v order order_after apart apart_after its awake met sees leaders =
+    ran stripe ops members file w own own_after outs node r s event.Wake wake order order_after apart apart_after its
+    (wake_leaves file node r s awake met) (λ v sees. wake_taken file w node r s outs v its awake met sees)
+    (λ sound. SoundSteps.wake_so (site_at node r s) (expired (site_at node r s) (file_seen file s)).state (SoundSteps.expired_so (site_at node r s) (file_seen file s) sound)) v tt sees leaders

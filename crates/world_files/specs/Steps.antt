@@ -6,7 +6,8 @@ use Rattle.xt_base.specs.declared.event.Event.TheVariants as event
 use Rattle.xt_base.specs.declared.message.Msg.{Msg}
 use Rattle.osd_rows.specs.FileStates.{FileStep}
 use Rattle.osd_rows.specs.OsdSteps.{OsdState, file_concerned}
-use Rattle.file_runs.specs.FileRuns.{FileWorld, Event, message, step_on, sent_by, Comes, MayAll, after_all}
+use Rattle.lease_safety.specs.State.{Has}
+use Rattle.file_runs.specs.FileRuns.{FileWorld, Event, message, wake, step_on, sent_by, Comes, MayAll, after_all}
 use Rattle.cluster_runs.specs.Clauses.{AreApart}
 use Rattle.cluster_runs.specs.World.{World, Node, Running}
 use Rattle.world_leases.specs.Worlds.{IsInOrder}
@@ -35,3 +36,12 @@ MessagesRun =
     → Sees file w v → LeadersHold file w v
     → IsRun stripe ops members file (stepped w node r s (event.Deliver msg) outs) node.id.0 v
     (step_on (site_at node r s) (file_seen file s) (message msg.from msg.payload))
+
+-- And a Wake of an OSD past its silence, for each file that it has met.
+abbrev pub WakesRun : Type 0
+WakesRun =
+    (stripe : ℕ) (ops : ℕ × ℕ → Op) (members : List ℕ) (file : FileId) (w : World) (own own_after outs : List Msg) (node : Node) (r : Running) (s : OsdState) (v : FileWorld)
+    → IsInOrder w own → IsInOrder (stepped w node r s event.Wake outs) own_after
+    → AreApart file.number w.entries → AreApart file.number (stepped w node r s event.Wake outs).entries
+    → RunsAs w node r s → IsAwake r s → Has (file_seen file s) s.files → Sees file w v → LeadersHold file w v
+    → IsRun stripe ops members file (stepped w node r s event.Wake outs) node.id.0 v (step_on (site_at node r s) (file_seen file s) wake)

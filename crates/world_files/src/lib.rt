@@ -15,7 +15,7 @@ ghost use Rattle.world_files.specs.Events.{MessagesShow, OthersRest, SilentRest,
 ghost use Rattle.world_files.specs.May.{StepsStand, HoldersMakeRoom};
 ghost use Rattle.world_files.specs.Leaders.{StepsMay, LeadersGoOn, LeadersStop};
 ghost use Rattle.world_files.specs.Winners.{WinsInTime, WinnersAreAlone};
-ghost use Rattle.world_files.specs.Steps.{MessagesRun};
+ghost use Rattle.world_files.specs.Steps.{MessagesRun, WakesRun};
 ghost use Rattle.world_files.specs.Asks.{MessagesCome, OutsideIsIdle, OperationsAre};
 ghost use Rattle.world_files.specs.Tellings.{AlwaysTelling, TellingIsSafe};
 
@@ -100,4 +100,9 @@ pub fn winners_are_alone()
 /// where the step wins it; and then the file's step. They lead to what the world shows of the file, and who leads holds.
 pub fn messages_are_runs_of_a_file()
     ensures { MessagesRun }
+{}
+
+/// So is a Wake of an OSD, for each file that it has met.
+pub fn wakes_are_runs_of_each_file()
+    ensures { WakesRun }
 {}
