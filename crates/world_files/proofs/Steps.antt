@@ -1,10 +1,20 @@
 -- a step of the world, as events of a file's world
-use Rattle.std.proofs.Common.{◌≡◌, ◌≢◌, ℕ, inl, inr, List, [], ◌∷◌, ◌++◌, refl, ap, sym, ◌∙◌, subst, Some, Bool, true, false}
+use Rattle.std.proofs.Common.{◌≡◌, ◌≢◌, ℕ, inl, inr, List, [], ◌∷◌, ◌++◌, refl, ap, sym, ◌∙◌, subst, Option, Some, Bool, true, false}
 use Rattle.std.specs.Prelude.{◌⊎◌, ◌==◌, max}
 use Rattle.xt_base.specs.declared.ids.FileId.{FileId}
 use Rattle.xt_base.specs.declared.event.Event as NodeEvent
 use Rattle.xt_base.specs.declared.event.Event.TheVariants as event
 use Rattle.xt_base.specs.declared.file.Op.{Op}
+use Rattle.xt_base.specs.declared.ids.Epoch.{Epoch}
+use Rattle.xt_base.specs.declared.ids.Stamp.{Stamp}
+use Rattle.xt_base.specs.declared.message.Payload.TheVariants as payload
+use Rattle.xt_base.specs.declared.record.Record.{Record}
+use Rattle.replica_safety.specs.Epochs.{at_node}
+use Rattle.osd_rows.specs.FileSteps.{step_of_file}
+use Rattle.file_runs.specs.FileRuns.{acted, keeping}
+use Rattle.world_files.specs.Seen.{nodes_seen}
+use Rattle.world_files.specs.Asks.{IsOutside}
+use Rattle.world_files.proofs.Asks.{outside_is_idle}
 use Rattle.xt_base.specs.declared.message.Msg.{Msg}
 use Rattle.xt_protocol.specs.LeaseRows.{LeaseState, free, asking, writing, held, lease_expired}
 use Rattle.lease_safety.specs.State.{Has}
@@ -164,3 +174,27 @@ wakes_run stripe ops members file w own own_after outs node r s v order order_af
     ran stripe ops members file w own own_after outs node r s event.Wake wake order order_after apart apart_after its
     (wake_leaves file node r s awake met) (λ v sees. wake_taken file w node r s outs v its awake met sees)
     (λ sound. SoundSteps.wake_so (site_at node r s) (expired (site_at node r s) (file_seen file s)).state (SoundSteps.expired_so (site_at node r s) (file_seen file s) sound)) v tt sees leaders
+
+-- ---- what leaves the object
+
+-- a step of the same state and record leads to the same nodes
+same_nodes_after : (file : FileId) (after_it : World) (v : FileWorld) (n : ℕ) (a b : FileStep) → a.state ≡ b.state → a.turned.rec ≡ b.turned.rec → Sees file after_it (acted v n a goes_on) → Sees file after_it (acted v n b goes_on)
+same_nodes_after file after_it v n a b state rec sees =
+    subst (λ (k : Option Record). at_node n (keeping (v.nodes n) (Some b.state) k) v.nodes ≡ nodes_seen file after_it) rec
+    (subst (λ (x : FileState). at_node n (keeping (v.nodes n) (Some x) a.turned.rec) v.nodes ≡ nodes_seen file after_it) state sees)
+
+pub outside_runs : (stripe : ℕ) (ops : ℕ × ℕ → Op) (members : List ℕ) (file : FileId) (w : World) (own own_after outs : List Msg) (node : Node) (r : Running) (s : OsdState) (msg : Msg) (v : FileWorld)
+    (epoch : Epoch) (object : ℕ) (version : Stamp) → IsInOrder w own → IsInOrder (stepped w node r s (event.Deliver msg) outs) own_after
+    → AreApart file.number w.entries → AreApart file.number (stepped w node r s (event.Deliver msg) outs).entries
+    → RunsAs w node r s → IsAwake r s → file_concerned msg.payload ≡ Some file → IsOutside msg.payload → Sees file w v → LeadersHold file w v
+    → IsRun stripe ops members file (stepped w node r s (event.Deliver msg) outs) node.id.0 v
+    (step_on (site_at node r s) (file_seen file s) (message msg.from (payload.Fetch file epoch object version)))
+outside_runs stripe ops members file w own own_after outs node r s msg v epoch object version order order_after apart apart_after its awake concerns outside sees leaders =
+    let site = site_at node r s in
+    let fetch = payload.Fetch file epoch object version in
+    let same = outside_is_idle site (file_seen file s) msg.from msg.payload file epoch object version outside in
+    ran stripe ops members file w own own_after outs node r s (event.Deliver msg) (message msg.from fetch) order order_after apart apart_after its
+    (message_leaves file node r s msg awake concerns ∙ same.state)
+    (λ v sees. same_nodes_after file (stepped w node r s (event.Deliver msg) outs) v node.id.0 (step_of_file site (file_seen file s) msg.from msg.payload) (step_of_file site (file_seen file s) msg.from fetch)
+    same.state same.rec ((messages_show file w node r s msg v its awake concerns sees).takes outs))
+    (SoundSteps.step_so site (file_seen file s) msg.from fetch) v (inr refl, tt) sees leaders

@@ -2,6 +2,10 @@
 use Rattle.std.specs.Prelude.{◌≡◌, ℕ, Some, List, ◌∷◌, ◌++◌}
 use Rattle.xt_base.specs.declared.ids.FileId.{FileId}
 use Rattle.xt_base.specs.declared.file.Op.{Op}
+use Rattle.xt_base.specs.declared.ids.Epoch.{Epoch}
+use Rattle.xt_base.specs.declared.ids.Stamp.{Stamp}
+use Rattle.xt_base.specs.declared.message.Payload.TheVariants as payload
+use Rattle.world_files.specs.Asks.{IsOutside}
 use Rattle.xt_base.specs.declared.event.Event.TheVariants as event
 use Rattle.xt_base.specs.declared.message.Msg.{Msg}
 use Rattle.osd_rows.specs.FileStates.{FileStep}
@@ -45,3 +49,13 @@ WakesRun =
     → AreApart file.number w.entries → AreApart file.number (stepped w node r s event.Wake outs).entries
     → RunsAs w node r s → IsAwake r s → Has (file_seen file s) s.files → Sees file w v → LeadersHold file w v
     → IsRun stripe ops members file (stepped w node r s event.Wake outs) node.id.0 v (step_on (site_at node r s) (file_seen file s) wake)
+
+-- So is an ask for what leaves the object: the file's step is that of a Fetch.
+abbrev pub OutsideRuns : Type 0
+OutsideRuns =
+    (stripe : ℕ) (ops : ℕ × ℕ → Op) (members : List ℕ) (file : FileId) (w : World) (own own_after outs : List Msg) (node : Node) (r : Running) (s : OsdState) (msg : Msg) (v : FileWorld)
+    (epoch : Epoch) (object : ℕ) (version : Stamp) → IsInOrder w own → IsInOrder (stepped w node r s (event.Deliver msg) outs) own_after
+    → AreApart file.number w.entries → AreApart file.number (stepped w node r s (event.Deliver msg) outs).entries
+    → RunsAs w node r s → IsAwake r s → file_concerned msg.payload ≡ Some file → IsOutside msg.payload → Sees file w v → LeadersHold file w v
+    → IsRun stripe ops members file (stepped w node r s (event.Deliver msg) outs) node.id.0 v
+    (step_on (site_at node r s) (file_seen file s) (message msg.from (payload.Fetch file epoch object version)))

@@ -1,7 +1,8 @@
 //! Each file of a world of OSDs as a world of that file alone: what a line does to the nodes of the world, a run of the file
 //! (`file_runs`) does to the nodes of the file.
 //!
-//! The crate has no code to run. It says so of each thing that may happen to a node.
+//! The crate has no code to run. It says so of each thing that may happen to a node; and of a message to an OSD and a Wake also that the
+//! events may come in that run, and that who leads still holds the file.
 #![tactic(auto)]
 
 ghost use Rattle.std.specs.Prelude.{◌≡◌, Option, List};
@@ -15,7 +16,7 @@ ghost use Rattle.world_files.specs.Events.{MessagesShow, OthersRest, SilentRest,
 ghost use Rattle.world_files.specs.May.{StepsStand, HoldersMakeRoom};
 ghost use Rattle.world_files.specs.Leaders.{StepsMay, LeadersGoOn, LeadersStop};
 ghost use Rattle.world_files.specs.Winners.{WinsInTime, WinnersAreAlone};
-ghost use Rattle.world_files.specs.Steps.{MessagesRun, WakesRun};
+ghost use Rattle.world_files.specs.Steps.{MessagesRun, WakesRun, OutsideRuns};
 ghost use Rattle.world_files.specs.Asks.{MessagesCome, OutsideIsIdle, OperationsAre};
 ghost use Rattle.world_files.specs.Tellings.{AlwaysTelling, TellingIsSafe};
 
@@ -97,9 +98,11 @@ pub fn winners_are_alone()
 {}
 
 /// A message to an OSD is a few events of the world of the file that it concerns, which may come there: who doesn't lead loses the file,
-/// where the step wins it; and then the file's step. They lead to what the world shows of the file, and who leads holds.
+/// where the step wins it; and then the file's step. They lead to what the world shows of the file, and who leads holds. An
+/// ask for what leaves the object is the step of a Fetch.
 pub fn messages_are_runs_of_a_file()
-    ensures { MessagesRun }
+    ensures inside { MessagesRun }
+    ensures outside { OutsideRuns }
 {}
 
 /// So is a Wake of an OSD, for each file that it has met.
