@@ -1,10 +1,9 @@
 -- the step of a node in a world, and how it ends
-use Rattle.std.specs.Prelude.{ℕ, Bool, true, not, ◌&&◌, ◌==◌, nat_le, nat_lt, if◌then◌else◌, is_some, Option, Some, None, Result, Ok, Err, List, [], ◌∷◌, ◌++◌, length, map, filter, sum_by, take, unwrap_or}
+use Rattle.std.specs.Prelude.{ℕ, Bool, true, not, ◌&&◌, ◌==◌, nat_le, nat_lt, if◌then◌else◌, is_some, Option, Some, None, Result, Ok, Err, List, [], ◌∷◌, ◌++◌, length, map, filter, sum_by, take}
+use Rattle.disk_model.specs.Gate.{open_gate}
 use Rattle.disk_model.specs.declared.plan.Stop.{Stop}
 use Rattle.xt_base.specs.TimeSettings.{TimeSettings}
 use Rattle.xt_base.specs.declared.ids.NodeId.{NodeId}
-use Rattle.xt_base.specs.declared.ids.FileId.{FileId}
-use Rattle.xt_base.specs.declared.ids.Stamp.{Stamp}
 use Rattle.xt_base.specs.declared.event.Event.{Event}
 use Rattle.xt_base.specs.declared.event.Mark.{Mark}
 use Rattle.xt_base.specs.declared.event.Mark.TheVariants as mark
@@ -14,7 +13,7 @@ use Rattle.xt_base.specs.declared.status.Limited.{Limited}
 use Rattle.xt_base.specs.declared.status.Limited.TheVariants as limited
 use Rattle.xt_protocol.specs.declared.Turned.{Turned}
 use Rattle.xt_base.specs.FrameLength.{frame_length}
-use Rattle.xt_protocol.specs.Folds.{body_kept}
+use Rattle.xt_protocol.specs.SeenBodies.{body_by}
 use Rattle.time_line.specs.declared.entry.Halt.{Halt}
 use Rattle.time_line.specs.declared.entry.Halt.TheVariants as halt
 use Rattle.osd_rows.specs.OsdSteps.{OsdStep, Outside, step_of_osd}
@@ -48,10 +47,6 @@ pub data Cause : Type 0 where
   has_no_room : Overflow → Cause
 
 -- The events of a node.
-
--- the body as a step sees it: empty where none is kept
-abbrev pub body_by : List Record → FileId → ℕ → Stamp → List ℕ
-body_by kept file object version = unwrap_or (body_kept kept file object version) []
 
 -- nobody tests tags yet
 abbrev pub outside_of : List Record → Outside
@@ -117,7 +112,7 @@ halted w node running how =
 -- synced. One that is stopped in a call leaves a byte at each place that isn't synced. So its record stands where its gate
 -- was being opened and the byte is an open gate's.
 abbrev pub keeps_record : Stop → Bool
-keeps_record stop = nat_le 3 stop.call && (stop.fill == 165)
+keeps_record stop = nat_le 3 stop.call && (stop.fill == open_gate)
 
 -- the append of a step is stopped: its record is kept or lost, and nothing else comes of it
 abbrev pub stopped_in_append : World → Node → Running → Stop → Record → World

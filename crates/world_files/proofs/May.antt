@@ -14,7 +14,8 @@ use Rattle.osd_replica_views.specs.FileView.{IsFree}
 use Rattle.replica_runs.specs.Steps.{without}
 use Rattle.file_runs.specs.FileRuns.{FileNode, FileWorld, lapses}
 use Rattle.cluster_runs.specs.World.{World, Node, Running, osd}
-use Rattle.cluster_runs.specs.NodeSteps.{outside_of, body_by}
+use Rattle.xt_protocol.specs.SeenBodies.{body_by}
+use Rattle.cluster_runs.specs.NodeSteps.{outside_of}
 use Rattle.world_leases.specs.View.{awake_as}
 use Rattle.world_leases.specs.Worlds.{IsInOrder, Leads, CoreFits, UpFits}
 use Rattle.world_files.specs.Seen.{file_seen, core_state, up_state, Sees}

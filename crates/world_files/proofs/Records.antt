@@ -15,7 +15,8 @@ use Rattle.xt_protocol.proofs.Folds.{file-itself, row_in-with_row, row_in-file, 
 use Rattle.osd_rows.specs.FileStates.{FileState}
 use Rattle.osd_rows.specs.PrimaryRows.{newer_body, body_beyond}
 use Rattle.file_runs.specs.FileRuns.{FileNode, keeping}
-use Rattle.cluster_runs.specs.NodeSteps.{body_by, one_more}
+use Rattle.xt_protocol.specs.SeenBodies.{body_by}
+use Rattle.cluster_runs.specs.NodeSteps.{one_more}
 use Rattle.world_files.specs.Seen.{kept_seen, IsOf, IsElsewhere, IsNotOf}
 
 -- ---- rows

@@ -1,0 +1,144 @@
+-- from the row of a file that has changed to the row of the file before it
+use Rattle.std.proofs.Common.{◌≡◌, ◌∙◌, ℕ, Bool, true, false, refl, ap, sym, subst, Result, Ok, Err, List, cond, arith, ◌<◌}
+use Rattle.std.specs.Prelude.{◌==◌, nat_lt}
+use Rattle.std.specs.Result.{IfOk}
+use Rattle.xt_base.specs.declared.ids.FileId.{FileId}
+use Rattle.xt_base.specs.declared.ids.Stamp.{Stamp}
+use Rattle.xt_base.specs.declared.file.Capability.{Capability}
+use Rattle.xt_protocol.specs.declared.Turned.{Turned}
+use Rattle.osd_rows.specs.FileStates.{FileState, Site, FileStep}
+use Rattle.osd_rows.specs.Primaries.{idle}
+use Rattle.osd_rows.specs.Turns.{joined}
+use Rattle.xt_base.specs.declared.ids.NodeId.{NodeId}
+use Rattle.xt_base.specs.declared.message.Payload.{Payload}
+use Rattle.xt_protocol.specs.LeaseRows.{Awake, LeaseState, LeaseNews, on_answer}
+use Rattle.osd_rows.specs.FileLeases.{answer_comes, end_after_answer, lease_news}
+use Rattle.osd_rows.specs.Overdue.{no_lease_for_all, lease_lapses}
+use Rattle.osd_files.specs.Views.{FileView, site_at}
+use Rattle.osd_files.specs.Rows.{IsRow, IsRowBy}
+
+pub if_ok : {A E : Type 0} (P Q : A → Type 0) (r : Result A E) → ((a : A) → P a → Q a) → IfOk r P → IfOk r Q
+if_ok P Q (Ok a) all h = all a h
+if_ok P Q (Err e) all h = h
+
+-- a file whose primary has become idle
+pub lapses : (now : ℕ) (old mid new : FileView) (turned : Turned) → mid ≡ record { awake = old.awake; state = record old.state { primary = idle old.state.primary } }
+    → IsRow no_lease_for_all now mid new turned → IsRow lease_lapses now old new turned
+lapses now old mid new turned is row =
+    let after : FileView = record { awake = old.awake; state = record old.state { primary = idle old.state.primary } } in
+    let P : FileView → Type 0 = λ m. IsRow no_lease_for_all now m new turned in
+    let h : IsRow no_lease_for_all now after new turned = subst P is row in
+    λ sealed body. record { here = (h sealed body).here; step = (h sealed body).step }
+
+-- a row on a file is another row on the file as it was before
+pub row_from : (first second : Site → FileState → FileStep) (now : ℕ) (awake : Awake) (old mid : FileState) (new : FileView) (turned : Turned)
+    → ((sealed : Capability → Bool) (body : FileId → ℕ → Stamp → List ℕ) → second (site_at awake now sealed body) old ≡ first (site_at awake now sealed body) mid)
+    → IsRow first now (record { awake = awake; state = mid }) new turned → IsRow second now (record { awake = awake; state = old }) new turned
+row_from first second now awake old mid new turned same row =
+    λ sealed body. record { here = (row sealed body).here; step = same sealed body ∙ (row sealed body).step }
+
+pub rows_from : {E : Type 0} (first second : Site → FileState → FileStep) (now : ℕ) (awake : Awake) (old mid : FileState) (new : FileView) (r : Result Turned E)
+    → ((sealed : Capability → Bool) (body : FileId → ℕ → Stamp → List ℕ) → second (site_at awake now sealed body) old ≡ first (site_at awake now sealed body) mid)
+    → IfOk r (λ turned. IsRow first now (record { awake = awake; state = mid }) new turned)
+    → IfOk r (λ turned. IsRow second now (record { awake = awake; state = old }) new turned)
+rows_from first second now awake old mid new r same rows =
+    let P : Turned → Type 0 = λ turned. IsRow first now (record { awake = awake; state = mid }) new turned in
+    let Q : Turned → Type 0 = λ turned. IsRow second now (record { awake = awake; state = old }) new turned in
+    let all : (turned : Turned) → P turned → Q turned = λ turned row. row_from first second now awake old mid new turned same row in
+    if_ok P Q r all rows
+
+-- a row that doesn't look at the clock
+pub at_clock : {E : Type 0} (row : Site → FileState → FileStep) (now : ℕ) (old new : FileView) (r : Result Turned E)
+    → IfOk r (λ turned. (now : ℕ) → IsRow row now old new turned) → IfOk r (λ turned. IsRow row now old new turned)
+at_clock row now old new r rows =
+    let P : Turned → Type 0 = λ turned. (now : ℕ) → IsRow row now old new turned in
+    let Q : Turned → Type 0 = λ turned. IsRow row now old new turned in
+    let all : (turned : Turned) → P turned → Q turned = λ turned row. row now in
+    if_ok P Q r all rows
+
+pub each_clock : {E : Type 0} (first second : Site → FileState → FileStep) (awake : Awake) (old mid : FileState) (new : FileView) (r : Result Turned E)
+    → ((now : ℕ) (sealed : Capability → Bool) (body : FileId → ℕ → Stamp → List ℕ) → second (site_at awake now sealed body) old ≡ first (site_at awake now sealed body) mid)
+    → IfOk r (λ turned. (now : ℕ) → IsRow first now (record { awake = awake; state = mid }) new turned)
+    → IfOk r (λ turned. (now : ℕ) → IsRow second now (record { awake = awake; state = old }) new turned)
+each_clock first second awake old mid new r same rows =
+    let P : Turned → Type 0 = λ turned. (now : ℕ) → IsRow first now (record { awake = awake; state = mid }) new turned in
+    let Q : Turned → Type 0 = λ turned. (now : ℕ) → IsRow second now (record { awake = awake; state = old }) new turned in
+    let all : (turned : Turned) → P turned → Q turned = λ turned row now. row_from first second now awake old mid new turned (same now) (row now) in
+    if_ok P Q r all rows
+
+-- something, and then a row
+abbrev pub behind_it : Turned → FileStep → FileStep
+behind_it first step = record { state = step.state; turned = joined first step.turned }
+
+pub joins_on : {E : Type 0} (row whole : Site → FileState → FileStep) (now : ℕ) (awake : Awake) (old mid : FileState) (new : FileView) (first rest : Turned) (r : Result Turned E)
+    → ((sealed : Capability → Bool) (body : FileId → ℕ → Stamp → List ℕ) → whole (site_at awake now sealed body) old ≡ behind_it first (row (site_at awake now sealed body) mid))
+    → IsRow row now (record { awake = awake; state = mid }) new rest
+    → IfOk r (λ turned. turned ≡ joined first rest)
+    → IfOk r (λ turned. IsRow whole now (record { awake = awake; state = old }) new turned)
+joins_on row whole now awake old mid new first rest r same step made =
+    let P : Turned → Type 0 = λ turned. turned ≡ joined first rest in
+    let Q : Turned → Type 0 = λ turned. IsRow whole now (record { awake = awake; state = old }) new turned in
+    let all : (turned : Turned) → P turned → Q turned = λ turned is sealed body.
+    record {
+      here = (step sealed body).here;
+      step =
+          same sealed body ∙ ap (behind_it first) (step sealed body).step
+          ∙ ap (λ (t : Turned). let made : FileStep = record { state = new.state; turned = t } in made) (sym is);
+    }
+    in
+    if_ok P Q r all made
+
+-- Tests.
+
+pub eq_true : (a b : ℕ) → a ≡ b → (a == b) ≡ true
+eq_true a b is = grind arith
+
+pub eq_false : (a b : ℕ) → (a ≡ b → ⊥) → (a == b) ≡ false
+eq_false a b not = grind arith
+
+pub lt_true : (a b : ℕ) → a < b → nat_lt a b ≡ true
+lt_true a b less = grind arith
+
+pub when_true : {A : Type 0} (b : Bool) (x y : A) → b ≡ true → cond b x y ≡ x
+when_true true x y is = refl
+when_true false x y is = absurd cc
+
+pub when_false : {A : Type 0} (b : Bool) (x y : A) → b ≡ false → cond b x y ≡ y
+when_false true x y is = absurd cc
+when_false false x y is = refl
+
+-- what an answer to a round makes of a file, by what the lease tells
+pub answered : (site : Site) (s : FileState) (from : NodeId) (content : Payload) (l : LeaseState) (end : ℕ) (news : LeaseNews)
+    → l ≡ (on_answer s.lease site.now from content).state → end ≡ end_after_answer site s from content → news ≡ (on_answer s.lease site.now from content).news
+    → answer_comes site s from content ≡ lease_news site (record s { lease = l; last_end = end }) news
+unfolding answer_comes
+answered site s from content l end news is-l is-end is-news =
+    let step = on_answer s.lease site.now from content in
+    let by : LeaseState → ℕ → LeaseNews → FileStep = λ l end news. lease_news site (record s { lease = l; last_end = end }) news in
+    ap (λ (x : LeaseState). by x (end_after_answer site s from content) step.news) (sym is-l)
+    ∙ ap (λ (e : ℕ). by l e step.news) (sym is-end)
+    ∙ ap (λ (n : LeaseNews). by l end n) (sym is-news)
+
+-- the same, where a body is this
+pub rows_by : {E : Type 0} (first second : Site → FileState → FileStep) (now : ℕ) (body : FileId → ℕ → Stamp → List ℕ) (awake : Awake) (old mid : FileState) (new : FileView) (r : Result Turned E)
+    → ((sealed : Capability → Bool) → second (site_at awake now sealed body) old ≡ first (site_at awake now sealed body) mid)
+    → IfOk r (λ turned. IsRowBy first now body (record { awake = awake; state = mid }) new turned)
+    → IfOk r (λ turned. IsRowBy second now body (record { awake = awake; state = old }) new turned)
+rows_by first second now body awake old mid new r same rows =
+    let P : Turned → Type 0 = λ turned. IsRowBy first now body (record { awake = awake; state = mid }) new turned in
+    let Q : Turned → Type 0 = λ turned. IsRowBy second now body (record { awake = awake; state = old }) new turned in
+    let all : (turned : Turned) → P turned → Q turned = λ turned row sealed. record { here = (row sealed).here; step = same sealed ∙ (row sealed).step } in
+    if_ok P Q r all rows
+
+pub joins_by : (row whole : Site → FileState → FileStep) (now : ℕ) (body : FileId → ℕ → Stamp → List ℕ) (awake : Awake) (old mid : FileState) (new : FileView) (first rest turned : Turned)
+    → ((sealed : Capability → Bool) → whole (site_at awake now sealed body) old ≡ behind_it first (row (site_at awake now sealed body) mid))
+    → IsRowBy row now body (record { awake = awake; state = mid }) new rest
+    → turned ≡ joined first rest → IsRowBy whole now body (record { awake = awake; state = old }) new turned
+joins_by row whole now body awake old mid new first rest turned same step is =
+    λ sealed.
+    record {
+      here = (step sealed).here;
+      step =
+          same sealed ∙ ap (behind_it first) (step sealed).step
+          ∙ ap (λ (t : Turned). let made : FileStep = record { state = new.state; turned = t } in made) (sym is);
+    }

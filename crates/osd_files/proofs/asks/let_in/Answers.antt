@@ -1,0 +1,41 @@
+use Rattle.std.proofs.Common.{◌≡◌, ◌∙◌, ap, sym, subst, refl, None, Option}
+use Rattle.xt_base.specs.Limits.{FitsOp}
+use Rattle.xt_base.specs.declared.ids.FileId.{FileId}
+use Rattle.xt_base.specs.declared.record.Record.{Record}
+use Rattle.xt_protocol.specs.SeenBodies.{body_by}
+use Rattle.osd_rows.specs.Turns.{keeps}
+use Rattle.osd_rows.specs.AskRows.{ask_rows, ask_let_in}
+use Rattle.osd_rows.specs.FileStates.{FileState, Site, FileStep}
+use Rattle.osd_files.specs.Asking.{first_list, list_after}
+use Rattle.osd_files.specs.Leads.{LeadView}
+use Rattle.osd_files.specs.Views.{shown, with_lead, site_at}
+use Rattle.osd_files.proofs.LetIn.{let_row}
+use Rattle.osd_files.proofs.Rows.{joins_by, behind_it}
+use Rattle.osd_files.proofs.asks.let_in.Goals as goal
+
+pub ask_rows-requires-clause-fits : goal.ask_rows-requires-clause-fits
+ask_rows-requires-clause-fits g c = subst FitsOp (sym c.waiting_ask-ask.ensures.op) c.requires.fits
+
+pub returns-clause-row : goal.returns-clause-row
+returns-clause-row g c =
+    let f = c.args.file.now in
+    let old = shown f in
+    let now = c.args.now in
+    let capability = c.args.capability.now in
+    let body = body_by (g.B.Bodies.records c.args.bodies.now) in
+    let ask = c.waiting_ask-ask.result in
+    let kept = c.keeps-kept.result in
+    let list = list_after f.lead.location capability.location in
+    let is : kept ≡ keeps (first_list f.replica.file capability.location f.lead.location) =
+    c.keeps-kept.ensures
+    ∙ ap (λ (r : Option Record). keeps r) c.list_once.ensures.rec
+    ∙ ap (λ (x : FileId). keeps (first_list x capability.location f.lead.location)) f.file in
+    let used : LeadView → FileState = λ lead. record (with_lead old lead).state { used = now } in
+    let row : Site → FileState → FileStep = λ site s. ask_rows site s ask in
+    let whole : Site → FileState → FileStep = λ site s. ask_let_in site s c.args.id capability c.args.op None in
+    joins_by row whole now body old.awake old.state (used c.list_once.new.self) (shown c.ask_rows.new.file) kept c.in_ok-rest.rest c.in_ok-join.field-0
+    (λ sealed.
+    let site = site_at old.awake now sealed body in
+    let_row site old.state c.args.id capability c.args.op kept list ask is refl (c.waiting_ask-ask.ensures.row site refl (sym c.times.ensures))
+    ∙ ap (λ (lead : LeadView). behind_it kept (row site (used lead))) (sym c.list_once.ensures.state))
+    c.in_ok-rest.ensures.row c.in_ok-join.ensures

@@ -1,0 +1,17 @@
+use Rattle.std.proofs.Common.{ℕ, ap}
+use Rattle.xt_protocol.specs.declared.Turned.{Turned}
+use Rattle.osd_rows.specs.Overdue.{no_lease_for_all, lease_lapses}
+use Rattle.osd_files.specs.Rows.{IsRow}
+use Rattle.osd_files.specs.Views.{shown, with_lead}
+use Rattle.osd_files.proofs.Rows.{if_ok, lapses}
+use Rattle.osd_files.proofs.overdue.lease_lapses.Goals as goal
+
+pub returns : goal.returns
+returns c =
+    let old = shown c.args.file.now in
+    let mid = with_lead old c.idle.new.self in
+    let new = shown c.no_lease_for_all.new.file in
+    let P : Turned → Type 0 = λ turned. (now : ℕ) → IsRow no_lease_for_all now mid new turned in
+    let Q : Turned → Type 0 = λ turned. (now : ℕ) → IsRow lease_lapses now old new turned in
+    let all : (turned : Turned) → P turned → Q turned = λ turned row now. lapses now old mid new turned (ap (with_lead old) c.idle.ensures) (row now) in
+    if_ok P Q c.no_lease_for_all.result all c.no_lease_for_all.ensures

@@ -1,0 +1,37 @@
+use Rattle.std.proofs.Common.{◌≡◌, ◌∙◌, ap, sym, rules, None}
+use Rattle.xt_base.specs.declared.ids.NodeId.{NodeId}
+use Rattle.xt_base.specs.declared.ids.FileId.{FileId}
+use Rattle.file_lease.specs.Moves.{turn_of}
+use Rattle.osd_rows.specs.declared.Place.{Place}
+use Rattle.osd_rows.specs.Serving.{wakes}
+use Rattle.osd_rows.specs.FileSteps.{wake_of_file, renews}
+use Rattle.osd_rows.specs.FileStates.{Site, FileState, FileStep, stripe_of}
+use Rattle.osd_files.specs.Views.{shown, site_at}
+use Rattle.osd_files.proofs.Rows.{joins_on}
+use Rattle.osd_files.proofs.Woken.{held_by, woken, sleeps}
+use Rattle.osd_files.proofs.waking.wake_of_file.Goals as goal
+
+pub returns-in_default : goal.returns-in_default
+returns-in_default c =
+    let f = c.args.file.now in
+    let old = shown f in
+    let none : turn_of f.lease c.args.now ≡ None = search rules in
+    λ sealed body.
+    record { here = search rules; step = sleeps (site_at old.awake c.args.now sealed body) old.state none c.requires.settled ∙ search rules }
+
+pub returns : goal.returns
+returns c =
+    let f = c.args.file.now in
+    let old = shown f in
+    let by = held_by f.lease c.args.now c.in-Some.turn (sym c.in-Some.ensures) in
+    let h = by.0 in
+    let stripe = stripe_of f.lead.location in
+    let place : NodeId → FileId → Place = λ node file. record { node = node; file = file; stripe = stripe } in
+    let is : c.in_ok-woke.woke ≡ wakes (place f.awake.node f.replica.file) f.lead.primary =
+    c.in_ok-woke.ensures
+    ∙ ap (λ (n : NodeId). wakes (place n f.lead.file) f.lead.primary) f.node
+    ∙ ap (λ (x : FileId). wakes (place f.awake.node x) f.lead.primary) f.file in
+    let row : Site → FileState → FileStep = λ site s. renews site s h in
+    joins_on row wake_of_file c.args.now old.awake old.state old.state (shown c.renews.new.file) c.in_ok-woke.woke c.in_ok-renewed.renewed c.join.result
+    (λ sealed body. woken (site_at old.awake c.args.now sealed body) old.state h c.in_ok-woke.woke by.1 is)
+    (c.in_ok-renewed.ensures h by.1) c.join.ensures

@@ -1,0 +1,68 @@
+ghost use Rattle.std.specs.Prelude.{◌≡◌, ◌<◌, ◌^◌, ℕ, IfOk};
+ghost use Rattle.osd_rows.specs.Overdue as rows;
+ghost use Rattle.osd_files.specs.Views.{shown};
+ghost use Rattle.osd_files.specs.Rows.{IsRow};
+ghost use Rattle.osd_files.specs.Settled.{Settles};
+ghost use Rattle.file_lease.specs.Moves.{IsSettled};
+
+use crate::parts::Parts;
+use file_lease::Expiry;
+use step_outputs::{quiet, sends};
+use xt_base::{OutOfMemory, Reply};
+use xt_protocol::Turned;
+
+/// All asks are told that there is no lease: the issued one unless it was told, then those that wait.
+fn no_lease_for_all(file: &mut Parts) -> Result<Turned, OutOfMemory>
+    ensures { IfOk result (λ turned. (now : ℕ) → IsRow rows.no_lease_for_all now (shown file.old) (shown file.new) turned) }
+{
+    let reply = Reply::NoLease { end: file.last_end };
+    let node = file.awake.node();
+    let id = file.replica.file();
+    let outs = file.asks.tell_all(file.alloc, node, &id, &reply)?;
+    Ok(sends(file.alloc, outs))
+}
+
+/// Lease lapses: the primary is idle, and there is no lease for anybody.
+fn lease_lapses(file: &mut Parts) -> Result<Turned, OutOfMemory>
+    ensures { IfOk result (λ turned. (now : ℕ) → IsRow rows.lease_lapses now (shown file.old) (shown file.new) turned) }
+{
+    file.lead.idle();
+    no_lease_for_all(file)
+}
+
+/// Lease lapses, or round runs out: what comes of it; none where the lease stands, and then deadlines may have come.
+fn settle(file: &mut Parts, now: u64) -> Result<Option<Turned>, OutOfMemory>
+    requires { now < 2 ^ 62 }
+    ensures row { IfOk result (λ over. Settles now (shown file.old) (shown file.new) over) }
+    ensures settled { IfOk result (λ over. IsSettled file.new.lease now) }
+{
+    match file.lease.expire(now) {
+        Expiry::Lapsed => Ok(Some(lease_lapses(file)?)),
+        Expiry::RanOut => Ok(Some(no_lease_for_all(file)?)),
+        Expiry::Stands => Ok(None),
+    }
+}
+
+/// Deadlines come: the asks that are due are told this, those that wait first; the issued write stays.
+fn deadlines_come(file: &mut Parts, now: u64, reply: &Reply) -> Result<Turned, OutOfMemory>
+    ensures { IfOk result (λ turned. IsRow (λ site s. rows.deadlines_come site s reply.now) now (shown file.old) (shown file.new) turned) }
+{
+    let (alloc, node, id) = (file.alloc, file.awake.node(), file.replica.file());
+    let outs = file.asks.tell_due(alloc, node, &id, now, reply)?;
+    Ok(sends(alloc, outs))
+}
+
+/// What is overdue at a file: its lease lapses, a round runs out, or the deadlines of asks come.
+pub fn expire(file: &mut Parts, now: u64) -> Result<Turned, OutOfMemory>
+    requires { now < 2 ^ 62 }
+    ensures row { IfOk result (λ turned. IsRow rows.expired now (shown file.old) (shown file.new) turned) }
+    ensures settled { IfOk result (λ turned. IsSettled file.new.lease now) }
+{
+    if let Some(turned) = settle(file, now)? {
+        return Ok(turned);
+    }
+    match file.lead.no_majority() {
+        Some(reply) => deadlines_come(file, now, &reply),
+        None => Ok(quiet(file.alloc)),
+    }
+}

@@ -1,0 +1,31 @@
+ghost use Rattle.std.specs.Prelude.{◌≡◌, ◌<◌, ◌^◌};
+ghost use Rattle.osd_files.specs.Owners.{owner_at, owner_of, renewer_of};
+
+use crate::lead::Lead;
+use file_lease::FileLease;
+use flease_lease::Awake;
+use flease_register::Acceptor;
+use osd_asks::OpenAsks;
+use replica_state::Replica;
+use std::alloc::Global;
+
+/// The parts of a file at an OSD that is awake: what is kept of it, and what a stop loses.
+#[derive(Drop)]
+pub struct Parts {
+    pub alloc: Global,
+    pub awake: Awake,
+    pub replica: Replica,
+    pub acceptor: Acceptor,
+    pub lease: FileLease,
+    pub lead: Lead,
+    /// The end of a lease that this boot met last in time, 0 before the first.
+    pub last_end: u64,
+    /// The clock at which the file was asked for last.
+    pub used: u64,
+    pub asks: OpenAsks,
+    ghost node: { lead.node ≡ awake.node },
+    ghost file: { lead.file ≡ replica.file },
+    ghost owner: { owner_of lease ≡ owner_at awake },
+    ghost renewer: { renewer_of (owner_at awake) lease ≡ owner_at awake },
+    ghost past: { used < 2 ^ 62 },
+}

@@ -1,0 +1,62 @@
+ghost use Rattle.std.specs.Prelude.{◌≡◌, ◌<◌, ◌^◌, ℕ, List, Bool, IfOk};
+ghost use Rattle.xt_base.specs.declared.message.Payload.TheVariants as payload;
+ghost use Rattle.xt_protocol.specs.LeaseRows.{Held, held};
+ghost use Rattle.file_lease.specs.Moves.{IsSettled};
+ghost use Rattle.osd_invariants.specs.Sound.{IsStored, ListUnder};
+ghost use Rattle.osd_rows.specs.FileSteps as rows;
+ghost use Rattle.osd_rows.specs.Turns.{to_each, sends};
+ghost use Rattle.osd_files.specs.Views.{shown};
+ghost use Rattle.osd_files.specs.Rows.{IsRow};
+
+use crate::parts::Parts;
+use std::alloc::Global;
+use step_outputs::{join, quiet, sends, to_each};
+use xt_base::{Ballot, FileId, Members, NodeId, OutOfMemory, Payload};
+use xt_protocol::Turned;
+
+/// A Read of the round's ballot to each of these.
+pub fn reads_of(
+    alloc: Global,
+    node: NodeId,
+    file: FileId,
+    members: &Members,
+    ballot: Ballot,
+) -> Result<Turned, OutOfMemory>
+    ensures { IfOk result (λ turned. turned ≡ sends (to_each node members.now (payload.Read file ballot))) }
+{
+    let content = Payload::Read { file, ballot };
+    let outs = to_each(alloc, node, members.as_slice(), &content)?;
+    Ok(sends(alloc, outs))
+}
+
+/// Renewal starts, where it is due.
+fn renews(file: &mut Parts, now: u64) -> Result<Turned, OutOfMemory>
+    requires clock { now < 2 ^ 62 }
+    requires settled { IsSettled file.old.lease now }
+    requires stored { IsStored file.old.lead.location }
+    ensures { IfOk result (λ turned. (h : Held) → file.old.lease ≡ held h → IsRow (λ site s. rows.renews site s h) now (shown file.old) (shown file.new) turned) }
+{
+    let Some(location) = file.lead.location() else {
+        unreachable!()
+    };
+    let Some(ballot) = file.lease.renew(now, file.used, &location.members) else {
+        return Ok(quiet(file.alloc));
+    };
+    let (alloc, node, id) = (file.alloc, file.awake.node(), file.replica.file());
+    reads_of(alloc, node, id, &location.members, ballot)
+}
+
+/// The rows of a Wake for a file, when nothing is overdue.
+pub fn wake_of_file(file: &mut Parts, now: u64) -> Result<Turned, OutOfMemory>
+    requires clock { now < 2 ^ 62 }
+    requires settled { IsSettled file.old.lease now }
+    requires stored { ListUnder file.old.lease file.old.lead.location }
+    ensures { IfOk result (λ turned. IsRow rows.wake_of_file now (shown file.old) (shown file.new) turned) }
+{
+    let Some(turn) = file.lease.turn(now) else {
+        return Ok(quiet(file.alloc));
+    };
+    let woke = file.lead.wake(&turn)?;
+    let renewed = renews(file, now)?;
+    join(woke, renewed)
+}
