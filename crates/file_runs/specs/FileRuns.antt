@@ -1,6 +1,7 @@
 -- Runs of one file among OSDs, who holds it being given.
 use Rattle.std.specs.Prelude.{◌≡◌, ◌⊎◌, ℕ, ◌≤◌, List, [], ◌∷◌, ◌++◌, map, Option, Some, None}
 use Rattle.xt_base.specs.declared.ids.NodeId.{NodeId}
+use Rattle.xt_base.specs.declared.ids.FileId.{FileId}
 use Rattle.xt_base.specs.declared.ids.Stamp.{Stamp}
 use Rattle.xt_base.specs.declared.event.Mark.{Mark}
 use Rattle.xt_base.specs.declared.file.Op.{Op}
@@ -8,6 +9,7 @@ use Rattle.xt_base.specs.declared.message.Msg.{Msg}
 use Rattle.xt_base.specs.declared.message.Payload.{Payload}
 use Rattle.xt_base.specs.declared.record.FileRow.{FileRow}
 use Rattle.xt_base.specs.declared.record.Record.{Record}
+use Rattle.xt_protocol.specs.Folds.{new_row}
 use Rattle.xt_protocol.specs.LeaseRows.{Awake}
 use Rattle.osd_invariants.specs.Sound.{IsHeld}
 use Rattle.osd_rows.specs.FileStates.{FileState, Site, FileStep, file_from, and_then}
@@ -112,6 +114,15 @@ abbrev pub after : FileWorld → Event → FileWorld
 after w (acts n s site happens how) = acted w n (step_on site s happens) how
 after w (starts n awake) = record w { nodes = at_node n (record (w.nodes n) { state = Some (file_from awake (w.nodes n).kept) }) w.nodes }
 after w (lapses n) = record w { holder = without n w.holder }
+
+-- A world of a file in which nothing is kept, sent or marked yet.
+abbrev pub first_world : FileId → FileWorld
+first_world file = record {
+  nodes = λ r. record { state = None; kept = new_row file; body = λ o v. [] };
+  holder = None;
+  sent = [];
+  tales = [];
+}
 
 -- A message was sent, or says nothing of replication; an ask is within its limits, and of this version of the list.
 abbrev pub Comes : ℕ → (ℕ × ℕ → Op) → List ℕ → FileWorld → Happening → Type 0

@@ -13,7 +13,7 @@ use Rattle.xt_protocol.specs.Folds.{new_row}
 use Rattle.xt_protocol.specs.LeaseRows.{Awake}
 use Rattle.osd_rows.specs.FileStates.{FileState, Site, file_from}
 use Rattle.replica_safety.specs.Rules.{first_start}
-use Rattle.file_runs.specs.FileRuns.{Sent, FileWorld, Happening, message, wake, goes_on, Event, acts, starts, after, after_all, MayAll, BeginsFile}
+use Rattle.file_runs.specs.FileRuns.{Sent, FileWorld, Happening, message, wake, goes_on, Event, acts, starts, after, first_world, after_all, MayAll, BeginsFile}
 
 abbrev pub the_file : FileId
 the_file = record { volume = replicate 16 0; number = 1 }
@@ -47,14 +47,8 @@ id_of number = record { client = client; number = number }
 abbrev pub asks : ℕ → Op → Happening
 asks number asked = message client (payload.Ask number the_capability asked)
 
--- nothing is kept, sent or marked yet
 abbrev pub empty_world : FileWorld
-empty_world = record {
-  nodes = λ r. record { state = None; kept = new_row the_file; body = λ o v. [] };
-  holder = None;
-  sent = [];
-  tales = [];
-}
+empty_world = first_world the_file
 
 abbrev pub site_in : FileWorld → Site
 site_in w = record { node = node_one; times = awake_one.times; now = 0; sealed = λ c. true; body = λ f. (w.nodes 1).body }

@@ -48,7 +48,7 @@ some_first : {X : Type 0} (o p : Option X) (x : X) → o ≡ Some x → option_o
 some_first None p x e = absurd cc
 some_first (Some y) p x e = e
 
-or_assoc : {X : Type 0} (o p q : Option X) → option_or o (option_or p q) ≡ option_or (option_or o p) q
+pub or_assoc : {X : Type 0} (o p q : Option X) → option_or o (option_or p q) ≡ option_or (option_or o p) q
 or_assoc None p q = refl
 or_assoc (Some x) p q = refl
 

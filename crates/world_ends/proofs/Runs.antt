@@ -124,7 +124,7 @@ nothing_fits =
       ends = entries-none;
     }
 
-ends_kept : IsKept Fits
+pub ends_kept : IsKept Fits
 ends_kept =
     record {
       begins = nothing_fits;
@@ -197,7 +197,7 @@ ask_begun : (es : List Entry) (from to : NodeId) (content : Payload) → Content
 ask_begun es from to (payload.Ask number capability asked) is = is
 ask_begun es from to _ is = tt
 
-asks_begun : (w : World) (own : List Msg) → Fits w own → AsksHaveBegun w own
+pub asks_begun : (w : World) (own : List Msg) → Fits w own → AsksHaveBegun w own
 asks_begun w own fit m h = ask_begun w.entries m.from m.to m.payload (fit.messages m h)
 
 next_begun : (next : Next) → NextIs Fits ends_kept next → NextHasBegun next

@@ -131,7 +131,7 @@ pub record Owes (es : List Entry) (node : NodeId) (core : Core) (turned : Turned
   pub ends : EntriesAre (es ++ map (entry_of node) turned.marks)
 
 -- a message after a step is one of the step's, or was there
-came : (own was outs : List Msg) (w : World) (node : NodeId) (nodes : List Node) (m : Msg) → ((k : Msg) → Has k own → Has k was)
+pub came : (own was outs : List Msg) (w : World) (node : NodeId) (nodes : List Node) (m : Msg) → ((k : Msg) → Has k own → Has k was)
     → Has m ((own ++ to_itself node outs) ++ map (λ (s : Sent). s.message) (w.sent ++ numbered nodes node outs)) → Has m outs ⊎ Has m (was ++ messages w)
 came own was outs w node nodes m within h =
     let old = map (λ (s : Sent). s.message) w.sent in

@@ -1,5 +1,5 @@
 -- which asks may come to a file, and what becomes of the others
-use Rattle.std.proofs.Common.{◌≡◌, ℕ, inl, inr, List, ◌++◌, refl, ap, sym, ◌∙◌, subst, Option, Some, None, Bool, true, false}
+use Rattle.std.proofs.Common.{◌≡◌, ℕ, inl, inr, List, [], ◌∷◌, ◌++◌, refl, ap, sym, ◌∙◌, subst, Option, Some, None, Bool, true, false}
 use Rattle.std.specs.Prelude.{◌⊎◌, cond}
 use Rattle.xt_base.specs.declared.ids.NodeId.{NodeId}
 use Rattle.xt_base.specs.declared.ids.FileId.{FileId}
@@ -11,23 +11,30 @@ use Rattle.xt_base.specs.declared.file.Kind.{Kind}
 use Rattle.xt_base.specs.declared.file.Kind.TheVariants as kind
 use Rattle.xt_base.specs.declared.file.Location.{Location}
 use Rattle.xt_base.specs.declared.file.Op.{Op}
+use Rattle.xt_base.specs.declared.message.Msg.{Msg}
+use Rattle.xt_base.specs.declared.record.Record.{Record}
 use Rattle.xt_base.specs.declared.reply.Reply.{Reply}
 use Rattle.xt_base.specs.declared.reply.Reply.TheVariants as reply
 use Rattle.xt_base.specs.declared.reply.Denial.{Denial}
 use Rattle.xt_base.specs.declared.reply.Denial.TheVariants as denial
 use Rattle.xt_base.specs.declared.message.Payload.{Payload}
 use Rattle.xt_base.specs.declared.message.Payload.TheVariants as payload
+use Rattle.lease_safety.specs.State.{Has}
+use Rattle.osd_rows.specs.Turns.{the_record, reply_to}
 use Rattle.osd_rows.specs.AskRows.{leaves_object, list_and_range, with_member, list_against, capability_refused, capability_list_range, refusal_of, ask_let_in, ask_handled}
 use Rattle.osd_rows.specs.FileStates.{FileState, Site, FileStep, and_then}
 use Rattle.osd_rows.specs.FileSteps.{message_comes, ask_comes, step_of_file}
 use Rattle.osd_rows.specs.OsdSteps.{file_concerned}
 use Rattle.osd_rows.specs.Overdue.{expired}
 use Rattle.osd_replica_views.specs.FileView.{IsList, AskComes}
+use Rattle.osd_replica_views.proofs.Files.{expired_none}
+use Rattle.replica_runs.specs.HeadWorld.{shown}
 use Rattle.cluster_runs.specs.declared.DeclaredFile.{DeclaredFile}
 use Rattle.cluster_runs.specs.declared.Entry.{Entry}
 use Rattle.cluster_runs.specs.TimeLine.{id_of, operation_begun}
 use Rattle.cluster_runs.specs.World.{file_in}
 use Rattle.world_leases.specs.Worlds.{AskFits}
+use Rattle.world_leases.proofs.Lists.{has_in, has_left}
 use Rattle.world_ends.specs.Asks.{HasBegunSo}
 use Rattle.world_ends.proofs.Entries.{operation-grown}
 use Rattle.world_files.specs.Asks.{operation_or_none, operations_of, AreOperations, IsOutside, DeclaredList, IsSameButSent}
@@ -88,6 +95,48 @@ outside_is_idle site s from (payload.Ask number capability asked) file epoch obj
         by_refusal (refusal_of site (expired site s).state.kept.location capability asked) refused.0 refused.1
     by_kind kind.Striped = record { state = refl; rec = refl; marks = refl }
 outside_is_idle site s from _ file epoch object version is = absurd is
+
+-- it keeps nothing
+pub outside_none : (site : Site) (s : FileState) (from : NodeId) (content : Payload) → IsOutside content → (step_of_file site s from content).turned.rec ≡ None
+unfolding step_of_file
+outside_none site s from content is =
+    let epoch : Epoch = record { number = 0; node = record { 0 = 0 } } in
+    (outside_is_idle site s from content s.kept.file epoch 0 (record { epoch = epoch; count = 0 }) is).rec ∙ ap (λ (rec : Option Record). the_record rec None) (expired_none site s)
+
+-- and sends what the Fetch sends, and what says nothing of replication
+pub outside_sends : (site : Site) (s : FileState) (from : NodeId) (content : Payload) (file : FileId) (epoch : Epoch) (object : ℕ) (version : Stamp) → IsOutside content
+    → (m : Msg) → Has m (step_of_file site s from content).turned.outs → Has m (step_of_file site s from (payload.Fetch file epoch object version)).turned.outs ⊎ ((n : ℕ) → shown n m.payload ≡ [])
+unfolding step_of_file ask_handled
+outside_sends site s from (payload.Ask number capability asked) file epoch object version is m = by_kind capability.location.kind
+  where
+    id : OpId
+    id = record { client = from; number = number }
+
+    fetches : FileStep
+    fetches = and_then (expired site s) (λ state. message_comes site state from (payload.Fetch file epoch object version))
+
+    told : (answer : Reply) → Has m ((expired site s).turned.outs ++ reply_to site.node (expired site s).state.kept.file id answer ∷ []) → Has m fetches.turned.outs ⊎ ((n : ℕ) → shown n m.payload ≡ [])
+    told answer h = elim (has_in m (expired site s).turned.outs (reply_to site.node (expired site s).state.kept.file id answer ∷ []) h) [
+      | inl early ↦ inl (has_left m (expired site s).turned.outs _ early)
+      | inr late ↦ inr (replied late)
+    ]
+      where
+        replied : Has m (reply_to site.node (expired site s).state.kept.file id answer ∷ []) → (n : ℕ) → shown n m.payload ≡ []
+        replied (inl e) n = ap (λ (k : Msg). shown n k.payload) e
+        replied (inr h) n = absurd h
+
+    by_refusal : (o : Option Reply) → (answer : Reply) → o ≡ Some answer → Has m (and_then (expired site s) (λ state. ask_let_in site state id capability asked o)).turned.outs → Has m fetches.turned.outs ⊎ ((n : ℕ) → shown n m.payload ≡ [])
+    by_refusal o answer refused h = told answer (subst (λ (o : Option Reply). Has m (and_then (expired site s) (λ state. ask_let_in site state id capability asked o)).turned.outs) refused h)
+
+    by_kind : (k : Kind) → Has m (and_then (expired site s) (λ state. ask_comes site state k id capability asked)).turned.outs → Has m fetches.turned.outs ⊎ ((n : ℕ) → shown n m.payload ≡ [])
+    by_kind kind.Replicated h =
+        let refused = refused_so site (expired site s).state.kept.location capability asked is in
+        by_refusal (refusal_of site (expired site s).state.kept.location capability asked) refused.0 refused.1 h
+    by_kind kind.Striped h = elim (has_in m (expired site s).turned.outs [] h) [
+      | inl early ↦ inl (has_left m (expired site s).turned.outs _ early)
+      | inr late ↦ absurd late
+    ]
+outside_sends site s from _ file epoch object version is m = absurd is
 
 -- ---- operations
 

@@ -82,7 +82,7 @@ module _ (file : FileId) (w : World) (node : Node) (r : Running) (s : OsdState) 
       is (own file w node its.found v sees None None step.turned.rec refl of)
 
   -- it leaves the file
-  rested : (next : OsdState) (turned : Turned) → file_seen file next ≡ file_seen file s → IsNotOf file turned.rec
+  pub rested : (next : OsdState) (turned : Turned) → file_seen file next ≡ file_seen file s → IsNotOf file turned.rec
       → Sees file (after_turn w node (record r { core = osd next }) turned) v
   rested next turned is away = other file w node its.found v sees (Some (record r { core = osd next })) turned.rec (ap (λ (x : FileState). Some x) is ∙ sym state_is) away
 
@@ -98,7 +98,7 @@ module _ (file : FileId) (node : Node) (r : Running) (s : OsdState) (msg : Msg) 
   abbrev whole : OsdStep
   whole = step_at node r s (event.Deliver msg)
 
-  is_whole : whole ≡ handled (outside_of node.kept) s (max r.clock s.last) (awake_as s.started) msg (Some file)
+  pub is_whole : whole ≡ handled (outside_of node.kept) s (max r.clock s.last) (awake_as s.started) msg (Some file)
   is_whole = message_step (outside_of node.kept) s r.clock msg file (awake_as s.started) awake concerns
 
   its_file : step.state.kept.file ≡ file
@@ -110,7 +110,7 @@ module _ (file : FileId) (node : Node) (r : Running) (s : OsdState) (msg : Msg) 
   leaves : (k : FileId) → file_seen k whole.osd ≡ cond (is_file step.state.kept.file k) step.state (file_seen k s)
   leaves k = ap (λ (o : OsdStep). file_seen k o.osd) is_whole ∙ file_at-with_file (awake_as s.started) s.files step.state k
 
-  same_rec : whole.turned.rec ≡ step.turned.rec
+  pub same_rec : whole.turned.rec ≡ step.turned.rec
   same_rec = ap (λ (o : OsdStep). o.turned.rec) is_whole
 
   rec_of : IsOf file step.turned.rec
@@ -124,12 +124,18 @@ module _ (file : FileId) (node : Node) (r : Running) (s : OsdState) (msg : Msg) 
         keeps = λ rec how is. kept_it file w node r s v its sees (record r { core = osd whole.osd }) how rec step (sym same_rec ∙ is) rec_of;
       }
 
+  -- of another file
+  pub other_stays : (k : FileId) → is_file file k ≡ false → file_seen k whole.osd ≡ file_seen k s
+  other_stays k differ = leaves k ∙ put_there step.state (file_seen k s) file k its_file differ
+
+  pub not_its : (k : FileId) → is_file file k ≡ false → IsNotOf k whole.turned.rec
+  not_its k differ = subst (IsNotOf k) (sym same_rec) (not_of file k step.turned.rec rec_of differ)
+
   others_rest : (k : FileId) (w : World) (v : FileWorld) → is_file file k ≡ false → RunsAs w node r s → Sees k w v → ShowsOthers k w node r s msg v
   others_rest k w v differ its sees =
-      let away : IsNotOf k whole.turned.rec = subst (IsNotOf k) (sym same_rec) (not_of file k step.turned.rec rec_of differ) in
       record {
-        rests = λ outs. rested k w node r s v its sees whole.osd (record whole.turned { outs = outs }) (leaves k ∙ put_there step.state (file_seen k s) file k its_file differ) away;
-        stops = λ rec how x site happens is. lost k w node its.found v sees (Some rec) (subst (IsNotOf k) is away);
+        rests = λ outs. rested k w node r s v its sees whole.osd (record whole.turned { outs = outs }) (other_stays k differ) (not_its k differ);
+        stops = λ rec how x site happens is. lost k w node its.found v sees (Some rec) (subst (IsNotOf k) is (not_its k differ));
       }
 
 pub messages_show : (file : FileId) (w : World) (node : Node) (r : Running) (s : OsdState) (msg : Msg) (v : FileWorld) → RunsAs w node r s → IsAwake r s
@@ -230,7 +236,7 @@ wake_taken file w node r s outs v its awake met sees =
 
 -- ---- starts
 
-started_at : (awake : Awake) (rows : List FileRow) (file : FileId) → file_at awake (map (file_from awake) rows) file ≡ file_from awake (row_in rows file)
+pub started_at : (awake : Awake) (rows : List FileRow) (file : FileId) → file_at awake (map (file_from awake) rows) file ≡ file_from awake (row_in rows file)
 unfolding file_at row_in
 started_at awake [] file = refl
 started_at awake (x ∷ xs) file = at (is_file x.file file) (started_at awake xs file)

@@ -34,13 +34,13 @@ steps_may stripe ops members file w own node r s v happens how order its sees le
     let stand = steps_stand file w own node r s v order its sees in
     record { runs = stand.runs; here = stand.here; bodies = stand.bodies; comes = comes; holds = λ t is. leaders node.id.0 (stand.leads t is); alone = alone; ends = ends }
 
-same_node : (a b : Node) → Some a ≡ Some b → a ≡ b
+pub same_node : (a b : Node) → Some a ≡ Some b → a ≡ b
 same_node a b is = cc
 
-same_running : (a b : Running) → Some a ≡ Some b → a ≡ b
+pub same_running : (a b : Running) → Some a ≡ Some b → a ≡ b
 same_running a b is = cc
 
-same_state : (a b : OsdState) → osd a ≡ osd b → a ≡ b
+pub same_state : (a b : OsdState) → osd a ≡ osd b → a ≡ b
 same_state a b is = cc
 
 -- of the other nodes those lead that did

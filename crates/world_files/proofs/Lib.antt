@@ -7,3 +7,12 @@ pub mod Asks
 pub mod Leaders
 pub mod Winners
 pub mod Steps
+pub mod Senders
+pub mod Leading
+pub mod Shown
+pub mod OsdFiles
+pub mod Endings
+pub mod Places
+pub mod OsdRuns
+pub mod Walk
+pub mod Runs

@@ -44,15 +44,16 @@ use Rattle.world_files.proofs.May.{later, holders_make_room}
 use Rattle.world_files.proofs.Leaders.{steps_may, leaders_go_on, led_before, led_after}
 use Rattle.world_files.proofs.Winners.{led_held, wins_in_time, winners_are_alone}
 
-may_push : (stripe : ℕ) (ops : ℕ × ℕ → Op) (members : List ℕ) (v : FileWorld) (es : List Event) (e : Event) → MayAll stripe ops members v es → May stripe ops members (after_all v es) e → MayAll stripe ops members v (es ++ e ∷ [])
-may_push stripe ops members v [] e all one = (one, tt)
-may_push stripe ops members v (x ∷ xs) e all one = (all.0, may_push stripe ops members (after v x) xs e all.1 one)
+pub may_append : (stripe : ℕ) (ops : ℕ × ℕ → Op) (members : List ℕ) (v : FileWorld) (xs ys : List Event) → MayAll stripe ops members v xs → MayAll stripe ops members (after_all v xs) ys
+    → MayAll stripe ops members v (xs ++ ys)
+may_append stripe ops members v [] ys first later = later
+may_append stripe ops members v (x ∷ xs) ys first later = (first.0, may_append stripe ops members (after v x) xs ys first.1 later)
 
-after_push : (v : FileWorld) (es : List Event) (e : Event) → after_all v (es ++ e ∷ []) ≡ after (after_all v es) e
-after_push v [] e = refl
-after_push v (x ∷ xs) e = after_push (after v x) xs e
+pub after_append : (v : FileWorld) (xs ys : List Event) → after_all v (xs ++ ys) ≡ after_all (after_all v xs) ys
+after_append v [] ys = refl
+after_append v (x ∷ xs) ys = after_append (after v x) xs ys
 
-held_or_not : (l : LeaseState) → IsHeld l ⊎ (IsHeld l → ⊥)
+pub held_or_not : (l : LeaseState) → IsHeld l ⊎ (IsHeld l → ⊥)
 held_or_not (free p) = inr (λ h. h)
 held_or_not (asking r) = inr (λ h. h)
 held_or_not (writing r) = inr (λ h. h)
@@ -96,7 +97,7 @@ module _ (stripe : ℕ) (ops : ℕ × ℕ → Op) (members : List ℕ) (file : F
   now_is = later r.clock s.last fits.0.last
 
   -- nobody else led, where the lease is held behind the step
-  alone_before : IsHeld step.state.lease → (m : ℕ) → Leads w file m → m ≡ n
+  pub alone_before : IsHeld step.state.lease → (m : ℕ) → Leads w file m → m ≡ n
   alone_before is m lead = at (wins_in_time site (file_seen file s) happens is)
     where
       by_number : (b : Bool) → (m == n) ≡ b → ((m ≢ n) → m ≡ n) → m ≡ n
@@ -140,10 +141,10 @@ module _ (stripe : ℕ) (ops : ℕ × ℕ → Op) (members : List ℕ) (file : F
           let v1 = after_all v room.lost in
           let comes_then = subst (λ (k : List Sent). Comes stripe ops members (record v { sent = k }) happens) (sym room.same_sent) comes in
           let p = acting v1 comes_then room.sees room.leaders (λ is. room.free) in
-          let same = after_push v room.lost acts_now in
+          let same = after_append v room.lost (acts_now ∷ []) in
           record {
             events = room.lost ++ acts_now ∷ [];
-            may = may_push stripe ops members v room.lost acts_now room.may p.0;
+            may = may_append stripe ops members v room.lost (acts_now ∷ []) room.may (p.0, tt);
             sees = subst (Sees file behind) (sym same) p.1;
             leaders = subst (LeadersHold file behind) (sym same) p.2;
             sent = ap (λ (k : FileWorld). k.sent) same ∙ ap (λ (k : List Sent). sent_by n step.turned.outs ++ k) room.same_sent;
@@ -164,6 +165,17 @@ messages_run stripe ops members file w own own_after outs node r s msg v order o
     ran stripe ops members file w own own_after outs node r s (event.Deliver msg) (message msg.from msg.payload) order order_after apart apart_after its
     (message_leaves file node r s msg awake concerns) (λ v sees. (messages_show file w node r s msg v its awake concerns sees).takes outs)
     (SoundSteps.step_so (site_at node r s) (file_seen file s) msg.from msg.payload) v comes sees leaders
+
+-- nobody else leads where a message leaves the lease held
+pub message_alone : (stripe : ℕ) (ops : ℕ × ℕ → Op) (members : List ℕ) (file : FileId) (w : World) (own own_after outs : List Msg) (node : Node) (r : Running) (s : OsdState) (msg : Msg)
+    → IsInOrder w own → IsInOrder (stepped w node r s (event.Deliver msg) outs) own_after
+    → AreApart file.number w.entries → AreApart file.number (stepped w node r s (event.Deliver msg) outs).entries
+    → RunsAs w node r s → IsAwake r s → file_concerned msg.payload ≡ Some file
+    → IsHeld (step_on (site_at node r s) (file_seen file s) (message msg.from msg.payload)).state.lease → (m : ℕ) → Leads w file m → m ≡ node.id.0
+message_alone stripe ops members file w own own_after outs node r s msg order order_after apart apart_after its awake concerns =
+    alone_before stripe ops members file w own own_after outs node r s (event.Deliver msg) (message msg.from msg.payload) order order_after apart apart_after its
+    (message_leaves file node r s msg awake concerns) (λ v sees. (messages_show file w node r s msg v its awake concerns sees).takes outs)
+    (SoundSteps.step_so (site_at node r s) (file_seen file s) msg.from msg.payload)
 
 pub wakes_run : (stripe : ℕ) (ops : ℕ × ℕ → Op) (members : List ℕ) (file : FileId) (w : World) (own own_after outs : List Msg) (node : Node) (r : Running) (s : OsdState) (v : FileWorld)
     → IsInOrder w own → IsInOrder (stepped w node r s event.Wake outs) own_after

@@ -116,15 +116,23 @@ wins_in_time site s wake = at (each_wakes site s)
     at (renewing held_so p) = λ is. inl held_so
     at (resting p) = subst (λ (q : LeaseRow). InTime site.now x.lease q.lease) (sym p.row) (λ is. inl is)
 
+-- a Wake leaves no lease held but one that it found so
+pub wake_found : (site : Site) (s : FileState) → IsHeld (wake_step site s).state.lease → IsHeld (settled_row site s).lease
+wake_found site s is = at (each_wakes site s)
+  where
+    at : Wakes s.kept.file site (settled_row site s) (settled_row site s).lease (wake_step site s) → IsHeld (settled_row site s).lease
+    at (renewing held_so p) = held_so
+    at (resting p) = subst (λ (q : LeaseRow). IsHeld q.lease) p.row is
+
 -- ---- who leads
 
 pub led_held : (l : LeaseState) (o : Option Tenure) (t : Tenure) → o ≡ Some t → LedUnder l o → IsHeld l
 led_held l None t is led = absurd (cc)
 led_held l (Some x) t is led = led
 
--- who leads a file holds it by the trace
-leader_holds : (w : World) (own : List Msg) (file : FileId) (n : ℕ) → IsInOrder w own → Leads w file n → holds w.entries (node_id n) file.number ≡ true
-leader_holds w own file n order lead =
+-- who leads a file has its lease, and it isn't over
+pub leader_held : (w : World) (own : List Msg) (file : FileId) (n : ℕ) → IsInOrder w own → (lead : Leads w file n) → IsHeld (lease_expired (file_seen file lead.state).lease lead.running.clock)
+leader_held w own file n order lead =
     let node = lead.node in
     let s = lead.state in
     let r = lead.running in
@@ -133,9 +141,13 @@ leader_holds w own file n order lead =
     let core = subst (CoreFits w.times w.files node.id node.kept r) lead.core (subst (UpFits w.times w.files node.id node.kept) lead.up (order.nodes n node lead.found).up) in
     let sound = SoundSteps.expired_so site f (at_fits w.files (awake_as s.started) s.files file core.0.fits).sound in
     let held_now = led_held (expired site f).state.lease (expired site f).state.primary.tenure lead.tenure lead.leads sound.led in
-    let held_then = subst (λ (x : LeaseRow). IsHeld x.lease) (expired_shows site f).row held_now in
-    subst (λ (id : NodeId). holds w.entries id file.number ≡ true) (same_node node.id (node_id n) (node_in-id w.nodes n node lead.found))
-    (order.leases n node r s file lead.found lead.up lead.core held_then).1
+    subst (λ (x : LeaseRow). IsHeld x.lease) (expired_shows site f).row held_now
+
+-- and holds it by the trace
+leader_holds : (w : World) (own : List Msg) (file : FileId) (n : ℕ) → IsInOrder w own → Leads w file n → holds w.entries (node_id n) file.number ≡ true
+leader_holds w own file n order lead =
+    subst (λ (id : NodeId). holds w.entries id file.number ≡ true) (same_node lead.node.id (node_id n) (node_in-id w.nodes n lead.node lead.found))
+    (order.leases n lead.node lead.running lead.state file lead.found lead.up lead.core (leader_held w own file n order lead)).1
 
 pub winners_are_alone : (file : FileId) (w : World) (own : List Msg) (node : Node) (r : Running) (s : OsdState) → IsInOrder w own → AreApart file.number w.entries → RunsAs w node r s
     → IsHeld (lease_expired (file_seen file s).lease r.clock) → (m : ℕ) → Leads w file m → m ≡ node.id.0

@@ -6,3 +6,5 @@ pub mod Asks
 pub mod Leaders
 pub mod Winners
 pub mod Steps
+pub mod Senders
+pub mod Runs

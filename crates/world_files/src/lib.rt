@@ -1,16 +1,23 @@
-//! Each file of a world of OSDs as a world of that file alone: what a line does to the nodes of the world, a run of the file
-//! (`file_runs`) does to the nodes of the file.
+//! Each file of a world of OSDs is a run of that file alone (`file_runs`): after every list of lines, and behind each step of a line
+//! more. So each replicated file has one order of writes in the trace, which its answers show.
 //!
-//! The crate has no code to run. It says so of each thing that may happen to a node; and of a message to an OSD and a Wake also that the
-//! events may come in that run, and that who leads still holds the file.
+//! The crate has no code to run. It shows so of each thing that may happen in a line, and puts these together by the walk over lines
+//! (`world_leases`).
 #![tactic(auto)]
 
-ghost use Rattle.std.specs.Prelude.{◌≡◌, Option, List};
+ghost use Rattle.std.specs.Prelude.{◌≡◌, ℕ, Option, None, List, [], ◌∷◌, ◌++◌};
 ghost use Rattle.xt_base.specs.declared.ids.FileId.{FileId};
 ghost use Rattle.xt_base.specs.declared.record.Record.{Record};
 ghost use Rattle.osd_rows.specs.FileStates.{FileState};
 ghost use Rattle.file_runs.specs.FileRuns.{keeping};
-ghost use Rattle.cluster_runs.specs.NodeSteps.{one_more};
+ghost use Rattle.cluster_runs.specs.NodeSteps.{one_more, Room};
+ghost use Rattle.cluster_runs.specs.declared.Entry.{Entry};
+ghost use Rattle.cluster_runs.specs.declared.Line.{Line};
+ghost use Rattle.cluster_runs.specs.World.{World};
+ghost use Rattle.cluster_runs.specs.Bounds.{AreLines};
+ghost use Rattle.cluster_runs.specs.Rules.{refusal};
+ghost use Rattle.cluster_runs.specs.Lines.{begins, steps};
+ghost use Rattle.cluster_runs.specs.Runs.{run_of, IsPartOf, IsRunInto};
 ghost use Rattle.world_files.specs.Seen.{kept_seen, IsOf, IsNotOf};
 ghost use Rattle.world_files.specs.Events.{MessagesShow, OthersRest, SilentRest, WakesShow, StopsShow, StartsShow, PlansRest, TicksRest, DeclaredRest};
 ghost use Rattle.world_files.specs.May.{StepsStand, HoldersMakeRoom};
@@ -19,6 +26,8 @@ ghost use Rattle.world_files.specs.Winners.{WinsInTime, WinnersAreAlone};
 ghost use Rattle.world_files.specs.Steps.{MessagesRun, WakesRun, OutsideRuns};
 ghost use Rattle.world_files.specs.Asks.{MessagesCome, OutsideIsIdle, OperationsAre};
 ghost use Rattle.world_files.specs.Tellings.{AlwaysTelling, TellingIsSafe};
+ghost use Rattle.world_files.specs.Senders.{SendsAsItself};
+ghost use Rattle.world_files.specs.Runs.{FilesAreRuns, NextAreRuns, ArePlaced, FilesAreSafe};
 
 /// One record more changes what a node keeps of the file that it is of, and of no other file.
 pub fn records_are_of_a_file()
@@ -108,4 +117,31 @@ pub fn messages_are_runs_of_a_file()
 /// So is a Wake of an OSD, for each file that it has met.
 pub fn wakes_are_runs_of_each_file()
     ensures { WakesRun }
+{}
+
+/// The messages of a step of a file have the OSD as their sender, and concern that file.
+pub fn messages_are_of_their_step()
+    ensures { SendsAsItself }
+{}
+
+/// What a world shows of a file is what a run of the file comes to, that begins with nothing written; the trace tells what the run's
+/// tales tell, and each message about the file was sent in the run. So it is of each file, after every list of lines, and at each step
+/// of a line more.
+pub fn files_are_runs()
+    ensures whole { (room : Room) (lines : List Line) → AreLines lines → FilesAreRuns (run_of room lines) [] }
+    ensures steps { (room : Room) (lines : List Line) (l : Line) (k : ℕ) → AreLines (lines ++ l ∷ []) → refusal (run_of room lines) l ≡ None → NextAreRuns (steps k room (begins (run_of room lines) l)) }
+{}
+
+/// The trace tells where each file is declared, within the limits: after every list of lines, and behind some steps of a line more.
+pub fn files_are_placed()
+    ensures whole { (room : Room) (lines : List Line) → AreLines lines → ArePlaced (run_of room lines) }
+    ensures part { (room : Room) (lines : List Line) (l : Line) (part : World) → AreLines (lines ++ l ∷ []) → refusal (run_of room lines) l ≡ None → IsPartOf room (run_of room lines) l part → ArePlaced part }
+{}
+
+/// What the trace tells of a replicated file fits one order of writes and truncations: each claim is borne out by the order of writes
+/// that the trace gives, no write stands there twice, and each answer shows the order as it was. So it is in every run of any lines,
+/// and behind some steps of a line more.
+pub fn files_are_safe()
+    ensures whole { (room : Room) (lines : List Line) → AreLines lines → FilesAreSafe (run_of room lines).entries }
+    ensures part { (room : Room) (lines : List Line) (l : Line) (entries : List Entry) → AreLines (lines ++ l ∷ []) → refusal (run_of room lines) l ≡ None → IsRunInto room lines l entries → FilesAreSafe entries }
 {}

@@ -26,7 +26,7 @@ use Rattle.lease_safety.specs.State.{Has}
 use Rattle.lease_runs.specs.LeaseWorld.{LeaseRow, LeaseNode, RowStep, node_stepped, row_stepped, IsReached, lease_file}
 use Rattle.lease_runs.proofs.Seen as seen_steps
 use Rattle.osd_rows.specs.OsdSteps.{OsdState, step_of_osd, file_at}
-use Rattle.osd_lease_views.specs.LeaseView.{lease_row_of, is_about}
+use Rattle.osd_lease_views.specs.LeaseView.{lease_row_of, is_about, is_ask}
 use Rattle.cluster_runs.specs.declared.DeclaredFile.{DeclaredFile}
 use Rattle.cluster_runs.specs.declared.RunningCall.{RunningCall}
 use Rattle.cluster_runs.specs.declared.ClientState.{ClientState}
@@ -115,7 +115,7 @@ osd_next w was node r s happens shape found is_up is_osd comes =
 -- what a client's step owes: its call is on a declared file, and it sends asks of that call alone
 pub record ClientFits (files : List DeclaredFile) (step : Step ClientState) : Type 0 where
   pub call : CallFits files step.state.running
-  pub asks : (m : Msg) → Has m step.turned.outs → AskFits files m.payload × (lease_file m.payload ≡ None)
+  pub asks : (m : Msg) → Has m step.turned.outs → AskFits files m.payload × (lease_file m.payload ≡ None) × (is_ask m.payload ≡ true)
   pub marks : AreInert step.turned.marks
   pub rec : step.turned.rec ≡ None
 
@@ -129,8 +129,8 @@ stays_fits files c fits = record { call = fits; asks = λ m h. absurd h; marks =
 asks_fits : (files : List DeclaredFile) (site : ClientSite) (c : ClientState) (call : RunningCall) (target : NodeId) → CallFits files (Some call) → ClientFits files (clients.asks site c call target)
 asks_fits files site c call target fits = record { call = fits; asks = sent; marks = tt; rec = refl }
   where
-    sent : (m : Msg) → Has m (clients.asks site c call target).turned.outs → AskFits files m.payload × (lease_file m.payload ≡ None)
-    sent m (inl e) = subst (λ (k : Msg). AskFits files k.payload × (lease_file k.payload ≡ None)) (sym e) (fits, refl)
+    sent : (m : Msg) → Has m (clients.asks site c call target).turned.outs → AskFits files m.payload × (lease_file m.payload ≡ None) × (is_ask m.payload ≡ true)
+    sent m (inl e) = subst (λ (k : Msg). AskFits files k.payload × (lease_file k.payload ≡ None) × (is_ask k.payload ≡ true)) (sym e) (fits, refl, refl)
     sent m (inr h) = absurd h
 
 ends_fits : (files : List DeclaredFile) (c : ClientState) (call : RunningCall) (how : Outcome) → ClientFits files (clients.ends_call c call how)
