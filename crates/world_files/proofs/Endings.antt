@@ -1,6 +1,5 @@
 -- an OSD that stops, as events of a file's world
-use Rattle.std.proofs.Common.{◌≡◌, ◌≢◌, ℕ, inl, inr, List, [], ◌∷◌, ◌++◌, refl, ap, sym, ◌∙◌, subst, Option, Some, None, true}
-use Rattle.std.specs.Prelude.{◌⊎◌, max}
+use Rattle.std.proofs.Common.{◌≡◌, ℕ, List, [], ◌∷◌, ◌++◌, refl, sym, ◌∙◌, subst, Option, Some, None}
 use Rattle.xt_base.specs.declared.ids.FileId.{FileId}
 use Rattle.xt_base.specs.declared.event.Event.TheVariants as event
 use Rattle.xt_base.specs.declared.file.Op.{Op}
@@ -8,11 +7,9 @@ use Rattle.xt_base.specs.declared.message.Msg.{Msg}
 use Rattle.xt_base.specs.declared.record.Record.{Record}
 use Rattle.xt_protocol.specs.LeaseRows.{lease_expired}
 use Rattle.time_line.specs.declared.entry.Halt.{Halt}
-use Rattle.osd_rows.specs.FileStates.{FileState, Site, FileStep}
 use Rattle.osd_rows.specs.OsdSteps.{OsdState, file_concerned}
 use Rattle.osd_invariants.specs.Sound.{IsHeld}
-use Rattle.osd_replica_views.specs.FileView.{IsFree}
-use Rattle.file_runs.specs.FileRuns.{FileWorld, Sent, Tale, Event, Happening, message, wake, Ending, stops_kept, stops_lost, acts, step_on, acted, Comes, MayEnd, May, MayAll, after, after_all}
+use Rattle.file_runs.specs.FileRuns.{FileWorld, Sent, Tale, Event, Happening, message, wake, Ending, stops_kept, stops_lost, acts, step_on, Comes, MayEnd, May, after, after_all}
 use Rattle.cluster_runs.specs.declared.Entry.TheVariants as entry
 use Rattle.cluster_runs.specs.Clauses.{AreApart}
 use Rattle.cluster_runs.specs.World.{World, Node, Running, osd}
@@ -23,38 +20,18 @@ use Rattle.world_leases.proofs.Lists.{has_right}
 use Rattle.world_leases.proofs.Tables.{node_in-new}
 use Rattle.world_files.specs.Seen.{file_seen, Sees, IsNotOf}
 use Rattle.world_files.specs.Events.{RunsAs, IsAwake, site_at, step_at, stopped_with}
-use Rattle.world_files.specs.May.{LeadersHold, IsFreed}
+use Rattle.world_files.specs.May.{LeadersHold}
 use Rattle.world_files.specs.Tellings.{TellsAs}
 use Rattle.world_files.specs.Runs.{WasSent, IsShownBy, LeadsTo}
 use Rattle.world_files.proofs.Nodes.{lost}
 use Rattle.world_files.proofs.Events.{messages_show, same_rec}
-use Rattle.world_files.proofs.May.{later, holders_make_room}
+use Rattle.world_files.proofs.May.{later}
 use Rattle.world_files.proofs.Leaders.{steps_may, leaders_stop}
 use Rattle.world_files.proofs.Winners.{wake_found, winners_are_alone}
-use Rattle.world_files.proofs.Steps.{may_append, after_append, held_or_not}
+use Rattle.world_files.proofs.Rooms.{may_append, after_append, Room, makes_room}
 use Rattle.world_files.proofs.Shown.{one_says}
 
 module _ (stripe : ℕ) (ops : ℕ × ℕ → Op) (members : List ℕ) (file : FileId) (w : World) (own : List Msg) (node : Node) (r : Running) (s : OsdState) (order : IsInOrder w own) (its : RunsAs w node r s) where
-  -- Who doesn't lead has lost the file, where this step leaves the lease held.
-  record Room (step : FileStep) (v : FileWorld) : Type 0 where
-    pub lost : List Event
-    pub may : MayAll stripe ops members v lost
-    pub sees : Sees file w (after_all v lost)
-    pub leaders : LeadersHold file w (after_all v lost)
-    pub same_sent : (after_all v lost).sent ≡ v.sent
-    pub same_tales : (after_all v lost).tales ≡ v.tales
-    pub free : IsHeld step.state.lease → IsFree node.id.0 (after_all v lost).holder
-
-  makes_room : (step : FileStep) (v : FileWorld) → Sees file w v → LeadersHold file w v → (IsHeld step.state.lease → (m : ℕ) → Leads w file m → m ≡ node.id.0) → Room step v
-  makes_room step v sees leaders alone = at (held_or_not step.state.lease)
-    where
-      freed : IsFreed stripe ops members file w node.id.0 v → Room step v
-      freed x = record { lost = x.lost; may = x.may; sees = x.sees; leaders = x.leaders; same_sent = x.same_sent; same_tales = x.same_tales; free = λ is. x.free }
-
-      at : IsHeld step.state.lease ⊎ (IsHeld step.state.lease → ⊥) → Room step v
-      at (inl is) = freed (holders_make_room stripe ops members file w node.id.0 v sees leaders (alone is))
-      at (inr lacks) = record { lost = []; may = tt; sees = sees; leaders = leaders; same_sent = refl; same_tales = refl; free = λ is. absurd (lacks is) }
-
   -- A step that ends so, of which nothing is told or sent.
   ended : (happens : Happening) (how : Ending) (there : Node) (q : Running) (halt : Halt) (v : FileWorld)
       → (let after_it = halted w there q halt in (u : FileWorld) → Sees file w u → Sees file after_it (after u (acts node.id.0 (file_seen file s) (site_at node r s) happens how)))
@@ -74,8 +51,8 @@ module _ (stripe : ℕ) (ops : ℕ × ℕ → Op) (members : List ℕ) (file : F
       acts_now : Event
       acts_now = acts node.id.0 (file_seen file s) (site_at node r s) happens how
 
-      room : Room (step_on (site_at node r s) (file_seen file s) happens) v
-      room = makes_room (step_on (site_at node r s) (file_seen file s) happens) v is.sees is.leaders alone
+      room : Room stripe ops members file w node.id.0 (step_on (site_at node r s) (file_seen file s) happens).state.lease v
+      room = makes_room stripe ops members file w node.id.0 (step_on (site_at node r s) (file_seen file s) happens).state.lease v is.sees is.leaders alone
 
       u : FileWorld
       u = after_all v room.lost

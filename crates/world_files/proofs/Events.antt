@@ -2,7 +2,6 @@
 use Rattle.std.proofs.Common.{◌≡◌, ℕ, inl, inr, List, [], ◌∷◌, ◌++◌, map, refl, ap, sym, ◌∙◌, subst, Option, Some, None, Bool, true, false}
 use Rattle.std.specs.Prelude.{cond, max, ◌⊎◌}
 use Rattle.xt_base.specs.declared.ids.FileId.{FileId}
-use Rattle.xt_base.specs.declared.ids.Boot.{Boot}
 use Rattle.xt_base.specs.declared.event.Event.{Event}
 use Rattle.xt_base.specs.declared.event.Event.TheVariants as event
 use Rattle.xt_base.specs.declared.message.Msg.{Msg}
@@ -25,7 +24,7 @@ use Rattle.osd_lease_views.specs.ActsView.{RecordIs}
 use Rattle.osd_lease_views.specs.OsdView.{wake_step}
 use Rattle.osd_lease_views.proofs.OsdLeases.{file_at-with_file, at_file, step_keeps, message_step, put_here, put_there, woken_step, wake_shows, handled, woke_all}
 use Rattle.osd_lease_views.proofs.ActSteps.{step_rec, wake_step_rec, wake_step_kept, woken_quiet}
-use Rattle.file_runs.specs.FileRuns.{FileNode, FileWorld, Happening, message, wake, goes_on, stops_kept, stops_lost, acts, starts, after, acted, keeping}
+use Rattle.file_runs.specs.FileRuns.{FileNode, FileWorld, Happening, wake, goes_on, stops_kept, stops_lost, acts, starts, after, acted, keeping}
 use Rattle.cluster_runs.specs.World.{World, Node, Running, osd, node_in}
 use Rattle.cluster_runs.specs.NodeSteps.{outside_of, after_turn, halted, one_more}
 use Rattle.cluster_runs.specs.Lines.{starts_as, next_boot, osd_starting, runs}

@@ -1,16 +1,16 @@
 -- who leads behind what changes nothing of a file led before
-use Rattle.std.proofs.Common.{◌≡◌, ◌≢◌, ◌≤◌, ℕ, ◌+◌, inl, inr, List, [], ◌∷◌, ◌++◌, map, refl, arith, ap, sym, ◌∙◌, subst, Option, Some, None, Bool, true, false}
-use Rattle.std.specs.Prelude.{◌⊎◌, cond, nat_lt}
+use Rattle.std.proofs.Common.{◌≡◌, ◌≤◌, ℕ, ◌+◌, inl, inr, List, [], ◌∷◌, ◌++◌, map, refl, arith, ap, sym, ◌∙◌, subst, Option, Some, None, Bool, true, false}
+use Rattle.std.specs.Prelude.{cond, nat_lt}
 use Rattle.std.specs.Option.{option_map}
 use Rattle.std.proofs.lemmas.Bool.Decides.{nat_tests}
 use Rattle.xt_base.specs.declared.ids.FileId.{FileId}
 use Rattle.xt_base.specs.declared.ids.Boot.{Boot}
 use Rattle.xt_base.specs.declared.message.Msg.{Msg}
-use Rattle.xt_protocol.specs.Folds.{fold_of, row_in}
-use Rattle.xt_protocol.specs.LeaseRows.{LeaseState, Held, free, asking, writing, held, lease_expired, has_turn, has_run_out, round_over, renewal_left}
+use Rattle.xt_protocol.specs.Folds.{fold_of}
+use Rattle.xt_protocol.specs.LeaseRows.{LeaseState, free, asking, writing, held, lease_expired, has_turn, has_run_out, round_over, renewal_left}
 use Rattle.osd_invariants.specs.Sound.{IsHeld}
 use Rattle.osd_lease_views.specs.OsdView.{site_of}
-use Rattle.osd_rows.specs.FileStates.{FileState, Site, file_from}
+use Rattle.osd_rows.specs.FileStates.{FileState, Site}
 use Rattle.osd_rows.specs.OsdSteps.{OsdState}
 use Rattle.osd_rows.specs.Overdue.{expired, lease_became, deadlines_under}
 use Rattle.osd_rows.specs.declared.Tenure.{Tenure}
@@ -21,7 +21,7 @@ use Rattle.cluster_runs.specs.Lines.{osd_starting, ticked}
 use Rattle.cluster_runs.specs.NodeSteps.{outside_of}
 use Rattle.world_leases.specs.View.{awake_as}
 use Rattle.world_leases.specs.Worlds.{IsInOrder, Leads}
-use Rattle.world_leases.proofs.Tables.{same, node_in-last, node_in-before, node_in-ticked}
+use Rattle.world_leases.proofs.Tables.{same, node_in-before, node_in-ticked}
 use Rattle.world_files.specs.Seen.{file_seen}
 use Rattle.world_files.specs.Events.{RunsAs}
 use Rattle.world_files.proofs.Events.{started_at}
@@ -77,7 +77,7 @@ tenure_stays site s is = became s.lease (lease_expired s.lease site.now) is
     became (writing q) (held k) is = under s.primary.tenure
 
 -- who leads is in a tenure
-pub in_tenure : (w : World) (own : List Msg) (file : FileId) (n : ℕ) → IsInOrder w own → (lead : Leads w file n) → (file_seen file lead.state).primary.tenure ≡ Some lead.tenure
+in_tenure : (w : World) (own : List Msg) (file : FileId) (n : ℕ) → IsInOrder w own → (lead : Leads w file n) → (file_seen file lead.state).primary.tenure ≡ Some lead.tenure
 in_tenure w own file n order lead =
     sym (tenure_stays (site_of (outside_of lead.node.kept) (awake_as lead.state.started) lead.running.clock) (file_seen file lead.state) (leader_held w own file n order lead)) ∙ lead.leads
 

@@ -6,6 +6,7 @@ pub mod Tellings
 pub mod Asks
 pub mod Leaders
 pub mod Winners
+pub mod Rooms
 pub mod Steps
 pub mod Senders
 pub mod Leading

@@ -1,5 +1,5 @@
 -- what an event at an OSD is for one file: the file's step, or nothing
-use Rattle.std.proofs.Common.{◌≡◌, ℕ, inl, inr, List, [], ◌∷◌, ◌++◌, map, refl, arith, ap, sym, ◌∙◌, subst, Option, Some, None, Bool, true, false}
+use Rattle.std.proofs.Common.{◌≡◌, ℕ, inl, inr, List, [], ◌∷◌, map, refl, ap, sym, ◌∙◌, subst, Option, Some, None, Bool, true, false}
 use Rattle.std.specs.Prelude.{◌⊎◌, ◌==◌, cond, max}
 use Rattle.xt_base.specs.declared.ids.FileId.{FileId}
 use Rattle.xt_base.specs.declared.event.Event as NodeEvent
@@ -7,8 +7,6 @@ use Rattle.xt_base.specs.declared.event.Event.TheVariants as event
 use Rattle.xt_base.specs.declared.event.Call.{Call}
 use Rattle.xt_base.specs.declared.event.Mark.{Mark}
 use Rattle.xt_base.specs.declared.message.Msg.{Msg}
-use Rattle.xt_base.specs.declared.message.Payload.{Payload}
-use Rattle.xt_base.specs.declared.record.Record.{Record}
 use Rattle.xt_base.specs.declared.record.FileRow.{FileRow}
 use Rattle.xt_protocol.specs.FileIds.{is_file}
 use Rattle.xt_protocol.proofs.Folds.{file-equal, file-itself}
@@ -30,7 +28,7 @@ use Rattle.cluster_runs.specs.Lines.{declared_file}
 use Rattle.cluster_runs.specs.NodeSteps.{entry_of, outside_of}
 use Rattle.cluster_runs.specs.declared.DeclaredFile.{DeclaredFile}
 use Rattle.world_leases.specs.View.{awake_as}
-use Rattle.world_leases.specs.Worlds.{FileFits, OsdFits, Rises, files_of}
+use Rattle.world_leases.specs.Worlds.{FileFits, Rises, files_of}
 use Rattle.world_leases.proofs.Files.{at_fits, held_busy, unbusy}
 use Rattle.world_leases.proofs.Lists.{has_in, has_left, has_right}
 use Rattle.world_leases.proofs.Woken.{AtMap, found_at, found_nowhere, at_map, one_state}
@@ -44,7 +42,7 @@ use Rattle.world_files.proofs.Shown.{SaysNothing, none_says, others_say}
 -- ---- steps that come to nothing
 
 -- an OSD is silent, or awake
-pub awake_or_not : (node : Node) (r : Running) (s : OsdState) → (awake_at s.started (max r.clock s.last) ≡ None) ⊎ IsAwake r s
+awake_or_not : (node : Node) (r : Running) (s : OsdState) → (awake_at s.started (max r.clock s.last) ≡ None) ⊎ IsAwake r s
 awake_or_not node r s = at (is_silent s.started (max r.clock s.last))
   where
     at : (b : Bool) → (cond b None (Some (awake_as s.started)) ≡ None) ⊎ (cond b None (Some (awake_as s.started)) ≡ Some (awake_as s.started))
@@ -171,8 +169,12 @@ woken_out site files m (inr h) =
           inr (one.0, one.1, has_left m (expired site one.0).turned.outs (wake_of_file site (expired site one.0).state).turned.outs one.2))
       | inr late ↦ (let one = each_out (wake_of_file site) settled.files m late in
           let from = each_state (expired site) files one.0 one.1 in
-          inr (from.0, from.1, has_right m (expired site from.0).turned.outs (wake_of_file site (expired site from.0).state).turned.outs
-          (subst (λ (g : FileState). Has m (wake_of_file site g).turned.outs) from.2 one.2)))
+          inr (
+            from.0,
+            from.1,
+            has_right m (expired site from.0).turned.outs (wake_of_file site (expired site from.0).state).turned.outs
+                (subst (λ (g : FileState). Has m (wake_of_file site g).turned.outs) from.2 one.2),
+          ))
     ]
 
 -- a message of a Wake about a file is of the Wake of the file, which was met

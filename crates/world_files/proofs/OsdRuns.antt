@@ -1,5 +1,5 @@
 -- an event at an OSD, as events of a file's world
-use Rattle.std.proofs.Common.{◌≡◌, ◌≤◌, ℕ, inl, inr, List, [], ◌∷◌, ◌++◌, map, refl, arith, ap, sym, ◌∙◌, subst, Option, Some, None}
+use Rattle.std.proofs.Common.{◌≡◌, ℕ, inl, inr, List, [], ◌∷◌, ◌++◌, map, refl, arith, ap, sym, ◌∙◌, subst, Some, None}
 use Rattle.std.specs.Prelude.{◌⊎◌, max}
 use Rattle.xt_base.specs.declared.ids.NodeId.{NodeId}
 use Rattle.xt_base.specs.declared.ids.FileId.{FileId}
@@ -10,7 +10,6 @@ use Rattle.xt_base.specs.declared.event.Event.TheVariants as event
 use Rattle.xt_base.specs.declared.event.Mark.{Mark}
 use Rattle.xt_base.specs.declared.file.Op.{Op}
 use Rattle.xt_base.specs.declared.message.Msg.{Msg}
-use Rattle.xt_base.specs.declared.message.Payload.{Payload}
 use Rattle.xt_base.specs.declared.message.Payload.TheVariants as payload
 use Rattle.xt_base.specs.declared.record.Record.{Record}
 use Rattle.xt_protocol.specs.LeaseRows.{Silent}
@@ -20,13 +19,12 @@ use Rattle.osd_rows.specs.FileStates.{FileState, Site, FileStep}
 use Rattle.osd_rows.specs.FileSteps.{step_of_file}
 use Rattle.osd_rows.specs.OsdSteps.{OsdState, OsdStep, file_concerned}
 use Rattle.osd_lease_views.specs.OsdView.{wake_step}
-use Rattle.osd_lease_views.proofs.OsdLeases.{at_file, handled, woken_step, woke_all}
+use Rattle.osd_lease_views.proofs.OsdLeases.{at_file, handled, woken_step}
 use Rattle.osd_lease_views.proofs.ActSteps.{wake_step_marks, woken_quiet}
 use Rattle.osd_replica_views.specs.FileView.{AskComes}
 use Rattle.replica_runs.specs.HeadWorld.{shown}
 use Rattle.file_runs.specs.FileRuns.{FileWorld, Sent, Tale, Happening, message, wake, step_on, sent_by}
-use Rattle.cluster_runs.specs.Clauses.{AreApart}
-use Rattle.cluster_runs.specs.World.{World, Node, Running, osd, node_in}
+use Rattle.cluster_runs.specs.World.{World, Node, Running, osd}
 use Rattle.cluster_runs.specs.Lines.{declared_file}
 use Rattle.cluster_runs.specs.NodeSteps.{entry_of, outside_of, one_more, to_itself}
 use Rattle.world_leases.specs.View.{awake_as, messages}
@@ -44,7 +42,7 @@ use Rattle.world_files.specs.Steps.{IsRun}
 use Rattle.world_files.specs.Tellings.{TellsAs}
 use Rattle.world_files.specs.Asks.{AreOperations, DeclaredList, IsOutside}
 use Rattle.world_files.specs.Runs.{WasSent, IsShownBy, LeadsTo}
-use Rattle.world_files.specs.Senders.{IsFrom, AreFrom}
+use Rattle.world_files.specs.Senders.{AreFrom}
 use Rattle.world_files.proofs.Asks.{messages_come, outside_is_idle, outside_none, outside_sends}
 use Rattle.world_files.proofs.Endings.{stopped, stopped_kept}
 use Rattle.world_files.proofs.Events.{rested, is_whole, same_rec}

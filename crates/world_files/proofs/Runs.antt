@@ -1,16 +1,15 @@
 -- every run: each of its files is a run of its own, and has one order of writes
-use Rattle.std.proofs.Common.{◌≡◌, ◌≤◌, ◌<◌, ◌*◌, ℕ, inl, inr, List, [], ◌∷◌, ◌++◌, length, map, refl, arith, ap, sym, ◌∙◌, subst, Option, Some, None, Bool, true, false, IsTrue}
+use Rattle.std.proofs.Common.{◌≡◌, ◌≤◌, ◌<◌, ◌*◌, ℕ, inl, inr, List, [], ◌∷◌, ◌++◌, length, map, refl, arith, ap, sym, ◌∙◌, subst, Option, Some, None, Bool, true, false}
 use Rattle.std.specs.Prelude.{◌==◌, ◌&&◌, ◌||◌, not, nat_le, filter, count_by}
 use Rattle.std.proofs.lemmas.Bool.Decides.{nat_tests}
 use Rattle.std.proofs.lemmas.List.{append-nil}
 use Rattle.std.proofs.lemmas.List.Sums.{length-filter}
 use Rattle.xt_base.specs.Limits.{FitsLocation}
-use Rattle.xt_base.specs.MemberList.{has_node, are_distinct, are_members}
+use Rattle.xt_base.specs.MemberList.{has_node, are_distinct}
 use Rattle.xt_base.specs.declared.ids.NodeId.{NodeId}
 use Rattle.xt_base.specs.declared.ids.FileId.{FileId}
 use Rattle.xt_base.specs.declared.file.Location.{Location}
 use Rattle.xt_base.specs.declared.file.Op.{Op}
-use Rattle.xt_base.specs.declared.message.Msg.{Msg}
 use Rattle.replica_safety.specs.Lists.{Has, AreDistinct}
 use Rattle.replica_safety.specs.Rules.{first_start}
 use Rattle.replica_runs.specs.Made.{IsMade}
@@ -22,7 +21,7 @@ use Rattle.cluster_runs.specs.declared.Entry.{Entry}
 use Rattle.cluster_runs.specs.declared.Line.{Line}
 use Rattle.cluster_runs.specs.Bounds.{AreLines}
 use Rattle.cluster_runs.specs.Rules.{refusal}
-use Rattle.cluster_runs.specs.TimeLine.{location_in, is_replicated, is_replicated_at, stripe_at}
+use Rattle.cluster_runs.specs.TimeLine.{location_in, is_replicated_at, stripe_at}
 use Rattle.cluster_runs.specs.World.{World, file_in}
 use Rattle.cluster_runs.specs.Lines.{declared_file, Next, finished, opens, goes_on, ends, begins, steps, so_far}
 use Rattle.cluster_runs.specs.NodeSteps.{Room}

@@ -54,10 +54,10 @@ use Rattle.osd_rows.specs.ReplicaRows.{kept_after, gathered, fetched_from, stage
 use Rattle.osd_rows.specs.Writes.{Standing, repeated, older, turned_away, fresh, standing}
 use Rattle.osd_rows.specs.Serving.{reads, issues, issues_unless, write_stands, writes_in, writes_under, writes, next_update_of, current_others, gather_unknown, unacked, sent_again, wakes_in, wakes_under, wakes}
 use Rattle.osd_rows.specs.Asks.{Served, is_read, read_answer, write_done, serves, serves_waiting, serves_all, stays, waits, no_asks, asks_follow, asked_already, tells_each, tells_untold}
-use Rattle.osd_rows.specs.FileStates.{FileState, Site, FileStep, nothing, steps_to, and_then, members_of, ground_of}
+use Rattle.osd_rows.specs.FileStates.{FileState, Site, FileStep, steps_to, and_then, members_of, ground_of}
 use Rattle.osd_rows.specs.Overdue.{is_due, newly_due, deadlines_under, lease_became, expired}
-use Rattle.osd_rows.specs.FileLeases.{read_comes, write_comes, answer_comes, answer_to_read, answers_to_write, end_after_answer, waiting_told, led_on, lease_news}
-use Rattle.osd_rows.specs.AskRows.{ask_waits, ask_served, elsewhere, ask_without_lease, ask_under, ask_rows, ask_let_in, refusal_of, ask_handled, waiting_ask, view_record}
+use Rattle.osd_rows.specs.FileLeases.{read_comes, write_comes, answer_comes, answer_to_read, answers_to_write, end_after_answer, led_on, lease_news}
+use Rattle.osd_rows.specs.AskRows.{elsewhere, ask_without_lease, ask_under, ask_rows, ask_let_in, refusal_of, ask_handled, waiting_ask, view_record}
 use Rattle.osd_rows.specs.FileSteps.{ask_comes, primary_hears, message_comes, renews, step_of_file, wakes_under_lease, wake_of_file}
 use Rattle.osd_rows.specs.OsdSteps.{file_concerned}
 use Rattle.osd_invariants.proofs.Kept.{wake_keeps}

@@ -1,5 +1,5 @@
 -- what a file's world shows behind what changes nothing of it, and behind events more
-use Rattle.std.proofs.Common.{◌≡◌, ℕ, inl, inr, List, [], ◌∷◌, ◌++◌, map, refl, ap, sym, ◌∙◌, subst, Some, None, Bool, true, false}
+use Rattle.std.proofs.Common.{◌≡◌, ℕ, inl, inr, List, [], ◌∷◌, ◌++◌, map, refl, ap, sym, ◌∙◌, subst, Some, None, false}
 use Rattle.std.specs.Prelude.{◌⊎◌, ◌==◌}
 use Rattle.std.proofs.lemmas.List.{append-nil, append_assoc}
 use Rattle.xt_base.specs.declared.ids.NodeId.{NodeId}
@@ -19,7 +19,7 @@ use Rattle.cluster_runs.specs.declared.Entry.{Entry}
 use Rattle.cluster_runs.specs.declared.Entry.TheVariants as entry
 use Rattle.cluster_runs.specs.TimeLine.{operation_begun}
 use Rattle.cluster_runs.specs.Clauses.{acts_on}
-use Rattle.cluster_runs.specs.World.{World, Node, node_in}
+use Rattle.cluster_runs.specs.World.{World}
 use Rattle.cluster_runs.specs.Lines.{declared_file}
 use Rattle.cluster_runs.specs.NodeSteps.{entry_of}
 use Rattle.world_leases.specs.View.{messages}
@@ -29,8 +29,8 @@ use Rattle.world_ends.proofs.Entries.{operation-grown}
 use Rattle.world_files.specs.Seen.{Sees}
 use Rattle.world_files.specs.Tellings.{TellsAs}
 use Rattle.world_files.specs.Asks.{AreOperations, DeclaredList}
-use Rattle.world_files.specs.Runs.{WasSent, IsShownBy, LeadsTo, FilesAreRuns}
-use Rattle.world_files.proofs.Steps.{may_append, after_append}
+use Rattle.world_files.specs.Runs.{IsShownBy, LeadsTo, FilesAreRuns}
+use Rattle.world_files.proofs.Rooms.{may_append, after_append}
 use Rattle.world_files.proofs.Tellings.{telling}
 
 -- ---- entries that say nothing of a file
@@ -72,7 +72,7 @@ others_say number node file l marks other (acting is are) = λ stripe ops entrie
 
 module _ (stripe : ℕ) (ops : ℕ × ℕ → Op) (members : List ℕ) (file : FileId) where
   -- events and then others
-  pub onward : (w after : World) (own own_after : List Msg) (v : FileWorld) → LeadsTo stripe ops members file w own v
+  onward : (w after : World) (own own_after : List Msg) (v : FileWorld) → LeadsTo stripe ops members file w own v
       → ((u : FileWorld) → IsShownBy stripe ops file w own u → LeadsTo stripe ops members file after own_after u) → LeadsTo stripe ops members file after own_after v
   onward w after own own_after v first next =
       let later = next (after_all v first.events) first.is in

@@ -16,7 +16,7 @@ use Rattle.world_files.specs.Seen.{nodes_seen}
 use Rattle.world_files.specs.Asks.{IsOutside}
 use Rattle.world_files.proofs.Asks.{outside_is_idle}
 use Rattle.xt_base.specs.declared.message.Msg.{Msg}
-use Rattle.xt_protocol.specs.LeaseRows.{LeaseState, free, asking, writing, held, lease_expired}
+use Rattle.xt_protocol.specs.LeaseRows.{lease_expired}
 use Rattle.lease_safety.specs.State.{Has}
 use Rattle.osd_rows.specs.Overdue.{expired}
 use Rattle.osd_invariants.specs.Sound.{IsHeld, IsSound}
@@ -26,7 +26,7 @@ use Rattle.osd_rows.specs.FileStates.{FileState, Site, FileStep}
 use Rattle.osd_rows.specs.OsdSteps.{OsdState, file_concerned}
 use Rattle.osd_rows.specs.declared.Tenure.{Tenure}
 use Rattle.osd_replica_views.specs.FileView.{IsFree}
-use Rattle.file_runs.specs.FileRuns.{FileWorld, Event, Happening, Sent, Tale, message, wake, goes_on, acts, step_on, sent_by, Comes, May, MayAll, after, after_all}
+use Rattle.file_runs.specs.FileRuns.{FileWorld, Event, Happening, Sent, Tale, message, wake, goes_on, acts, step_on, sent_by, Comes, May, after, after_all}
 use Rattle.cluster_runs.specs.Clauses.{AreApart}
 use Rattle.cluster_runs.specs.World.{World, Node, Running, osd}
 use Rattle.cluster_runs.specs.NodeSteps.{one_more}
@@ -36,28 +36,14 @@ use Rattle.world_leases.proofs.Files.{at_fits}
 use Rattle.world_leases.proofs.Tables.{node_in-new}
 use Rattle.world_files.specs.Seen.{file_seen, Sees}
 use Rattle.world_files.specs.Events.{RunsAs, IsAwake, site_at, step_at, stepped}
-use Rattle.world_files.specs.May.{LeadersHold, IsFreed}
+use Rattle.world_files.specs.May.{LeadersHold}
 use Rattle.world_files.specs.Steps.{IsRun}
 use Rattle.world_files.proofs.Events.{messages_show, message_leaves, wake_leaves, wake_taken}
 use Rattle.world_files.proofs.Nodes.{same_number, other_number}
-use Rattle.world_files.proofs.May.{later, holders_make_room}
+use Rattle.world_files.proofs.May.{later}
+use Rattle.world_files.proofs.Rooms.{may_append, after_append, makes_room}
 use Rattle.world_files.proofs.Leaders.{steps_may, leaders_go_on, led_before, led_after}
 use Rattle.world_files.proofs.Winners.{led_held, wins_in_time, winners_are_alone}
-
-pub may_append : (stripe : ℕ) (ops : ℕ × ℕ → Op) (members : List ℕ) (v : FileWorld) (xs ys : List Event) → MayAll stripe ops members v xs → MayAll stripe ops members (after_all v xs) ys
-    → MayAll stripe ops members v (xs ++ ys)
-may_append stripe ops members v [] ys first later = later
-may_append stripe ops members v (x ∷ xs) ys first later = (first.0, may_append stripe ops members (after v x) xs ys first.1 later)
-
-pub after_append : (v : FileWorld) (xs ys : List Event) → after_all v (xs ++ ys) ≡ after_all (after_all v xs) ys
-after_append v [] ys = refl
-after_append v (x ∷ xs) ys = after_append (after v x) xs ys
-
-pub held_or_not : (l : LeaseState) → IsHeld l ⊎ (IsHeld l → ⊥)
-held_or_not (free p) = inr (λ h. h)
-held_or_not (asking r) = inr (λ h. h)
-held_or_not (writing r) = inr (λ h. h)
-held_or_not (held h) = inl tt
 
 module _ (stripe : ℕ) (ops : ℕ × ℕ → Op) (members : List ℕ) (file : FileId) (w : World) (own own_after outs : List Msg) (node : Node) (r : Running) (s : OsdState) (comes_in : NodeEvent.Event) (happens : Happening)
     (order : IsInOrder w own) (order_after : IsInOrder (stepped w node r s comes_in outs) own_after)
@@ -97,7 +83,7 @@ module _ (stripe : ℕ) (ops : ℕ × ℕ → Op) (members : List ℕ) (file : F
   now_is = later r.clock s.last fits.0.last
 
   -- nobody else led, where the lease is held behind the step
-  pub alone_before : IsHeld step.state.lease → (m : ℕ) → Leads w file m → m ≡ n
+  alone_before : IsHeld step.state.lease → (m : ℕ) → Leads w file m → m ≡ n
   alone_before is m lead = at (wins_in_time site (file_seen file s) happens is)
     where
       by_number : (b : Bool) → (m == n) ≡ b → ((m ≢ n) → m ≡ n) → m ≡ n
@@ -134,26 +120,19 @@ module _ (stripe : ℕ) (ops : ℕ × ℕ → Op) (members : List ℕ) (file : F
   acts_now = acts n (file_seen file s) site happens goes_on
 
   ran : (v : FileWorld) → Comes stripe ops members v happens → Sees file w v → LeadersHold file w v → IsRun stripe ops members file behind n v step
-  ran v comes sees leaders = at (held_or_not step.state.lease)
-    where
-      with_room : IsFreed stripe ops members file w n v → IsRun stripe ops members file behind n v step
-      with_room room =
-          let v1 = after_all v room.lost in
-          let comes_then = subst (λ (k : List Sent). Comes stripe ops members (record v { sent = k }) happens) (sym room.same_sent) comes in
-          let p = acting v1 comes_then room.sees room.leaders (λ is. room.free) in
-          let same = after_append v room.lost (acts_now ∷ []) in
-          record {
-            events = room.lost ++ acts_now ∷ [];
-            may = may_append stripe ops members v room.lost (acts_now ∷ []) room.may (p.0, tt);
-            sees = subst (Sees file behind) (sym same) p.1;
-            leaders = subst (LeadersHold file behind) (sym same) p.2;
-            sent = ap (λ (k : FileWorld). k.sent) same ∙ ap (λ (k : List Sent). sent_by n step.turned.outs ++ k) room.same_sent;
-            tales = ap (λ (k : FileWorld). k.tales) same ∙ ap (λ (k : List Tale). record { node = n; marks = step.turned.marks } ∷ k) room.same_tales;
-          }
-
-      at : IsHeld step.state.lease ⊎ (IsHeld step.state.lease → ⊥) → IsRun stripe ops members file behind n v step
-      at (inl is) = with_room (holders_make_room stripe ops members file w n v sees leaders (alone_before is))
-      at (inr lacks) = (let p = acting v comes sees leaders (λ is. absurd (lacks is)) in record { events = acts_now ∷ []; may = (p.0, tt); sees = p.1; leaders = p.2; sent = refl; tales = refl })
+  ran v comes sees leaders =
+      let room = makes_room stripe ops members file w n step.state.lease v sees leaders alone_before in
+      let comes_then = subst (λ (k : List Sent). Comes stripe ops members (record v { sent = k }) happens) (sym room.same_sent) comes in
+      let p = acting (after_all v room.lost) comes_then room.sees room.leaders room.free in
+      let same = after_append v room.lost (acts_now ∷ []) in
+      record {
+        events = room.lost ++ acts_now ∷ [];
+        may = may_append stripe ops members v room.lost (acts_now ∷ []) room.may (p.0, tt);
+        sees = subst (Sees file behind) (sym same) p.1;
+        leaders = subst (LeadersHold file behind) (sym same) p.2;
+        sent = ap (λ (k : FileWorld). k.sent) same ∙ ap (λ (k : List Sent). sent_by n step.turned.outs ++ k) room.same_sent;
+        tales = ap (λ (k : FileWorld). k.tales) same ∙ ap (λ (k : List Tale). record { node = n; marks = step.turned.marks } ∷ k) room.same_tales;
+      }
 
 pub messages_run : (stripe : ℕ) (ops : ℕ × ℕ → Op) (members : List ℕ) (file : FileId) (w : World) (own own_after outs : List Msg) (node : Node) (r : Running) (s : OsdState) (msg : Msg) (v : FileWorld)
     → IsInOrder w own → IsInOrder (stepped w node r s (event.Deliver msg) outs) own_after

@@ -1,11 +1,9 @@
 -- what every run keeps: a world in order, of which each file is a run of its own
-use Rattle.std.proofs.Common.{◌≡◌, ◌≤◌, ℕ, inl, inr, List, [], ◌∷◌, ◌++◌, map, refl, arith, ap, sym, ◌∙◌, subst, Option, Some, None, Bool, true, false}
+use Rattle.std.proofs.Common.{◌≡◌, ◌≤◌, ℕ, inl, inr, List, [], ◌∷◌, ◌++◌, map, refl, arith, ap, sym, ◌∙◌, subst, Some, None, true}
 use Rattle.std.specs.Prelude.{◌⊎◌}
 use Rattle.std.proofs.lemmas.List.{append-nil}
-use Rattle.std.proofs.Math.Path.{fun_ext}
 use Rattle.xt_base.specs.declared.ids.NodeId.{NodeId}
 use Rattle.xt_base.specs.declared.ids.FileId.{FileId}
-use Rattle.xt_base.specs.declared.event.Event as NodeEvent
 use Rattle.xt_base.specs.declared.file.Op.{Op}
 use Rattle.xt_base.specs.declared.message.Msg.{Msg}
 use Rattle.xt_base.specs.declared.message.Payload.{Payload}
@@ -18,7 +16,7 @@ use Rattle.xt_protocol.specs.declared.Turned.{Turned}
 use Rattle.time_line.specs.declared.entry.Halt.{Halt}
 use Rattle.time_line.specs.declared.entry.Halt.TheVariants as halt
 use Rattle.lease_safety.specs.State.{Has}
-use Rattle.osd_rows.specs.OsdSteps.{OsdState, file_concerned, step_of_osd}
+use Rattle.osd_rows.specs.OsdSteps.{step_of_osd}
 use Rattle.osd_lease_views.specs.LeaseView.{is_ask}
 use Rattle.replica_runs.specs.HeadWorld.{shown}
 use Rattle.file_runs.specs.FileRuns.{FileNode, FileWorld, first_world, starts}
@@ -26,7 +24,6 @@ use Rattle.cluster_runs.specs.declared.ClientState.{ClientState}
 use Rattle.cluster_runs.specs.declared.DeclaredFile.{DeclaredFile}
 use Rattle.cluster_runs.specs.declared.Entry.{Entry}
 use Rattle.cluster_runs.specs.declared.Entry.TheVariants as entry
-use Rattle.cluster_runs.specs.declared.Line.{Line}
 use Rattle.cluster_runs.specs.declared.Role.TheVariants as role
 use Rattle.cluster_runs.specs.Clients.{new_client, knows, aimed, step_of_client}
 use Rattle.cluster_runs.specs.Steps.{Step}
@@ -42,20 +39,20 @@ use Rattle.world_leases.proofs.Lists.{has_in, has_left, has_right}
 use Rattle.world_leases.proofs.NodeEvents.{ClientFits, client_step_fits, call_fits, step_next}
 use Rattle.world_leases.proofs.Order.{in_order}
 use Rattle.world_leases.proofs.Tables.{nobody, node_in-new, node_in-last, file_in-stays}
-use Rattle.world_leases.proofs.Walk.{IsKept, NodeStep, of_osd, of_client, of_call, call_step, Reaches, same_messages}
+use Rattle.world_leases.proofs.Walk.{IsKept, NodeStep, of_osd, of_client, of_call, call_step, same_messages}
 use Rattle.world_ends.proofs.Runs.{ends_kept}
 use Rattle.world_ends.proofs.Steps.{Fits, came}
 use Rattle.world_files.specs.Seen.{up_state, core_state, kept_seen, nodes_seen, Sees, IsNotOf}
-use Rattle.world_files.specs.Events.{RunsAs, step_at, stepped}
+use Rattle.world_files.specs.Events.{step_at, stepped}
 use Rattle.world_files.specs.Asks.{AreOperations, DeclaredList}
 use Rattle.world_files.specs.Runs.{IsShownBy, LeadsTo, FilesAreRuns, ArePlaced}
 use Rattle.world_files.proofs.Events.{starts_show}
 use Rattle.world_files.proofs.Endings.{stopped}
 use Rattle.world_files.proofs.Leading.{led_same, led_else, led_back, led_added, led_ticked, down_leads_not, client_leads_not, started_leads_not}
 use Rattle.world_files.proofs.Nodes.{here, other, plans_rest, ticks_rest, declared_rest}
-use Rattle.world_files.proofs.OsdRuns.{At, steps_on, kept_on}
-use Rattle.world_files.proofs.Places.{NoPlaces, no_places, one_place, mark_places, placed_more, start_placed, placed_file}
-use Rattle.world_files.proofs.Shown.{SaysNothing, none_says, one_says, inert_says, rests, ListsWere, carried, all_rest}
+use Rattle.world_files.proofs.OsdRuns.{steps_on, kept_on}
+use Rattle.world_files.proofs.Places.{no_places, one_place, mark_places, placed_more, start_placed, placed_file}
+use Rattle.world_files.proofs.Shown.{SaysNothing, none_says, one_says, inert_says, ListsWere, carried, all_rest}
 use Rattle.world_files.proofs.Tellings.{telling}
 
 pub record Stage (w : World) (own : List Msg) : Type 0 where

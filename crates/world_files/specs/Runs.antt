@@ -52,8 +52,8 @@ IsRunOfFile stripe ops members file w own = LeadsTo stripe ops members file w ow
 -- So it is of each file, whatever list and operations agree with what is declared and with the calls that have begun.
 abbrev pub FilesAreRuns : World → List Msg → Type 0
 FilesAreRuns w own =
-    (number stripe : ℕ) (ops : ℕ × ℕ → Op) (members : List ℕ) → DeclaredList w.files number stripe members → AreOperations ops number w.entries
-    → IsRunOfFile stripe ops members (declared_file number) w own
+    (number stripe : ℕ) (ops : ℕ × ℕ → Op) (members : List ℕ) → DeclaredList w.files number stripe members
+    → AreOperations ops number w.entries → IsRunOfFile stripe ops members (declared_file number) w own
 
 -- and at each step of a line
 abbrev pub NextAreRuns : Next → Type 0
@@ -80,4 +80,5 @@ pub record HasOneOrder (stripe : ℕ) (ops : ℕ × ℕ → Op) (file : ℕ) (en
 
 -- So it is of each replicated file, by the operations of the calls that have begun in the trace.
 abbrev pub FilesAreSafe : List Entry → Type 0
-FilesAreSafe entries = (file : ℕ) → is_replicated file entries ≡ true → HasOneOrder (stripe_of file entries) (operations_of file entries) file entries
+FilesAreSafe entries =
+    (file : ℕ) → is_replicated file entries ≡ true → HasOneOrder (stripe_of file entries) (operations_of file entries) file entries

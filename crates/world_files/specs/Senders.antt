@@ -19,5 +19,6 @@ AreFrom node file (m ∷ ms) = IsFrom node file m × AreFrom node file ms
 
 -- The messages of a step of a file have the OSD as their sender, and concern that file.
 pub record SendsAsItself : Type 0 where
-  pub message : (site : Site) (s : FileState) (from : NodeId) (content : Payload) → AreFrom site.node s.kept.file (step_of_file site s from content).turned.outs
+  pub message : (site : Site) (s : FileState) (from : NodeId) (content : Payload)
+      → AreFrom site.node s.kept.file (step_of_file site s from content).turned.outs
   pub wake : (site : Site) (s : FileState) → AreFrom site.node s.kept.file (wake_step site s).turned.outs
