@@ -6,7 +6,8 @@
 # after it. The runs in files take turns, since a disk's speed changes, and the best of six counts. Then it makes a
 # journal of 256 MiB, and prints the megabytes (millions of bytes) a second at which it is loaded, by the clock and by
 # the processor time of the process, the greatest resident memory, and that memory by the length of the journal. The
-# best of five loads counts, since other work on the machine takes time from each.
+# best of five loads counts, since other work on the machine takes time from each. Last come the seconds in which a store is
+# loaded from the records of 4,096 and of 16,384 updates of one file of 4,096 objects, and how much more the latter took.
 set -eu
 here=$(cd "$(dirname "$0")" && pwd)
 program=${1:-$(bash "$here/../tests/build.sh" xt_bench)}
@@ -109,4 +110,15 @@ print(
     f"{length / processor / 1e6:.0f} MB/s by processor time, "
     f"{peak / 2**20:.0f} MiB of memory, {peak / length:.2f} times the journal"
 )
+
+
+def start(updates):
+    """The seconds in which a store is loaded from the records of so many updates, which are made in memory."""
+    begun = time.perf_counter()
+    subprocess.run([program, "start", str(updates)], check=True, stdout=subprocess.DEVNULL)
+    return time.perf_counter() - begun
+
+
+few, many = (min(start(updates) for _ in range(5)) for updates in (4_096, 16_384))
+print(f"start from 4,096 updates: {few * 1e3:.1f} ms, from 16,384: {many * 1e3:.1f} ms, {many / few:.2f} times as long")
 PYTHON

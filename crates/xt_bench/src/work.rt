@@ -2,6 +2,7 @@ use crate::done::Done;
 use crate::frames::{decode_times, encode_times};
 use crate::journals::{append_file_times, append_times, load_file};
 use crate::parts::{cut_times, join_times};
+use crate::starts::start_from;
 use anyhow::Result;
 use std::alloc::Global;
 use std::rt::Files;
@@ -68,6 +69,9 @@ pub enum Work<'a> {
     LoadFile {
         path: &'a str,
     },
+    Start {
+        updates: u32,
+    },
 }
 
 /// The two numbers that these words are.
@@ -94,6 +98,9 @@ impl<'a> Work<'a> {
             [task, path] if task.as_str() == "load" => Some(Work::LoadFile {
                 path: path.as_str(),
             }),
+            [task, updates] if task.as_str() == "start" => Some(Work::Start {
+                updates: updates.as_str().parse::<u32>().ok()?,
+            }),
             _ => None,
         }
     }
@@ -110,6 +117,7 @@ impl<'a> Work<'a> {
                 bytes: append_file_times(rt, alloc, size, times, path)?,
             }),
             Work::LoadFile { path } => load_file(rt, alloc, path),
+            Work::Start { updates } => start_from(alloc, updates),
         }
     }
 }

@@ -1,0 +1,82 @@
+ghost use Rattle.std.specs.Prelude.{◌<◌, ◌^◌, IfOk};
+ghost use Rattle.xt_base.specs.Limits.{FitsRecord};
+
+use crate::done::Done;
+use anyhow::{Result, bail};
+use disk_model::MemoryDisk;
+use object_store::Store;
+use replica_records::record_bytes;
+use std::alloc::Global;
+use uuid::Uuid;
+use xt_base::{
+    CallList, Epoch, FileId, NO_OBJECT, NodeId, Octets, OpId, OutOfMemory, Record, SizeMark, Stamp,
+    Update,
+};
+use xt_journal::Journal;
+
+/// How many objects the file has.
+const OBJECTS: u32 = 4_096;
+
+/// The update of this count, from 1 on: a byte for the next object.
+fn update(alloc: Global, count: u32) -> Result<Record, OutOfMemory>
+    ensures { IfOk result FitsRecord }
+{
+    let file = FileId {
+        volume: Uuid::nil(),
+        number: 1,
+    };
+    let epoch = Epoch {
+        number: 0,
+        node: NodeId(0),
+    };
+    let number = u64::from(count);
+    let body = Octets::of(alloc, b"a")?;
+    let update = Update {
+        stamp: Stamp {
+            epoch,
+            count: number,
+        },
+        id: OpId {
+            client: NodeId(10),
+            number,
+        },
+        mark: SizeMark { epoch: 0, size: 1 },
+        drop_from: NO_OBJECT,
+        object: u64::from(count % OBJECTS),
+        body,
+    };
+    Ok(Record::Update { file, update })
+}
+
+/// The journal of the records of so many updates of one file.
+fn journal_of(alloc: Global, updates: u32) -> Result<Journal<MemoryDisk>> {
+    let disk = MemoryDisk::new(alloc, Octets::new(alloc), CallList::new(alloc), None);
+    let Ok((mut journal, _)) = Journal::load(alloc, disk, u64::MAX) else {
+        bail!("the journal isn't loaded");
+    };
+    for count in 0..updates {
+        let bytes = record_bytes(alloc, &update(alloc, count.saturating_add(1))?)?;
+        journal = match journal.append(alloc, bytes.as_slice()) {
+            Ok(longer) => longer,
+            Err(_) => bail!("the record isn't appended"),
+        };
+    }
+    Ok(journal)
+}
+
+/// Loads the records of so many updates of one file from a disk in memory, and gives how many there are, and the bytes of
+/// their journal.
+pub fn start_from(alloc: Global, updates: u32) -> Result<Done> {
+    let made = journal_of(alloc, updates)?;
+    let bytes = made.end();
+    let Ok((journal, payloads)) = Journal::load(alloc, made.close(), u64::MAX) else {
+        bail!("the journal isn't loaded again");
+    };
+    let Ok(store) = Store::load(alloc, journal, payloads.as_slice()) else {
+        bail!("the records aren't loaded");
+    };
+    Ok(Done {
+        pieces: store.records().len() as u64,
+        bytes,
+    })
+}
