@@ -4,7 +4,7 @@ use Rattle.lease_safety.specs.Rounds.{IsBelow, Round}
 use Rattle.lease_safety.specs.State.{Promise, State, Has, put}
 use Rattle.lease_safety.specs.Moves.{Move, Boot_starts, Clocks_advance, Round_begins, Round_promised, Promise_counted, Round_accepted, Round_held, state_after}
 use Rattle.lease_safety.specs.Legal.{Rules, every_rule, IsHarmless}
-use Rattle.lease_safety.specs.Examples.{trio, continued, round, told, voted, ready, one_holds, TwoHold}
+use Rattle.lease_safety.specs.Examples.{trio, continued, round, told, voted, ready, one_holds, ahead, rival_after_silence, TwoHold}
 
 -- Each move keeps this rule.
 abbrev pub KeepsAlong : (State → Move → Type 0) → List Move → Type 0
@@ -94,4 +94,18 @@ highest_report_alone =
     Round_begins high_alone ∷ voted 2 1 high_alone None ++ Clocks_advance (λ n. 150)
     ∷ Round_begins low_later ∷ voted 1 1 low_later None ++ voted 3 1 low_later None ++ Round_held low_later
     ∷ Clocks_advance (λ n. 210) ∷ Round_begins highest ∷ voted 2 1 highest (Some high_alone) ++ voted 3 1 highest (Some low_later) ++ Round_held highest ∷ []
+    )
+
+-- A lease counts from its proposer's clock at the end of its round.
+abbrev pub CountedFromEnd : State → Move → Type 0
+CountedFromEnd state (Round_held round) = round.began ≡ state.nodes.clock round.ballot.node
+CountedFromEnd state _ = Unit {0}
+
+-- Node 3 accepts a round of node 1, starts again, and is silent. Its accept comes late, and the lease counts from there; so it goes on
+-- when the silence is over.
+abbrev pub counted_from_the_end : List Move
+counted_from_the_end =
+    continued ready (
+    Round_begins ahead ∷ voted 1 1 ahead None ++ voted 3 1 ahead None ++ Boot_starts 3 2 110 ∷ Clocks_advance (λ n. 200) ∷ Round_held ahead
+    ∷ Clocks_advance (λ n. 220) ∷ Round_begins rival_after_silence ∷ voted 2 1 rival_after_silence None ++ voted 3 2 rival_after_silence None ++ Round_held rival_after_silence ∷ []
     )

@@ -11,7 +11,7 @@ ghost use Rattle.lease_safety.specs.State.{Setting, State, Has};
 ghost use Rattle.lease_safety.specs.Moves.{Move, Round_held, after, state_after};
 ghost use Rattle.lease_safety.specs.Legal.{IsHistory, every_rule};
 ghost use Rattle.lease_safety.specs.Leases.{Holds, IsOver};
-ghost use Rattle.lease_safety.specs.Weaker.{AreUnsafe, SilentForLease, CountedOfNode, HighestHarmless, silent_for_a_lease, accepted_by_another_boot, highest_report_alone};
+ghost use Rattle.lease_safety.specs.Weaker.{AreUnsafe, SilentForLease, CountedOfNode, HighestHarmless, silent_for_a_lease, accepted_by_another_boot, highest_report_alone, CountedFromEnd, counted_from_the_end};
 ghost use Rattle.lease_safety.specs.Examples.{trio, one_holds, another_holds, TwoHold, boot_twice, clocks_back, clocks_apart, next_boots_round_begun, counted_from_ahead, lower_round_begun, never_begun, promised_while_stopped, promised_in_silence, lower_round_promised, invented_promise_counted, live_report_counted, counted_while_stopped, promise_broken, accepted_uncounted, earlier_boots_lease_held, held_by_a_minority};
 
 /// At any moment of a legal history at most one node holds the lease.
@@ -66,10 +66,11 @@ pub fn every_rule_is_needed()
 {}
 
 /// Rules that come close don't do: a boot that is silent for the lease length alone; an accept by another boot than the one
-/// whose promise was counted; a round that looks at the report of the highest round alone. In a history that keeps one of
-/// these, and all other rules, two nodes hold at once.
+/// whose promise was counted; a round that looks at the report of the highest round alone; a lease that counts from the end of
+/// its round. In a history that keeps one of these, and all other rules, two nodes hold at once.
 pub fn weaker_rules_are_unsafe()
     ensures shorter_silence { AreUnsafe (record every_rule { boots_are_silent = false }) SilentForLease silent_for_a_lease }
     ensures another_boot { AreUnsafe (record every_rule { accepts_are_counted = false }) CountedOfNode accepted_by_another_boot }
     ensures highest_report { AreUnsafe (record every_rule { live_reports_stop = false }) HighestHarmless highest_report_alone }
+    ensures from_the_end { AreUnsafe (record every_rule { leases_count_from_the_beginning = false }) CountedFromEnd counted_from_the_end }
 {}
