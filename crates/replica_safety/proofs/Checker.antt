@@ -1,11 +1,12 @@
 -- A test whether moves are legal, which computes.
-use Rattle.std.proofs.Common.{◌≡◌, ℕ, suc, ◌*◌, ◌<◌, ◌≤◌, ◌⊎◌, Bool, true, false, not, List, [], ◌∷◌, length, refl, sym, ap, ap₂, ◌∙◌, inl, inr, arith, true≢false, nat_lt, nat_le, ◌==◌, Option, Some, None}
+use Rattle.std.proofs.Common.{◌≡◌, ℕ, suc, ◌*◌, ◌<◌, ◌≤◌, ◌⊎◌, Bool, true, false, not, List, [], ◌∷◌, ◌++◌, length, refl, sym, ap, ap₂, ◌∙◌, inl, inr, arith, true≢false, nat_lt, nat_le, ◌==◌, Option, Some, None}
 use Rattle.std.specs.Prelude.{count_by, map}
 use Rattle.std.proofs.lemmas.Bool.Decides.{nat_tests}
 use Rattle.xt_protocol.specs.Stamps.{is_earlier, is_epoch, is_below}
 use Rattle.replica_safety.specs.Epochs.{Epoch, Stamp, Write, name, Head, stamp_of}
 use Rattle.replica_safety.specs.Lists.{Has, Majority}
 use Rattle.replica_safety.specs.Protocol.{Reported, Acknowledged, State, writes_of, Move, Draw, Promise, Report, Choose, Take_head, Take_update, Acknowledge, Activate, Issue, Commit, Lose, after}
+use Rattle.replica_safety.specs.Weaker.{IsReadIssued, IsReadLate, TakesBack, issued_alone, others_write, next_write, written_alone, takes_back}
 use Rattle.replica_safety.specs.Histories.{three, first_write, second_write, one_write, failover, epoch_one, later_start, taken_over, drawn_twice, lower_promise, report_before_promise, lone_report, lesser_head, second_choice, older_head, skipped_update, active_early, active_again, two_open, committed_early, late_commit, write_again, Commits, GoesWrong, Repeats}
 use Rattle.replica_safety.specs.Rules.{every_rule, IsStart, begin, first_start, IsHistory, Rules, Under, HasReported, HasAcknowledged, Legal, AreLegal}
 use Rattle.replica_safety.proofs.Orders.{same_is, not_before_self}
@@ -373,3 +374,29 @@ without_current_acts = (checked (record every_rule { current_acts = false }) lat
 pub without_write_is_new : Repeats (record every_rule { write_is_new = false }) write_again
 unfolding allows_all
 without_write_is_new = (checked (record every_rule { write_is_new = false }) write_again refl, λ h. h.0 (inl refl))
+
+pub read_issued : IsReadIssued epoch_one issued_alone others_write (first_write ∷ []) (second_write ∷ [])
+unfolding allows_all
+read_issued = record {
+  history = checked every_rule (issued_alone ++ others_write) refl;
+  current = refl;
+  active = refl;
+  shown_is = refl;
+  line_is = refl;
+  lost = (first_write, inl refl, λ h. elim h [ inl p ↦ omega (arith, ap (λ (w : ℕ × ℕ). w.1) p) | inr k ↦ k ]);
+}
+
+pub read_late : IsReadLate epoch_one one_write next_write (first_write ∷ []) (first_write ∷ second_write ∷ [])
+unfolding allows_all
+read_late = record {
+  history = checked every_rule (one_write ++ next_write) refl;
+  current = refl;
+  active = refl;
+  shown_is = refl;
+  line_is = refl;
+  older = omega arith;
+}
+
+pub takes_it_back : TakesBack written_alone takes_back
+unfolding allows_all
+takes_it_back = record { history = checked every_rule (written_alone ++ takes_back ∷ []) refl; had = refl; has = refl }

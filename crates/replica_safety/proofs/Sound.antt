@@ -9,7 +9,7 @@ use Rattle.replica_safety.specs.Epochs.{Epoch, Stamp, AtMost, Write, name, Head,
 use Rattle.replica_safety.specs.Lists.{Has, AreDistinct, Majority}
 use Rattle.replica_safety.specs.Protocol.{Reported, Acknowledged, Act, Activated, Issued, Committed, State, writes_of, last_write, Move, Draw, Promise, Report, Choose, Take_head, Take_update, Acknowledge, Activate, Issue, Commit, Lose, after, after_all}
 use Rattle.replica_safety.specs.Rules.{every_rule, Legal, AreLegal, Start, IsStart, begin, HasReported, HasAcknowledged}
-use Rattle.replica_safety.specs.Line.{with_told, line_of, AreOnOneLine, WasIssued}
+use Rattle.replica_safety.specs.Line.{with_told, line_of, AreOnOneLine, WasIssued, IssuesComeFirst}
 use Rattle.replica_safety.proofs.Orders.{not_before_self, up_to_trans, up_to_before, before_up_to, not_after, same_is, same_self, is_one, at_most_self, at_most_trans, below_at_most, at_most_cases, at_most_count}
 use Rattle.replica_safety.proofs.Lists.{IsFront, IsNear, has-left, has-append, distinct_front, distinct_push, near_front, near_line, front_take, front_push, whole_front, shared, weaker}
 
@@ -83,6 +83,7 @@ pub record Sound (members : List ℕ) (start : Start) (s : State) : Type 0 where
   pub latest : Epoch
   pub line : LineOf members start latest s
   pub told : AreOnOneLine start.line s.acts
+  pub issued_first : IssuesComeFirst start s.acts
 
 -- by cases on whether two epochs, or two nodes, are one
 by_epoch : (P : Bool → Type 0) (d e : Epoch) → (d ≡ e → P true) → (is_epoch d e ≡ false → P false) → P (is_epoch d e)
@@ -159,6 +160,7 @@ module _ (members : List ℕ) (start : Start) where
     latest = ok.latest;
     line = draw_line s e new ok;
     told = ok.told;
+    issued_first = ok.issued_first;
   }
 
   -- Promise
@@ -185,6 +187,7 @@ module _ (members : List ℕ) (start : Start) where
     latest = ok.latest;
     line = ok.line;
     told = ok.told;
+    issued_first = ok.issued_first;
   }
 
   -- Report
@@ -211,6 +214,7 @@ module _ (members : List ℕ) (start : Start) where
       kept = weaker (λ q has. (has.0, kept_too q has)) ok.line.kept;
     };
     told = ok.told;
+    issued_first = ok.issued_first;
   }
     where
       new : Reported
@@ -350,6 +354,7 @@ module _ (members : List ℕ) (start : Start) where
     latest = ok.latest;
     line = chosen_line s e found legal.current legal.first (found_holds s e found legal.current legal.first legal.reported legal.greatest ok) ok;
     told = ok.told;
+    issued_first = ok.issued_first;
   }
 
   -- Take_head and Take_update: a greater head of some epoch
@@ -381,6 +386,7 @@ module _ (members : List ℕ) (start : Start) where
       kept = weaker (λ q has. (at_most_trans _ (stamp_of (s.head q)) (stamp_of (at_node r new s.head q)) has.0 (head_grows s r new above q), has.1)) ok.line.kept;
     };
     told = ok.told;
+    issued_first = ok.issued_first;
   }
 
   head_taken : (s : State) (r : ℕ) (t : Stamp) → Legal every_rule members s (Take_head r t) → Sound members start s → Sound members start (after s (Take_head r t))
@@ -430,6 +436,7 @@ module _ (members : List ℕ) (start : Start) where
     latest = ok.latest;
     line = ok.line;
     told = ok.told;
+    issued_first = ok.issued_first;
   }
     where
       reached_too : (x : Acknowledged) → Has x (record { replica = r; stamp = t } ∷ s.acknowledged) → AtMost x.stamp (stamp_of (s.head x.replica))
@@ -499,6 +506,7 @@ module _ (members : List ℕ) (start : Start) where
           legal.acknowledged;
     };
     told = ((ap length line_is, ap last_write line_is), ok.told);
+    issued_first = (λ w h. holds.issued w (subst (Has w) (line_is ∙ sym all) h), ok.issued_first);
   }
     where
       act : Act
@@ -561,6 +569,7 @@ module _ (members : List ℕ) (start : Start) where
       kept = ok.line.kept;
     };
     told = (ap suc (ap length (sym line_is)), ok.told);
+    issued_first = (λ v h. holds.issued v (subst (Has v) line_is h), ok.issued_first);
   }
     where
       act : Act
@@ -623,6 +632,7 @@ module _ (members : List ℕ) (start : Start) where
           legal.acknowledged;
     };
     told = ((count, ap last_write (line_is ∙ sym whole)), ok.told);
+    issued_first = (λ w h. holds.issued w (subst (Has w) line_is h), ok.issued_first);
   }
     where
       before : List Write
@@ -681,6 +691,7 @@ module _ (members : List ℕ) (start : Start) where
       kept = weaker (λ r has. (has.0, λ x _ _ p _. absurd (none p))) ok.line.kept;
     };
     told = ok.told;
+    issued_first = ok.issued_first;
   }
     where
       none : {d : Epoch} → None ≡ Some d → ⊥
@@ -738,6 +749,7 @@ module _ (members : List ℕ) (start : Start) where
       )) is.kept;
     };
     told = tt;
+    issued_first = tt;
   }
     where
       all : List Write
