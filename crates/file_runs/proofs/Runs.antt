@@ -35,7 +35,7 @@ use Rattle.replica_runs.specs.HeadWorld as world
 use Rattle.replica_runs.specs.Made.{IsMade}
 use Rattle.replica_runs.specs.Marks.{Begins}
 use Rattle.replica_runs.specs.Steps.{without}
-use Rattle.replica_runs.proofs.HeadLine.{entries_fit_there, order_of_changes}
+use Rattle.replica_runs.proofs.HeadLine.{entries_fit_there, order_of_changes, issues_first_there}
 use Rattle.replica_runs.proofs.HeadRun.{turns_there, begins_there}
 use Rattle.replica_runs.proofs.HeadStands.{IsReached}
 use Rattle.replica_runs.proofs.Tools.{by_node, at_own}
@@ -547,4 +547,10 @@ module _ (stripe : ℕ) (some : 0 < stripe) (ops : ℕ × ℕ → Op) (members :
       → IsOnOneOrder stripe ops start (after_all w es)
   on_one_order w es b at may =
       let inv = all_inv w es may (begins_inv w b at) in
-      record { entries = inv.world.entries; told = inv.told; fit = entries_fit_there stripe ops start members inv.world inv.reached; changes = order_of_changes stripe ops start members inv.world inv.reached }
+      record {
+        entries = inv.world.entries;
+        told = inv.told;
+        fit = entries_fit_there stripe ops start members inv.world inv.reached;
+        changes = order_of_changes stripe ops start members inv.world inv.reached;
+        issued = issues_first_there stripe ops start members inv.world inv.reached;
+      }

@@ -22,7 +22,7 @@ use Rattle.replica_safety.specs.Epochs.{at_node}
 use Rattle.replica_safety.specs.Lists.{Has, AreDistinct}
 use Rattle.replica_safety.specs.Rules.{Start}
 use Rattle.replica_runs.specs.FileHeads.{bodies_in, head_of}
-use Rattle.replica_runs.specs.HeadOrder.{AreOnOneOrder, AreChanges, order_of, order_at}
+use Rattle.replica_runs.specs.HeadOrder.{AreOnOneOrder, AreChanges, IssuesComeFirst, order_of, order_at, known_at}
 use Rattle.replica_runs.specs.HeadWorld.{shown, Entry, BodiesAre, has_at}
 use Rattle.replica_runs.specs.Made.{IsMade}
 use Rattle.replica_runs.specs.Marks.{Begins}
@@ -180,6 +180,8 @@ pub record IsOnOneOrder (stripe : ℕ) (ops : ℕ × ℕ → Op) (start : Start)
   pub fit : AreOnOneOrder stripe ops (order_at start) entries
   -- what stands in the order are writes and truncations
   pub changes : AreChanges ops (order_of (order_at start) entries)
+  -- and each had been issued before
+  pub issued : IssuesComeFirst (known_at start) (order_at start) entries
 
 abbrev pub AlwaysOnOneOrder : Type 0
 AlwaysOnOneOrder =

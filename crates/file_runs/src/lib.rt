@@ -10,7 +10,7 @@ ghost use Rattle.file_runs.specs.Sample.{SampleRuns};
 
 /// After every run of a file among OSDs, all that its nodes have marked is told by entries that fit one order of writes: who is
 /// active or commits tells the order's length and its last write, what is issued is one past it, a read is answered with its
-/// length and the asked range of its content, and a write with its place.
+/// length and the asked range of its content, and a write with its place. What stands in the order had been issued before.
 pub fn runs_are_on_one_order()
     ensures { AlwaysOnOneOrder }
 {}

@@ -10,14 +10,15 @@ use Rattle.replica_safety.specs.Epochs.{name}
 use Rattle.replica_safety.specs.Lists.{Has, AreDistinct}
 use Rattle.replica_safety.specs.Protocol.{Act, Activated, Issued, Committed, last_write}
 use Rattle.replica_safety.specs.Rules.{Start}
-use Rattle.replica_safety.specs.Line.{with_told, line_of, AreOnOneLine}
+use Rattle.replica_safety.specs.Line.{with_told, line_of, AreOnOneLine, WasIssued}
+use Rattle.replica_safety.specs.Line as lines
 use Rattle.replica_safety.proofs.Lists.{distinct_front}
-use Rattle.replica_safety.proofs.Conclusions.{line_distinct}
+use Rattle.replica_safety.proofs.Conclusions.{line_distinct, line_issued}
 use Rattle.replica_runs.specs.Made.{IsMade, ops_of, IsMadeBy, bodies_of, size_of}
 use Rattle.replica_runs.specs.Marks.{acts_of, line_at, AnswersShow, AreMadeAfter}
 use Rattle.replica_runs.specs.Answers.{ReadsShow}
 use Rattle.replica_runs.specs.World.{Mark, Told, ShowsRead, ShowsWrite}
-use Rattle.replica_runs.specs.HeadOrder.{order_told, order_of, last_of, AreOnOneOrder, order_at, IsChange, AreChanges}
+use Rattle.replica_runs.specs.HeadOrder.{order_told, order_of, last_of, AreOnOneOrder, order_at, known_at, IsIssued, IssuesComeFirst, IsChange, AreChanges}
 use Rattle.replica_runs.specs.HeadWorld.{World}
 use Rattle.replica_runs.proofs.Seen.{line_grows, reads_show}
 use Rattle.replica_runs.proofs.Shows.{line_made}
@@ -61,6 +62,47 @@ order_marks start (ShowsWrite n place id ∷ ms) = order_marks start ms
 fits_one : (ws : List Update) (order : List (ℕ × ℕ)) (count : ℕ) (w : Update) → order ≡ map name ws → (length ws ≡ count) × (last_write ws ≡ w) → (length order ≡ count) × (last_of order ≡ name w)
 fits_one ws order count w same f = (ap length same ∙ length-names ws ∙ f.0, ap last_of same ∙ last_names ws ∙ ap name f.1)
 
+-- ---- what had been issued
+
+has_name : (ws : List Update) (id : ℕ × ℕ) → Has id (map name ws) → (w : Update) × Has w ws × (id ≡ name w)
+has_name [] id h = absurd h
+has_name (w ∷ ws) id (inl p) = (w, inl refl, p)
+has_name (w ∷ ws) id (inr h) = let more = has_name ws id h in (more.0, inr more.1, more.2)
+
+name_has : (ws : List Update) (w : Update) → Has w ws → Has (name w) (map name ws)
+name_has [] w h = absurd h
+name_has (v ∷ ws) w (inl p) = inl (ap name p)
+name_has (v ∷ ws) w (inr h) = inr (name_has ws w h)
+
+issue_told : (ms : List Mark) (place : ℕ) (w : Update) → Has (Issued place w) (acts_of ms) → IsIssued (map entry_of ms) (name w)
+issue_told [] place w h = absurd h
+issue_told (Told n a ∷ ms) place w (inl p) = (n, place, inl (ap (λ (b : Act). entry_of (Told n b)) p))
+issue_told (Told n a ∷ ms) place w (inr h) = let more = issue_told ms place w h in (more.0, more.1, inr more.2)
+issue_told (ShowsRead n ws o body ∷ ms) place w h = let more = issue_told ms place w h in (more.0, more.1, inr more.2)
+issue_told (ShowsWrite n at id ∷ ms) place w h = let more = issue_told ms place w h in (more.0, more.1, inr more.2)
+
+module _ (start : Start) where
+  was_issued : (ms : List Mark) (id : ℕ × ℕ) (w : Update) → id ≡ name w → WasIssued start (acts_of ms) w → Has id (known_at start) ⊎ IsIssued (map entry_of ms) id
+  was_issued ms id w is (inl h) = inl (subst (λ k. Has k (known_at start)) (sym is) (name_has (start.line ++ start.open_writes) w h))
+  was_issued ms id w is (inr h) = inr (subst (IsIssued (map entry_of ms)) (sym is) (issue_told ms h.0 w h.1))
+
+  order_issued : (ms : List Mark) → lines.IssuesComeFirst start (acts_of ms) → (id : ℕ × ℕ) → Has id (order_of (order_at start) (map entry_of ms))
+      → Has id (known_at start) ⊎ IsIssued (map entry_of ms) id
+  order_issued ms first id h =
+      let one = has_name (line_at start ms) id (subst (Has id) (order_marks start ms) h) in
+      was_issued ms id one.0 one.2 (line_issued start (acts_of ms) first one.0 one.1)
+
+  issues_first : (ms : List Mark) → lines.IssuesComeFirst start (acts_of ms) → IssuesComeFirst (known_at start) (order_at start) (map entry_of ms)
+  issues_first [] first = tt
+  issues_first (Told n a ∷ ms) first = (
+    λ id h.
+        let one = has_name (line_at start (Told n a ∷ ms)) id (subst (Has id) (order_marks start (Told n a ∷ ms)) h) in
+        was_issued ms id one.0 one.2 (first.0 one.0 one.1),
+    issues_first ms first.1,
+  )
+  issues_first (ShowsRead n ws o body ∷ ms) first = (order_issued ms first, issues_first ms first)
+  issues_first (ShowsWrite n place id ∷ ms) first = (order_issued ms first, issues_first ms first)
+
 module _ (stripe : ℕ) (ops : ℕ × ℕ → Op) (start : Start) where
   distinct_before : (ms : List Mark) (a : Act) → AreDistinct (map name (line_of start.line (a ∷ acts_of ms))) → AreDistinct (map name (line_of start.line (acts_of ms)))
   distinct_before ms a d = let f = line_grows (line_of start.line (acts_of ms)) a in
@@ -92,7 +134,10 @@ module _ (stripe : ℕ) (ops : ℕ × ℕ → Op) (start : Start) where
     entries_fit ms line answers.1 reads.0 d,
   )
   entries_fit (ShowsWrite n place id ∷ ms) line answers reads d = (
-    subst₂ (λ l i. slice_get l (pred place) ≡ Some i) (sym (order_marks start ms)) answers.0.2 (get_names (line_at start ms) (pred place) answers.0.0 answers.0.1),
+    (
+      answers.0.3,
+      subst₂ (λ l i. slice_get l (pred place) ≡ Some i) (sym (order_marks start ms)) answers.0.2 (get_names (line_at start ms) (pred place) answers.0.0 answers.0.1),
+    ),
     subst AreDistinct (sym (order_marks start ms)) d,
     entries_fit ms line answers.1 reads d,
   )
@@ -102,6 +147,10 @@ module _ (stripe : ℕ) (ops : ℕ × ℕ → Op) (start : Start) where
       (entries_fit r.world.marks (subst (AreOnOneLine start.line) (sym is.shows.acts) is.shows.sound.told) is.shows.answers
       (reads_show stripe ops start r.world.marks is.shows.answers (line_made (IsMade stripe ops) members start r.world is))
       (subst (λ a. AreDistinct (map name (line_of start.line a))) (sym is.shows.acts) (line_distinct members start is.state is.shows.sound)))
+
+  pub issues_first_there : (members : List ℕ) (w : World) → IsReached stripe ops members start w → IssuesComeFirst (known_at start) (order_at start) w.entries
+  issues_first_there members w r = let is = r.good.is in subst (IssuesComeFirst (known_at start) (order_at start)) (sym r.stand.entries)
+      (issues_first start r.world.marks (subst (lines.IssuesComeFirst start) (sym is.shows.acts) is.shows.sound.issued_first))
 
   -- ---- what stands in the order
 

@@ -381,6 +381,7 @@ module _ (stripe : ℕ) (some : 0 < stripe) (ops : ℕ × ℕ → Op) (members :
             (goes v1 (step.AnswersWrite n e all None [] (suc (length g.0)) u) (record {
               serves = ap (λ (z : world.Node). z.primary) (at_own v.nodes n (record { promised = y.promised; head = y.head; primary = world.Active e all None [] }));
               stands = subst (λ l. slice_get l (length g.0) ≡ Some u) (sym (shown.commits_own (IsMade stripe ops) members start v good.is.state n e g.0 u g.1 may good.is.shows)) (get_push g.0 u);
+              placed = omega arith;
             })
             (goes v (step.Commits n e g.0 u g.1) may good)) refl refl refl
             (all, [], refl, record { promised = y.promised; own = y.head.epoch; is_committed = (s.nodes n).head; counted = λ k t. true_false t refl }) s.sent
@@ -426,7 +427,7 @@ module _ (stripe : ℕ) (some : 0 < stripe) (ops : ℕ × ℕ → Op) (members :
         at : (ws : List Update) × (acks : List ℕ) × (y.primary ≡ world.Active e ws issued acks) × ActiveStands c acked ws acks → IsThere (put w n (after n (local w n) (heads.AnswersRepeated e c issued acked client session)))
         at g = tells (WriteOk n session.count (client, session.number)) (world.ShowsWrite n session.count (name last.write))
             (ap (WriteOk n session.count) (λ i. (sym last.is_client i, sym last.is_number i)))
-            (goes v (step.AnswersWrite n e g.0 issued g.1 session.count last.write) (record { serves = g.2; stands = last.stands }) good)
+            (goes v (step.AnswersWrite n e g.0 issued g.1 session.count last.write) (record { serves = g.2; stands = last.stands; placed = last.placed }) good)
           where
             last : IsLast g.0 client session
             last = subst (IsSession g.0 client) (subst (λ (h : FileHead). session_of h.sessions client ≡ Some session) g.3.is_committed found)

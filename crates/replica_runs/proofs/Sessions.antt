@@ -49,6 +49,7 @@ get_front (v ∷ ws) more (suc n) w p = get_front ws more n w p
 pub record IsLast (us : List Update) (c : ℕ) (s : Session) : Type 0 where
   pub write : Update
   pub stands : slice_get us (pred s.count) ≡ Some write
+  pub placed : 1 ≤ s.count
   pub is_client : write.id.client.0 ≡ c
   pub is_number : write.id.number ≡ s.number
   pub last : (w : Update) → Has w us → w.id.client.0 ≡ c → w.id.number ≤ s.number
@@ -67,6 +68,7 @@ after_other us u c None ne n = λ w has same. at w same (has-append w us (u ∷ 
 after_other us u c (Some s) ne n = record {
   write = n.write;
   stands = get_front us (u ∷ []) (pred s.count) n.write n.stands;
+  placed = n.placed;
   is_client = n.is_client;
   is_number = n.is_number;
   last = λ w has same. at w same (has-append w us (u ∷ []) has);
@@ -97,6 +99,7 @@ session_push us u c next n = subst (λ (h : FileHead). IsSession (us ++ u ∷ []
     own = record {
       write = u;
       stands = subst (λ k. slice_get (us ++ u ∷ []) (pred k) ≡ Some u) (sym next.place) (get_push us u);
+      placed = subst (λ k. 1 ≤ k) (sym next.place) (omega arith);
       is_client = refl;
       is_number = refl;
       last = λ w has same. at_most w same (has-append w us (u ∷ []) has);

@@ -718,7 +718,7 @@ module _ (makes : List Write → Write → Type 0) (members : List ℕ) (start :
     primaries = ok.primaries;
     messages = ok.messages;
     acts = ok.acts;
-    answers = ((v, subst (λ l. slice_get l (pred place) ≡ Some v) (shows_all w s n e ws issued acked may.serves ok) may.stands, refl), ok.answers);
+    answers = ((v, subst (λ l. slice_get l (pred place) ≡ Some v) (shows_all w s n e ws issued acked may.serves ok) may.stands, refl, may.placed), ok.answers);
     made = ok.made;
     fits = ok.fits;
     bodies = ok.bodies;

@@ -1,5 +1,5 @@
 -- What the entries of a file tell: its line of writes, by their ids, and what fits it.
-use Rattle.std.specs.Prelude.{◌≡◌, ℕ, suc, pred, ◌+◌, ◌-◌, ◌*◌, ◌≤◌, ◌==◌, if◌then◌else◌, min, List, [], ◌∷◌, ◌++◌, length, map, drop, slice_get, Some}
+use Rattle.std.specs.Prelude.{◌≡◌, ◌⊎◌, ℕ, suc, pred, ◌+◌, ◌-◌, ◌*◌, ◌≤◌, ◌==◌, if◌then◌else◌, min, List, [], ◌∷◌, ◌++◌, length, map, drop, slice_get, Some}
 use Rattle.xt_base.specs.declared.file.Op.{Op}
 use Rattle.xt_base.specs.declared.file.Op.TheVariants as op
 use Rattle.xt_base.specs.Overlay.{cut_or_filled}
@@ -39,7 +39,7 @@ ShowsContent stripe ops order size o body =
     → cut_or_filled (drop at body) (min len (size - (o * stripe + at))) ≡ range_of (content_of stripe (map ops order)) (place_of stripe o at) len
 
 -- The newest entry fits the order. Who is active or commits tells its length and its last write; what is issued is one past
--- it; a read is answered with its length and the asked range of its content, a write with its place.
+-- it; a read is answered with its length and the asked range of its content, a write with its place, counted from 1.
 abbrev pub Fits : ℕ → (ℕ × ℕ → Op) → List (ℕ × ℕ) → List Entry → Type 0
 Fits stripe ops order [] = Unit {0}
 Fits stripe ops order (TellsActive n count id ∷ es) = IsEnd (order_of order (TellsActive n count id ∷ es)) count id
@@ -47,7 +47,7 @@ Fits stripe ops order (TellsIssue n count id ∷ es) = count ≡ suc (length (or
 Fits stripe ops order (TellsCommit n count id ∷ es) = IsEnd (order_of order (TellsCommit n count id ∷ es)) count id
 Fits stripe ops order (ReadOk n count size o body ∷ es) =
     (count ≡ length (order_of order es)) × ShowsContent stripe ops (order_of order es) size o body
-Fits stripe ops order (WriteOk n count id ∷ es) = slice_get (order_of order es) (pred count) ≡ Some id
+Fits stripe ops order (WriteOk n count id ∷ es) = (1 ≤ count) × (slice_get (order_of order es) (pred count) ≡ Some id)
 
 -- Each entry fits the order as it was, which has no write twice.
 abbrev pub AreOnOneOrder : ℕ → (ℕ × ℕ → Op) → List (ℕ × ℕ) → List Entry → Type 0
@@ -58,6 +58,20 @@ AreOnOneOrder stripe ops order (e ∷ es) =
 -- the order at a start: that of the writes which it takes over as committed
 abbrev pub order_at : Start → List (ℕ × ℕ)
 order_at start = map name start.line
+
+-- what had been issued before a start
+abbrev pub known_at : Start → List (ℕ × ℕ)
+known_at start = map name (start.line ++ start.open_writes)
+
+-- one of these entries tells that this write is issued
+abbrev pub IsIssued : List Entry → ℕ × ℕ → Type 0
+IsIssued es id = (n : ℕ) × (count : ℕ) × Has (TellsIssue n count id) es
+
+-- Each write that stands in the order behind an entry had been issued before that entry, or is one of the known ones.
+abbrev pub IssuesComeFirst : List (ℕ × ℕ) → List (ℕ × ℕ) → List Entry → Type 0
+IssuesComeFirst known order [] = Unit {0}
+IssuesComeFirst known order (e ∷ es) =
+    ((id : ℕ × ℕ) → Has id (order_of order (e ∷ es)) → Has id known ⊎ IsIssued es id) × IssuesComeFirst known order es
 
 abbrev pub IsChange : Op → Type 0
 IsChange (op.Read object at len) = ⊥

@@ -8,3 +8,4 @@ pub mod HeadWorld
 pub mod HeadSteps
 pub mod HeadOrder
 pub mod HeadSample
+pub mod Weaker

@@ -22,12 +22,13 @@ acts_of (ShowsWrite n place w ∷ ms) = acts_of ms
 abbrev pub line_at : Start → List Mark → List Write
 line_at start ms = line_of start.line (acts_of ms)
 
--- Each answer shows the line as it was when it was given.
+-- Each answer shows the line as it was when it was given. The place of a write is counted from 1.
 abbrev pub AnswersShow : Start → List Mark → Type 0
 AnswersShow start [] = Unit {0}
 AnswersShow start (Told n a ∷ ms) = AnswersShow start ms
 AnswersShow start (ShowsRead n ws o body ∷ ms) = ((ws ≡ line_at start ms) × (body ≡ bodies_of ws o)) × AnswersShow start ms
-AnswersShow start (ShowsWrite n place id ∷ ms) = ((w : Write) × (slice_get (line_at start ms) (pred place) ≡ Some w) × (name w ≡ id)) × AnswersShow start ms
+AnswersShow start (ShowsWrite n place id ∷ ms) =
+    ((w : Write) × (slice_get (line_at start ms) (pred place) ≡ Some w) × (name w ≡ id) × (1 ≤ place)) × AnswersShow start ms
 
 abbrev pub AreMadeAfter : (List Write → Write → Type 0) → List Write → List Write → Type 0
 AreMadeAfter makes done [] = Unit {0}

@@ -205,6 +205,8 @@ May makes members w (AnswersRead n e ws issued acked o body) = record {
 May makes members w (AnswersWrite n e ws issued acked place v) = record {
   serves : (w.nodes n).primary ≡ Active e ws issued acked;
   stands : slice_get ws (pred place) ≡ Some v;
+  -- places are counted from 1
+  placed : 1 ≤ place;
 }
 
 abbrev pub after_all : World → List Step → World

@@ -11,10 +11,11 @@ ghost use Rattle.replica_safety.specs.Epochs.{name};
 ghost use Rattle.replica_safety.specs.Line.{AreOnOneLine};
 ghost use Rattle.replica_safety.specs.Lists.{AreDistinct};
 ghost use Rattle.replica_runs.specs.Answers.{ReadsShow, AreFresh, HasEpochs, AlwaysOfWorlds};
-ghost use Rattle.replica_runs.specs.HeadOrder.{AreOnOneOrder, AreChanges, order_of, order_at};
+ghost use Rattle.replica_runs.specs.HeadOrder.{AreOnOneOrder, AreChanges, IssuesComeFirst, order_of, order_at, known_at};
 ghost use Rattle.replica_runs.specs.HeadSample.{SampleRuns};
 ghost use Rattle.replica_runs.specs.HeadSteps.{AlwaysOfHeads};
 ghost use Rattle.replica_runs.specs.Made.{IsMade};
+ghost use Rattle.replica_runs.specs.Weaker.{KeepsLost};
 ghost use Rattle.replica_runs.specs.Marks.{Always, AnswersShow, AreMade, acts_of, line_at};
 
 /// After every run of a world of writes:
@@ -34,13 +35,21 @@ pub fn runs_are_on_one_line()
 {}
 
 /// After every run of a world of heads, in the words of the entries: each entry fits the order of writes as it was then, the
-/// order has no write twice, and each read shows the content of all its writes. What stands in it are writes and truncations.
+/// order has no write twice, and each read shows the content of all its writes. What stands in it are writes and truncations, each
+/// issued before it was put there, or there or open at the start.
 pub fn rows_are_on_one_order()
     ensures one_order { AlwaysOfHeads (λ stripe ops start entries. AreOnOneOrder stripe ops (order_at start) entries) }
+    ensures issued { AlwaysOfHeads (λ stripe ops start entries. IssuesComeFirst (known_at start) (order_at start) entries) }
     ensures changes { AlwaysOfHeads (λ stripe ops start entries. AreChanges ops (order_of (order_at start) entries)) }
 {}
 
 /// Such runs come to something: a byte is written, committed by two of three, and read.
 pub fn a_run_reads_a_byte()
     ensures { SampleRuns }
+{}
+
+/// A replica that takes a head takes every version that it names, not the greater ones alone: else the body of a write stays that is
+/// lost by the head (`a_write_is_taken_back` of `replica_safety`).
+pub fn greater_versions_do_not_do()
+    ensures { KeepsLost 0 }
 {}
