@@ -4,4 +4,5 @@ pub mod Shown
 pub mod Named
 pub mod Runs
 pub mod Standing
+pub mod Issued
 pub mod Once

@@ -38,3 +38,8 @@ distinct_get (y ∷ xs) zero (suc j) x apart a b =
 distinct_get (y ∷ xs) (suc i) zero x apart a b =
     (let same : y ≡ x = cc in absurd (apart.0 (subst (λ z. Has z xs) (sym same) (got_has xs i x a))))
 distinct_get (y ∷ xs) (suc i) (suc j) x apart a b = ap suc (distinct_get xs i j x apart.1 a b)
+
+pub has_mapped : {A B : Type 0} (f : A → B) (xs : List A) (x : A) → Has x xs → Has (f x) (map f xs)
+has_mapped f [] x has = absurd has
+has_mapped f (y ∷ xs) x (inl same) = inl (ap f same)
+has_mapped f (y ∷ xs) x (inr has) = inr (has_mapped f xs x has)

@@ -17,7 +17,7 @@ use Rattle.osd_replica_views.specs.Seen.{IsAnswer, name_of}
 use Rattle.file_traces.specs.Traces.{Tells, TellsOne, AnswerTells, TracesAreOnOneOrder}
 use Rattle.file_traces.proofs.Lists.{length_mapped, mapped_append, get_mapped, get_last, distinct_get}
 
-name_is : (a b : OpId) → name_of a ≡ name_of b → a ≡ b
+pub name_is : (a b : OpId) → name_of a ≡ name_of b → a ≡ b
 name_is a b is = ap (λ (p : ℕ × ℕ). let o : OpId = record { client = record { 0 = p.0 }; number = p.1 } in o) is
 
 pub named : (id : OpId) (os : List OpId) (c : ℕ) (n : ℕ × ℕ) → slice_get (map name_of os) c ≡ Some n → n ≡ name_of id → slice_get os c ≡ Some id
@@ -195,6 +195,10 @@ module _ (stripe : ℕ) (ops : ℕ × ℕ → Op) (file : ℕ) where
 
       less : (i j : ℕ) → 1 ≤ i → 1 ≤ j → i - 1 ≡ j - 1 → i ≡ j
       less i j ai aj is = omega (arith, ai, aj, is)
+
+pub same_order : (stripe : ℕ) (ops : ℕ × ℕ → Op) (file : ℕ) (entries : List Entry) (es : List heads.Entry) → Tells stripe ops file entries [] es → map name_of (write_order file entries) ≡ order_of [] es
+unfolding write_order
+same_order stripe ops file entries es told = all stripe ops file entries [] [] es told refl
 
 pub hold : TracesAreOnOneOrder
 hold stripe ops file entries es told holds = (on_one_order stripe ops file entries es told holds, distinct stripe ops file entries es told holds)

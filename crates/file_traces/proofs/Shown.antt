@@ -1,5 +1,5 @@
 -- Each answer of a trace shows the order of writes that the trace gives before it.
-use Rattle.std.proofs.Common.{◌≡◌, ℕ, zero, suc, pred, ◌+◌, ◌-◌, ◌==◌, Bool, true, false, List, [], ◌∷◌, ◌++◌, length, map, Option, Some, None, refl, sym, ap, ◌∙◌, subst, inl, inr, arith, if◌then◌else◌}
+use Rattle.std.proofs.Common.{◌≡◌, ℕ, zero, suc, pred, ◌+◌, ◌-◌, ◌≤◌, ◌==◌, Bool, true, false, List, [], ◌∷◌, ◌++◌, length, map, Option, Some, None, refl, sym, ap, ◌∙◌, subst, inl, inr, arith, if◌then◌else◌}
 use Rattle.std.specs.Prelude.{slice_get}
 use Rattle.std.specs.List.{fold}
 use Rattle.std.proofs.lemmas.Bool.Decides.{nat_tests}
@@ -39,10 +39,10 @@ grows file x [] order has = has
 grows file x (e ∷ r) order has = grows file x r (order_by order (claim_on file e)) (grows_one x order (claim_on file e) has)
 
 -- a change is answered with its place
-placed : (stripe : ℕ) (ops : ℕ × ℕ → Op) (order : List OpId) (id : OpId) (count : ℕ) (bytes : List ℕ) (o : Op) → IsChange o → slice_get order (count - 1) ≡ Some id → bytes ≡ [] → Shows stripe ops order id count bytes o
-placed stripe ops order id count bytes (op.Read object at len) change place none = absurd change
-placed stripe ops order id count bytes (op.Write object at body) change place none = (place, none)
-placed stripe ops order id count bytes (op.Truncate size) change place none = (place, none)
+placed : (stripe : ℕ) (ops : ℕ × ℕ → Op) (order : List OpId) (id : OpId) (count : ℕ) (bytes : List ℕ) (o : Op) → IsChange o → 1 ≤ count → slice_get order (count - 1) ≡ Some id → bytes ≡ [] → Shows stripe ops order id count bytes o
+placed stripe ops order id count bytes (op.Read object at len) change some place none = absurd change
+placed stripe ops order id count bytes (op.Write object at body) change some place none = (some, place, none)
+placed stripe ops order id count bytes (op.Truncate size) change some place none = (some, place, none)
 
 less : (c : ℕ) → c - 1 ≡ pred c
 less zero = omega (arith)
@@ -58,9 +58,10 @@ module _ (stripe : ℕ) (ops : ℕ × ℕ → Op) (file : ℕ) where
         sym c_is ∙ long ∙ ap length (sym same) ∙ length_mapped name_of order,
         shows ∙ content at len inside ∙ ap (λ (os : List (ℕ × ℕ)). range_of (content_of stripe (map ops os)) (place_of stripe object at) len) (sym same),
       )
-  answer order first n id count bytes (WriteOk node c i) (node_is, c_is, i_is, none) place same change =
+  answer order first n id count bytes (WriteOk node c i) (node_is, c_is, i_is, none) (some, place) same change =
       placed stripe ops order id count bytes (ops (name_of id))
       (change (subst (λ (k : ℕ × ℕ). Has k (map name_of order)) i_is (got_has (map name_of order) (pred c) i here)))
+      (subst (λ k. 1 ≤ k) c_is some)
       (ap (slice_get order) (less count ∙ ap pred (sym c_is)) ∙ named id order (pred c) i here i_is)
       none
     where

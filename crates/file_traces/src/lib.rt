@@ -2,7 +2,7 @@
 #![tactic(auto)]
 
 ghost use Rattle.file_traces.specs.Runs.{RunsAreSafe};
-ghost use Rattle.file_traces.specs.Traces.{TracesAreOnOneOrder, TracesShow, TracesAreOnce, FitsShow};
+ghost use Rattle.file_traces.specs.Traces.{TracesAreOnOneOrder, TracesShow, TracesIssueFirst, TracesAreOnce, FitsShow};
 
 /// Where what a trace tells of a file fits one order of writes, each claim of the trace is borne out by the order that the trace
 /// itself gives, and no write stands there twice.
@@ -20,6 +20,12 @@ pub fn traces_show()
 /// write stands twice and which each answer shows as it was.
 pub fn every_run_of_a_file_is_safe()
     ensures { RunsAreSafe }
+{}
+
+/// Where what a trace tells of a file issues each write first, each write that stands in the order at a moment has been issued by then,
+/// also one that an activation puts there.
+pub fn writes_are_issued_first()
+    ensures { TracesIssueFirst }
 {}
 
 /// Where the calls have begun as the operations of the ids say, answers that show the order as it was show the file as it stands.
