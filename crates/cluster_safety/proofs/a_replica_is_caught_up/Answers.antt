@@ -1,0 +1,17 @@
+-- The run is computed.
+use Rattle.std.proofs.Common.{refl}
+use Rattle.cluster_runs.specs.Examples.{trace_of}
+use Rattle.cluster_runs.specs.TimeLine.{location_in}
+use Rattle.cluster_safety.proofs.Lines.{caught_up_fits}
+use Rattle.cluster_safety.proofs.a_replica_is_caught_up.Goals as goal
+
+pub returns-clause-lines : goal.returns-clause-lines
+returns-clause-lines c = caught_up_fits
+
+pub returns-clause-trace : goal.returns-clause-trace
+unfolding trace_of
+returns-clause-trace c = refl
+
+pub returns-clause-file : goal.returns-clause-file
+unfolding location_in
+returns-clause-file c = refl

@@ -1,0 +1,16 @@
+-- what is said of every trace
+use Rattle.std.specs.Prelude.{◌≡◌, ℕ, None, List, [], ◌∷◌, ◌++◌}
+use Rattle.cluster_runs.specs.declared.Entry.{Entry}
+use Rattle.cluster_runs.specs.declared.Line.{Line}
+use Rattle.cluster_runs.specs.Bounds.{AreLines}
+use Rattle.cluster_runs.specs.NodeSteps.{Room}
+use Rattle.cluster_runs.specs.Rules.{refusal}
+use Rattle.cluster_runs.specs.Runs.{run_of, IsRunInto}
+use Rattle.cluster_runs.specs.Verdicts.{Clause, Holds}
+
+-- The clause holds of each replicated file: in the trace of every run of any lines within their limits, and in the trace behind each
+-- finished step of a line more.
+pub record AlwaysHolds (clause : Clause) : Type 0 where
+  pub whole : (room : Room) (lines : List Line) (file : ℕ) → AreLines lines → Holds clause file (run_of room lines).entries
+  pub part : (room : Room) (lines : List Line) (l : Line) (file : ℕ) (entries : List Entry)
+      → AreLines (lines ++ l ∷ []) → refusal (run_of room lines) l ≡ None → IsRunInto room lines l entries → Holds clause file entries

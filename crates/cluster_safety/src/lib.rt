@@ -1,0 +1,56 @@
+//! The trace of every run of OSDs and clients is safe, for each replicated file: at no moment two nodes hold it; only its holder acts;
+//! there is one order of its writes, in which each stands once and had begun before; answers show the file as it stands; and the ends
+//! of calls, as the callers see them, are fresh.
+//!
+//! The crate has no code to run. It says so of every list of lines within their limits, in every room, and also behind each finished
+//! step of a line more: whatever is lost, repeated or comes late, and wherever a node stops, in its appends and sendings too.
+#![tactic(auto)]
+
+ghost use Rattle.std.specs.Prelude.{◌≡◌, ℕ, true, None, List, [], ◌∷◌, ◌++◌};
+ghost use Rattle.cluster_runs.specs.declared.Entry.{Entry};
+ghost use Rattle.cluster_runs.specs.declared.Line.{Line};
+ghost use Rattle.cluster_runs.specs.Bounds.{AreLines};
+ghost use Rattle.cluster_runs.specs.Clauses.{AreOnce, AnswersShow};
+ghost use Rattle.cluster_runs.specs.Examples.{trace_of, found, found_trace, vanished, vanished_trace};
+ghost use Rattle.cluster_runs.specs.NodeSteps.{Room};
+ghost use Rattle.cluster_runs.specs.Rules.{refusal};
+ghost use Rattle.cluster_runs.specs.Runs.{run_of, IsRunInto, AreRunsSafe};
+ghost use Rattle.cluster_runs.specs.TimeLine.{is_replicated, stripe_of};
+ghost use Rattle.cluster_runs.specs.Verdicts.{IsSafe};
+ghost use Rattle.file_traces.specs.Traces.{HaveBegun};
+ghost use Rattle.world_ends.specs.Acts.{ActsHaveBegun};
+ghost use Rattle.world_files.specs.Asks.{operations_of};
+ghost use Rattle.cluster_safety.specs.Given.{HasOneOrder, FilesAreSafe};
+ghost use Rattle.cluster_safety.specs.Examples.{caught_up, caught_up_trace};
+
+/// Where each replicated file of every run has one order, the trace of every run is safe; and so it is behind each finished step of a line
+/// more.
+pub fn runs_are_safe()
+    ensures whole { ((room : Room) (lines : List Line) → AreLines lines → FilesAreSafe (run_of room lines).entries) → (room : Room) → AreRunsSafe room }
+    ensures part { ((room : Room) (lines : List Line) (l : Line) (entries : List Entry) → AreLines (lines ++ l ∷ []) → refusal (run_of room lines) l ≡ None → IsRunInto room lines l entries → FilesAreSafe entries) → (room : Room) (lines : List Line) (l : Line) (entries : List Entry) → AreLines (lines ++ l ∷ []) → refusal (run_of room lines) l ≡ None → IsRunInto room lines l entries → IsSafe entries }
+{}
+
+/// Of a trace whose acts on a file are of calls that have begun on it: calls have begun as their operations say. Where what it tells of the
+/// file fits one order, and issues each write first, each write stands once in the order and had begun before, and answers show the
+/// file as it stands.
+pub fn what_is_told_has_begun()
+    ensures begun { (file : ℕ) (entries : List Entry) → ActsHaveBegun file entries → HaveBegun (operations_of file entries) file entries }
+    ensures stand_once { (file : ℕ) (entries : List Entry) → ActsHaveBegun file entries → HasOneOrder (stripe_of file entries) (operations_of file entries) file entries → AreOnce file entries }
+    ensures answers_show { (file : ℕ) (entries : List Entry) → ActsHaveBegun file entries → HasOneOrder (stripe_of file entries) (operations_of file entries) file entries → AnswersShow file entries }
+{}
+
+/// None of this is empty. There is a run in which a write reaches one replica but its primary, nobody is told of it, and the next
+/// primary finds it; and one in which it reaches nobody else, and vanishes.
+pub fn writes_are_found_or_vanish()
+    ensures found_lines { AreLines found }
+    ensures found_file { is_replicated 1 found_trace ≡ true }
+    ensures vanished_lines { AreLines vanished }
+    ensures vanished_file { is_replicated 1 vanished_trace ≡ true }
+{}
+
+/// And one in which a replica starts late and is behind, is brought up to the head, and makes the majority when another one stops.
+pub fn a_replica_is_caught_up()
+    ensures lines { AreLines caught_up }
+    ensures trace { trace_of caught_up ≡ caught_up_trace }
+    ensures file { is_replicated 1 caught_up_trace ≡ true }
+{}
