@@ -1,3 +1,4 @@
 pub mod Files
+pub mod Fronts
 pub mod Runs
 pub mod Lines

@@ -10,13 +10,13 @@ ghost use Rattle.std.specs.Prelude.{◌≡◌, ℕ, true, None, List, [], ◌∷
 ghost use Rattle.cluster_runs.specs.declared.Entry.{Entry};
 ghost use Rattle.cluster_runs.specs.declared.Line.{Line};
 ghost use Rattle.cluster_runs.specs.Bounds.{AreLines};
-ghost use Rattle.cluster_runs.specs.Clauses.{AreOnce, AnswersShow};
+ghost use Rattle.cluster_runs.specs.Clauses.{IsMoment, AreOnce, AnswersShow};
 ghost use Rattle.cluster_runs.specs.Examples.{trace_of, found, found_trace, vanished, vanished_trace};
 ghost use Rattle.cluster_runs.specs.NodeSteps.{Room};
 ghost use Rattle.cluster_runs.specs.Rules.{refusal};
 ghost use Rattle.cluster_runs.specs.Runs.{run_of, IsRunInto, AreRunsSafe};
 ghost use Rattle.cluster_runs.specs.TimeLine.{is_replicated, stripe_of};
-ghost use Rattle.cluster_runs.specs.Verdicts.{IsSafe};
+ghost use Rattle.cluster_runs.specs.Verdicts.{IsSafe, Break, IsBroken};
 ghost use Rattle.file_traces.specs.Traces.{HaveBegun};
 ghost use Rattle.world_ends.specs.Acts.{ActsHaveBegun};
 ghost use Rattle.world_files.specs.Asks.{operations_of};
@@ -28,6 +28,12 @@ ghost use Rattle.cluster_safety.specs.Examples.{caught_up, caught_up_trace};
 pub fn runs_are_safe()
     ensures whole { ((room : Room) (lines : List Line) → AreLines lines → FilesAreSafe (run_of room lines).entries) → (room : Room) → AreRunsSafe room }
     ensures part { ((room : Room) (lines : List Line) (l : Line) (entries : List Entry) → AreLines (lines ++ l ∷ []) → refusal (run_of room lines) l ≡ None → IsRunInto room lines l entries → FilesAreSafe entries) → (room : Room) (lines : List Line) (l : Line) (entries : List Entry) → AreLines (lines ++ l ∷ []) → refusal (run_of room lines) l ≡ None → IsRunInto room lines l entries → IsSafe entries }
+{}
+
+/// A front of a safe trace is safe, so a safe trace is broken nowhere.
+pub fn safe_traces_are_not_broken()
+    ensures fronts { (entries moment : List Entry) → IsMoment moment entries → IsSafe entries → IsSafe moment }
+    ensures nowhere { (entries : List Entry) (b : Break) → IsSafe entries → IsBroken b entries → ⊥ }
 {}
 
 /// Of a trace whose acts on a file are of calls that have begun on it: calls have begun as their operations say. Where what it tells of the
