@@ -123,6 +123,7 @@ was_told w stage file is =
           tells = run.is.told fits.entries fits.told;
           fit = fits.fit;
           changes = fits.changes;
+          issued = fits.issued;
           safe = telling_is_safe location.stripe (operations_of file w.entries) file (map (λ (m : NodeId). m.0) location.members) first_start (first_world (declared_file file)) run.events w.entries some distinct begun refl begins_so run.may run.is.told;
         }
       where

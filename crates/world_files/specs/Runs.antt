@@ -7,7 +7,7 @@ use Rattle.xt_base.specs.declared.file.Op.{Op}
 use Rattle.xt_base.specs.declared.message.Msg.{Msg}
 use Rattle.osd_rows.specs.OsdSteps.{file_concerned}
 use Rattle.replica_safety.specs.Lists.{Has}
-use Rattle.replica_runs.specs.HeadOrder.{AreOnOneOrder, AreChanges, order_of}
+use Rattle.replica_runs.specs.HeadOrder.{AreOnOneOrder, AreChanges, IssuesComeFirst, order_of}
 use Rattle.replica_runs.specs.HeadWorld.{shown}
 use Rattle.replica_runs.specs.HeadWorld as heads
 use Rattle.file_runs.specs.FileRuns.{FileWorld, first_world, Event, MayAll, after_all}
@@ -69,13 +69,14 @@ pub record ArePlaced (w : World) : Type 0 where
   pub told : (number : ℕ) → location_in number w.entries ≡ file_in w.files number
   pub fit : (number : ℕ) (location : Location) → file_in w.files number ≡ Some location → FitsLocation location
 
--- What the trace tells of a file fits one order of writes and truncations; so none stands there twice, and each answer shows the order
--- as it was.
+-- What the trace tells of a file fits one order of writes and truncations, each issued first; so none stands there twice, and each answer
+-- shows the order as it was.
 pub record HasOneOrder (stripe : ℕ) (ops : ℕ × ℕ → Op) (file : ℕ) (entries : List Entry) : Type 0 where
   pub told : List heads.Entry
   pub tells : Tells stripe ops file entries [] told
   pub fit : AreOnOneOrder stripe ops [] told
   pub changes : AreChanges ops (order_of [] told)
+  pub issued : IssuesComeFirst [] [] told
   pub safe : IsSafe stripe ops file entries
 
 -- So it is of each replicated file, by the operations of the calls that have begun in the trace.
