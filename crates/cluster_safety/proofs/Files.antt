@@ -14,8 +14,8 @@ use Rattle.file_traces.proofs.Standing.{stand}
 use Rattle.world_ends.specs.Acts.{ActsHaveBegun}
 use Rattle.world_ends.proofs.Entries.{begun_on-grown}
 use Rattle.world_files.specs.Asks.{operations_of}
+use Rattle.world_files.specs.Runs.{HasOneOrder}
 use Rattle.world_files.proofs.Asks.{operations_are}
-use Rattle.cluster_safety.specs.Given.{HasOneOrder}
 
 module _ (file : ℕ) (entries : List Entry) (acts : ActsHaveBegun file entries) where
   -- a call that has begun on the file by a moment does what it does in the whole trace

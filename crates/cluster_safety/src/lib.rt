@@ -16,18 +16,50 @@ ghost use Rattle.cluster_runs.specs.NodeSteps.{Room};
 ghost use Rattle.cluster_runs.specs.Rules.{refusal};
 ghost use Rattle.cluster_runs.specs.Runs.{run_of, IsRunInto, AreRunsSafe};
 ghost use Rattle.cluster_runs.specs.TimeLine.{is_replicated, stripe_of};
-ghost use Rattle.cluster_runs.specs.Verdicts.{IsSafe, Break, IsBroken};
+ghost use Rattle.cluster_runs.specs.Verdicts.{apart, acting, one_order, once, shown, fresh, IsSafe, Break, IsBroken};
 ghost use Rattle.file_traces.specs.Traces.{HaveBegun};
 ghost use Rattle.world_ends.specs.Acts.{ActsHaveBegun};
 ghost use Rattle.world_files.specs.Asks.{operations_of};
-ghost use Rattle.cluster_safety.specs.Given.{HasOneOrder, FilesAreSafe};
+ghost use Rattle.world_files.specs.Runs.{HasOneOrder};
+ghost use Rattle.cluster_safety.specs.Traces.{AlwaysHolds};
 ghost use Rattle.cluster_safety.specs.Examples.{caught_up, caught_up_trace};
 
-/// Where each replicated file of every run has one order, the trace of every run is safe; and so it is behind each finished step of a line
-/// more.
+/// The trace of every run is safe, and so is the trace behind each finished step of a line more.
 pub fn runs_are_safe()
-    ensures whole { ((room : Room) (lines : List Line) → AreLines lines → FilesAreSafe (run_of room lines).entries) → (room : Room) → AreRunsSafe room }
-    ensures part { ((room : Room) (lines : List Line) (l : Line) (entries : List Entry) → AreLines (lines ++ l ∷ []) → refusal (run_of room lines) l ≡ None → IsRunInto room lines l entries → FilesAreSafe entries) → (room : Room) (lines : List Line) (l : Line) (entries : List Entry) → AreLines (lines ++ l ∷ []) → refusal (run_of room lines) l ≡ None → IsRunInto room lines l entries → IsSafe entries }
+    ensures whole { (room : Room) → AreRunsSafe room }
+    ensures part { (room : Room) (lines : List Line) (l : Line) (entries : List Entry) → AreLines (lines ++ l ∷ []) → refusal (run_of room lines) l ≡ None → IsRunInto room lines l entries → IsSafe entries }
+{}
+
+/// At no moment two nodes hold a file.
+pub fn nodes_are_apart()
+    ensures { AlwaysHolds apart }
+{}
+
+/// A node becomes active, issues, commits or answers only while it holds the file.
+pub fn holders_act()
+    ensures { AlwaysHolds acting }
+{}
+
+/// There is one order of a file's writes: whoever becomes active or commits tells its length and its last write.
+pub fn writes_have_one_order()
+    ensures { AlwaysHolds one_order }
+{}
+
+/// Each write stands once in that order, and had begun before it was put there.
+pub fn writes_stand_once()
+    ensures { AlwaysHolds once }
+{}
+
+/// Each answer shows the file as it stands: a read the asked range of the content after all writes so far, and their number; a write
+/// its place among them.
+pub fn answers_show_the_file()
+    ensures { AlwaysHolds shown }
+{}
+
+/// The ends of calls are fresh: each was answered so before; a read counts every write that had ended before it began, and no fewer
+/// writes than a read that had ended by then; a write that begins after another has ended gets the later place.
+pub fn ends_are_fresh()
+    ensures { AlwaysHolds fresh }
 {}
 
 /// A front of a safe trace is safe, so a safe trace is broken nowhere.

@@ -1,0 +1,7 @@
+-- One of the clauses.
+use Rattle.cluster_runs.specs.Verdicts.{shown}
+use Rattle.cluster_safety.proofs.Runs.{always}
+use Rattle.cluster_safety.proofs.answers_show_the_file.Goals as goal
+
+pub returns : goal.returns
+returns c = always shown

@@ -1,0 +1,7 @@
+-- One of the clauses.
+use Rattle.cluster_runs.specs.Verdicts.{fresh}
+use Rattle.cluster_safety.proofs.Runs.{always}
+use Rattle.cluster_safety.proofs.ends_are_fresh.Goals as goal
+
+pub returns : goal.returns
+returns c = always fresh

@@ -1,0 +1,7 @@
+-- One of the clauses.
+use Rattle.cluster_runs.specs.Verdicts.{apart}
+use Rattle.cluster_safety.proofs.Runs.{always}
+use Rattle.cluster_safety.proofs.nodes_are_apart.Goals as goal
+
+pub returns : goal.returns
+returns c = always apart

@@ -1,0 +1,7 @@
+-- One of the clauses.
+use Rattle.cluster_runs.specs.Verdicts.{once}
+use Rattle.cluster_safety.proofs.Runs.{always}
+use Rattle.cluster_safety.proofs.writes_stand_once.Goals as goal
+
+pub returns : goal.returns
+returns c = always once
