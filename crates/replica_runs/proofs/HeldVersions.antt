@@ -1,6 +1,5 @@
 -- The versions that a node holds, as a rising set, and the bodies behind them.
-use Rattle.std.proofs.Common.{◌≡◌, ℕ, ◌<◌, ◌⊎◌, Bool, true, false, List, [], ◌∷◌, refl, sym, ap, ap₂, ◌∙◌, subst, inl, inr, arith, if◌then◌else◌, ◌==◌, ◌&&◌, ◌||◌, not, Some, None}
-use Rattle.std.specs.Prelude.{cond}
+use Rattle.std.proofs.Common.{◌≡◌, ℕ, ◌<◌, ◌⊎◌, Bool, true, false, List, ◌∷◌, refl, sym, ap, ap₂, ◌∙◌, subst, inl, inr, arith, if◌then◌else◌, ◌==◌, ◌&&◌, ◌||◌, not, Some, None}
 use Rattle.std.proofs.lemmas.Bool.{and_from}
 use Rattle.std.proofs.lemmas.Bool.Decides.{nat_tests}
 use Rattle.xt_base.specs.declared.TheConstants.{NO_OBJECT}
@@ -12,7 +11,7 @@ use Rattle.xt_base.specs.declared.record.Record.TheVariants as kept
 use Rattle.xt_protocol.specs.FileIds.{is_file}
 use Rattle.xt_protocol.specs.Folds.{body_put, makes_body, held_after}
 use Rattle.xt_protocol.specs.Folds as folds
-use Rattle.xt_protocol.specs.Stamps.{is_stamp, is_version, comes_before, has_version, with_held}
+use Rattle.xt_protocol.specs.Stamps.{is_stamp, is_version, has_version, with_held}
 use Rattle.xt_protocol.proofs.Folds.{file-itself}
 use Rattle.xt_protocol.proofs.Stamps.{stamp-equal, version-equal, version-itself, has_version-with_held}
 use Rattle.osd_rows.specs.PrimaryRows.{body_beyond, newer_body}

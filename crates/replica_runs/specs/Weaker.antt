@@ -1,5 +1,5 @@
 -- Catching up by greater versions alone, and what it leaves.
-use Rattle.std.specs.Prelude.{◌≡◌, ℕ, if◌then◌else◌, List, [], ◌∷◌, Option, Some, None}
+use Rattle.std.specs.Prelude.{◌≡◌, ℕ, if◌then◌else◌, [], ◌∷◌, Option, Some, None}
 use Rattle.xt_base.specs.declared.ids.Stamp.{Stamp}
 use Rattle.xt_protocol.specs.Heads.{version_of}
 use Rattle.xt_protocol.specs.Stamps.{is_below}

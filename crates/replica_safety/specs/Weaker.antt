@@ -1,5 +1,5 @@
 -- Reads by rules that come close to the one that is asked, and histories in which they go wrong; and a head that takes a write back.
-use Rattle.std.specs.Prelude.{◌≡◌, ℕ, ◌<◌, true, List, [], ◌∷◌, ◌++◌, length, map, take, Some}
+use Rattle.std.specs.Prelude.{◌≡◌, ◌<◌, true, List, [], ◌∷◌, ◌++◌, length, map, take, Some}
 use Rattle.replica_safety.specs.Epochs.{Epoch, Write, name}
 use Rattle.replica_safety.specs.Lists.{Has}
 use Rattle.replica_safety.specs.Line.{the_line}
