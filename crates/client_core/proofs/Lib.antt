@@ -1,0 +1,3 @@
+pub mod Acted
+pub mod Files
+pub mod Left
