@@ -1,0 +1,18 @@
+//! The tables of a world of nodes: the messages that were ever sent, and the declared files.
+//!
+//! Contracts see each of them as the list that the definitions of a run speak of. Beside the messages stand the bytes of
+//! their frames and the place of the first one that is pending, so neither is sought anew; beside the files a map tells
+//! where each is. A call that wants memory and gets none leaves its table as it was.
+#![tactic(auto)]
+
+mod files;
+mod sent;
+
+pub use files::DeclaredFiles;
+pub use sent::SentMessages;
+
+/// How many messages may be numbered.
+pub const MESSAGES: u64 = 1_048_576;
+
+/// How many bytes the frames of the numbered messages may have in all.
+pub const MESSAGE_BYTES: u64 = 1_073_741_824;
