@@ -27,7 +27,7 @@ fn append(alloc: Global, hull: &mut DiskHull, boot: u64, stop: Option<Stop>) -> 
     requires call { IsInAppend stop }
 {
     let rec = Record::Boot { boot: Boot(boot) };
-    hull.append(alloc, NODE, &rec, stop).ok().ok_or(OTHERWISE)?
+    Ok(hull.append(alloc, NODE, &rec, stop).ok().ok_or(OTHERWISE)?)
 }
 
 /// The number of the last start that the node finds.
