@@ -1,3 +1,4 @@
+ghost use Rattle.std.specs.Prelude.{◌<◌, ◌^◌};
 ghost use Rattle.world_hull.specs.Appends.{IsInAppend};
 
 use disk_hull::DiskHull;
