@@ -3,3 +3,4 @@ pub mod Leads
 pub mod Served
 pub mod SoundSteps
 pub mod Promised
+pub mod OpenAsks

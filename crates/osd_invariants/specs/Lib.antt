@@ -1,3 +1,4 @@
 pub mod Sound
 pub mod Keeping
 pub mod Promises
+pub mod OpenAsks

@@ -2,12 +2,14 @@
 //!
 //! A file is sound when its node starts, and expiry, every message and every Wake keep it so: it leads only while it holds
 //! the lease, an issued ask stands exactly where an update is issued, nothing waits while the lease is free, and a primary's
-//! peers are the members of the stored list. What is kept of a file changes by the records of its steps alone.
+//! peers are the members of the stored list. What is kept of a file changes by the records of its steps alone, and its open asks
+//! stay within their limits where those that come are.
 #![tactic(auto)]
 
 ghost use Rattle.osd_invariants.specs.Sound.{StaysSound};
 ghost use Rattle.osd_invariants.specs.Keeping.{KeepsByRecord};
 ghost use Rattle.osd_invariants.specs.Promises.{PromisesAlone};
+ghost use Rattle.osd_invariants.specs.OpenAsks.{AsksStay, IsWithinLimits};
 
 /// A file is sound when its node starts, and every step keeps it so.
 pub fn files_stay_sound()
@@ -22,4 +24,9 @@ pub fn files_follow_records()
 /// A Gather of a later epoch changes the head of a replica and leaves its primary, also an active one.
 pub fn a_promise_moves_the_head()
     ensures { PromisesAlone }
+{}
+
+/// The operations of a file's open asks stay within their limits, where those that come are.
+pub fn operations_stay_within_limits()
+    ensures { AsksStay IsWithinLimits }
 {}
