@@ -4,7 +4,7 @@ ghost use Rattle.osd_rows.specs.Overdue as overdue;
 ghost use Rattle.std.specs.List.{list_any};
 
 use osd_rows::{IssuedAsk, WaitingAsk};
-use std::alloc::Global;
+use std::alloc::{AllocError, Global};
 use std::marker::Model;
 use std::mem;
 use step_outputs::reply_to;
@@ -203,11 +203,21 @@ impl OpenAsks {
     /// The ask of an update that was lost waits again, before all others.
     pub fn come_back(&mut self) -> Result<(), OutOfMemory>
         ensures ok { OnOk result (self.new ≡ rows.comes_back self.old) }
+        ensures err { OnErr result (self.new ≡ self.old) }
     {
-        if let Some(issued) = self.issued.take() {
-            self.waiting.items.insert(0, issued.ask)?;
+        let Some(IssuedAsk { ask, told }) = self.issued.take() else {
+            return Ok(());
+        };
+        match self.waiting.items.insert(0, ask) {
+            Ok(()) => Ok(()),
+            Err(full) => {
+                self.issued = Some(IssuedAsk {
+                    ask: full.value,
+                    told,
+                });
+                Err(AllocError)
+            }
         }
-        Ok(())
     }
 
     /// Tells the asks that wait, in order. None waits any more.
