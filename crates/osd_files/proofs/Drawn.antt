@@ -25,7 +25,7 @@ above place learnt own =
 fits : (place : Place) (learnt : ℕ) (own : FileHead) → place.node.0 < 2 ^ 32 → nat_lt (epoch_above place learnt own).number COUNTS ≡ true → FitsEpoch (epoch_above place learnt own)
 fits place learnt own node is = record { place = ltb-true (1 + max own.promised.number learnt) COUNTS is; primary = node }
 
-drawn : (place : Place) (learnt : ℕ) (own : FileHead) (members : List NodeId) (row : FileRow) → place.node.0 < 2 ^ 32 → own ≡ row.head
+pub drawn : (place : Place) (learnt : ℕ) (own : FileHead) (members : List NodeId) (row : FileRow) → place.node.0 < 2 ^ 32 → own ≡ row.head
     → IfSome (epoch_drawn place learnt own members).turned.rec (IsNotable row)
 unfolding epoch_drawn
 drawn place learnt own members row node is =

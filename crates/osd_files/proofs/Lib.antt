@@ -2,10 +2,14 @@ pub mod Owned
 pub mod Rows
 pub mod News
 pub mod Drawn
-pub mod Woken
+pub mod Wakes
 pub mod Served
 pub mod LetIn
 pub mod Over
 pub mod Plain
 pub mod Counted
 pub mod Acked
+pub mod Noted
+pub mod Waiting
+pub mod Followed
+pub mod Stepped

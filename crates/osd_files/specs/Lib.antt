@@ -6,3 +6,5 @@ pub mod Views
 pub mod Rows
 pub mod Settled
 pub mod Counts
+pub mod Serves
+pub mod Whole

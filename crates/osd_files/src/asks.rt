@@ -30,7 +30,7 @@ use osd_asks::{OpenAsks, is_read, refusal_of};
 use osd_rows::WaitingAsk;
 use std::alloc::Global;
 use step_outputs::{answers, join, keeps, quiet, tells};
-use xt_base::{Capability, FileId, Lease, NodeId, Op, OpId, OutOfMemory, Reply, Times};
+use xt_base::{Capability, Copies, FileId, Lease, NodeId, Op, OpId, OutOfMemory, Reply, Times};
 use xt_protocol::Turned;
 
 /// Read served: the reply, and its mark.
@@ -52,7 +52,7 @@ fn read_answer(
 }
 
 /// A read in a turn of the primary.
-fn read_served<B: Bodies>(
+pub fn read_served<B: Bodies>(
     alloc: Global,
     lead: &Lead,
     turn: &Turn<'_>,
@@ -72,7 +72,7 @@ fn read_served<B: Bodies>(
 }
 
 /// The ask of an update that was just issued, where one is and none was before.
-fn mark_issued(asks: &mut OpenAsks, issued: bool, ask: WaitingAsk)
+pub fn mark_issued(asks: &mut OpenAsks, issued: bool, ask: WaitingAsk)
     ensures { asks.new ≡ asks_once_done asks.old issued ask }
 {
     if !asks.has_issued() && issued {
@@ -258,16 +258,17 @@ fn let_in<B: Bodies>(
     now: u64,
     id: OpId,
     capability: &Capability,
-    op: Op,
+    op: &Op,
 ) -> Result<Turned, StepErr>
     requires clock { now < 2 ^ 62 }
     requires settled { IsSettled file.old.lease now }
     requires stripe { FitsStripe capability.now.location.stripe }
-    requires fits { FitsOp op }
-    ensures row { IfOk result (λ turned. IsRowBy (λ site s. rows.ask_let_in site s id capability.now op None) now (body_by (B.records bodies.old)) (shown file.old) (shown file.new) turned) }
+    requires fits { FitsOp op.now }
+    ensures row { IfOk result (λ turned. IsRowBy (λ site s. rows.ask_let_in site s id capability.now op.now None) now (body_by (B.records bodies.old)) (shown file.old) (shown file.new) turned) }
     ensures reads { ReadsOnly B.records B.fault_count bodies.old bodies.new (fault_of result) }
 {
-    let ask = waiting_ask(file.awake.times(), now, id, capability.epoch, op);
+    let asked = op.copy(file.alloc)?;
+    let ask = waiting_ask(file.awake.times(), now, id, capability.epoch, asked);
     let kept = keeps(file.alloc, file.lead.list_once(&capability.location));
     file.used = now;
     let rest = ask_rows(file, bodies, now, ask)?;
@@ -282,18 +283,18 @@ pub fn ask_handled<B: Bodies>(
     sealed: bool,
     id: OpId,
     capability: &Capability,
-    op: Op,
+    op: &Op,
 ) -> Result<Turned, StepErr>
     requires clock { now < 2 ^ 62 }
     requires settled { IsSettled file.old.lease now }
     requires stripe { FitsStripe capability.now.location.stripe }
-    requires fits { FitsOp op }
-    ensures row { IfOk result (λ turned. (test : Capability → Bool) → test capability.now ≡ sealed → IsStep (λ site s. rows.ask_handled site s id capability.now op) (site_at file.old.awake now test (body_by (B.records bodies.old))) (shown file.old) (shown file.new) turned) }
+    requires fits { FitsOp op.now }
+    ensures row { IfOk result (λ turned. (test : Capability → Bool) → test capability.now ≡ sealed → IsStep (λ site s. rows.ask_handled site s id capability.now op.now) (site_at file.old.awake now test (body_by (B.records bodies.old))) (shown file.old) (shown file.new) turned) }
     ensures reads { ReadsOnly B.records B.fault_count bodies.old bodies.new (fault_of result) }
 {
     let (alloc, node, own) = (file.alloc, file.awake.node(), file.replica.file());
     let stored = file.lead.location();
-    match refusal_of(node, now, sealed, &stored, capability, &op) {
+    match refusal_of(node, now, sealed, &stored, capability, op) {
         Some(reply) => Ok(tells(alloc, node, &own, id, reply)?),
         None => let_in(file, bodies, now, id, capability, op),
     }

@@ -1,4 +1,4 @@
-ghost use Rattle.std.specs.Prelude.{◌≡◌, ◌≤◌, ◌+◌, ◌/◌, IfOk, IfNone, IsTrue, OnErr, List, None, Some, is_none, is_some};
+ghost use Rattle.std.specs.Prelude.{◌≡◌, ◌≤◌, ◌+◌, ◌/◌, IfOk, IfNone, IfSome, IsTrue, OnErr, List, None, Some, is_none, is_some};
 ghost use Rattle.xt_base.specs.Limits.{FitsStripe};
 ghost use Rattle.osd_invariants.specs.Sound.{IsStored};
 ghost use Rattle.osd_rows.specs.Primaries as rows;
@@ -96,16 +96,21 @@ fn no_majority_at(members: usize, phase: Phase) -> Option<Reply>
 }
 
 impl Lead {
-    /// No list is stored yet.
-    pub fn new(alloc: Global, node: NodeId, file: FileId) -> Lead
-        ensures { result ≡ record { node = node; file = file; location = None; primary = rows.new_primary } }
+    /// A new primary at a node, of a file that is where this list says, if one is stored.
+    pub fn new(alloc: Global, node: NodeId, file: FileId, location: Option<Location>) -> Lead
+        requires { IfSome location (λ location. FitsStripe location.stripe) }
+        ensures { result ≡ record { node = node; file = file; location = location; primary = rows.new_primary } }
     {
-        Lead {
+        let mut lead = Lead {
             alloc,
             node,
             file,
             listed: None,
+        };
+        if let Some(location) = location {
+            lead.store(location);
         }
+        lead
     }
 
     /// Where the file is, if a list is stored.
@@ -141,6 +146,16 @@ impl Lead {
     {
         match &self.listed {
             Some(listed) => matches!(listed.primary.phase(), Phase::Active { .. }),
+            None => false,
+        }
+    }
+
+    /// Whether the primary is active, and has issued nothing.
+    pub fn is_ready(&self) -> bool
+        ensures { result ≡ rows.is_ready self.now.primary.tenure }
+    {
+        match &self.listed {
+            Some(listed) => matches!(listed.primary.phase(), Phase::Active { issued: None, .. }),
             None => false,
         }
     }

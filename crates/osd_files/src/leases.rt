@@ -165,7 +165,7 @@ pub fn note(replica: &mut Replica, rec: &Option<Record>) -> Result<(), OutOfMemo
 }
 
 /// The number of a node has 32 bits.
-fn stay_in_range(node: NodeId)
+pub fn stay_in_range(node: NodeId)
     ensures { node.0 < 2 ^ 32 }
 {
     let _number = node.0;

@@ -1,23 +1,22 @@
-//! A file at an OSD that is awake, and what comes of its events: of asks, of the messages of its register, its lease and its
-//! replica, of a wake, and of what is overdue.
+//! A file at an OSD that is awake: the step on a message that concerns it, and what a Wake gives at it.
 //!
-//! Each call equals its row of `osd_rows` on the state that contracts see: it leaves the file in the row's state, and gives what
-//! the row gives. Want of memory, and a body that can't be read, are all that it may answer beside that; then the file isn't to
-//! be used again. Clocks are in milliseconds, below 2^62. A primary acts only in a turn that the file's lease gives.
+//! `OsdFile` does exactly what the rows of `osd_rows` say (`step_of_file`, `expired`, `wake_of_file`) on the state that contracts
+//! see, which is sound at every moment. Want of memory, and a body that can't be read, are all that a call may answer beside
+//! that; then the file isn't to be used again. Clocks are in milliseconds, below 2^62. A primary acts only in a turn of the lease.
 #![tactic(auto)]
 
 mod asks;
+mod file;
 mod hearing;
 mod lead;
+mod leading;
 mod leases;
 mod overdue;
 mod parts;
+mod serving;
+mod starting;
+mod steps;
 mod waking;
 
-pub use asks::ask_handled;
-pub use hearing::{fetch_comes, gather_comes, head_comes, stage_comes, update_comes};
-pub use lead::Lead;
-pub use leases::{answer_comes, read_comes, write_comes};
-pub use overdue::expire;
-pub use parts::Parts;
-pub use waking::wake_of_file;
+pub use file::OsdFile;
+pub use waking::Woken;

@@ -7,12 +7,21 @@ ghost use Rattle.osd_rows.specs.FileSteps as rows;
 ghost use Rattle.osd_rows.specs.Turns.{to_each, sends};
 ghost use Rattle.osd_files.specs.Views.{shown};
 ghost use Rattle.osd_files.specs.Rows.{IsRow};
+ghost use Rattle.osd_files.specs.Whole.{IsWhole, IsWoken};
 
+use crate::overdue::expire;
 use crate::parts::Parts;
 use std::alloc::Global;
 use step_outputs::{join, quiet, sends, to_each};
 use xt_base::{Ballot, FileId, Members, NodeId, OutOfMemory, Payload};
 use xt_protocol::Turned;
+
+/// What a Wake gives at a file: of what was overdue, and of what is sent again or renewed.
+#[derive(Drop)]
+pub struct Woken {
+    pub overdue: Turned,
+    pub again: Turned,
+}
 
 /// A Read of the round's ballot to each of these.
 pub fn reads_of(
@@ -47,7 +56,7 @@ fn renews(file: &mut Parts, now: u64) -> Result<Turned, OutOfMemory>
 }
 
 /// The rows of a Wake for a file, when nothing is overdue.
-pub fn wake_of_file(file: &mut Parts, now: u64) -> Result<Turned, OutOfMemory>
+fn wake_of_file(file: &mut Parts, now: u64) -> Result<Turned, OutOfMemory>
     requires clock { now < 2 ^ 62 }
     requires settled { IsSettled file.old.lease now }
     requires stored { ListUnder file.old.lease file.old.lead.location }
@@ -59,4 +68,15 @@ pub fn wake_of_file(file: &mut Parts, now: u64) -> Result<Turned, OutOfMemory>
     let woke = file.lead.wake(&turn)?;
     let renewed = renews(file, now)?;
     join(woke, renewed)
+}
+
+/// A Wake of a file: what is overdue, and then the rows of a Wake.
+pub fn wake_whole(file: &mut Parts, now: u64) -> Result<Woken, OutOfMemory>
+    requires clock { now < 2 ^ 62 }
+    requires whole { IsWhole (shown file.old) }
+    ensures { IfOk result (λ woken. IsWoken now (shown file.old) (shown file.new) woken) }
+{
+    let overdue = expire(file, now)?;
+    let again = wake_of_file(file, now)?;
+    Ok(Woken { overdue, again })
 }

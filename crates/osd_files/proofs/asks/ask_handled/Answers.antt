@@ -22,8 +22,8 @@ returns-in_ok-tells-in-Some-clause-row g c =
     let capability = c.args.capability.now in
     let site = site_at old.awake c.args.now test (body_by (g.B.Bodies.records c.args.bodies.now)) in
     let reply = c.in-Some.reply in
-    let told : Some reply ≡ refusal_of site f.lead.location capability c.args.op =
-    c.in-Some.ensures site (sym c.node-node.ensures) refl is ∙ ap (λ (l : Option Location). refusal_of site l capability c.args.op) c.location-stored.ensures in
+    let told : Some reply ≡ refusal_of site f.lead.location capability c.args.op.now =
+    c.in-Some.ensures site (sym c.node-node.ensures) refl is ∙ ap (λ (l : Option Location). refusal_of site l capability c.args.op.now) c.location-stored.ensures in
     let sent : c.in_ok-tells-in-Some.field-0 ≡ tells f.awake.node f.replica.file c.args.id reply =
     c.in_ok-tells-in-Some.ensures
     ∙ ap (λ (n : NodeId). tells n c.file-own.result c.args.id reply) c.node-node.ensures
@@ -31,7 +31,7 @@ returns-in_ok-tells-in-Some-clause-row g c =
     record {
       here = refl;
       step =
-          handled site old.state c.args.id capability c.args.op (Some reply) told
+          handled site old.state c.args.id capability c.args.op.now (Some reply) told
           ∙ ap (λ (t : Turned). let made : FileStep = record { state = old.state; turned = t } in made) (sym sent);
     }
 
@@ -42,7 +42,7 @@ returns-in-None-clause-row g c =
     let new = shown c.let_in.new.file in
     let now = c.args.now in
     let id = c.args.id in
-    let asked = c.args.op in
+    let asked = c.args.op.now in
     let capability = c.args.capability.now in
     let body = body_by (g.B.Bodies.records c.args.bodies.now) in
     let P : Turned → Type 0 = λ turned. IsRowBy (λ site s. ask_let_in site s id capability asked None) now body old new turned in

@@ -1,10 +1,11 @@
 use Rattle.std.proofs.Common.{◌≡◌, ◌∙◌, ap, sym, subst, refl, None, Option}
 use Rattle.xt_base.specs.Limits.{FitsOp}
 use Rattle.xt_base.specs.declared.ids.FileId.{FileId}
+use Rattle.xt_base.specs.declared.file.Op.{Op}
 use Rattle.xt_base.specs.declared.record.Record.{Record}
 use Rattle.xt_protocol.specs.SeenBodies.{body_by}
 use Rattle.osd_rows.specs.Turns.{keeps}
-use Rattle.osd_rows.specs.AskRows.{ask_rows, ask_let_in}
+use Rattle.osd_rows.specs.AskRows.{ask_rows, ask_let_in, waiting_ask}
 use Rattle.osd_rows.specs.FileStates.{FileState, Site, FileStep}
 use Rattle.osd_files.specs.Asking.{first_list, list_after}
 use Rattle.osd_files.specs.Leads.{LeadView}
@@ -14,7 +15,7 @@ use Rattle.osd_files.proofs.Rows.{joins_by, behind_it}
 use Rattle.osd_files.proofs.asks.let_in.Goals as goal
 
 pub ask_rows-requires-clause-fits : goal.ask_rows-requires-clause-fits
-ask_rows-requires-clause-fits g c = subst FitsOp (sym c.waiting_ask-ask.ensures.op) c.requires.fits
+ask_rows-requires-clause-fits g c = subst FitsOp (sym (c.waiting_ask-ask.ensures.op ∙ c.in_ok-asked.ensures)) c.requires.fits
 
 pub returns-clause-row : goal.returns-clause-row
 returns-clause-row g c =
@@ -32,10 +33,11 @@ returns-clause-row g c =
     ∙ ap (λ (x : FileId). keeps (first_list x capability.location f.lead.location)) f.file in
     let used : LeadView → FileState = λ lead. record (with_lead old lead).state { used = now } in
     let row : Site → FileState → FileStep = λ site s. ask_rows site s ask in
-    let whole : Site → FileState → FileStep = λ site s. ask_let_in site s c.args.id capability c.args.op None in
+    let whole : Site → FileState → FileStep = λ site s. ask_let_in site s c.args.id capability c.args.op.now None in
     joins_by row whole now body old.awake old.state (used c.list_once.new.self) (shown c.ask_rows.new.file) kept c.in_ok-rest.rest c.in_ok-join.field-0
     (λ sealed.
     let site = site_at old.awake now sealed body in
-    let_row site old.state c.args.id capability c.args.op kept list ask is refl (c.waiting_ask-ask.ensures.row site refl (sym c.times.ensures))
+    let_row site old.state c.args.id capability c.args.op.now kept list ask is refl
+    (c.waiting_ask-ask.ensures.row site refl (sym c.times.ensures) ∙ ap (λ (o : Op). waiting_ask site c.args.id capability.epoch o) c.in_ok-asked.ensures)
     ∙ ap (λ (lead : LeadView). behind_it kept (row site (used lead))) (sym c.list_once.ensures.state))
     c.in_ok-rest.ensures.row c.in_ok-join.ensures

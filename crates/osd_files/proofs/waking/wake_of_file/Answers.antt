@@ -8,7 +8,7 @@ use Rattle.osd_rows.specs.FileSteps.{wake_of_file, renews}
 use Rattle.osd_rows.specs.FileStates.{Site, FileState, FileStep, stripe_of}
 use Rattle.osd_files.specs.Views.{shown, site_at}
 use Rattle.osd_files.proofs.Rows.{joins_on}
-use Rattle.osd_files.proofs.Woken.{held_by, woken, sleeps}
+use Rattle.osd_files.proofs.Wakes.{held_by, woken, sleeps}
 use Rattle.osd_files.proofs.waking.wake_of_file.Goals as goal
 
 pub returns-in_default : goal.returns-in_default

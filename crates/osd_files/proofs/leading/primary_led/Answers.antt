@@ -1,0 +1,44 @@
+use Rattle.std.proofs.Common.{◌∙◌, ◌<◌, ◌^◌, ap, subst, sym, refl, List}
+use Rattle.xt_base.specs.declared.ids.NodeId.{NodeId}
+use Rattle.xt_base.specs.declared.ids.FileId.{FileId}
+use Rattle.xt_base.specs.declared.file.FileHead.{FileHead}
+use Rattle.xt_base.specs.declared.file.ObjectVersion.{ObjectVersion}
+use Rattle.osd_rows.specs.FileStates.{stripe_of}
+use Rattle.osd_rows.specs.Primaries.{Led}
+use Rattle.osd_rows.specs.PrimaryRows.{hears}
+use Rattle.replica_primary.specs.Written.{ground}
+use Rattle.osd_files.specs.Leads.{place_of}
+use Rattle.osd_files.specs.Views.{shown}
+use Rattle.osd_files.proofs.Followed.{led_row}
+use Rattle.osd_files.proofs.Noted.{heard_notable}
+use Rattle.osd_files.proofs.leading.primary_led.Goals as goal
+
+pub note-requires : goal.note-requires
+note-requires g c =
+    let f = c.args.file.now in
+    let lead = f.lead in
+    let P : NodeId → Type 0 = λ n. n.0 < 2 ^ 32 in
+    let low : lead.node.0 < 2 ^ 32 = subst P (c.node.ensures ∙ sym f.node) c.stay_in_range.ensures in
+    let by = ground (place_of lead) (g.B.Bodies.records c.args.bodies.now) c.head.result.now c.held.result.now in
+    heard_notable f.replica by lead.primary c.args.from c.args.content.now c.in_ok-turned.turned low c.head.ensures.value c.in_ok-turned.ensures.led
+
+pub returns-clause-row : goal.returns-clause-row
+returns-clause-row g c =
+    λ sealed.
+    let f = c.args.file.now in
+    let old = shown f in
+    let records = g.B.Bodies.records c.args.bodies.now in
+    let by : NodeId → FileId → FileHead → List ObjectVersion → Led =
+    λ n x own held. hears (ground (record { node = n; file = x; stripe = stripe_of f.lead.location }) records own held) f.lead.primary c.args.from c.args.content.now in
+    let own = c.head.result.now in
+    let held = c.held.result.now in
+    record {
+      here = refl;
+      step =
+          led_row old.state f.replica c.note.new.replica f.lead c.take.new.self (by f.awake.node f.replica.file f.replica.head f.replica.held) (by f.lead.node f.lead.file own held) c.in_ok-turned.turned
+          (ap (λ (n : NodeId). by n f.replica.file f.replica.head f.replica.held) (sym f.node)
+          ∙ ap (λ (x : FileId). by f.lead.node x f.replica.head f.replica.held) (sym f.file)
+          ∙ ap (λ (h : FileHead). by f.lead.node f.lead.file h f.replica.held) (sym c.head.ensures.value)
+          ∙ ap (λ (vs : List ObjectVersion). by f.lead.node f.lead.file own vs) (sym c.held.ensures.value))
+          c.in_ok-turned.ensures.state c.in_ok-turned.ensures.led (c.in_ok-note.ensures.ok f.lead.location);
+    }

@@ -1,0 +1,132 @@
+use Rattle.std.proofs.Common.{◌≡◌, ℕ, subst, Bool}
+use Rattle.xt_base.specs.declared.file.Capability.{Capability}
+use Rattle.xt_base.specs.declared.ids.OpId.{OpId}
+use Rattle.xt_base.specs.declared.message.Payload.{Payload}
+use Rattle.xt_base.specs.declared.message.Payload.TheVariants as payload
+use Rattle.xt_protocol.specs.declared.Turned.{Turned}
+use Rattle.xt_protocol.specs.SeenBodies.{body_by}
+use Rattle.osd_rows.specs.FileSteps.{ask_comes, message_comes, primary_hears}
+use Rattle.osd_files.specs.Asking.{fetch_row}
+use Rattle.osd_files.specs.Rows.{IsRowBy, IsStep}
+use Rattle.osd_files.specs.Views.{shown, site_at}
+use Rattle.osd_files.specs.Whole.{IsRowOn, IsSealedBy}
+use Rattle.osd_files.proofs.Rows.{if_ok}
+use Rattle.osd_files.proofs.Stepped.{answer_row, heard_row, told_row}
+use Rattle.osd_files.proofs.steps.message_comes.Goals as goal
+
+pub returns-in-Ask-clause-row : goal.returns-in-Ask-clause-row
+returns-in-Ask-clause-row g c =
+    let f = c.args.file.now in
+    let old = shown f in
+    let new = shown c.ask_comes.new.file in
+    let content = c.args.content.now in
+    let capability = c.in-Ask.capability in
+    let asked = c.in-Ask.op in
+    let id : OpId = record { client = c.args.from; number = c.in-Ask.number } in
+    let body = body_by (g.B.Bodies.records c.args.bodies.now) in
+    let P : Turned → Type 0 = λ turned. (test : Capability → Bool) → test capability ≡ c.args.sealed → IsStep (λ site s. ask_comes site s capability.location.kind id capability asked) (site_at f.awake c.args.now test body) old new turned in
+    let Q : Turned → Type 0 = λ turned. IsRowOn (λ site s. message_comes site s c.args.from content) content c.args.sealed c.args.now body old new turned in
+    let all : (turned : Turned) → P turned → Q turned = λ turned of test sealed.
+    told_row content (payload.Ask c.in-Ask.number capability asked) (site_at f.awake c.args.now test body) c.args.from old new turned c.in-Ask.is
+    (of test (subst (λ (x : Payload). IsSealedBy test x c.args.sealed) c.in-Ask.is sealed))
+    in
+    if_ok P Q c.ask_comes.result all c.ask_comes.ensures.row
+
+pub returns-in-Fetch-clause-row : goal.returns-in-Fetch-clause-row
+returns-in-Fetch-clause-row g c =
+    let f = c.args.file.now in
+    let old = shown f in
+    let content = c.args.content.now in
+    let body = body_by (g.B.Bodies.records c.args.bodies.now) in
+    let P : Turned → Type 0 = λ turned. (now : ℕ) → IsRowBy (λ site s. fetch_row site s c.args.from c.in-Fetch.epoch c.in-Fetch.object c.in-Fetch.version) now body old old turned in
+    let Q : Turned → Type 0 = λ turned. IsRowOn (λ site s. message_comes site s c.args.from content) content c.args.sealed c.args.now body old old turned in
+    let all : (turned : Turned) → P turned → Q turned = λ turned of test sealed.
+    told_row content (payload.Fetch c.in-Fetch.file c.in-Fetch.epoch c.in-Fetch.object c.in-Fetch.version) (site_at f.awake c.args.now test body) c.args.from old old turned c.in-Fetch.is
+    (of c.args.now test)
+    in
+    if_ok P Q c.fetch_comes.result all c.fetch_comes.ensures.row
+
+pub returns-in_default-clause-row : goal.returns-in_default-clause-row
+returns-in_default-clause-row g c =
+    let f = c.args.file.now in
+    let old = shown f in
+    let new = shown c.primary_hears.new.file in
+    let content = c.args.content.now in
+    let body = body_by (g.B.Bodies.records c.args.bodies.now) in
+    let no = c.in_default in
+    let P : Turned → Type 0 = λ turned. IsRowBy (λ site s. primary_hears site s s.lease c.args.from content) c.args.now body old new turned in
+    let Q : Turned → Type 0 = λ turned. IsRowOn (λ site s. message_comes site s c.args.from content) content c.args.sealed c.args.now body old new turned in
+    let all : (turned : Turned) → P turned → Q turned = λ turned of test sealed.
+    heard_row (site_at f.awake c.args.now test body) c.args.from content old new turned
+    (record {
+      ask = no.not-Ask;
+      read = no.not-Read;
+      write = no.not-Write;
+      promise = no.not-Promise;
+      accepted = no.not-Accepted;
+      outrun = no.not-Outrun;
+      gather = no.not-Gather;
+      fetch = no.not-Fetch;
+      stage = no.not-Stage;
+      head = no.not-Head;
+      update = no.not-Update;
+    })
+    (of test)
+    in
+    if_ok P Q c.primary_hears.result all c.primary_hears.ensures.row
+
+pub returns-in_ok-read_comes-in-Read-clause-row : goal.returns-in_ok-read_comes-in-Read-clause-row
+returns-in_ok-read_comes-in-Read-clause-row g c =
+    λ test sealed.
+    let f = c.args.file.now in
+    let site = site_at f.awake c.args.now test (body_by (g.B.Bodies.records c.args.bodies.now)) in
+    told_row c.args.content.now (payload.Read c.in-Read.file c.in-Read.ballot) site c.args.from (shown f) (shown c.read_comes.new.file) c.in_ok-read_comes-in-Read.field-0 c.in-Read.is
+    (c.in_ok-read_comes-in-Read.ensures c.args.now test (body_by (g.B.Bodies.records c.args.bodies.now)))
+
+pub returns-in_ok-write_comes-in-Write-clause-row : goal.returns-in_ok-write_comes-in-Write-clause-row
+returns-in_ok-write_comes-in-Write-clause-row g c =
+    λ test sealed.
+    let f = c.args.file.now in
+    let site = site_at f.awake c.args.now test (body_by (g.B.Bodies.records c.args.bodies.now)) in
+    told_row c.args.content.now (payload.Write c.in-Write.file c.in-Write.ballot c.in-Write.boot c.in-Write.lease) site c.args.from (shown f) (shown c.write_comes.new.file) c.in_ok-write_comes-in-Write.field-0 c.in-Write.is
+    (c.in_ok-write_comes-in-Write.ensures c.args.now test (body_by (g.B.Bodies.records c.args.bodies.now)))
+
+pub returns-in_ok-gather_comes-in-Gather-clause-row : goal.returns-in_ok-gather_comes-in-Gather-clause-row
+returns-in_ok-gather_comes-in-Gather-clause-row g c =
+    λ test sealed.
+    let f = c.args.file.now in
+    let site = site_at f.awake c.args.now test (body_by (g.B.Bodies.records c.args.bodies.now)) in
+    told_row c.args.content.now (payload.Gather c.in-Gather.file c.in-Gather.epoch) site c.args.from (shown f) (shown c.gather_comes.new.file) c.in_ok-gather_comes-in-Gather.field-0 c.in-Gather.is
+    (c.in_ok-gather_comes-in-Gather.ensures c.args.now test (body_by (g.B.Bodies.records c.args.bodies.now)))
+
+pub returns-in_ok-stage_comes-in-Stage-clause-row : goal.returns-in_ok-stage_comes-in-Stage-clause-row
+returns-in_ok-stage_comes-in-Stage-clause-row g c =
+    λ test sealed.
+    let f = c.args.file.now in
+    let site = site_at f.awake c.args.now test (body_by (g.B.Bodies.records c.args.bodies.now)) in
+    told_row c.args.content.now (payload.Stage c.in-Stage.file c.in-Stage.epoch c.in-Stage.object c.in-Stage.version c.in-Stage.bytes) site c.args.from (shown f) (shown c.stage_comes.new.file) c.in_ok-stage_comes-in-Stage.field-0 c.in-Stage.is
+    (c.in_ok-stage_comes-in-Stage.ensures c.args.now test (body_by (g.B.Bodies.records c.args.bodies.now)))
+
+pub returns-in_ok-head_comes-in-Head-clause-row : goal.returns-in_ok-head_comes-in-Head-clause-row
+returns-in_ok-head_comes-in-Head-clause-row g c =
+    λ test sealed.
+    let f = c.args.file.now in
+    let site = site_at f.awake c.args.now test (body_by (g.B.Bodies.records c.args.bodies.now)) in
+    told_row c.args.content.now (payload.Head c.in-Head.file c.in-Head.epoch c.in-Head.head) site c.args.from (shown f) (shown c.head_comes.new.file) c.in_ok-head_comes-in-Head.field-0 c.in-Head.is
+    (c.in_ok-head_comes-in-Head.ensures c.args.now test (body_by (g.B.Bodies.records c.args.bodies.now)))
+
+pub returns-in_ok-update_comes-in-Update-clause-row : goal.returns-in_ok-update_comes-in-Update-clause-row
+returns-in_ok-update_comes-in-Update-clause-row g c =
+    λ test sealed.
+    let f = c.args.file.now in
+    let site = site_at f.awake c.args.now test (body_by (g.B.Bodies.records c.args.bodies.now)) in
+    told_row c.args.content.now (payload.Update c.in-Update.file c.in-Update.update) site c.args.from (shown f) (shown c.update_comes.new.file) c.in_ok-update_comes-in-Update.field-0 c.in-Update.is
+    (c.in_ok-update_comes-in-Update.ensures c.args.now test (body_by (g.B.Bodies.records c.args.bodies.now)))
+
+pub returns-in_ok-answer_comes-in-Promise-clause-row : goal.returns-in_ok-answer_comes-in-Promise-clause-row
+returns-in_ok-answer_comes-in-Promise-clause-row g c =
+    λ test sealed.
+    let f = c.args.file.now in
+    let body = body_by (g.B.Bodies.records c.args.bodies.now) in
+    answer_row (site_at f.awake c.args.now test body) c.args.from c.args.content.now (shown f) (shown c.answer_comes.new.file) c.in_ok-answer_comes-in-Promise.field-0 c.in-Promise.is
+    (c.in_ok-answer_comes-in-Promise.ensures test body)

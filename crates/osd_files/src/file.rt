@@ -1,0 +1,94 @@
+ghost use Rattle.std.specs.Prelude.{◌≡◌, ◌<◌, ◌^◌, Bool, IfOk};
+ghost use Rattle.xt_base.specs.Limits.{FitsPayload};
+ghost use Rattle.xt_protocol.specs.SeenBodies.{body_by};
+ghost use Rattle.kept_bodies.specs.KeptBodies.{fault_of, ReadsOnly};
+ghost use Rattle.osd_rows.specs.FileStates.{file_from};
+ghost use Rattle.osd_rows.specs.FileSteps as rows;
+ghost use Rattle.osd_files.specs.Whole.{IsRowOn, IsWoken, RowRises};
+
+use crate::parts::Parts;
+use crate::starting::{file_from, give_up};
+use crate::steps::step_of_file;
+use crate::waking::{Woken, wake_whole};
+use flease_lease::Awake;
+use kept_bodies::{Bodies, StepErr};
+use std::alloc::Global;
+use std::marker::Model;
+use xt_base::{FileId, FileRow, NodeId, OutOfMemory, Payload};
+use xt_protocol::Turned;
+
+/// A file at an OSD that is awake. Contracts see the OSD, and the file's state in the rows' terms.
+#[derive(Drop)]
+pub struct OsdFile {
+    parts: Parts,
+}
+
+impl Model for OsdFile {
+    ghost use Rattle.osd_files.specs.Views.{FileView, shown};
+    ghost use Rattle.osd_files.specs.Whole.{IsWhole};
+
+    ghost Value = { FileView };
+
+    ghost view = { λ file. shown file.parts };
+
+    ghost invariant = { λ file. IsWhole (shown file.parts) };
+}
+
+impl OsdFile {
+    /// A file at an OSD that has just started, from what its records say: without a lease, a primary's tenure and asks.
+    pub fn new(alloc: Global, awake: Awake, row: FileRow) -> OsdFile
+        requires { RowRises row }
+        ensures { result ≡ record { awake = awake; state = file_from awake row } }
+    {
+        OsdFile {
+            parts: file_from(alloc, &awake, row),
+        }
+    }
+
+    /// The file.
+    pub fn id(&self) -> FileId
+        ensures { result ≡ self.now.state.kept.file }
+    {
+        self.parts.replica.file()
+    }
+
+    /// A message that concerns the file, at the clock `now`: what is overdue, and then the message's row. `sealed` says whether
+    /// the tag of an ask's capability is the key's. After an error, for want of memory or a body that can't be read, the file
+    /// isn't to be used again; it has no lease then, and no asks.
+    pub fn take<B: Bodies>(
+        &mut self,
+        bodies: &mut B,
+        now: u64,
+        sealed: bool,
+        from: NodeId,
+        payload: &Payload,
+    ) -> Result<Turned, StepErr>
+        requires clock { now < 2 ^ 62 }
+        requires fits { FitsPayload payload.now }
+        ensures row { IfOk result (λ turned. IsRowOn (λ site s. rows.step_of_file site s from payload.now) payload.now sealed now (body_by (B.records bodies.old)) self.old self.new turned) }
+        ensures reads { ReadsOnly B.records B.fault_count bodies.old bodies.new (fault_of result) }
+    {
+        match step_of_file(&mut self.parts, bodies, now, sealed, from, payload) {
+            Ok(turned) => Ok(turned),
+            Err(error) => {
+                give_up(&mut self.parts);
+                Err(error)
+            }
+        }
+    }
+
+    /// A Wake at the clock `now`: what is overdue, and then what a wake gives, apart, since an OSD tells the first of all its files
+    /// before the second. After an error, as for `take`.
+    pub fn wake(&mut self, now: u64) -> Result<Woken, OutOfMemory>
+        requires { now < 2 ^ 62 }
+        ensures { IfOk result (λ woken. IsWoken now self.old self.new woken) }
+    {
+        match wake_whole(&mut self.parts, now) {
+            Ok(woken) => Ok(woken),
+            Err(error) => {
+                give_up(&mut self.parts);
+                Err(error)
+            }
+        }
+    }
+}

@@ -1,0 +1,103 @@
+ghost use Rattle.std.specs.Prelude.{◌≡◌, ◌<◌, ◌^◌, IfOk, is_some};
+ghost use Rattle.std.specs.List.{AllByRecursion};
+ghost use Rattle.xt_protocol.specs.SeenBodies.{body_by};
+ghost use Rattle.file_lease.specs.Moves.{IsSettled, turn_of};
+ghost use Rattle.kept_bodies.specs.KeptBodies.{fault_of, ReadsOnly};
+ghost use Rattle.osd_invariants.specs.Sound.{IsStored, ListUnder};
+ghost use Rattle.osd_invariants.specs.OpenAsks.{IsWithinLimits};
+ghost use Rattle.osd_rows.specs.FileLeases.{leads_to};
+ghost use Rattle.osd_rows.specs.FileStates.{ground_of};
+ghost use Rattle.osd_rows.specs.FileSteps as rows;
+ghost use Rattle.osd_rows.specs.PrimaryRows.{hears};
+ghost use Rattle.osd_files.specs.Answers.{HasTurn};
+ghost use Rattle.osd_files.specs.Rows.{IsRowBy};
+ghost use Rattle.osd_files.specs.Views.{shown};
+
+use crate::leases::{note, stay_in_range};
+use crate::parts::Parts;
+use crate::serving::asks_follow;
+use file_lease::FileLease;
+use kept_bodies::{Bodies, StepErr};
+use step_outputs::{join, quiet};
+use xt_base::{NodeId, Payload};
+use xt_protocol::Turned;
+
+/// The primary hears a message in its turn, and its own replica notes what it records.
+fn primary_led<B: Bodies>(
+    file: &mut Parts,
+    bodies: &mut B,
+    now: u64,
+    from: NodeId,
+    content: &Payload,
+) -> Result<Turned, StepErr>
+    requires clock { now < 2 ^ 62 }
+    requires turn { HasTurn file.old.lease now }
+    requires stored { IsStored file.old.lead.location }
+    ensures row { IfOk result (λ turned. IsRowBy (λ site s. leads_to s (hears (ground_of site s) s.primary from content.now)) now (body_by (B.records bodies.old)) (shown file.old) (shown file.new) turned) }
+    ensures reads { ReadsOnly B.records B.fault_count bodies.old bodies.new (fault_of result) }
+{
+    stay_in_range(file.awake.node());
+    let Some(turn) = file.lease.turn(now) else {
+        unreachable!()
+    };
+    let turned = file.lead.take(
+        &turn,
+        bodies,
+        file.replica.head(),
+        file.replica.held(),
+        from,
+        content,
+    )?;
+    note(&mut file.replica, &turned.rec)?;
+    Ok(turned)
+}
+
+/// The primary hears a message in its turn, and the asks follow.
+fn primary_turns<B: Bodies>(
+    file: &mut Parts,
+    bodies: &mut B,
+    now: u64,
+    from: NodeId,
+    content: &Payload,
+) -> Result<Turned, StepErr>
+    requires clock { now < 2 ^ 62 }
+    requires turn { HasTurn file.old.lease now }
+    requires stored { IsStored file.old.lead.location }
+    requires fits { AllByRecursion IsWithinLimits file.old.asks.waiting }
+    ensures row { IfOk result (λ turned. IsRowBy (λ site s. rows.primary_hears site s s.lease from content.now) now (body_by (B.records bodies.old)) (shown file.old) (shown file.new) turned) }
+    ensures reads { ReadsOnly B.records B.fault_count bodies.old bodies.new (fault_of result) }
+{
+    let was_ready = file.lead.is_ready();
+    let led = primary_led(file, bodies, now, from, content)?;
+    let followed = asks_follow(file, bodies, now, was_ready)?;
+    Ok(join(led, followed)?)
+}
+
+/// Whether the lease gives a turn.
+fn has_turn(lease: &FileLease, now: u64) -> bool
+    requires { now < 2 ^ 62 }
+    ensures { result ≡ is_some (turn_of lease.now now) }
+{
+    lease.turn(now).is_some()
+}
+
+/// A message to the primary: it counts only while the lease is held.
+pub fn primary_hears<B: Bodies>(
+    file: &mut Parts,
+    bodies: &mut B,
+    now: u64,
+    from: NodeId,
+    content: &Payload,
+) -> Result<Turned, StepErr>
+    requires clock { now < 2 ^ 62 }
+    requires settled { IsSettled file.old.lease now }
+    requires stored { ListUnder file.old.lease file.old.lead.location }
+    requires fits { AllByRecursion IsWithinLimits file.old.asks.waiting }
+    ensures row { IfOk result (λ turned. IsRowBy (λ site s. rows.primary_hears site s s.lease from content.now) now (body_by (B.records bodies.old)) (shown file.old) (shown file.new) turned) }
+    ensures reads { ReadsOnly B.records B.fault_count bodies.old bodies.new (fault_of result) }
+{
+    if has_turn(&file.lease, now) {
+        return primary_turns(file, bodies, now, from, content);
+    }
+    Ok(quiet(file.alloc))
+}

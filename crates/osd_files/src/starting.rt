@@ -1,0 +1,44 @@
+ghost use Rattle.std.specs.Prelude.{◌≡◌};
+ghost use Rattle.osd_rows.specs.FileStates.{file_from};
+ghost use Rattle.osd_files.specs.Views.{shown};
+ghost use Rattle.osd_files.specs.Whole.{IsWhole, RowRises};
+
+use crate::lead::Lead;
+use crate::parts::Parts;
+use file_lease::FileLease;
+use flease_lease::Awake;
+use flease_register::Acceptor;
+use osd_asks::OpenAsks;
+use replica_state::Replica;
+use std::alloc::Global;
+use xt_base::FileRow;
+
+/// A file at an OSD that has just started, from what its records say.
+pub fn file_from(alloc: Global, awake: &Awake, row: FileRow) -> Parts
+    requires { RowRises row }
+    ensures { shown result ≡ record { awake = awake.now; state = file_from awake.now row } }
+{
+    let replica = Replica::new(alloc, row.file, row.head, row.held);
+    let lead = Lead::new(alloc, awake.node(), replica.file(), row.location);
+    Parts {
+        alloc,
+        awake: *awake,
+        replica,
+        acceptor: Acceptor::new(awake.boot()),
+        lease: FileLease::new(*awake),
+        lead,
+        last_end: 0,
+        used: 0,
+        asks: OpenAsks::new(alloc),
+    }
+}
+
+/// Ends a file's lease and its primary's tenure, and drops its asks, as a stop does: so that a step that failed halfway leaves
+/// nothing by which the file acts.
+pub fn give_up(file: &mut Parts)
+    ensures { IsWhole (shown file.new) }
+{
+    file.lease = FileLease::new(file.awake);
+    file.lead.idle();
+    file.asks = OpenAsks::new(file.alloc);
+}

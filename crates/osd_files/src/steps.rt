@@ -1,0 +1,122 @@
+ghost use Rattle.std.specs.Prelude.{◌≡◌, ◌<◌, ◌^◌, Bool, IfOk};
+ghost use Rattle.xt_base.specs.Limits.{FitsOp, FitsPayload, FitsStripe};
+ghost use Rattle.xt_base.specs.declared.file.Capability.{Capability};
+ghost use Rattle.xt_protocol.specs.SeenBodies.{body_by};
+ghost use Rattle.file_lease.specs.Moves.{IsSettled};
+ghost use Rattle.kept_bodies.specs.KeptBodies.{fault_of, ReadsOnly};
+ghost use Rattle.osd_rows.specs.FileSteps as rows;
+ghost use Rattle.osd_files.specs.Rows.{IsStep};
+ghost use Rattle.osd_files.specs.Views.{shown, site_at};
+ghost use Rattle.osd_files.specs.Whole.{IsRowOn, IsWhole};
+
+use crate::asks::ask_handled;
+use crate::hearing::{fetch_comes, gather_comes, head_comes, stage_comes, update_comes};
+use crate::leading::primary_hears;
+use crate::leases::{answer_comes, read_comes, write_comes};
+use crate::overdue::expire;
+use crate::parts::Parts;
+use kept_bodies::{Bodies, StepErr};
+use step_outputs::{join, quiet};
+use xt_base::{Capability, Kind, NodeId, Op, OpId, Payload};
+use xt_protocol::Turned;
+
+/// An ask by the kind of its file; those of striped files do nothing yet.
+fn ask_comes<B: Bodies>(
+    file: &mut Parts,
+    bodies: &mut B,
+    now: u64,
+    sealed: bool,
+    id: OpId,
+    capability: &Capability,
+    op: &Op,
+) -> Result<Turned, StepErr>
+    requires clock { now < 2 ^ 62 }
+    requires settled { IsSettled file.old.lease now }
+    requires stripe { FitsStripe capability.now.location.stripe }
+    requires fits { FitsOp op.now }
+    ensures row { IfOk result (λ turned. (test : Capability → Bool) → test capability.now ≡ sealed → IsStep (λ site s. rows.ask_comes site s capability.now.location.kind id capability.now op.now) (site_at file.old.awake now test (body_by (B.records bodies.old))) (shown file.old) (shown file.new) turned) }
+    ensures reads { ReadsOnly B.records B.fault_count bodies.old bodies.new (fault_of result) }
+{
+    match capability.location.kind {
+        Kind::Replicated => ask_handled(file, bodies, now, sealed, id, capability, op),
+        Kind::Striped => Ok(quiet(file.alloc)),
+    }
+}
+
+/// A message that concerns the file, when nothing is overdue. `sealed` says whether the tag of an ask's capability is the key's.
+fn message_comes<B: Bodies>(
+    file: &mut Parts,
+    bodies: &mut B,
+    now: u64,
+    sealed: bool,
+    from: NodeId,
+    content: &Payload,
+) -> Result<Turned, StepErr>
+    requires clock { now < 2 ^ 62 }
+    requires settled { IsSettled file.old.lease now }
+    requires fits { FitsPayload content.now }
+    requires whole { IsWhole (shown file.old) }
+    ensures row { IfOk result (λ turned. IsRowOn (λ site s. rows.message_comes site s from content.now) content.now sealed now (body_by (B.records bodies.old)) (shown file.old) (shown file.new) turned) }
+    ensures reads { ReadsOnly B.records B.fault_count bodies.old bodies.new (fault_of result) }
+{
+    match content {
+        Payload::Ask {
+            number,
+            capability,
+            op,
+        } => {
+            let id = OpId {
+                client: from,
+                number: *number,
+            };
+            ask_comes(file, bodies, now, sealed, id, capability, op)
+        }
+        Payload::Read { ballot, .. } => Ok(read_comes(file, from, *ballot)?),
+        Payload::Write {
+            ballot,
+            boot,
+            lease,
+            ..
+        } => Ok(write_comes(file, from, *ballot, *boot, *lease)?),
+        Payload::Promise { .. } | Payload::Accepted { .. } | Payload::Outrun { .. } => {
+            Ok(answer_comes(file, now, from, content)?)
+        }
+        Payload::Gather { epoch, .. } => Ok(gather_comes(file, from, epoch)?),
+        Payload::Fetch {
+            epoch,
+            object,
+            version,
+            ..
+        } => fetch_comes(file, bodies, from, epoch, *object, version),
+        Payload::Stage {
+            epoch,
+            object,
+            version,
+            bytes,
+            ..
+        } => Ok(stage_comes(file, from, epoch, *object, version, bytes)?),
+        Payload::Head { epoch, head, .. } => Ok(head_comes(file, from, epoch, head)?),
+        Payload::Update { update, .. } => Ok(update_comes(file, from, update)?),
+        _ => primary_hears(file, bodies, now, from, content),
+    }
+}
+
+/// The step of a file on a message that concerns it: what is overdue, and then the message.
+pub fn step_of_file<B: Bodies>(
+    file: &mut Parts,
+    bodies: &mut B,
+    now: u64,
+    sealed: bool,
+    from: NodeId,
+    content: &Payload,
+) -> Result<Turned, StepErr>
+    requires clock { now < 2 ^ 62 }
+    requires fits { FitsPayload content.now }
+    requires whole { IsWhole (shown file.old) }
+    ensures row { IfOk result (λ turned. IsRowOn (λ site s. rows.step_of_file site s from content.now) content.now sealed now (body_by (B.records bodies.old)) (shown file.old) (shown file.new) turned) }
+    ensures reads { ReadsOnly B.records B.fault_count bodies.old bodies.new (fault_of result) }
+{
+    let overdue = expire(file, now)?;
+    let rest = message_comes(file, bodies, now, sealed, from, content)?;
+    Ok(join(overdue, rest)?)
+}
