@@ -4,3 +4,4 @@ pub mod Served
 pub mod SoundSteps
 pub mod Promised
 pub mod OpenAsks
+pub mod AtOnce

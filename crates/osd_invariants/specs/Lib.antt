@@ -2,3 +2,4 @@ pub mod Sound
 pub mod Keeping
 pub mod Promises
 pub mod OpenAsks
+pub mod AtOnce
