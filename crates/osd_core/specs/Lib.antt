@@ -1,0 +1,4 @@
+pub mod Events
+pub mod Keys
+pub mod Slots
+pub mod Views

@@ -1,0 +1,147 @@
+ghost use Rattle.std.specs.Prelude.{◌≡◌, ◌<◌, ◌^◌, Ok, IfOk, IfSome};
+ghost use Rattle.xt_protocol.specs.SeenBodies.{body_by};
+ghost use Rattle.kept_bodies.specs.KeptBodies.{fault_of, ReadsOnly};
+ghost use Rattle.osd_rows.specs.OsdSteps.{event_handled, osd_from, step_of_osd};
+ghost use Rattle.osd_files.specs.Views.{site_at};
+ghost use Rattle.osd_core.specs.Events.{FitsEvent};
+ghost use Rattle.osd_core.specs.Keys.{FitsKey, sealed_by, stops_by, outside_of};
+ghost use Rattle.osd_core.specs.Slots.{AreRows, AreSlots, StepsFiles};
+
+use crate::messages::{is_sealed, stops};
+use crate::slot::Slot;
+use crate::slots::{slots_from, take, wake};
+use flease_lease::{Awake, Silent};
+use kept_bodies::{Bodies, StepErr};
+use std::alloc::Global;
+use std::marker::Model;
+use step_outputs::quiet;
+use xt_base::{Boot, Event, Folded, Msg, NodeId, Octets, OutOfMemory, Times};
+use xt_protocol::Turned;
+
+/// An OSD of replicated files. Contracts see its key and its state.
+#[derive(Drop)]
+pub struct Osd {
+    alloc: Global,
+    key: Option<Octets>,
+    node: NodeId,
+    silent: Silent,
+    /// The clock that was used last.
+    last: u64,
+    slots: Vec<Slot>,
+}
+
+impl Model for Osd {
+    ghost use Rattle.osd_core.specs.Views.{OsdView, IsOsd};
+    ghost use Rattle.osd_core.specs.Slots.{awake_of, states_of};
+
+    ghost Value = { OsdView };
+
+    ghost view = { λ o. record { key = o.key; state = record { started = o.silent; last = o.last; files = states_of (awake_of o.silent) o.slots.items } } };
+
+    ghost invariant = { λ o. IsOsd o.key o.node o.silent o.last o.slots.items };
+}
+
+/// An event at a clock, when the silence is over. After an error the slots aren't to be used again.
+fn handle<B: Bodies>(
+    alloc: Global,
+    key: &Option<Octets>,
+    slots: &mut Vec<Slot>,
+    awake: Awake,
+    bodies: &mut B,
+    now: u64,
+    ev: &Event,
+) -> Result<Turned, StepErr>
+    requires key { IfSome key.now FitsKey }
+    requires slots { AreSlots awake slots.old.items }
+    requires clock { now < 2 ^ 62 }
+    requires fits { FitsEvent ev.now }
+    ensures step { IfOk result (λ turned. StepsFiles (λ files. event_handled (site_at awake now (sealed_by key.now) (body_by (B.records bodies.old))) awake files ev.now) awake slots.old.items slots.new.items turned) }
+    ensures reads { ReadsOnly B.records B.fault_count bodies.old bodies.new (fault_of result) }
+{
+    match ev {
+        Event::Deliver(msg) => {
+            let sealed = is_sealed(alloc, key, &msg.payload)?;
+            take(alloc, slots, awake, bodies, now, sealed, msg)
+        }
+        Event::Wake => Ok(wake(alloc, slots, awake, now)?),
+        Event::Call(_) => Ok(quiet(alloc)),
+    }
+}
+
+impl Osd {
+    /// An OSD that starts as this boot at the clock `now`, in milliseconds, from what its records say. A key has 1 to 64 bytes;
+    /// without one every tag passes: so it is in a replay, whose capabilities are all its own.
+    pub fn start(
+        alloc: Global,
+        node: NodeId,
+        times: Times,
+        key: Option<Octets>,
+        folded: Folded,
+        boot: Boot,
+        now: u64,
+    ) -> Result<Osd, OutOfMemory>
+        requires clock { now < 2 ^ 62 }
+        requires key { IfSome key FitsKey }
+        requires rows { AreRows folded.files }
+        ensures { IfOk result (λ osd. osd ≡ record { key = key; state = osd_from (record { node = node; boot = boot; times = times; start = now }) folded.files }) }
+    {
+        Ok(Osd {
+            alloc,
+            key,
+            node,
+            silent: Silent::new(times, node, boot, now),
+            last: now,
+            slots: slots_from(alloc, folded.files)?,
+        })
+    }
+
+    /// The step on an event at a reading of the clock, in milliseconds. After an error, for want of memory or a body that can't be
+    /// read, the OSD isn't to be used again; it has no files then.
+    pub fn step<B: Bodies>(
+        &mut self,
+        bodies: &mut B,
+        now: u64,
+        ev: &Event,
+    ) -> Result<Turned, StepErr>
+        requires clock { now < 2 ^ 62 }
+        requires fits { FitsEvent ev.now }
+        ensures step { IfOk result (λ turned. step_of_osd (outside_of self.old.key (B.records bodies.old)) self.old.state now ev.now ≡ record { osd = self.new.state; turned = turned }) }
+        ensures key { IfOk result (λ turned. self.new.key ≡ self.old.key) }
+        ensures reads { ReadsOnly B.records B.fault_count bodies.old bodies.new (fault_of result) }
+    {
+        let now = now.max(self.last);
+        let Some(awake) = self.silent.awake(now) else {
+            return Ok(quiet(self.alloc));
+        };
+        self.last = now;
+        match handle(
+            self.alloc,
+            &self.key,
+            &mut self.slots,
+            awake,
+            bodies,
+            now,
+            ev,
+        ) {
+            Ok(turned) => Ok(turned),
+            Err(error) => {
+                self.slots.clear();
+                Err(error)
+            }
+        }
+    }
+
+    /// The node.
+    pub fn id(&self) -> NodeId
+        ensures { result ≡ self.now.state.started.node }
+    {
+        self.node
+    }
+
+    /// Whether a message ends the served OSD: a Stop with the right tag. Without a key none does.
+    pub fn stops(&self, msg: &Msg) -> Result<bool, OutOfMemory>
+        ensures { result ≡ Ok (stops_by self.now.key msg.now.payload) }
+    {
+        stops(&self.key, &msg.payload)
+    }
+}

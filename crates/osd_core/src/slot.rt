@@ -1,0 +1,110 @@
+ghost use Rattle.std.specs.Prelude.{◌≡◌, ◌<◌, ◌^◌, IfOk};
+ghost use Rattle.xt_base.specs.Limits.{FitsPayload};
+ghost use Rattle.xt_protocol.specs.Folds.{new_row};
+ghost use Rattle.xt_protocol.specs.LeaseRows.{Awake};
+ghost use Rattle.xt_protocol.specs.SeenBodies.{body_by};
+ghost use Rattle.kept_bodies.specs.KeptBodies.{fault_of, ReadsOnly};
+ghost use Rattle.osd_rows.specs.Turns.{quiet};
+ghost use Rattle.osd_rows.specs.FileSteps.{step_of_file};
+ghost use Rattle.osd_files.specs.Whole.{IsRowOn};
+ghost use Rattle.osd_core.specs.Slots.{id_of, view_of, IsSoundSlot, WakesSlot};
+
+use flease_lease::Awake;
+use kept_bodies::{Bodies, StepErr};
+use osd_files::{OsdFile, Woken};
+use record_folds::new_head;
+use std::alloc::Global;
+use std::mem;
+use step_outputs::quiet;
+use xt_base::{FileId, FileRow, Msg, OutOfMemory, Seq};
+use xt_protocol::Turned;
+
+/// A file at an OSD: what its records say of it, until a message concerns it.
+#[derive(Drop)]
+pub enum Slot {
+    Row(FileRow),
+    File(OsdFile),
+}
+
+/// What a file begins as.
+pub fn new_row(alloc: Global, file: FileId) -> FileRow
+    ensures { result ≡ new_row file }
+{
+    FileRow {
+        file,
+        head: new_head(alloc),
+        held: Seq::new(alloc),
+        location: None,
+    }
+}
+
+/// Nothing comes of a Wake.
+pub fn no_news(alloc: Global) -> Woken
+    ensures overdue { result.overdue ≡ quiet }
+    ensures again { result.again ≡ quiet }
+{
+    Woken {
+        overdue: quiet(alloc),
+        again: quiet(alloc),
+    }
+}
+
+impl Slot {
+    /// The file that it is of.
+    pub fn id(&self) -> FileId
+        ensures { result ≡ id_of self.now }
+    {
+        match self {
+            Slot::Row(row) => row.file,
+            Slot::File(file) => file.id(),
+        }
+    }
+
+    /// Makes a file of a row.
+    fn open(&mut self, alloc: Global, awake: Awake)
+        requires { IsSoundSlot awake self.old }
+        ensures { self.new ≡ Slot.File (view_of awake self.old) }
+    {
+        if let Slot::Row(row) = self {
+            let nothing = new_row(alloc, row.file);
+            let row = mem::replace(row, nothing);
+            *self = Slot::File(OsdFile::new(alloc, awake, row));
+        }
+    }
+
+    /// The step of its file on a message that concerns it, where `sealed` says whether the tag of an ask's capability is the
+    /// key's. After an error it isn't to be used again.
+    pub fn take<B: Bodies>(
+        &mut self,
+        alloc: Global,
+        awake: Awake,
+        bodies: &mut B,
+        now: u64,
+        sealed: bool,
+        msg: &Msg,
+    ) -> Result<Turned, StepErr>
+        requires sound { IsSoundSlot awake self.old }
+        requires clock { now < 2 ^ 62 }
+        requires fits { FitsPayload msg.now.payload }
+        ensures sound { IfOk result (λ turned. IsSoundSlot awake self.new) }
+        ensures row { IfOk result (λ turned. IsRowOn (λ site s. step_of_file site s msg.now.from msg.now.payload) msg.now.payload sealed now (body_by (B.records bodies.old)) (view_of awake self.old) (view_of awake self.new) turned) }
+        ensures reads { ReadsOnly B.records B.fault_count bodies.old bodies.new (fault_of result) }
+    {
+        self.open(alloc, awake);
+        let Slot::File(file) = self else {
+            unreachable!()
+        };
+        file.take(bodies, now, sealed, msg.from, &msg.payload)
+    }
+
+    /// What a Wake gives at its file: nothing while it is a row. After an error it isn't to be used again.
+    pub fn wake(&mut self, alloc: Global, now: u64) -> Result<Woken, OutOfMemory>
+        requires { now < 2 ^ 62 }
+        ensures { IfOk result (λ woken. (awake : Awake) → IsSoundSlot awake self.old → WakesSlot now awake self.old self.new woken) }
+    {
+        match self {
+            Slot::Row(_) => Ok(no_news(alloc)),
+            Slot::File(file) => file.wake(now),
+        }
+    }
+}
