@@ -1,4 +1,4 @@
-ghost use Rattle.std.specs.Prelude.{◌≡◌, Option, List, ℕ, Bool, IfOk, IfSome};
+ghost use Rattle.std.specs.Prelude.{◌≡◌, IfOk, IfSome};
 ghost use Rattle.osd_rows.specs.OsdSteps.{file_concerned};
 ghost use Rattle.osd_files.specs.Whole.{IsSealedBy};
 ghost use Rattle.osd_core.specs.Keys.{FitsKey, sealed_by, stops_by};

@@ -1,4 +1,4 @@
-ghost use Rattle.std.specs.Prelude.{◌≡◌, ◌<◌, ◌^◌, [], ◌∷◌, ℕ, List, Bool, Option, IfOk, IsTrue};
+ghost use Rattle.std.specs.Prelude.{◌≡◌, ◌<◌, ◌^◌, ℕ, List, Bool, IfOk, IsTrue};
 ghost use Rattle.xt_base.specs.Limits.{FitsPayload};
 ghost use Rattle.xt_base.specs.declared.ids.FileId.{FileId};
 ghost use Rattle.xt_base.specs.declared.ids.Stamp.{Stamp};
@@ -10,7 +10,7 @@ ghost use Rattle.osd_rows.specs.Turns.{joined};
 ghost use Rattle.osd_rows.specs.OsdSteps.{asks_dir, file_concerned, message_handled, woken};
 ghost use Rattle.osd_files.specs.Views.{site_at};
 ghost use Rattle.osd_files.specs.Whole.{IsSealedBy};
-ghost use Rattle.osd_core.specs.Slots.{id_of, slots_rise, slots_from, AreSound, AreSlots, IsSlotPlace, IsMade, WakesSlots, StepsFiles};
+ghost use Rattle.osd_core.specs.Slots.{slots_rise, slots_from, AreSound, AreSlots, IsSlotPlace, IsMade, WakesSlots, StepsFiles};
 
 use crate::messages::file_concerned;
 use crate::slot::{Slot, new_row, no_news};
@@ -19,11 +19,8 @@ use kept_bodies::{Bodies, StepErr};
 use osd_files::Woken;
 use std::alloc::Global;
 use step_outputs::{join, message, quiet, sends_one};
-use xt_base::{FileId, FileTable, Msg, NodeId, OutOfMemory, Payload, RegistryReq};
+use xt_base::{DIR_NODE, FileId, FileTable, Msg, NodeId, OutOfMemory, Payload, RegistryReq};
 use xt_protocol::Turned;
-
-/// The node of the DIR.
-const DIR: NodeId = NodeId(900);
 
 /// The kind of an OSD in the registry.
 const OSD: u8 = 1;
@@ -117,7 +114,7 @@ fn asks_dir(node: NodeId) -> Msg
         after: NodeId(0),
     };
     let payload = Payload::Registry { number: 0, request };
-    message(node, DIR, payload)
+    message(node, DIR_NODE, payload)
 }
 
 /// A Wake at a clock: the DIR is asked for the OSDs; then what is overdue at each file; then the rows of a Wake for each file.
