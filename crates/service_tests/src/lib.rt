@@ -1,4 +1,5 @@
-//! Tests of the crates that stand beside the main path: sizes, the picking of OSDs, capabilities, the registry, and a client.
+//! Tests of the crates that stand beside the main path: sizes, pieces of striped files, the picking of OSDs, capabilities, the
+//! registry, and a client.
 //!
 //! Each test is a loop over a table of worked values. The crates' contracts say what each call gives; the values here come
 //! from outside, so that they show that the contracts say what is meant.
@@ -14,3 +15,5 @@ mod registry;
 mod sealing;
 #[cfg(test)]
 mod sizes;
+#[cfg(test)]
+mod stripes;
