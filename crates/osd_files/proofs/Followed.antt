@@ -82,6 +82,12 @@ module _ (awake : Awake) (now : ℕ) (test : Capability → Bool) (records : Lis
   is_given : (mid : FileView) (turned : Turned) → Leads mid turned → turned ≡ led.turned
   is_given mid turned row = sym (ap (λ (st : FileStep). st.turned) row.step)
 
+  pub same_lease : (mid : FileView) (turned : Turned) → Leads mid turned → s.lease ≡ mid.state.lease
+  same_lease mid turned row = ap (λ (st : FileStep). st.state.lease) row.step
+
+  pub same_asks : (mid : FileView) (turned : Turned) → Leads mid turned → s.asks ≡ mid.state.asks
+  same_asks mid turned row = ap (λ (st : FileStep). st.state.asks) row.step
+
   pub same_list : (mid : FileView) (turned : Turned) → Leads mid turned → mid.state.kept.location ≡ s.kept.location
   same_list mid turned row = ap (λ (st : FileState). st.kept.location) (is_behind mid turned row) ∙ heard_keeps stands s.primary from content s.kept
 

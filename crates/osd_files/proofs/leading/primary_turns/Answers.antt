@@ -1,15 +1,14 @@
-use Rattle.std.proofs.Common.{ap, subst, sym, Bool, true}
+use Rattle.std.proofs.Common.{subst, sym, Bool, true}
 use Rattle.std.specs.List.{AllByRecursion}
 use Rattle.xt_base.specs.declared.file.Capability.{Capability}
 use Rattle.xt_protocol.specs.LeaseRows.{LeaseState}
 use Rattle.osd_rows.specs.declared.Asks.{Asks}
-use Rattle.osd_rows.specs.FileStates.{FileStep}
 use Rattle.osd_invariants.specs.OpenAsks.{IsWithinLimits}
 use Rattle.osd_invariants.specs.Sound.{IsStored}
 use Rattle.osd_files.specs.Answers.{HasTurn}
 use Rattle.osd_files.specs.Serves.{AsksFollow}
 use Rattle.osd_files.specs.Views.{shown}
-use Rattle.osd_files.proofs.Followed.{followed_row, same_list}
+use Rattle.osd_files.proofs.Followed.{followed_row, same_asks, same_lease, same_list}
 use Rattle.osd_files.proofs.Wakes.{held_by_turn}
 use Rattle.osd_files.proofs.leading.primary_turns.Goals as goal
 
@@ -18,22 +17,23 @@ no_seal capability = true
 
 pub asks_follow-requires-clause-turn : goal.asks_follow-requires-clause-turn
 asks_follow-requires-clause-turn g c =
-    let row = c.in_ok-led.ensures.row no_seal in
+    let f = c.args.file.now in
+    let same = same_lease f.awake c.args.now no_seal (g.B.Bodies.records c.args.bodies.now) (shown f).state c.args.from c.args.content.now (shown c.primary_led.new.file) c.in_ok-led.led (c.in_ok-led.ensures.row no_seal) in
     let P : LeaseState → Type 0 = λ l. HasTurn l c.args.now in
-    subst P (ap (λ (st : FileStep). st.state.lease) row.step) c.requires.turn
+    subst P same c.requires.turn
 
 pub asks_follow-requires-clause-stored : goal.asks_follow-requires-clause-stored
 asks_follow-requires-clause-stored g c =
     let f = c.args.file.now in
-    let row = c.in_ok-led.ensures.row no_seal in
-    let same = same_list f.awake c.args.now no_seal (g.B.Bodies.records c.args.bodies.now) (shown f).state c.args.from c.args.content.now (shown c.primary_led.new.file) c.in_ok-led.led row in
+    let same = same_list f.awake c.args.now no_seal (g.B.Bodies.records c.args.bodies.now) (shown f).state c.args.from c.args.content.now (shown c.primary_led.new.file) c.in_ok-led.led (c.in_ok-led.ensures.row no_seal) in
     subst IsStored (sym same) c.requires.stored
 
 pub asks_follow-requires-clause-fits : goal.asks_follow-requires-clause-fits
 asks_follow-requires-clause-fits g c =
-    let row = c.in_ok-led.ensures.row no_seal in
+    let f = c.args.file.now in
+    let same = same_asks f.awake c.args.now no_seal (g.B.Bodies.records c.args.bodies.now) (shown f).state c.args.from c.args.content.now (shown c.primary_led.new.file) c.in_ok-led.led (c.in_ok-led.ensures.row no_seal) in
     let P : Asks → Type 0 = λ a. AllByRecursion IsWithinLimits a.waiting in
-    subst P (ap (λ (st : FileStep). st.state.asks) row.step) c.requires.fits
+    subst P same c.requires.fits
 
 pub returns-clause-row : goal.returns-clause-row
 returns-clause-row g c =
