@@ -7,8 +7,11 @@ ghost use Rattle.cluster_runs.specs.Clients as rows;
 
 use cluster_runs::{RunningCall, Tried};
 use std::alloc::Global;
-use step_outputs::{join, message, sends_one, shows};
-use xt_base::{Call, Copies, Mark, Members, NodeId, OutOfMemory, Payload, Seq};
+use step_outputs::message;
+use xt_base::{
+    Call, Capability, Copies, Mark, Marks, Members, Msgs, NodeId, Op, OutOfMemory, Outcome,
+    Payload, Seq,
+};
 use xt_protocol::Turned;
 
 /// The first member.
@@ -31,41 +34,57 @@ pub fn first_target(members: &Members, target: Option<NodeId>) -> NodeId
     }
 }
 
-/// The call's operation is asked of this member.
+/// A call's operation is asked of this member.
 pub fn asks(
     alloc: Global,
     node: NodeId,
-    call: &RunningCall,
     target: NodeId,
-) -> Result<Turned, OutOfMemory>
-    ensures { IfOk result (λ turned. turned ≡
-        turns.sends (turns.message node target (payload.Ask call.now.number call.now.capability call.now.op) ∷ [])) }
+    number: u64,
+    capability: &Capability,
+    op: &Op,
+) -> Result<Msgs, OutOfMemory>
+    ensures { IfOk result (λ outs. outs ≡
+        turns.message node target (payload.Ask number capability.now op.now) ∷ []) }
 {
-    let op = call.op.copy(alloc)?;
+    let mut outs = Seq::new(alloc);
+    let op = op.copy(alloc)?;
     let payload = Payload::Ask {
-        number: call.number,
-        capability: call.capability,
+        number,
+        capability: *capability,
         op,
     };
-    sends_one(alloc, message(node, target, payload))
+    outs.push(message(node, target, payload))?;
+    Ok(outs)
 }
 
-/// The call is marked, and its operation is asked of its target.
-pub fn begins(
-    alloc: Global,
-    node: NodeId,
-    running: &RunningCall,
-    call: &Call,
-) -> Result<Turned, OutOfMemory>
-    ensures { IfOk result (λ turned. turned ≡
-        turns.joined (turns.shows (mark.Begin running.now.number call.now))
-        (turns.sends (turns.message node running.now.target
-        (payload.Ask running.now.number running.now.capability running.now.op) ∷ []))) }
+/// A call is marked as begun.
+pub fn begins(alloc: Global, number: u64, call: &Call) -> Result<Marks, OutOfMemory>
+    ensures { IfOk result (λ marks. marks ≡ mark.Begin number call.now ∷ []) }
 {
-    let first = asks(alloc, node, running, running.target)?;
+    let mut marks = Seq::new(alloc);
     let call = call.copy(alloc)?;
-    let number = running.number;
-    join(shows(alloc, Mark::Begin { number, call })?, first)
+    marks.push(Mark::Begin { number, call })?;
+    Ok(marks)
+}
+
+/// A call is marked as ended.
+pub fn ends(alloc: Global, number: u64, outcome: Outcome) -> Result<Marks, OutOfMemory>
+    ensures { IfOk result (λ marks. marks ≡ mark.Done number outcome ∷ []) }
+{
+    let mut marks = Seq::new(alloc);
+    marks.push(Mark::Done { number, outcome })?;
+    Ok(marks)
+}
+
+/// What a step gives that keeps no record.
+pub fn gives(outs: Msgs, marks: Marks) -> Turned
+    ensures { result ≡ record { rec = None; outs = outs; marks = marks } }
+{
+    Turned {
+        rec: None,
+        outs,
+        marks,
+    }
 }
 
 /// The running call asks this member, which has until the deadline to answer.

@@ -5,16 +5,16 @@ ghost use Rattle.cluster_runs.specs.Steps.{stays};
 ghost use Rattle.cluster_runs.specs.Clients as rows;
 ghost use Rattle.client_core.specs.Views.{Acts, CallActs};
 
-use crate::asking::{asks, begins, first_target, turn_to};
+use crate::asking::{asks, begins, ends, first_target, gives, turn_to};
 use crate::known::{KnownFiles, aimed, raised};
 use crate::tried::{answers_in, next_target, was_tried, with_outcome};
 use cluster_runs::{KnownFile, RunningCall, Tried};
 use std::alloc::Global;
 use std::marker::Model;
-use step_outputs::{quiet, shows};
+use step_outputs::{quiet, sends};
 use xt_base::{
-    AskRefusal, COUNTS, Call, Capability, Copies, Event, FileId, Mark, NodeId, Octets, Op,
-    OutOfMemory, Outcome, Payload, Reply, Retry, Seq, Times,
+    AskRefusal, COUNTS, Call, Capability, Copies, Event, FileId, NodeId, Octets, Op, OutOfMemory,
+    Outcome, Payload, Reply, Retry, Seq, Times,
 };
 use xt_protocol::Turned;
 
@@ -174,24 +174,25 @@ impl Client {
     {
         let known = self.files.file(&capability.file);
         let target = first_target(&capability.location.members, known.target);
+        let number = self.next;
         let mut tried = Seq::new(self.alloc);
         tried.push(Tried {
             node: target,
             outcome: None,
         })?;
-        let running = RunningCall {
-            number: self.next,
+        let marks = begins(self.alloc, number, call)?;
+        let outs = asks(self.alloc, self.node, target, number, &capability, &op)?;
+        self.last = now;
+        self.next = number + 1;
+        self.running = Some(RunningCall {
+            number,
             capability,
             op,
             target,
             deadline: now + self.times.lease(),
             tried,
-        };
-        let turned = begins(self.alloc, self.node, &running, call)?;
-        self.last = now;
-        self.next += 1;
-        self.running = Some(running);
-        Ok(turned)
+        });
+        Ok(gives(outs, marks))
     }
 
     /// An event is handled.
@@ -392,11 +393,19 @@ impl Client {
             node: target,
             outcome: None,
         })?;
-        let turned = asks(self.alloc, self.node, self.running(), target)?;
+        let call = self.running();
+        let outs = asks(
+            self.alloc,
+            self.node,
+            target,
+            call.number,
+            &call.capability,
+            &call.op,
+        )?;
         let deadline = now + self.times.lease();
         turn_to(&mut self.running, target, deadline, tried);
         self.last = now;
-        Ok(turned)
+        Ok(sends(self.alloc, outs))
     }
 
     /// Each member was tried: the call ends, and may be made again.
@@ -423,10 +432,10 @@ impl Client {
         ensures err { OnErr result (self.new ≡ self.old) }
     {
         let number = self.running().number;
-        let turned = shows(self.alloc, Mark::Done { number, outcome })?;
+        let marks = ends(self.alloc, number, outcome)?;
         self.running = None;
         self.last = now;
-        Ok(turned)
+        Ok(gives(Seq::new(self.alloc), marks))
     }
 
     /// The call ends so, and this is known of a file from now on.
@@ -444,10 +453,10 @@ impl Client {
         ensures err { OnErr result (self.new ≡ self.old) }
     {
         let number = self.running().number;
-        let turned = shows(self.alloc, Mark::Done { number, outcome })?;
+        let marks = ends(self.alloc, number, outcome)?;
         self.files.put(known)?;
         self.running = None;
         self.last = now;
-        Ok(turned)
+        Ok(gives(Seq::new(self.alloc), marks))
     }
 }
