@@ -1,0 +1,94 @@
+-- what a world that fits says of the step that comes next
+use Rattle.std.proofs.Common.{◌≡◌, ℕ, zero, suc, ◌-◌, Bool, true, false, inl, inr, Option, Some, None, List, [], ◌∷◌, ◌++◌, map, refl, ap, sym, ◌∙◌, subst}
+use Rattle.std.specs.Prelude.{slice_get, ◌⊎◌}
+use Rattle.std.specs.Option.{IfSome}
+use Rattle.std.specs.List.{AllByRecursion}
+use Rattle.xt_base.specs.Limits.{FitsMessage}
+use Rattle.xt_base.specs.declared.ids.NodeId.{NodeId}
+use Rattle.xt_base.specs.declared.message.Msg.{Msg}
+use Rattle.xt_base.specs.declared.event.Call.{Call}
+use Rattle.xt_base.specs.declared.event.Event.{Event}
+use Rattle.xt_base.specs.declared.event.Event.TheVariants as event
+use Rattle.xt_base.specs.declared.status.Rule.{Rule}
+use Rattle.lease_safety.specs.State.{Has}
+use Rattle.lease_runs.proofs.Tests.{same_node}
+use Rattle.cluster_runs.specs.declared.Sent.{Sent}
+use Rattle.cluster_runs.specs.World.{World, Node, Running, node_in, up_of}
+use Rattle.cluster_runs.specs.Rules.{if_so, busy, has_call}
+use Rattle.cluster_runs.specs.Bounds.{FitsCall}
+use Rattle.world_leases.specs.View.{messages}
+use Rattle.world_leases.proofs.Tables.{node_in-id}
+use Rattle.cluster_fits.specs.Fits.{FitsRunning, FitsNode, FitsContent, FitsComing, FitsCalling, FitsDelivery, FitsWorld, Comes}
+
+each : {A : Type 0} (P : A → Type 0) (xs : List A) (x : A) → AllByRecursion P xs → Has x xs → P x
+each P [] x all has = absurd (has)
+each P (y ∷ ys) x all (inl is) = subst P (sym is) all.0
+each P (y ∷ ys) x all (inr later) = each P ys x all.1 later
+
+either_list : (own others : List Msg) (m : Msg) → Has m (own ++ others) → Has m own ⊎ Has m others
+either_list [] others m has = inr has
+either_list (x ∷ xs) others m (inl is) = inl (inl is)
+either_list (x ∷ xs) others m (inr later) = elim (either_list xs others m later) [ inl h ↦ inl (inr h) | inr h ↦ inr h ]
+
+of_sent : (sent : List Sent) → AllByRecursion (λ (s : Sent). FitsMessage s.message) sent → AllByRecursion FitsMessage (map (λ (s : Sent). s.message) sent)
+of_sent [] all = tt
+of_sent (s ∷ ss) all = (all.0, of_sent ss all.1)
+
+behind : (own : List Msg) (m : Msg) (others : List Msg) → Has m others → Has m (own ++ others)
+behind [] m others has = has
+behind (x ∷ xs) m others has = inr (behind xs m others has)
+
+got : (sent : List Sent) (k : ℕ) (s : Sent) → slice_get sent k ≡ Some s → Has s.message (map (λ (s : Sent). s.message) sent)
+got [] k s is = absurd (cc)
+got (x ∷ xs) zero s is = (let same : x ≡ s = cc in inl (ap (λ (y : Sent). y.message) (sym same)))
+got (x ∷ xs) (suc k) s is = inr (got xs k s is)
+
+-- the node of this id, found by its own
+found_by : (w : World) (id : NodeId) (node : Node) → node_in w.nodes id.0 ≡ Some node → node_in w.nodes node.id.0 ≡ Some node
+found_by w id node is = ap (node_in w.nodes) (node_in-id w.nodes id.0 node is) ∙ is
+
+its_id : (w : World) (id : NodeId) (node : Node) → node_in w.nodes id.0 ≡ Some node → id ≡ node.id
+its_id w id node is = sym (same_node node.id id (node_in-id w.nodes id.0 node is))
+
+-- how a node runs
+pub runs_fit : (w : World) (own : List Msg) (id : NodeId) (node : Node) (running : Running) → FitsWorld w own → node_in w.nodes id.0 ≡ Some node → node.up ≡ Some running → FitsRunning running
+runs_fit w own id node running fits is up = at node.up up (fits.nodes node (found_by w id node is)).running
+  where
+    at : (o : Option Running) → o ≡ Some running → IfSome o FitsRunning → FitsRunning running
+    at None e h = absurd (cc)
+    at (Some r) e h = (let same : r ≡ running = cc in subst FitsRunning same h)
+
+-- an event
+pub coming : (w : World) (own : List Msg) (id : NodeId) (happens : Event) → FitsWorld w own → Comes w own id happens → FitsComing w id happens
+coming w own id happens fits comes = record {
+  message = content happens comes;
+  step = λ node running is up. (
+    runs_fit w own id node running fits is up,
+    fits.handled node running happens (found_by w id node is) up (subst (λ (n : NodeId). Comes w own n happens) (its_id w id node is) comes),
+  );
+}
+  where
+    content : (happens : Event) → Comes w own id happens → FitsContent happens
+    content (event.Deliver msg) is = elim (either_list own (messages w) msg is.1) [
+      | inl h ↦ each FitsMessage own msg fits.queued h
+      | inr h ↦ each FitsMessage (messages w) msg (of_sent w.sent fits.sent) h
+    ]
+    content event.Wake is = tt
+    content (event.Call c) is = tt
+
+-- the message of a number
+pub delivered : (w : World) (own : List Msg) (number : ℕ) → FitsWorld w own → FitsDelivery w number
+delivered w own number fits = λ s is. coming w own s.message.to (event.Deliver s.message) fits (refl, behind own s.message (messages w) (got w.sent (number - 1) s is))
+
+-- a client's call
+pub calling : (w : World) (own : List Msg) (id : NodeId) (k : Call) → FitsWorld w own → FitsCall k → busy w.nodes id ≡ None → FitsCalling w id k
+calling w own id k fits bound free = λ node running is up. (
+  runs_fit w own id node running fits is up,
+  λ c number location asked is_core called there asks.
+      fits.called node running c k number location asked (found_by w id node is) up is_core
+      (ap has_call (sym up) ∙ ap (λ (o : Option Node). has_call (up_of o)) (sym is) ∙ not_so _ _ free) bound called there asks,
+)
+  where
+    not_so : (broken : Bool) (rule : Rule) → if_so broken rule ≡ None → broken ≡ false
+    not_so true rule e = absurd (cc)
+    not_so false rule e = refl

@@ -1,0 +1,11 @@
+pub mod Coming
+pub mod Lists
+pub mod States
+pub mod Lease
+pub mod Bytes
+pub mod Replica
+pub mod Updates
+pub mod Primary
+pub mod Serving
+pub mod Asks
+pub mod Files
