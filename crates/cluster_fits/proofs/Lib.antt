@@ -9,3 +9,6 @@ pub mod Primary
 pub mod Serving
 pub mod Asks
 pub mod Files
+pub mod Kept
+pub mod Osd
+pub mod Clients
