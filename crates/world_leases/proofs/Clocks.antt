@@ -1,9 +1,10 @@
 -- the lines that start a node or move clocks
 use Rattle.std.proofs.Common.{◌≡◌, ◌≢◌, ℕ, ◌≤◌, ◌+◌, inl, inr, List, [], ◌∷◌, ◌++◌, map, refl, arith, ap, sym, ◌∙◌, subst, Option, Some, None, Bool, true, false}
-use Rattle.std.specs.Prelude.{◌==◌, ◌&&◌, not, nat_lt, if◌then◌else◌, cond}
+use Rattle.std.specs.Prelude.{◌==◌, ◌&&◌, ◌<◌, ◌^◌, not, nat_lt, nat_le, if◌then◌else◌, cond}
 use Rattle.std.specs.Option.{option_map}
 use Rattle.std.proofs.lemmas.Bool.Decides.{nat_tests}
 use Rattle.xt_base.specs.TimeSettings.{TimeSettings}
+use Rattle.xt_base.specs.declared.TheConstants.{COUNTS}
 use Rattle.xt_base.specs.declared.ids.NodeId.{NodeId}
 use Rattle.xt_base.specs.declared.ids.FileId.{FileId}
 use Rattle.xt_base.specs.declared.ids.Boot.{Boot}
@@ -27,7 +28,7 @@ use Rattle.cluster_runs.specs.declared.DeclaredFile.{DeclaredFile}
 use Rattle.cluster_runs.specs.declared.Entry.TheVariants as entry
 use Rattle.cluster_runs.specs.TimeLine.{Standing, standing, standing_after, reads, advances}
 use Rattle.cluster_runs.specs.World.{World, Node, Running, Core, osd, client, node_in, with_node, up_of}
-use Rattle.cluster_runs.specs.Rules.{Reading, lesser, reading_where, least_where, are_apart, drift_named, drifts}
+use Rattle.cluster_runs.specs.Rules.{Reading, lesser, reading_where, least_where, are_apart, drift_named, drifts, end_named, clock_ends}
 use Rattle.cluster_runs.specs.Lines.{runs, next_boot, osd_starting, starts_as, ticked, tells}
 use Rattle.world_leases.specs.View.{file_setting, node_id, end_in, told, awake_as, unseen, core_seen, up_seen, node_seen, lease_view}
 use Rattle.world_leases.proofs.Tables.{same, node_in-new, node_in-other, node_in-id, node_in-ticked}
@@ -83,6 +84,17 @@ close_by w id clock n node r none ne is up =
   where
     other_id : (k : ℕ) → k ≡ n → (k == id.0) ≡ false
     other_id k e = grind (arith, nat_tests)
+
+-- where the rule on the end lets a tick through, no running clock reaches the end
+pub below_end : (w : World) (count n : ℕ) (node : Node) (r : Running) → clock_ends count w.nodes ≡ None → node_in w.nodes n ≡ Some node → node.up ≡ Some r → r.clock + count < 2 ^ 62
+below_end w count n node r none is up = below (r.clock + count) (least_none (λ (id : NodeId) (clock : ℕ). nat_le COUNTS (clock + count)) w.nodes n node r (unended (least_where (λ (id : NodeId) (clock : ℕ). nat_le COUNTS (clock + count)) w.nodes) none) is up)
+  where
+    unended : (o : Option Reading) → end_named o ≡ None → o ≡ None
+    unended None is = refl
+    unended (Some found) is = absurd (cc)
+
+    below : (c : ℕ) → nat_le COUNTS c ≡ false → c < 2 ^ 62
+    below c over = grind (arith, nat_tests)
 
 -- ---- who runs
 

@@ -126,8 +126,8 @@ fits_kept =
       started = λ w node clock bound found down close fit. clocks.start_fits w node clock found down close fit;
       planned = λ w node r q found is_up boot clock core fit.
           changed_fits w [] node r q found is_up
-          (λ g n end. ap (core_seen g n end node.kept q) core ∙ same_seen g n end node.kept r q r.core boot clock)
-          (subst (CoreFits w.times w.files node.id node.kept q) (sym core) (same_core w.times w.files node.id node.kept r q r.core (sym boot) (sym clock) (core_of w [] node r found is_up fit)))
+          (λ g n end. ap (core_seen g n end node.kept q) core ∙ same_seen g n end node.kept r q r.core boot.0 clock)
+          (subst (CoreFits w.times w.files node.id node.kept q) (sym core) (same_core w.times w.files node.id node.kept r q r.core (sym boot.0) (sym clock) (core_of w [] node r found is_up fit)))
           (λ o stands. same_stands r q o clock core stands) fit;
       aimed_at = λ w node r c number target found is_up is_client fit.
           let d = knows c (declared_file number) (aimed target) in

@@ -1,6 +1,7 @@
 -- What every run keeps: it begins so, and each thing that may happen in a line leaves it so.
 use Rattle.std.proofs.Common.{◌≡◌, ◌≢◌, ℕ, zero, suc, ◌≤◌, ◌-◌, inl, inr, List, [], ◌∷◌, ◌++◌, map, refl, arith, ap, sym, ◌∙◌, subst, Option, Some, None, Bool, true, false}
-use Rattle.std.specs.Prelude.{not, cond, nat_lt, Result, Ok, Err, length, slice_get, slice_set, is_some}
+use Rattle.disk_model.specs.declared.plan.Stop.{Stop}
+use Rattle.std.specs.Prelude.{◌⊎◌, not, cond, nat_lt, Result, Ok, Err, length, slice_get, slice_set, is_some}
 use Rattle.std.specs.Option.{option_or}
 use Rattle.std.proofs.lemmas.Bool.Decides.{nat_tests}
 use Rattle.xt_base.specs.declared.ids.NodeId.{NodeId}
@@ -26,7 +27,7 @@ use Rattle.cluster_runs.specs.declared.Role.TheVariants as role
 use Rattle.cluster_runs.specs.declared.ClientState.{ClientState}
 use Rattle.cluster_runs.specs.Clients.{new_client, knows, aimed, call_of_client}
 use Rattle.cluster_runs.specs.World.{World, start_world, Node, Running, Core, osd, client, node_in, with_node, file_in, up_of}
-use Rattle.cluster_runs.specs.Rules.{NODES, refusal, if_so, no_osd, no_node, node_twice, runs_already, runs_not, drifts, drifts_inside, goes_back, called_file}
+use Rattle.cluster_runs.specs.Rules.{NODES, refusal, if_so, no_osd, no_node, node_twice, runs_already, runs_not, drifts, drifts_inside, goes_back, clock_ends, called_file}
 use Rattle.cluster_runs.specs.NodeSteps.{Room, Cause, came_to, has_no_room, Overflow, Doing, halted, client_steps, event_comes}
 use Rattle.cluster_runs.specs.Lines.{does, tells, declares, runs, first_boot, next_boot, starts_as, starts, changed, stops, crashes, cuts, reads_clock, declared_file, declared_capability, operation_of, epoch_of, uses, client_calls, core_calls, location_of, calls, aims_at, aims, no_longer_pending, delivers, least_pending, first_step, Next, finished, opens, goes_on, ends, begins, went, settles, works_on, next_step, steps, so_far}
 use Rattle.world_leases.specs.View.{messages}
@@ -123,6 +124,10 @@ pub data NodeStep (w : World) (was : List Msg) (node : Node) (r : Running) : Cor
 abbrev pub IsCloseToOthers : World → NodeId → ℕ → Type 0
 IsCloseToOthers w id clock = (n : ℕ) (other : Node) (q : Running) → n ≢ id.0 → node_in w.nodes n ≡ Some other → other.up ≡ Some q → IsClose w.times.drift clock q.clock
 
+-- an append stops where it was to stop before, or in one of its four calls
+abbrev pub StopsAs : Option Stop → Option Stop → Type 0
+StopsAs before after = (after ≡ before) ⊎ ((stop : Stop) × (after ≡ Some stop) × (1 ≤ stop.call) × (stop.call ≤ 4))
+
 -- What is to be shown of a property of worlds, each with the messages of a node to itself that it hasn't handled.
 pub record IsKept (P : World → List Msg → Type 0) : Type 0 where
   -- no line has come, or only the times
@@ -136,8 +141,8 @@ pub record IsKept (P : World → List Msg → Type 0) : Type 0 where
   pub file_declared : (w : World) (number : ℕ) (location : Location) → (number < 1000000) × FitsLocation location → file_in w.files number ≡ None → P w []
       → P (tells (record w { files = w.files ++ record { number = number; location = location } ∷ [] }) (entry.File number location ∷ [])) []
   -- a node starts; it is changed in what no step of it reads; a client's first target is set; a node stops
-  pub started : (w : World) (node : Node) (clock : ℕ) → clock < 2 ^ 62 → node_in w.nodes node.id.0 ≡ Some node → node.up ≡ None → IsCloseToOthers w node.id clock → P w [] → P (starts_as w node (next_boot node.kept) clock) []
-  pub planned : (w : World) (node : Node) (r q : Running) → node_in w.nodes node.id.0 ≡ Some node → node.up ≡ Some r → q.boot ≡ r.boot → q.clock ≡ r.clock → q.core ≡ r.core → P w []
+  pub started : (w : World) (node : Node) (clock : ℕ) → (clock < 2 ^ 62) × (nat_lt (next_boot node.kept).0 COUNTS ≡ true) → node_in w.nodes node.id.0 ≡ Some node → node.up ≡ None → IsCloseToOthers w node.id clock → P w [] → P (starts_as w node (next_boot node.kept) clock) []
+  pub planned : (w : World) (node : Node) (r q : Running) → node_in w.nodes node.id.0 ≡ Some node → node.up ≡ Some r → (q.boot ≡ r.boot) × StopsAs r.crash q.crash → q.clock ≡ r.clock → q.core ≡ r.core → P w []
       → P (record w { nodes = with_node w.nodes (record node { up = Some q }) }) []
   pub aimed_at : (w : World) (node : Node) (r : Running) (c : ClientState) (number : ℕ) (target : NodeId) → node_in w.nodes node.id.0 ≡ Some node → node.up ≡ Some r → r.core ≡ client c → P w []
       → P (record w { nodes = with_node w.nodes (record node { up = Some (record r { core = client (knows c (declared_file number) (aimed target)) }) }) }) []
@@ -145,7 +150,7 @@ pub record IsKept (P : World → List Msg → Type 0) : Type 0 where
   -- clocks
   pub clock_set : (w : World) (node : Node) (r : Running) (clock : ℕ) → clock < 2 ^ 62 → node_in w.nodes node.id.0 ≡ Some node → node.up ≡ Some r → r.clock ≤ clock → IsCloseToOthers w node.id clock → P w []
       → P (tells (record w { nodes = with_node w.nodes (record node { up = Some (record r { clock = clock }) }) }) (entry.Clock node.id clock ∷ [])) []
-  pub all_ticked : (w : World) (count : ℕ) → count < 2 ^ 32 → P w [] → P (tells (record w { nodes = map (ticked count) w.nodes }) (entry.Tick count ∷ [])) []
+  pub all_ticked : (w : World) (count : ℕ) → (count < 2 ^ 32) × (clock_ends count w.nodes ≡ None) → P w [] → P (tells (record w { nodes = map (ticked count) w.nodes }) (entry.Tick count ∷ [])) []
   -- a message is no longer pending; messages of a node to itself are lost
   pub less_pending : (w : World) (own : List Msg) (number : ℕ) → P w own → P (record w { sent = no_longer_pending w.sent number }) own
   pub lost : (w : World) (own left : List Msg) → ((m : Msg) → Has m left → Has m own) → P w own → P w left
@@ -275,7 +280,7 @@ module _ (P : World → List Msg → Type 0) (keeps : IsKept P) where
       at (Some node) is = by_up node node.up (ap (node_in d.world.nodes) (node_in-id d.world.nodes id.0 node is) ∙ is) (same_node node.id id (node_in-id d.world.nodes id.0 node is)) refl
 
   -- a plan to stop it
-  plan_kept : (w : World) (id : NodeId) (plan : Running → Running) → ((r : Running) → (plan r).boot ≡ r.boot) → ((r : Running) → (plan r).clock ≡ r.clock) → ((r : Running) → (plan r).core ≡ r.core)
+  plan_kept : (w : World) (id : NodeId) (plan : Running → Running) → ((r : Running) → ((plan r).boot ≡ r.boot) × StopsAs r.crash (plan r).crash) → ((r : Running) → (plan r).clock ≡ r.clock) → ((r : Running) → (plan r).core ≡ r.core)
       → P w [] → P (changed w (node_in w.nodes id.0) plan) []
   plan_kept w id plan boot clock core p = at (node_in w.nodes id.0) refl
     where
@@ -293,7 +298,7 @@ module _ (P : World → List Msg → Type 0) (keeps : IsKept P) where
   aims_kept w id number target p = at (node_in w.nodes id.0) refl
     where
       by_core : (node : Node) (r : Running) (core : Core) → node_in w.nodes node.id.0 ≡ Some node → node.up ≡ Some r → r.core ≡ core → P (record w { nodes = with_node w.nodes (record node { up = Some (record r { core = aims_at number target core }) }) }) []
-      by_core node r (osd s) found is_up is_core = keeps.planned w node r (record r { core = osd s }) found is_up refl refl (sym is_core) p
+      by_core node r (osd s) found is_up is_core = keeps.planned w node r (record r { core = osd s }) found is_up (refl, inl refl) refl (sym is_core) p
       by_core node r (client c) found is_up is_core = keeps.aimed_at w node r c number target found is_up is_core p
 
       by_up : (node : Node) → node_in w.nodes node.id.0 ≡ Some node → (up : Option Running) → node.up ≡ up
@@ -388,26 +393,26 @@ module _ (P : World → List Msg → Type 0) (keeps : IsKept P) where
       idle_fit : P d.world d.own
       idle_fit = subst (P d.world) (sym idle) fit
 
-      new : (node : Node) → node_in d.world.nodes id.0 ≡ Some node → P (starts_as d.world node (next_boot node.kept) clock) []
-      new node is =
+      new : (node : Node) → node_in d.world.nodes id.0 ≡ Some node → nat_lt (next_boot node.kept).0 COUNTS ≡ true → P (starts_as d.world node (next_boot node.kept) clock) []
+      new node is few =
           let its = node_in-id d.world.nodes id.0 node is in
           let off = none_there (up_of (node_in d.world.nodes id.0)) (not_so _ _ down) in
-          keeps.started d.world node clock bound (ap (node_in d.world.nodes) its ∙ is) (sym (ap up_of is) ∙ off)
+          keeps.started d.world node clock (bound, few) (ap (node_in d.world.nodes) its ∙ is) (sym (ap up_of is) ∙ off)
           (λ n other r ne there up. close_by d.world id clock n other r close (λ e. ne (e ∙ sym its)) there up) fit
 
-      by_room : (node : Node) → node_in d.world.nodes id.0 ≡ Some node → (o : Option Overflow)
+      by_room : (node : Node) → node_in d.world.nodes id.0 ≡ Some node → nat_lt (next_boot node.kept).0 COUNTS ≡ true → (o : Option Overflow)
           → ResultIs (elim o [ Some overflow ↦ Err (has_no_room overflow) | None ↦ does d (starts_as d.world node (next_boot node.kept) clock) ])
-      by_room node is (Some overflow) = tt
-      by_room node is None = subst (P (starts_as d.world node (next_boot node.kept) clock)) (sym idle) (new node is)
+      by_room node is few (Some overflow) = tt
+      by_room node is few None = subst (P (starts_as d.world node (next_boot node.kept) clock)) (sym idle) (new node is few)
 
-      by_boot : (node : Node) → node_in d.world.nodes id.0 ≡ Some node → (b : Bool)
+      by_boot : (node : Node) → node_in d.world.nodes id.0 ≡ Some node → (b : Bool) → nat_lt (next_boot node.kept).0 COUNTS ≡ b
           → ResultIs (cond b (elim (room node.kept (kept.Boot (next_boot node.kept))) [ Some overflow ↦ Err (has_no_room overflow) | None ↦ does d (starts_as d.world node (next_boot node.kept) clock) ]) (Err (came_to limited.Boots)))
-      by_boot node is true = by_room node is (room node.kept (kept.Boot (next_boot node.kept)))
-      by_boot node is false = tt
+      by_boot node is true few = by_room node is few (room node.kept (kept.Boot (next_boot node.kept)))
+      by_boot node is false few = tt
 
       at : (found : Option Node) → node_in d.world.nodes id.0 ≡ found → ResultIs (starts room d clock found)
       at None is = idle_fit
-      at (Some node) is = by_boot node is (nat_lt (next_boot node.kept).0 COUNTS)
+      at (Some node) is = by_boot node is (nat_lt (next_boot node.kept).0 COUNTS) refl
 
   declares_kept : (d : Doing) (node : Node) (es : List Entry) → d.own ≡ [] → P (tells (record d.world { nodes = d.world.nodes ++ node ∷ [] }) es) [] → ResultIs (declares d node es)
   declares_kept d node es idle fit = at (nat_lt (length d.world.nodes) NODES)
@@ -457,14 +462,14 @@ module _ (P : World → List Msg → Type 0) (keeps : IsKept P) where
       let parts = either_none (runs_already w.nodes node) (drifts w node clock) later in
       starts_kept room _ node clock first.0.1 refl parts.0 parts.1 fit
   first_kept room w (line.Stop node) allowed first fit = stops_kept w node fit
-  first_kept room w (line.Crash node k fill) allowed first fit = plan_kept w node (crashes k fill) (λ r. refl) (λ r. refl) (λ r. refl) fit
-  first_kept room w (line.Cut node count) allowed first fit = plan_kept w node (cuts count) (λ r. refl) (λ r. refl) (λ r. refl) fit
+  first_kept room w (line.Crash node k fill) allowed first fit = plan_kept w node (crashes k fill) (λ r. (refl, inr (record { call = k; fill = fill }, refl, first.0.1, first.0.2))) (λ r. refl) (λ r. refl) fit
+  first_kept room w (line.Cut node count) allowed first fit = plan_kept w node (cuts count) (λ r. (refl, inl refl)) (λ r. refl) (λ r. refl) fit
   first_kept room w (line.Clock node clock) allowed first fit =
       let later = (either_none (no_node w.nodes node) (option_or (runs_not w.nodes node) (option_or (goes_back clock (up_of (node_in w.nodes node.0))) (drifts w node clock))) allowed).1 in
       let one = either_none (runs_not w.nodes node) (option_or (goes_back clock (up_of (node_in w.nodes node.0))) (drifts w node clock)) later in
       let two = either_none (goes_back clock (up_of (node_in w.nodes node.0))) (drifts w node clock) one.1 in
       clock_line w node clock first.0.1 one.0 two.0 two.1 fit
-  first_kept room w (line.Tick count) allowed first fit = keeps.all_ticked w count first.0 fit
+  first_kept room w (line.Tick count) allowed first fit = keeps.all_ticked w count (first.0, allowed) fit
   first_kept room w (line.Wake node) allowed first fit = event_kept room (record { world = w; own = []; left = 0 }) [] node event.Wake (λ k h. h) tt fit
   first_kept room w (line.Call id k) allowed first fit = calls_kept room (record { world = w; own = []; left = 0 }) id k first.0.1 (either_none (no_called_file w.files (called_file k)) (busy w.nodes id) (either_none (no_client w.nodes id) (option_or (no_called_file w.files (called_file k)) (busy w.nodes id)) allowed).1).1 refl fit
   first_kept room w (line.Aim id file node) allowed first fit = aims_kept w id file node fit
