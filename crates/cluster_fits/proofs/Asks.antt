@@ -1,6 +1,6 @@
 -- the asks of a file: as they wait and are served, all that comes of them is within the limits
-use Rattle.std.proofs.Common.{◌≡◌, ◌==◌, ◌&&◌, ◌<◌, ◌≤◌, ◌+◌, ◌^◌, ℕ, suc, nat_lt, List, [], ◌∷◌, ◌++◌, length, map, refl, sym, ap, subst, Option, Some, None, Bool, true, false, arith}
-use Rattle.std.specs.Prelude.{cond, not, filter, is_some, count_by, if◌then◌else◌}
+use Rattle.std.proofs.Common.{◌≡◌, ◌&&◌, ◌<◌, ◌≤◌, ◌^◌, suc, nat_lt, List, [], ◌∷◌, ◌++◌, length, refl, sym, ap, subst, Option, Some, None, Bool, true, false, arith}
+use Rattle.std.specs.Prelude.{cond, not, is_some, count_by}
 use Rattle.std.specs.Option.{IfSome}
 use Rattle.std.specs.List.{AllByRecursion, fold}
 use Rattle.std.proofs.lemmas.Bool.Decides.{nat_tests}
@@ -9,12 +9,10 @@ use Rattle.xt_base.specs.declared.ids.NodeId.{NodeId}
 use Rattle.xt_base.specs.declared.ids.FileId.{FileId}
 use Rattle.xt_base.specs.declared.ids.OpId.{OpId}
 use Rattle.xt_base.specs.declared.file.FileHead.{FileHead}
-use Rattle.xt_base.specs.declared.message.Msg.{Msg}
 use Rattle.xt_base.specs.declared.record.Record.{Record}
 use Rattle.xt_base.specs.declared.reply.Reply.{Reply}
 use Rattle.xt_base.specs.declared.reply.Reply.TheVariants as reply
 use Rattle.xt_base.specs.Limits.{FitsNode, FitsFile, FitsMessage, FitsReply}
-use Rattle.xt_protocol.specs.declared.Turned.{Turned}
 use Rattle.osd_rows.specs.declared.Asks.{Asks}
 use Rattle.osd_rows.specs.declared.IssuedAsk.{IssuedAsk}
 use Rattle.osd_rows.specs.declared.Peer.{Peer}
@@ -24,14 +22,14 @@ use Rattle.osd_rows.specs.declared.Progress.TheVariants as progress
 use Rattle.osd_rows.specs.declared.Tenure.{Tenure}
 use Rattle.osd_rows.specs.declared.WaitingAsk.{WaitingAsk}
 use Rattle.osd_rows.specs.Turns.{quiet, the_record, reply_to}
-use Rattle.osd_rows.specs.Primaries.{Ground, Led, is_active, is_ready, is_reported, statuses_counted, majority_among, have_in}
+use Rattle.osd_rows.specs.Primaries.{Ground, Led, is_active, is_ready, is_reported, majority_among, have_in}
 use Rattle.osd_rows.specs.Serving.{reads, writes}
-use Rattle.osd_rows.specs.Asks.{Served, WAITING, no_asks, waits, stays, is_read, read_answer, newly_issued, write_done, serves, serves_waiting, serves_all, comes_back, asks_behind, asks_follow, tells_each, tells_untold}
+use Rattle.osd_rows.specs.Asks.{Served, WAITING, no_asks, waits, stays, is_read, read_answer, newly_issued, write_done, serves, serves_waiting, serves_all, comes_back, asks_follow, tells_each, tells_untold}
 use Rattle.osd_replica_views.specs.Seen.{nodes_in, acked_by}
 use Rattle.version_lists.proofs.HeadLimits.{either}
 use Rattle.cluster_fits.proofs.Lists.{all_append}
-use Rattle.cluster_fits.proofs.States.{AreSent, sent, IssuedIs, ProgressIs, TenureIs, PrimaryIs, AskIs, AsksAre}
-use Rattle.cluster_fits.proofs.Primary.{LedRec, LedIs, GroundIs, nodes_count}
+use Rattle.cluster_fits.proofs.States.{AreSent, sent, ProgressIs, PrimaryIs, AskIs, AsksAre}
+use Rattle.cluster_fits.proofs.Primary.{LedRec, LedIs, GroundIs}
 use Rattle.cluster_fits.proofs.Serving.{reads_is, writes_is}
 
 -- ---- replies

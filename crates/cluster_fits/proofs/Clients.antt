@@ -1,6 +1,6 @@
 -- a step of a client: its state and its messages are within the limits, and it keeps no record
-use Rattle.std.proofs.Common.{◌≡◌, ◌==◌, ◌||◌, ◌&&◌, ◌<◌, ◌≤◌, ◌+◌, ◌^◌, max, ℕ, nat_lt, nat_le, List, [], ◌∷◌, ◌++◌, refl, sym, ap, subst, ◌∙◌, Option, Some, None, Bool, true, false, arith}
-use Rattle.std.specs.Prelude.{cond, not, filter}
+use Rattle.std.proofs.Common.{◌≡◌, ◌==◌, ◌||◌, ◌&&◌, ◌<◌, ◌+◌, ◌^◌, max, ℕ, nat_lt, nat_le, List, [], ◌∷◌, refl, subst, Option, Some, None, Bool, true, false, arith}
+use Rattle.std.specs.Prelude.{not, filter}
 use Rattle.std.specs.Option.{IfSome}
 use Rattle.std.specs.List.{AllByRecursion}
 use Rattle.std.proofs.lemmas.Bool.{eqb-true}
@@ -27,13 +27,13 @@ use Rattle.xt_base.specs.declared.reply.Reply.{Reply}
 use Rattle.xt_base.specs.declared.reply.Reply.TheVariants as reply
 use Rattle.xt_base.specs.declared.reply.Retry.{Retry}
 use Rattle.xt_base.specs.declared.reply.Retry.TheVariants as retry
-use Rattle.xt_base.specs.Limits.{FitsNode, FitsFile, FitsCapability, FitsLocation, FitsOp, FitsPayload, FitsReply, IsCount}
+use Rattle.xt_base.specs.Limits.{FitsNode, FitsCapability, FitsLocation, FitsOp, FitsPayload, FitsReply, IsCount}
 use Rattle.xt_protocol.specs.FileIds.{is_file}
 use Rattle.cluster_runs.specs.declared.ClientState.{ClientState}
 use Rattle.cluster_runs.specs.declared.KnownFile.{KnownFile}
 use Rattle.cluster_runs.specs.declared.RunningCall.{RunningCall}
 use Rattle.cluster_runs.specs.Bounds.{FitsCall}
-use Rattle.cluster_runs.specs.Clients.{ClientSite, new_known, known_in, with_known, knows, aimed, raised, first_member, first_target, asks, new_call, begins_call, call_comes, call_of_client, ends_call, was_tried, with_outcome, named, next_of, turned_away, turned_away_by, answered, reply_comes, message_comes, wakes, event_comes, step_of_client, new_client, answers_in}
+use Rattle.cluster_runs.specs.Clients.{ClientSite, known_in, with_known, knows, aimed, raised, first_member, first_target, asks, new_call, begins_call, call_comes, call_of_client, ends_call, was_tried, with_outcome, named, next_of, turned_away, turned_away_by, answered, reply_comes, message_comes, wakes, event_comes, step_of_client, new_client, answers_in}
 use Rattle.cluster_runs.specs.Lines.{declared_file, declared_capability, operation_of, epoch_of, uses}
 use Rattle.cluster_runs.specs.Rules.{called_file}
 use Rattle.cluster_runs.specs.Steps.{Step, stays}

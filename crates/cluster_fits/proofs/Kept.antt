@@ -1,12 +1,11 @@
 -- what a node keeps: records within the limits, each in its place, and what they say of each file and each body
-use Rattle.std.proofs.Common.{◌≡◌, ◌==◌, ◌&&◌, ℕ, List, [], ◌∷◌, ◌++◌, refl, sym, ap, subst, ◌∙◌, Option, Some, None, Bool, true, false, unwrap_or, arith}
+use Rattle.std.proofs.Common.{◌≡◌, ◌==◌, ◌&&◌, ℕ, List, [], ◌∷◌, ◌++◌, refl, sym, ap, subst, Option, Some, None, true, unwrap_or, arith}
 use Rattle.std.specs.Option.{IfSome}
 use Rattle.std.specs.List.{All, AllByRecursion, fold}
 use Rattle.std.specs.Prelude.{Contains}
 use Rattle.xt_base.specs.declared.ids.Boot.{Boot}
 use Rattle.xt_base.specs.declared.ids.FileId.{FileId}
 use Rattle.xt_base.specs.declared.ids.Stamp.{Stamp}
-use Rattle.xt_base.specs.declared.file.Update.{Update}
 use Rattle.xt_base.specs.declared.record.FileRow.{FileRow}
 use Rattle.xt_base.specs.declared.record.Folded.{Folded}
 use Rattle.xt_base.specs.declared.record.Record.{Record}
@@ -17,11 +16,11 @@ use Rattle.xt_protocol.specs.Heads.{new_head}
 use Rattle.xt_protocol.specs.Folds.{new_row, row_in, row_after, with_row, rows_after, file_of, folded_after, nothing_kept, fold_of, FollowsHead, IsInPlace, AreInPlace, makes_body, body_put, newer, body_after, body_kept}
 use Rattle.xt_protocol.specs.SeenBodies.{body_by}
 use Rattle.xt_protocol.specs.Stamps.{is_stamp}
-use Rattle.xt_protocol.proofs.Folds.{fold_of-nothing, fold_of-push, row_in-file}
+use Rattle.xt_protocol.proofs.Folds.{fold_of-push, row_in-file}
 use Rattle.version_lists.proofs.HeadLimits.{either}
 use Rattle.cluster_fits.specs.Fits.{FitsNext}
 use Rattle.cluster_fits.proofs.Lists.{all_append}
-use Rattle.cluster_fits.proofs.States.{RowIs, RecordIs, PlacedOn, AreBodies}
+use Rattle.cluster_fits.proofs.States.{RowIs, RecordIs, AreBodies}
 use Rattle.cluster_fits.proofs.Replica.{row_is}
 use Rattle.cluster_fits.proofs.Updates.{no_bytes}
 

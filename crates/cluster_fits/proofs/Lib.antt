@@ -12,3 +12,4 @@ pub mod Files
 pub mod Kept
 pub mod Osd
 pub mod Clients
+pub mod Worlds

@@ -1,11 +1,11 @@
 -- lists of which each element is so
-use Rattle.std.proofs.Common.{◌≡◌, ℕ, zero, suc, inl, inr, List, [], ◌∷◌, ◌++◌, map, refl, sym, ap, subst, Option, Some, None, Bool, true, false}
-use Rattle.std.specs.Prelude.{filter, flat_map, find, cond, not}
+use Rattle.std.proofs.Common.{inl, inr, List, [], ◌∷◌, ◌++◌, map, refl, sym, subst, Some, Bool}
+use Rattle.std.specs.Prelude.{filter, flat_map, find}
 use Rattle.std.specs.Option.{IfSome}
 use Rattle.std.specs.List.{AllByRecursion}
 use Rattle.lease_safety.specs.State.{Has}
 use Rattle.replica_safety.specs.Lists as replica
-use Rattle.version_lists.proofs.HeadLimits.{either, when}
+use Rattle.version_lists.proofs.HeadLimits.{either}
 
 pub each_of : {A : Type 0} (P : A → Type 0) (xs : List A) (x : A) → AllByRecursion P xs → Has x xs → P x
 each_of P [] x all has = absurd has

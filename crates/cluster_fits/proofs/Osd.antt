@@ -1,8 +1,7 @@
 -- a step of an OSD: its state, its record and its messages are within the limits
-use Rattle.std.proofs.Common.{◌≡◌, ◌<◌, ◌+◌, ◌^◌, max, ℕ, List, [], ◌∷◌, ◌++◌, map, refl, sym, ap, subst, ◌∙◌, Option, Some, None, Bool, true, false, arith}
+use Rattle.std.proofs.Common.{◌≡◌, ◌<◌, ◌^◌, max, ℕ, List, [], ◌∷◌, sym, subst, Option, Some, None, arith}
 use Rattle.std.specs.Option.{IfSome}
 use Rattle.std.specs.List.{AllByRecursion}
-use Rattle.xt_base.specs.declared.ids.NodeId.{NodeId}
 use Rattle.xt_base.specs.declared.ids.FileId.{FileId}
 use Rattle.xt_base.specs.declared.event.Event.{Event}
 use Rattle.xt_base.specs.declared.event.Event.TheVariants as event
@@ -15,11 +14,10 @@ use Rattle.xt_base.specs.Limits.{FitsNode, FitsBoot, FitsFile, FitsMessage, Fits
 use Rattle.xt_protocol.specs.FileIds.{is_file, is_before}
 use Rattle.xt_protocol.specs.Folds.{new_row, row_in, fold_of}
 use Rattle.xt_protocol.specs.LeaseRows.{Silent, Awake, is_silent}
-use Rattle.osd_rows.specs.Turns.{quiet}
 use Rattle.osd_rows.specs.FileStates.{FileState, Site, FileStep, file_from}
 use Rattle.osd_rows.specs.Overdue.{expired}
 use Rattle.osd_rows.specs.FileSteps.{step_of_file, wake_of_file}
-use Rattle.osd_rows.specs.OsdSteps.{OsdState, OsdStep, FilesStep, osd_from, file_at, with_file, each_file, file_concerned, message_handled, asks_dir, woken, event_handled, handled_awake, step_of_osd}
+use Rattle.osd_rows.specs.OsdSteps.{OsdState, OsdStep, FilesStep, osd_from, file_at, with_file, each_file, file_concerned, message_handled, woken, event_handled, handled_awake, step_of_osd}
 use Rattle.osd_invariants.specs.Sound.{IsSound}
 use Rattle.osd_lease_views.proofs.ActSteps.{woken_quiet}
 use Rattle.cluster_runs.specs.NodeSteps.{outside_of}

@@ -1,6 +1,6 @@
 -- a primary that hears messages: what it sends and keeps is within the limits, and its promise is in its place
-use Rattle.std.proofs.Common.{◌≡◌, ◌==◌, ◌&&◌, ◌<◌, ◌≤◌, ◌+◌, ◌^◌, max, ℕ, suc, nat_lt, nat_le, List, [], ◌∷◌, ◌++◌, length, map, refl, sym, ap, subst, ◌∙◌, Option, Some, None, Bool, true, false, if◌then◌else◌, arith}
-use Rattle.std.specs.Prelude.{cond, not, find, filter, filter_map, flat_map, count_by}
+use Rattle.std.proofs.Common.{◌≡◌, ◌==◌, ◌&&◌, ◌<◌, ◌≤◌, ◌+◌, ◌^◌, max, ℕ, suc, nat_lt, nat_le, List, [], ◌∷◌, length, map, refl, sym, ap, subst, Option, Some, None, Bool, true, false, if◌then◌else◌, arith}
+use Rattle.std.specs.Prelude.{not, find}
 use Rattle.std.specs.Option.{IfSome}
 use Rattle.std.specs.List.{AllByRecursion}
 use Rattle.std.proofs.lemmas.Bool.Decides.{nat_tests}
@@ -17,7 +17,7 @@ use Rattle.xt_base.specs.declared.message.Payload.TheVariants as payload
 use Rattle.xt_base.specs.declared.record.Record.{Record}
 use Rattle.xt_base.specs.declared.record.Record.TheVariants as kept
 use Rattle.xt_base.specs.Limits.{FitsNode, FitsFile, FitsEpoch, FitsStamp, FitsHead, FitsUpdate, FitsVersion, FitsBytes, FitsMessage, FitsPayload, IsCount, IsObject, is_at_most}
-use Rattle.xt_protocol.specs.Folds.{body_of, body_put}
+use Rattle.xt_protocol.specs.Folds.{body_of}
 use Rattle.xt_protocol.specs.FileIds.{is_file}
 use Rattle.xt_protocol.specs.Stamps.{is_epoch, is_earlier, is_below, is_stamp, is_version, has_version, without_version}
 use Rattle.osd_rows.specs.declared.Place.{Place}
@@ -30,16 +30,16 @@ use Rattle.osd_rows.specs.declared.Progress.{Progress}
 use Rattle.osd_rows.specs.declared.Progress.TheVariants as progress
 use Rattle.osd_rows.specs.declared.Tenure.{Tenure}
 use Rattle.osd_rows.specs.Choice.{chosen_of, difference}
-use Rattle.osd_rows.specs.Turns.{message, to_each, quiet}
+use Rattle.osd_rows.specs.Turns.{to_each}
 use Rattle.osd_rows.specs.ReplicaRows.{stage_record}
-use Rattle.osd_rows.specs.Primaries.{Ground, Led, in_tenure, unknown_peer, peer_in, with_peer, nodes_of, report_of, reports_of, majority_among, statuses_counted, with_node, carries, known_of_report, known_of_own, with_known, fed_next, fed, last_sent, if_any, last_to_each, target_of, is_unknown}
-use Rattle.osd_rows.specs.PrimaryRows.{goes_on, unmoved, epoch_above, epoch_drawn, peer_fed, peers_fed, installs, fetches, head_chosen, chooses, status_counted, with_state, peer_sent, feeds, status_told, hears_status, newer_body, body_put_by, body_beyond, after_keeping, body_fetched, hears_object, target_in, body_staged, body_missed, hears_missing, makes_current, activated, head_acked, committed, update_acked, acked_below, hears_ack, forgotten, peer_behind, outpromised, epoch_told, hears_peer, hears_member, hears_epoch, hears_in, hears}
+use Rattle.osd_rows.specs.Primaries.{Ground, Led, unknown_peer, peer_in, with_peer, nodes_of, reports_of, majority_among, statuses_counted, with_node, carries, known_of_report, known_of_own, with_known, fed_next, fed, last_sent, if_any, last_to_each, target_of, is_unknown}
+use Rattle.osd_rows.specs.PrimaryRows.{unmoved, epoch_above, epoch_drawn, peer_fed, peers_fed, installs, fetches, chooses, status_counted, with_state, peer_sent, feeds, status_told, newer_body, body_put_by, body_beyond, body_fetched, hears_object, target_in, body_staged, body_missed, hears_missing, makes_current, head_acked, committed, update_acked, acked_below, hears_ack, forgotten, peer_behind, outpromised, epoch_told, hears_peer, hears_member, hears_epoch, hears_in, hears}
 use Rattle.osd_replica_views.specs.Seen.{AckedFit, nodes_in}
 use Rattle.osd_replica_views.proofs.Choices.{chosen_is}
 use Rattle.osd_replica_views.proofs.Counts.{acked_fits}
 use Rattle.osd_replica_views.proofs.Peers.{peer_found, peer_listed, nodes_with}
 use Rattle.version_lists.proofs.HeadLimits.{either, when}
-use Rattle.cluster_fits.proofs.Lists.{each_in, all_append, all_filter, all_flat, all_map, all_weaker, found_is}
+use Rattle.cluster_fits.proofs.Lists.{each_in, all_filter, all_flat, all_weaker, found_is}
 use Rattle.cluster_fits.proofs.States.{AreSent, sent, PeerStateIs, PeerIs, AckedIs, IssuedIs, ProgressIs, TenureIs, PrimaryIs, AreBodies}
 use Rattle.cluster_fits.proofs.Updates.{no_bytes}
 
@@ -235,8 +235,10 @@ module _ (g : Ground) (learnt : ℕ) (ground : GroundIs g) (number : IsCount lea
           leads = record { place = is.place; few = subst (λ ns. length ns ≤ 9) (sym (fed_nodes target t.peers)) is.few; each = peers; stands = (whole, omega arith) };
         };
         next = tt;
-        outs = (sent g.place.node g.place.node (payload.Head g.place.file t.epoch target) ground.who ground.who (ground.which, is.place, fits),
-            lasts_sent g.place t.epoch (peers_fed g target t.peers) ground.who ground.which is.place peers);
+        outs = (
+          sent g.place.node g.place.node (payload.Head g.place.file t.epoch target) ground.who ground.who (ground.which, is.place, fits),
+          lasts_sent g.place t.epoch (peers_fed g target t.peers) ground.who ground.which is.place peers,
+        );
       }
 
   fetches_is : (t : Tenure) (chosen : FileHead) (source : NodeId) (wanted : List ObjectVersion) → TenureIs t → FitsHead chosen → FitsNode source → AllByRecursion FitsVersion wanted

@@ -1,30 +1,27 @@
 -- a replica: what it keeps is within the limits and in its place, and so is what it answers
-use Rattle.std.proofs.Common.{◌≡◌, ◌==◌, ◌&&◌, ◌<◌, ◌≤◌, ◌+◌, ◌⊎◌, inl, inr, ℕ, nat_lt, nat_le, List, [], ◌∷◌, length, refl, sym, ap, subst, ◌∙◌, Option, Some, None, Bool, true, false, arith}
-use Rattle.std.specs.Prelude.{cond, not, find, Contains}
+use Rattle.std.proofs.Common.{◌≡◌, ◌==◌, ◌&&◌, ◌≤◌, ◌+◌, inl, ℕ, nat_lt, nat_le, List, [], ◌∷◌, length, refl, sym, Option, Some, None, Bool, true, false, arith}
+use Rattle.std.specs.Prelude.{cond, not, Contains}
 use Rattle.std.specs.Option.{IfSome}
-use Rattle.std.specs.List.{All, AllByRecursion}
+use Rattle.std.specs.List.{AllByRecursion}
 use Rattle.std.proofs.lemmas.Bool.{and_parts, eqb-true}
 use Rattle.std.proofs.lemmas.Bool.Decides.{nat_tests}
 use Rattle.std.proofs.lemmas.List.Elements.{All-from_recursion}
 use Rattle.xt_base.specs.declared.TheConstants.{OBJECTS, CLIENTS, COUNTS}
-use Rattle.xt_base.specs.declared.ids.FileId.{FileId}
 use Rattle.xt_base.specs.declared.ids.Epoch.{Epoch}
 use Rattle.xt_base.specs.declared.ids.Stamp.{Stamp}
 use Rattle.xt_base.specs.declared.file.FileHead.{FileHead}
 use Rattle.xt_base.specs.declared.file.ObjectVersion.{ObjectVersion}
 use Rattle.xt_base.specs.declared.file.Update.{Update}
-use Rattle.xt_base.specs.declared.message.Payload.{Payload}
 use Rattle.xt_base.specs.declared.message.Payload.TheVariants as payload
 use Rattle.xt_base.specs.declared.record.FileRow.{FileRow}
 use Rattle.xt_base.specs.declared.record.Record.{Record}
 use Rattle.xt_base.specs.declared.record.Record.TheVariants as kept
-use Rattle.xt_base.specs.Limits.{FitsEpoch, FitsStamp, FitsHead, FitsUpdate, FitsVersion, FitsBytes, FitsPayload, FitsFile, FitsLocation, FitsRecord, IsObject, is_at_most}
-use Rattle.xt_protocol.specs.Folds.{FollowsHead, body_of, row_after}
+use Rattle.xt_base.specs.Limits.{FitsEpoch, FitsStamp, FitsHead, FitsUpdate, FitsVersion, FitsBytes, FitsPayload, IsObject, is_at_most}
+use Rattle.xt_protocol.specs.Folds.{body_of, row_after}
 use Rattle.xt_protocol.specs.Heads.{head_after}
 use Rattle.xt_protocol.specs.Stamps.{is_epoch, is_earlier, is_below, has_version}
-use Rattle.xt_protocol.proofs.Folds.{row_after-file}
 use Rattle.osd_rows.specs.declared.Acted.{Acted}
-use Rattle.osd_rows.specs.ReplicaRows.{unanswered, only, after_record, refused, behind, as_promised, gathered, fetched_from, stage_record, staged, head_taken, first_missing, head_offered, headed, head_fits, next_update, update_offered, updated, kept_after}
+use Rattle.osd_rows.specs.ReplicaRows.{only, refused, behind, as_promised, gathered, fetched_from, stage_record, staged, head_taken, first_missing, head_offered, headed, head_fits, next_update, update_offered, updated, kept_after}
 use Rattle.record_folds.specs.Sound.{HasRoomFor, FitsLists}
 use Rattle.record_folds.proofs.AfterUpdate.{follows}
 use Rattle.record_folds.proofs.Held.{is_among}

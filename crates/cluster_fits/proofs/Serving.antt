@@ -1,6 +1,6 @@
 -- a primary that serves and wakes: its answers, its updates and what it sends again are within the limits
-use Rattle.std.proofs.Common.{◌≡◌, ◌==◌, ◌&&◌, ◌<◌, ◌≤◌, ◌+◌, ◌^◌, ℕ, nat_lt, List, [], ◌∷◌, refl, Option, Some, None, Bool, true, false, arith}
-use Rattle.std.specs.Prelude.{cond, not, filter, flat_map}
+use Rattle.std.proofs.Common.{◌≡◌, ◌==◌, ◌&&◌, ◌<◌, ◌≤◌, ◌+◌, ◌^◌, ℕ, nat_lt, List, ◌∷◌, Option, Some, None, true, arith}
+use Rattle.std.specs.Prelude.{not}
 use Rattle.std.specs.Option.{IfSome}
 use Rattle.std.specs.List.{AllByRecursion}
 use Rattle.std.proofs.lemmas.Bool.Decides.{nat_tests}
@@ -25,9 +25,8 @@ use Rattle.osd_rows.specs.declared.Progress.{Progress}
 use Rattle.osd_rows.specs.declared.Progress.TheVariants as progress
 use Rattle.osd_rows.specs.declared.Tenure.{Tenure}
 use Rattle.osd_rows.specs.declared.WaitingAsk.{WaitingAsk}
-use Rattle.osd_rows.specs.Writes.{bytes_shown, Standing, repeated, older, turned_away, fresh, standing, update_of}
-use Rattle.osd_rows.specs.Primaries.{Ground, Led, is_current, nodes_of, last_sent, if_any}
-use Rattle.osd_rows.specs.PrimaryRows.{goes_on, unmoved}
+use Rattle.osd_rows.specs.Writes.{Standing, repeated, older, turned_away, fresh, standing}
+use Rattle.osd_rows.specs.Primaries.{Ground, Led, is_current, if_any}
 use Rattle.osd_rows.specs.Serving.{reads_in, reads_under, reads, current_others, issues, next_update_of, issues_unless, write_stands, writes_in, writes_under, writes, gather_unknown, unacked, sent_again, to_peers, wakes_in, wakes_under, wakes}
 use Rattle.version_lists.proofs.HeadLimits.{either, when}
 use Rattle.cluster_fits.proofs.Lists.{all_filter, all_flat, all_weaker}

@@ -1,15 +1,14 @@
 -- what the state of a file, of an OSD and of a client keeps to: all that it may send or keep is within the limits
 use Rattle.std.proofs.Common.{refl}
-use Rattle.std.specs.Prelude.{ℕ, ◌≡◌, ◌<◌, ◌≤◌, ◌+◌, ◌^◌, true, Option, Some, None, List, length, count_by, Contains}
+use Rattle.std.specs.Prelude.{ℕ, ◌≡◌, ◌<◌, ◌≤◌, ◌+◌, ◌^◌, true, Option, Some, List, length, Contains}
 use Rattle.std.specs.Option.{IfSome}
 use Rattle.std.specs.List.{All, AllByRecursion}
-use Rattle.xt_base.specs.Limits.{FitsBoot, FitsBallot, FitsLease, FitsNode, FitsFile, FitsEpoch, FitsStamp, FitsHead, FitsVersion, FitsUpdate, FitsBytes, FitsOp, FitsOpId, FitsLocation, FitsCapability, FitsMessage, FitsPayload, FitsRecord, IsCount, IsObject, is_at_most}
+use Rattle.xt_base.specs.Limits.{FitsBoot, FitsBallot, FitsLease, FitsNode, FitsFile, FitsEpoch, FitsStamp, FitsHead, FitsVersion, FitsUpdate, FitsBytes, FitsOp, FitsOpId, FitsLocation, FitsMessage, FitsPayload, FitsRecord, IsCount, IsObject, is_at_most}
 use Rattle.xt_base.specs.declared.TheConstants.{BODY}
 use Rattle.xt_base.specs.declared.ids.NodeId.{NodeId}
 use Rattle.xt_base.specs.declared.ids.Boot.{Boot}
 use Rattle.xt_base.specs.declared.ids.FileId.{FileId}
 use Rattle.xt_base.specs.declared.ids.Stamp.{Stamp}
-use Rattle.xt_base.specs.declared.file.FileHead.{FileHead}
 use Rattle.xt_base.specs.declared.file.Op.{Op}
 use Rattle.xt_base.specs.declared.file.Op.TheVariants as op
 use Rattle.xt_base.specs.declared.message.Msg.{Msg}
@@ -21,7 +20,6 @@ use Rattle.xt_protocol.specs.Folds.{file_of, FollowsHead}
 use Rattle.xt_protocol.specs.Register.{Acceptor, Seat, Round}
 use Rattle.xt_protocol.specs.LeaseRows.{Proposer, Held, LeaseState, free, asking, writing, held}
 use Rattle.osd_rows.specs.declared.Asks.{Asks}
-use Rattle.osd_rows.specs.declared.IssuedAsk.{IssuedAsk}
 use Rattle.osd_rows.specs.declared.IssuedUpdate.{IssuedUpdate}
 use Rattle.osd_rows.specs.declared.Peer.{Peer}
 use Rattle.osd_rows.specs.declared.PeerState.{PeerState}

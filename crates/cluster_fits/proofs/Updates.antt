@@ -1,5 +1,5 @@
 -- what a read shows, what a write is told, and the update that it makes: all of it is within the limits
-use Rattle.std.proofs.Common.{◌≡◌, ◌==◌, ◌&&◌, ◌<◌, ◌≤◌, ◌+◌, ◌*◌, ◌^◌, ◌-◌, max, inl, inr, ℕ, nat_lt, nat_le, List, [], ◌∷◌, length, take, drop, refl, sym, ap, subst, ◌∙◌, Option, Some, None, Bool, true, false, if◌then◌else◌, arith}
+use Rattle.std.proofs.Common.{◌≡◌, ◌==◌, ◌&&◌, ◌<◌, ◌≤◌, ◌+◌, ◌*◌, ◌^◌, ◌-◌, max, inl, inr, ℕ, nat_lt, List, [], ◌∷◌, length, take, drop, refl, sym, ◌∙◌, Option, Some, None, Bool, true, false, if◌then◌else◌, arith}
 use Rattle.std.specs.Prelude.{cond, ◌/◌, ◌%◌}
 use Rattle.std.specs.Option.{IfSome}
 use Rattle.std.specs.List.{AllByRecursion}
@@ -8,22 +8,20 @@ use Rattle.std.proofs.lemmas.Bool.{and_parts}
 use Rattle.std.proofs.lemmas.Bool.Decides.{nat_tests}
 use Rattle.std.proofs.lemmas.List.{length-take}
 use Rattle.std.proofs.lemmas.Nat.{div_below}
-use Rattle.xt_base.specs.declared.TheConstants.{OBJECTS, CLIENTS, COUNTS, NO_OBJECT, BODY}
+use Rattle.xt_base.specs.declared.TheConstants.{OBJECTS, CLIENTS, NO_OBJECT}
 use Rattle.xt_base.specs.declared.ids.OpId.{OpId}
 use Rattle.xt_base.specs.declared.ids.Stamp.{Stamp}
 use Rattle.xt_base.specs.declared.file.FileHead.{FileHead}
 use Rattle.xt_base.specs.declared.file.Op.{Op}
 use Rattle.xt_base.specs.declared.file.Op.TheVariants as op
 use Rattle.xt_base.specs.declared.file.Session.{Session}
-use Rattle.xt_base.specs.declared.file.Update.{Update}
-use Rattle.xt_base.specs.declared.reply.Reply.{Reply}
 use Rattle.xt_base.specs.declared.reply.Reply.TheVariants as reply
 use Rattle.xt_base.specs.Limits.{FitsHead, FitsStamp, FitsOpId, FitsOp, FitsBytes, FitsUpdate, FitsSession, FitsReply, IsCount, IsObjectOrNone}
 use Rattle.xt_base.specs.Overlay.{overlay, cut_or_filled}
 use Rattle.xt_protocol.specs.Heads.{version_of, session_of}
 use Rattle.xt_protocol.specs.OsdRows.{present_body, readable}
-use Rattle.osd_rows.specs.Writes.{bytes_shown, Standing, repeated, older, turned_away, fresh, is_old_epoch, too_far, room_for_client, reach, judged, known_client, by_session, standing, written, objects_of, cuts_body, truncated, update_of}
-use Rattle.version_lists.proofs.HeadLimits.{either, when}
+use Rattle.osd_rows.specs.Writes.{bytes_shown, Standing, repeated, older, turned_away, fresh, is_old_epoch, too_far, room_for_client, reach, judged, by_session, standing, written, objects_of, cuts_body, truncated, update_of}
+use Rattle.version_lists.proofs.HeadLimits.{either}
 use Rattle.cluster_fits.proofs.Bytes.{each_byte, are_bytes, each-take, each-drop, each-overlay, each-filled, length-filled, length-overlay}
 use Rattle.cluster_fits.proofs.States.{AreBodies, IsInside}
 

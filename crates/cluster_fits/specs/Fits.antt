@@ -21,7 +21,7 @@ use Rattle.cluster_runs.specs.Steps.{Step}
 use Rattle.cluster_runs.specs.World.{World, Node, Running, Core, client, node_in, file_in}
 use Rattle.cluster_runs.specs.Clients.{call_of_client}
 use Rattle.cluster_runs.specs.Rules.{refusal, called_file, has_call}
-use Rattle.cluster_runs.specs.NodeSteps.{Room, Doing, core_step, client_steps}
+use Rattle.cluster_runs.specs.NodeSteps.{Room, core_step, client_steps}
 use Rattle.cluster_runs.specs.Lines.{Next, finished, opens, goes_on, ends, begins, steps, declared_capability, declared_file, epoch_of, uses, operation_of}
 use Rattle.cluster_runs.specs.Bounds.{AreLines, FitsCall}
 use Rattle.cluster_runs.specs.Runs.{run_of}
