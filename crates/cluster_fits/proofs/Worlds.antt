@@ -36,12 +36,11 @@ use Rattle.world_leases.specs.View.{messages, awake_as}
 use Rattle.world_leases.specs.Worlds.{UpFits, CoreFits}
 use Rattle.world_leases.proofs.Clocks.{below_end}
 use Rattle.world_leases.proofs.Files.{at_fits}
-use Rattle.world_leases.proofs.Fit.{IsFit, replaced}
+use Rattle.world_leases.proofs.Fit.{IsFit, replaced, sent_then}
 use Rattle.world_leases.proofs.LineSteps.{fits_kept}
 use Rattle.world_leases.proofs.Lists.{has_in, has_left, has_right}
 use Rattle.world_leases.proofs.Tables.{same, nobody, node_in-last, node_in-before, node_in-ticked}
 use Rattle.world_leases.proofs.Walk.{IsKept, call_step, NodeStep, of_osd, of_client, of_call, Reaches, StopsAs, NextIs, steps_into, same_messages}
-use Rattle.world_ends.proofs.Steps.{came}
 use Rattle.cluster_fits.specs.Fits.{FitsPlan, FitsRunning, FitsNode, FitsContent, FitsTurned, FitsWorld, FitsAt, Comes, DoStepsFit, call_of}
 use Rattle.cluster_fits.proofs.Lists.{all_of, each_of}
 use Rattle.cluster_fits.proofs.States.{AreSent}
@@ -404,9 +403,9 @@ stage_kept = record {
             records = kept_then node.kept turned.rec old.records turn.record_next;
             running = record { bounds = record { clock = ran.bounds.clock; plan = ran.bounds.plan }; state = turn.state };
           }) p.is;
-          sent = λ m h. elim (came own was outs w node.id w.nodes m within h) [
+          sent = λ m h. elim (sent_then w own node.id outs m h) [
             | inl new ↦ each_of FitsMessage turned.outs m turn.outs (subst (Has m) (sym split) (has_left m outs rest new))
-            | inr old_one ↦ p.is.sent m old_one
+            | inr old_one ↦ lost_sent w was own within p.is.sent m old_one
           ];
         };
       };

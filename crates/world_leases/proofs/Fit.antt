@@ -183,7 +183,7 @@ kept_boot records None keeps = refl
 kept_boot records (Some rec) keeps = keeps rec refl
 
 -- a message of the world after a whole step
-sent_then : (w : World) (own : List Msg) (node : NodeId) (outs : List Msg) (m : Msg) → Has m ((own ++ to_itself node outs) ++ map (λ (s : Sent). s.message) (w.sent ++ numbered w.nodes node outs)) → Has m outs ⊎ Has m (own ++ messages w)
+pub sent_then : (w : World) (own : List Msg) (node : NodeId) (outs : List Msg) (m : Msg) → Has m ((own ++ to_itself node outs) ++ map (λ (s : Sent). s.message) (w.sent ++ numbered w.nodes node outs)) → Has m outs ⊎ Has m (own ++ messages w)
 sent_then w own node outs m h =
     let old = map (λ (s : Sent). s.message) w.sent in
     let new = map (λ (s : Sent). s.message) (numbered w.nodes node outs) in
