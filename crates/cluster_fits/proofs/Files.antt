@@ -402,9 +402,6 @@ module _ (site : Site) (here : SiteIs site) where
       ask_fits : AskIs ask
       ask_fits = record { who = who; truncation = seal.truncation; asked = fits; inside = stays_inside capability.location.stripe asked seal.place.size.most (inside_of s.kept.location capability asked is_refused) }
 
-      begun : FileState
-      begun = record s { used = site.now }
-
       is_there : (o : Option Location) (location : Location) → o ≡ Some location → IsStored o
       is_there None location is = absurd cc
       is_there (Some l) location is = tt

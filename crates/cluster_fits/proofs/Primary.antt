@@ -422,9 +422,6 @@ module _ (g : Ground) (learnt : ℕ) (ground : GroundIs g) (number : IsCount lea
       (calm t is)
   ack_is t (progress.Active head issued) from state newly stamp found is stands to = at newly
     where
-      there : Tenure
-      there = with_state t from peer.Current
-
       at : (b : Bool) → Hears (acked_below g learnt (if b then with_state t from peer.Current else t) head from stamp newly issued)
       at true =
           acked_below_is (with_state t from peer.Current) head from stamp newly issued (state_put t from peer.Current tt is) stands.0
