@@ -32,7 +32,7 @@ use Rattle.xt_protocol.specs.FileIds.{is_file}
 use Rattle.cluster_runs.specs.declared.ClientState.{ClientState}
 use Rattle.cluster_runs.specs.declared.KnownFile.{KnownFile}
 use Rattle.cluster_runs.specs.declared.RunningCall.{RunningCall}
-use Rattle.cluster_runs.specs.Bounds.{FitsCall}
+use Rattle.time_line.specs.Bounds.{FitsCall}
 use Rattle.cluster_runs.specs.Clients.{ClientSite, known_in, with_known, knows, aimed, raised, first_member, first_target, asks, new_call, begins_call, call_comes, call_of_client, ends_call, was_tried, with_outcome, named, next_of, turned_away, turned_away_by, answered, reply_comes, message_comes, wakes, event_comes, step_of_client, new_client, answers_in}
 use Rattle.cluster_runs.specs.Lines.{declared_file, declared_capability, operation_of, epoch_of, uses}
 use Rattle.cluster_runs.specs.Rules.{called_file}

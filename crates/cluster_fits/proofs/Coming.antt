@@ -15,7 +15,7 @@ use Rattle.lease_runs.proofs.Tests.{same_node}
 use Rattle.cluster_runs.specs.declared.Sent.{Sent}
 use Rattle.cluster_runs.specs.World.{World, Node, Running, node_in, up_of}
 use Rattle.cluster_runs.specs.Rules.{if_so, busy, has_call}
-use Rattle.cluster_runs.specs.Bounds.{FitsCall}
+use Rattle.time_line.specs.Bounds.{FitsCall}
 use Rattle.world_leases.specs.View.{messages}
 use Rattle.world_leases.proofs.Tables.{node_in-id}
 use Rattle.cluster_fits.specs.Fits.{FitsRunning, FitsContent, FitsComing, FitsCalling, FitsDelivery, FitsWorld, Comes}

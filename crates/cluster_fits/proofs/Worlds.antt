@@ -25,7 +25,7 @@ use Rattle.cluster_runs.specs.declared.ClientState.{ClientState}
 use Rattle.cluster_runs.specs.declared.DeclaredFile.{DeclaredFile}
 use Rattle.cluster_runs.specs.declared.Role.TheVariants as role
 use Rattle.cluster_runs.specs.declared.Sent.{Sent}
-use Rattle.cluster_runs.specs.Bounds.{FitsCall}
+use Rattle.time_line.specs.Bounds.{FitsCall}
 use Rattle.cluster_runs.specs.Clients.{new_client, knows, aimed, step_of_client}
 use Rattle.cluster_runs.specs.World.{World, Node, Running, Core, osd, client, node_in, with_node, file_in}
 use Rattle.cluster_runs.specs.Rules.{called_file, clock_ends}

@@ -14,7 +14,7 @@ use Rattle.xt_base.specs.declared.event.Event.TheVariants as event
 use Rattle.xt_base.specs.declared.record.Record.{Record}
 use Rattle.xt_protocol.specs.declared.Turned.{Turned}
 use Rattle.xt_protocol.specs.Folds.{nothing_kept, fold_of, IsInPlace, AreInPlace}
-use Rattle.cluster_runs.specs.declared.Line.{Line}
+use Rattle.time_line.specs.declared.line.Line.{Line}
 use Rattle.cluster_runs.specs.declared.Sent.{Sent}
 use Rattle.cluster_runs.specs.declared.ClientState.{ClientState}
 use Rattle.cluster_runs.specs.Steps.{Step}
@@ -23,7 +23,7 @@ use Rattle.cluster_runs.specs.Clients.{call_of_client}
 use Rattle.cluster_runs.specs.Rules.{refusal, called_file, has_call}
 use Rattle.cluster_runs.specs.NodeSteps.{Room, core_step, client_steps}
 use Rattle.cluster_runs.specs.Lines.{Next, finished, opens, goes_on, ends, begins, steps, declared_capability, declared_file, epoch_of, uses, operation_of}
-use Rattle.cluster_runs.specs.Bounds.{AreLines, FitsCall}
+use Rattle.time_line.specs.Bounds.{AreLines, FitsCall}
 use Rattle.cluster_runs.specs.Runs.{run_of}
 use Rattle.lease_safety.specs.State.{Has}
 use Rattle.world_leases.specs.View.{messages}

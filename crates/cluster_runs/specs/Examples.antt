@@ -24,10 +24,10 @@ use Rattle.osd_rows.specs.AskRows.{refusal_of, ask_handled}
 use Rattle.osd_rows.specs.FileLeases.{read_comes, write_comes, answer_comes}
 use Rattle.osd_rows.specs.FileSteps.{step_of_file, wake_of_file}
 use Rattle.osd_rows.specs.OsdSteps.{file_at, with_file, each_file, step_of_osd}
-use Rattle.cluster_runs.specs.declared.Line.{Line}
-use Rattle.cluster_runs.specs.declared.Line.TheVariants as line
-use Rattle.cluster_runs.specs.declared.Entry.{Entry}
-use Rattle.cluster_runs.specs.declared.Entry.TheVariants as entry
+use Rattle.time_line.specs.declared.line.Line.{Line}
+use Rattle.time_line.specs.declared.line.Line.TheVariants as line
+use Rattle.time_line.specs.declared.entry.Entry.{Entry}
+use Rattle.time_line.specs.declared.entry.Entry.TheVariants as entry
 use Rattle.cluster_runs.specs.Clients.{known_in, with_known, outcome_in, call_of_client, step_of_client}
 use Rattle.cluster_runs.specs.World.{World, node_in, with_node, file_in}
 use Rattle.cluster_runs.specs.Rules.{refusal, first_stranger, least_where}

@@ -1,176 +1,10 @@
-//! A run of a world of nodes, as definitions, for replicated files with leases and failover: the lines of a schedule, what
-//! each of them does step by step, the entries of a trace, and what a trace says.
+//! A run of a world of nodes, as definitions, for replicated files with leases and failover: what each line of a schedule
+//! does, step by step, and the entries that it adds to the trace.
 //!
 //! The types here are the parts of a world that hold no lease; a type that holds an OSD's state stands in `specs/`.
 #![tactic(auto)]
 
-use time_line::Halt;
-use xt_base::{
-    Boot, Call, Capability, FileId, Location, Msg, NodeId, Octets, Op, OpId, Outcome, Retry, Seq,
-};
-
-/// A line of a schedule.
-#[derive(Drop)]
-pub enum Line {
-    /// The lease length and the drift, in milliseconds. It is the first line, if any.
-    Times {
-        lease: u64,
-        drift: u64,
-    },
-    /// Declares an OSD.
-    Osd {
-        node: NodeId,
-    },
-    /// Declares a client, and starts it for good.
-    Client {
-        node: NodeId,
-        clock: u64,
-    },
-    /// Declares a file.
-    File {
-        number: u64,
-        location: Location,
-    },
-    /// Starts a node.
-    Start {
-        node: NodeId,
-        clock: u64,
-    },
-    /// Stops a node between two steps.
-    Stop {
-        node: NodeId,
-    },
-    /// The node's next append stops in this device call, from 1 to 4; each place that isn't synced then holds the byte.
-    Crash {
-        node: NodeId,
-        call: u8,
-        fill: u8,
-    },
-    /// The node's next step that sends stops behind so many messages, or behind all.
-    Cut {
-        node: NodeId,
-        count: u128,
-    },
-    /// Sets a running clock.
-    Clock {
-        node: NodeId,
-        clock: u64,
-    },
-    /// Advances every running clock at once, in milliseconds.
-    Tick {
-        count: u64,
-    },
-    /// Some time has passed at a node.
-    Wake {
-        node: NodeId,
-    },
-    /// A client's call.
-    Call {
-        client: NodeId,
-        call: Call,
-    },
-    /// A client's first target for a file.
-    Aim {
-        client: NodeId,
-        file: u64,
-        node: NodeId,
-    },
-    /// Delivers a message that was ever sent, again too. The first has number 1.
-    Deliver {
-        number: u128,
-    },
-    /// A pending message is no longer so.
-    Drop {
-        number: u128,
-    },
-    /// As many times, the pending message of least number is delivered.
-    Settle {
-        count: u128,
-    },
-}
-
-/// A line of a trace.
-#[derive(Drop)]
-pub enum Entry {
-    /// The lease length and the drift, in milliseconds.
-    Times {
-        lease: u64,
-        drift: u64,
-    },
-    /// A file is there.
-    File {
-        number: u64,
-        location: Location,
-    },
-    /// A running clock was set.
-    Clock {
-        node: NodeId,
-        clock: u64,
-    },
-    /// Every running clock advanced.
-    Tick {
-        count: u64,
-    },
-    /// A node started.
-    Up {
-        node: NodeId,
-        boot: Boot,
-        clock: u64,
-    },
-    /// A node stopped.
-    Down {
-        node: NodeId,
-        clock: u64,
-        how: Halt,
-    },
-    /// A client's call began.
-    Begin {
-        client: NodeId,
-        number: u64,
-        call: Call,
-    },
-    /// A lease or a renewal was chosen.
-    Held {
-        node: NodeId,
-        file: u64,
-        end: u64,
-    },
-    /// The node became the file's active primary; the id is the last write's.
-    Active {
-        node: NodeId,
-        file: u64,
-        count: u64,
-        id: OpId,
-    },
-    /// A primary sent an update to its replicas; `count` is how many writes the file has with it.
-    Issue {
-        node: NodeId,
-        file: u64,
-        count: u64,
-        id: OpId,
-    },
-    /// A majority has the update.
-    Commit {
-        node: NodeId,
-        file: u64,
-        count: u64,
-        id: OpId,
-    },
-    /// An OSD answered `Ok` on a replicated file.
-    Answer {
-        node: NodeId,
-        file: u64,
-        id: OpId,
-        count: u64,
-        bytes: Octets,
-    },
-    /// A client's call ended.
-    Done {
-        client: NodeId,
-        number: u64,
-        outcome: Outcome,
-    },
-}
+use xt_base::{Capability, FileId, Location, Msg, NodeId, Op, Retry, Seq};
 
 /// What a node is declared as.
 #[derive(Clone, Copy, PartialEq, Eq)]
@@ -231,12 +65,12 @@ pub struct ClientState {
 
 ghost use Rattle.std.specs.Prelude.{◌≡◌, ℕ, Some, None, List, [], ◌∷◌};
 ghost use Rattle.xt_base.specs.declared.status.Rule.TheVariants as rule;
-ghost use Rattle.cluster_runs.specs.declared.Entry.{Entry};
-ghost use Rattle.cluster_runs.specs.declared.Line.{Line};
+ghost use Rattle.time_line.specs.declared.entry.Entry.{Entry};
+ghost use Rattle.time_line.specs.declared.line.Line.{Line};
 ghost use Rattle.cluster_runs.specs.World.{World};
 ghost use Rattle.cluster_runs.specs.NodeSteps.{Room};
 ghost use Rattle.cluster_runs.specs.Runs.{IsPartOf, IsEnough, IsRun, IsRunInto, AreRunsSafe};
-ghost use Rattle.cluster_runs.specs.Verdicts.{IsSafe, IsBroken, Break};
+ghost use Rattle.time_line.specs.Verdicts.{IsSafe, IsBroken, Break};
 ghost use Rattle.cluster_runs.specs.Examples.{trace_of, trace_in, rule_behind, room_for, taught, taught_trace, full, full_trace, fuller_trace, alone, alone_trace, turns_edge, turns_edge_trace, silence, silence_trace, drifting, clock_set, repeats, repeats_trace, vanished, vanished_trace, found, found_trace, third_answers, third_answers_trace, none_answers, none_answers_trace};
 
 /// The definitions are read.

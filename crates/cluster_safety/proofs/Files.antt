@@ -1,10 +1,10 @@
 -- What a trace says of a file where what it tells of it fits one order, and its acts are of calls that have begun.
 use Rattle.std.proofs.Common.{◌≡◌, ℕ, ◌==◌, if◌then◌else◌, List, ◌∷◌, ◌++◌, Some, None, refl, sym, ap, ◌∙◌, subst, append_assoc}
 use Rattle.xt_base.specs.declared.ids.OpId.{OpId}
-use Rattle.cluster_runs.specs.declared.Entry.{Entry}
-use Rattle.cluster_runs.specs.declared.Entry.TheVariants as entry
-use Rattle.cluster_runs.specs.TimeLine.{operation_begun, stripe_of}
-use Rattle.cluster_runs.specs.Clauses.{IsBefore, IsMoment, HasBegunOn, AreOnce, AnswersShow}
+use Rattle.time_line.specs.declared.entry.Entry.{Entry}
+use Rattle.time_line.specs.declared.entry.Entry.TheVariants as entry
+use Rattle.time_line.specs.TimeLine.{operation_begun, stripe_of}
+use Rattle.time_line.specs.Clauses.{IsBefore, IsMoment, HasBegunOn, AreOnce, AnswersShow}
 use Rattle.osd_replica_views.specs.Seen.{name_of}
 use Rattle.replica_runs.proofs.Tools.{by_node}
 use Rattle.file_traces.specs.Traces.{IsIssued, AreIssued, HaveBegun}

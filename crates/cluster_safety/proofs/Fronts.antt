@@ -3,11 +3,11 @@ use Rattle.std.proofs.Common.{◌≡◌, ℕ, true, List, [], ◌∷◌, ◌++�
 use Rattle.std.specs.Option.{option_or}
 use Rattle.xt_base.specs.declared.ids.OpId.{OpId}
 use Rattle.xt_base.specs.declared.file.Location.{Location}
-use Rattle.cluster_runs.specs.declared.Entry.{Entry}
-use Rattle.cluster_runs.specs.declared.Entry.TheVariants as entry
-use Rattle.cluster_runs.specs.TimeLine.{location_told, location_in, is_replicated_at, is_replicated, stripe_at, operation_begun, HasPosition}
-use Rattle.cluster_runs.specs.Clauses.{IsBefore, IsMoment, AreOnce, IsShown, AnswersShow, ok_entry, HasBegunOn, EndsAreAnswered}
-use Rattle.cluster_runs.specs.Verdicts.{Clause, apart, acting, one_order, once, shown, fresh, Says, IsSafe, Break, IsBroken}
+use Rattle.time_line.specs.declared.entry.Entry.{Entry}
+use Rattle.time_line.specs.declared.entry.Entry.TheVariants as entry
+use Rattle.time_line.specs.TimeLine.{location_told, location_in, is_replicated_at, is_replicated, stripe_at, operation_begun, HasPosition}
+use Rattle.time_line.specs.Clauses.{IsBefore, IsMoment, AreOnce, IsShown, AnswersShow, ok_entry, HasBegunOn, EndsAreAnswered}
+use Rattle.time_line.specs.Verdicts.{Clause, apart, acting, one_order, once, shown, fresh, Says, IsSafe, Break, IsBroken}
 use Rattle.world_ends.proofs.Entries.{begun_on-grown, position-grown}
 use Rattle.world_ends.proofs.Fresh.{answered_fresh}
 

@@ -4,9 +4,9 @@ use Rattle.std.specs.Prelude.{slice_index}
 use Rattle.std.specs.List.{AllByRecursion}
 use Rattle.xt_base.specs.Limits.{FitsBytes}
 use Rattle.xt_base.specs.TimeSettings.{AreTimes}
-use Rattle.cluster_runs.specs.declared.Line.{Line}
-use Rattle.cluster_runs.specs.declared.Line.TheVariants as line
-use Rattle.cluster_runs.specs.Bounds.{FitsLater, AreLines}
+use Rattle.time_line.specs.declared.line.Line.{Line}
+use Rattle.time_line.specs.declared.line.Line.TheVariants as line
+use Rattle.time_line.specs.Bounds.{FitsLater, AreLines}
 use Rattle.cluster_runs.specs.Examples.{node, trio, osd_is, client_at, start_at, file_on, write_at, read_byte, aims_at, found, vanished}
 use Rattle.cluster_safety.specs.Examples.{caught_up}
 

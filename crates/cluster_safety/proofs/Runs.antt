@@ -1,13 +1,13 @@
 -- The trace of every run is safe.
 use Rattle.std.proofs.Common.{◌≡◌, ℕ, List, [], ◌∷◌, ◌++◌, None}
-use Rattle.cluster_runs.specs.declared.Entry.{Entry}
-use Rattle.cluster_runs.specs.declared.Line.{Line}
-use Rattle.cluster_runs.specs.Bounds.{AreLines}
+use Rattle.time_line.specs.declared.entry.Entry.{Entry}
+use Rattle.time_line.specs.declared.line.Line.{Line}
+use Rattle.time_line.specs.Bounds.{AreLines}
 use Rattle.cluster_runs.specs.NodeSteps.{Room}
 use Rattle.cluster_runs.specs.Rules.{refusal}
 use Rattle.cluster_runs.specs.Runs.{run_of, IsRunInto, AreRunsSafe}
-use Rattle.cluster_runs.specs.Clauses.{AreApart, HoldersAct, EndsAreAnswered}
-use Rattle.cluster_runs.specs.Verdicts.{Clause, apart, acting, one_order, once, shown, fresh, IsSafeFor, IsSafe}
+use Rattle.time_line.specs.Clauses.{AreApart, HoldersAct, EndsAreAnswered}
+use Rattle.time_line.specs.Verdicts.{Clause, apart, acting, one_order, once, shown, fresh, IsSafeFor, IsSafe}
 use Rattle.world_leases.proofs.Runs.{runs_apart, parts_apart, runs_act, parts_act}
 use Rattle.world_ends.specs.Acts.{ActsHaveBegun}
 use Rattle.world_ends.proofs.Fresh.{answered_fresh}

@@ -1,10 +1,10 @@
 -- A run in which a replica that was behind makes the majority.
 use Rattle.std.specs.Prelude.{ℕ, List, [], ◌∷◌, ◌++◌}
 use Rattle.time_line.specs.declared.entry.Halt.TheVariants as halt
-use Rattle.cluster_runs.specs.declared.Line.{Line}
-use Rattle.cluster_runs.specs.declared.Line.TheVariants as line
-use Rattle.cluster_runs.specs.declared.Entry.{Entry}
-use Rattle.cluster_runs.specs.declared.Entry.TheVariants as entry
+use Rattle.time_line.specs.declared.line.Line.{Line}
+use Rattle.time_line.specs.declared.line.Line.TheVariants as line
+use Rattle.time_line.specs.declared.entry.Entry.{Entry}
+use Rattle.time_line.specs.declared.entry.Entry.TheVariants as entry
 use Rattle.cluster_runs.specs.Examples.{node, trio, short_times, osd_is, client_at, start_at, file_on, write_at, read_byte, list_of, is_up, is_held, is_active, is_issued, is_committed, is_answered, is_done, reads_byte, writes_at}
 
 -- two of three OSDs run, and a byte is written

@@ -1,12 +1,12 @@
 -- what is said of every trace
 use Rattle.std.specs.Prelude.{◌≡◌, ℕ, None, List, [], ◌∷◌, ◌++◌}
-use Rattle.cluster_runs.specs.declared.Entry.{Entry}
-use Rattle.cluster_runs.specs.declared.Line.{Line}
-use Rattle.cluster_runs.specs.Bounds.{AreLines}
+use Rattle.time_line.specs.declared.entry.Entry.{Entry}
+use Rattle.time_line.specs.declared.line.Line.{Line}
+use Rattle.time_line.specs.Bounds.{AreLines}
 use Rattle.cluster_runs.specs.NodeSteps.{Room}
 use Rattle.cluster_runs.specs.Rules.{refusal}
 use Rattle.cluster_runs.specs.Runs.{run_of, IsRunInto}
-use Rattle.cluster_runs.specs.Verdicts.{Clause, Holds}
+use Rattle.time_line.specs.Verdicts.{Clause, Holds}
 
 -- The clause holds of each replicated file: in the trace of every run of any lines within their limits, and in the trace behind each
 -- finished step of a line more.

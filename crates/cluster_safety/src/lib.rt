@@ -7,16 +7,16 @@
 #![tactic(auto)]
 
 ghost use Rattle.std.specs.Prelude.{◌≡◌, ℕ, true, None, List, [], ◌∷◌, ◌++◌};
-ghost use Rattle.cluster_runs.specs.declared.Entry.{Entry};
-ghost use Rattle.cluster_runs.specs.declared.Line.{Line};
-ghost use Rattle.cluster_runs.specs.Bounds.{AreLines};
-ghost use Rattle.cluster_runs.specs.Clauses.{IsMoment, AreOnce, AnswersShow};
+ghost use Rattle.time_line.specs.declared.entry.Entry.{Entry};
+ghost use Rattle.time_line.specs.declared.line.Line.{Line};
+ghost use Rattle.time_line.specs.Bounds.{AreLines};
+ghost use Rattle.time_line.specs.Clauses.{IsMoment, AreOnce, AnswersShow};
 ghost use Rattle.cluster_runs.specs.Examples.{trace_of, found, found_trace, vanished, vanished_trace};
 ghost use Rattle.cluster_runs.specs.NodeSteps.{Room};
 ghost use Rattle.cluster_runs.specs.Rules.{refusal};
 ghost use Rattle.cluster_runs.specs.Runs.{run_of, IsRunInto, AreRunsSafe};
-ghost use Rattle.cluster_runs.specs.TimeLine.{is_replicated, stripe_of};
-ghost use Rattle.cluster_runs.specs.Verdicts.{apart, acting, one_order, once, shown, fresh, IsSafe, Break, IsBroken};
+ghost use Rattle.time_line.specs.TimeLine.{is_replicated, stripe_of};
+ghost use Rattle.time_line.specs.Verdicts.{apart, acting, one_order, once, shown, fresh, IsSafe, Break, IsBroken};
 ghost use Rattle.file_traces.specs.Traces.{HaveBegun};
 ghost use Rattle.world_ends.specs.Acts.{ActsHaveBegun};
 ghost use Rattle.world_files.specs.Asks.{operations_of};

@@ -4,10 +4,10 @@ use Rattle.std.specs.List.{fold}
 use Rattle.xt_base.specs.declared.ids.OpId.{OpId}
 use Rattle.xt_base.specs.declared.file.Op.{Op}
 use Rattle.xt_base.specs.declared.file.Op.TheVariants as op
-use Rattle.cluster_runs.specs.declared.Entry.{Entry}
-use Rattle.cluster_runs.specs.declared.Entry.TheVariants as entry
-use Rattle.cluster_runs.specs.TimeLine.{Claim, claim_on, order_by, write_order, operation_begun}
-use Rattle.cluster_runs.specs.Clauses.{IsBefore, IsMoment, Bears, is_change}
+use Rattle.time_line.specs.declared.entry.Entry.{Entry}
+use Rattle.time_line.specs.declared.entry.Entry.TheVariants as entry
+use Rattle.time_line.specs.TimeLine.{Claim, claim_on, order_by, write_order, operation_begun}
+use Rattle.time_line.specs.Clauses.{IsBefore, IsMoment, Bears, is_change}
 use Rattle.replica_safety.specs.Lists.{Has}
 use Rattle.replica_runs.specs.HeadOrder.{IsChange}
 use Rattle.osd_replica_views.specs.Seen.{name_of}

@@ -4,11 +4,11 @@ use Rattle.std.specs.Prelude.{slice_get}
 use Rattle.std.specs.List.{fold}
 use Rattle.xt_base.specs.declared.ids.OpId.{OpId}
 use Rattle.xt_base.specs.declared.file.Op.{Op}
-use Rattle.cluster_runs.specs.declared.Entry.{Entry}
-use Rattle.cluster_runs.specs.declared.Entry.TheVariants as entry
-use Rattle.cluster_runs.specs.TimeLine.{Claim, claim_on, order_by, write_order}
-use Rattle.cluster_runs.specs.Clauses.{IsBefore, Bears, IsOneOrder}
-use Rattle.cluster_runs.specs.Clauses as clauses
+use Rattle.time_line.specs.declared.entry.Entry.{Entry}
+use Rattle.time_line.specs.declared.entry.Entry.TheVariants as entry
+use Rattle.time_line.specs.TimeLine.{Claim, claim_on, order_by, write_order}
+use Rattle.time_line.specs.Clauses.{IsBefore, Bears, IsOneOrder}
+use Rattle.time_line.specs.Clauses as clauses
 use Rattle.replica_safety.specs.Lists.{AreDistinct}
 use Rattle.replica_runs.specs.HeadWorld.{TellsActive, TellsIssue, TellsCommit, ReadOk, WriteOk}
 use Rattle.replica_runs.specs.HeadWorld as heads

@@ -5,7 +5,7 @@ use Rattle.xt_base.specs.declared.ids.NodeId.{NodeId}
 use Rattle.xt_base.specs.declared.event.Mark.{Mark}
 use Rattle.xt_base.specs.declared.event.Mark.TheVariants as mark
 use Rattle.xt_base.specs.declared.file.Op.{Op}
-use Rattle.cluster_runs.specs.declared.Entry.{Entry}
+use Rattle.time_line.specs.declared.entry.Entry.{Entry}
 use Rattle.cluster_runs.specs.NodeSteps.{entry_of}
 use Rattle.replica_safety.specs.Epochs.{name, Write}
 use Rattle.replica_runs.specs.HeadWorld.{TellsActive, TellsIssue, TellsCommit}

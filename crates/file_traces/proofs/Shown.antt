@@ -8,9 +8,9 @@ use Rattle.xt_base.specs.declared.ids.OpId.{OpId}
 use Rattle.xt_base.specs.declared.file.Op.{Op}
 use Rattle.xt_base.specs.declared.file.Op.TheVariants as op
 use Rattle.time_line.specs.Content.{place_of, content_of, range_of}
-use Rattle.cluster_runs.specs.declared.Entry.{Entry}
-use Rattle.cluster_runs.specs.declared.Entry.TheVariants as entry
-use Rattle.cluster_runs.specs.TimeLine.{Claim, claim_on, order_by, write_order}
+use Rattle.time_line.specs.declared.entry.Entry.{Entry}
+use Rattle.time_line.specs.declared.entry.Entry.TheVariants as entry
+use Rattle.time_line.specs.TimeLine.{Claim, claim_on, order_by, write_order}
 use Rattle.replica_safety.specs.Lists.{Has}
 use Rattle.replica_runs.specs.HeadWorld.{TellsActive, TellsIssue, TellsCommit, ReadOk, WriteOk}
 use Rattle.replica_runs.specs.HeadWorld as heads

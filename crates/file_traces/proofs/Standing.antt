@@ -5,10 +5,10 @@ use Rattle.xt_base.specs.declared.ids.OpId.{OpId}
 use Rattle.xt_base.specs.declared.file.Op.{Op}
 use Rattle.xt_base.specs.declared.file.Op.TheVariants as op
 use Rattle.time_line.specs.Content.{place_of, content_of, range_of}
-use Rattle.cluster_runs.specs.declared.Entry.{Entry}
-use Rattle.cluster_runs.specs.declared.Entry.TheVariants as entry
-use Rattle.cluster_runs.specs.TimeLine.{write_order, operation_begun, stripe_of}
-use Rattle.cluster_runs.specs.Clauses.{IsMoment, IsShown}
+use Rattle.time_line.specs.declared.entry.Entry.{Entry}
+use Rattle.time_line.specs.declared.entry.Entry.TheVariants as entry
+use Rattle.time_line.specs.TimeLine.{write_order, operation_begun, stripe_of}
+use Rattle.time_line.specs.Clauses.{IsMoment, IsShown}
 use Rattle.replica_safety.specs.Lists.{Has}
 use Rattle.osd_replica_views.specs.Seen.{name_of}
 use Rattle.file_traces.specs.Traces.{Shows, FitsShow}

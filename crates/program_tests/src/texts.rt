@@ -3,8 +3,8 @@ use std::alloc::Global;
 use std::test::Fail;
 use time_line::{Entry, Line};
 use xt_base::{
-    AskRefusal, Call, Kind, Limited, Location, Members, NodeId, Octets, OutOfMemory, Outcome, Rule,
-    Status,
+    Answered, Answers, AskRefusal, Call, Limited, NodeId, Octets, OpId, OutOfMemory, Outcome,
+    Retry, Rule, Status,
 };
 
 /// Lines that a schedule may have behind its first.
@@ -17,11 +17,21 @@ client 110 4611686018427387903\n\
 start 47 1099511627776\n\
 file 550486 rep 1024 47\n\
 file 999999 rep 131072 1\n\
+file 1 rep 1024 3 1 2\n\
+file 0 rep 1024 9 8 7 6 5 4 3 2 4294967295\n\
+clock 1 0\n\
+clock 4294967295 4611686018427387903\n\
 tick 4294967295\n\
+wake 1\n\
+wake 4294967295\n\
 read 199 279279 0 131071 131072\n\
 read 1 18446744073709551615 4294967295 4294967295 1\n\
 write 159 550486 0 984 f42331\n\
 write 106 605457 2 0 94bc\n\
+truncate 10 1 0 0\n\
+truncate 10 18446744073709551615 18446744073709551615 4611686018427387903\n\
+aim 10 1 2\n\
+aim 4294967295 18446744073709551615 4294967295\n\
 deliver 1\n\
 deliver 340282366920938463463374607431768211455\n\
 drop 3\n\
@@ -54,8 +64,18 @@ file 1000000 rep 1024 1\n\
 file 1 rep 1000 1\n\
 file 1 rep 132096 1\n\
 file 1 str 1024 1\n\
-file 1 rep 1024 1 2\n\
+file 1 rep 1024 1 2 1\n\
+file 1 rep 1024 1 02\n\
+file 1 rep 1024 1 x\n\
+file 1 rep 1024 1 4294967296\n\
+file 1 rep 1024 1 2 3 4 5 6 7 8 9 10\n\
 file 1 rep 1024\n\
+clock 1\n\
+clock 1 4611686018427387904\n\
+clock 1 0 0\n\
+wake\n\
+wake 1 1\n\
+wake 4294967296\n\
 tick 01\n\
 tick 4294967296\n\
 read 100 1 0 0 0\n\
@@ -64,6 +84,14 @@ read 1 18446744073709551616 0 0 1\n\
 write 10 1 0 0 6\n\
 write 10 1 0 0 AB\n\
 write 10 1 0 0 6g\n\
+truncate 10 1 0\n\
+truncate 10 1 18446744073709551616 0\n\
+truncate 10 1 0 4611686018427387904\n\
+aim 10 1\n\
+aim 10 1 1 2\n\
+aim 10 1 4294967296\n\
+held 1 1 0\n\
+active 1 1 0 0 0\n\
 deliver 340282366920938463463374607431768211456\n\
 stop\n\
 stop 01\n\
@@ -169,6 +197,25 @@ fn words_stand_in_this_order(rt: HostRuntime) -> Result<(), Fail> {
             },
             "crash 7 3 a5",
         ),
+        (
+            Line::Call {
+                client: NodeId(10),
+                call: Call::Truncate {
+                    file: 1,
+                    size: 2,
+                    epoch: 3,
+                },
+            },
+            "truncate 10 1 2 3",
+        ),
+        (
+            Line::Aim {
+                client: NodeId(10),
+                file: 1,
+                node: NodeId(2),
+            },
+            "aim 10 1 2",
+        ),
     ];
     for (line, text) in cases {
         assert!(rt; is_spelled(rt.alloc(), line, text)?, "{text}");
@@ -181,28 +228,64 @@ fn is_printed(alloc: Global, entry: Entry, text: &str) -> Result<bool, OutOfMemo
     Ok(print_entry(alloc, &entry)?.as_slice() == text.as_bytes())
 }
 
-/// Entries that no schedule comes to yet. All others stand in the vectors.
+/// What four members gave, each in its way.
+fn four_answers(alloc: Global) -> Result<Answers, OutOfMemory> {
+    let mut answers = Answers::new(alloc);
+    for (number, outcome) in [
+        (1, Retry::NoLease { end: 1_100 }),
+        (2, Retry::NoMajority { have: 1, need: 2 }),
+        (
+            3,
+            Retry::Elsewhere {
+                node: NodeId(2),
+                end: 18_446_744_073_709_551_615,
+            },
+        ),
+        (4, Retry::Silent),
+    ] {
+        let node = NodeId(number);
+        answers.push(Answered { node, outcome })?;
+    }
+    Ok(answers)
+}
+
+/// Entries of forms that the vectors have seldom, or not at all.
 #[test]
 fn later_entries_are_printed(rt: HostRuntime) -> Result<(), Fail> {
-    let members = Members::new(&[NodeId(1), NodeId(2), NodeId(3)])
-        .ok()
-        .ok_or("three members")?;
-    let location = Location {
-        version: 1,
-        kind: Kind::Replicated,
-        stripe: 131_072,
-        members,
-    };
     let full = Outcome::Refused {
         refusal: AskRefusal::ClientsFull,
     };
+    let retry = Outcome::Retry {
+        answers: four_answers(rt.alloc())?,
+    };
     let cases = [
         (
-            Entry::File {
-                number: 1,
-                location,
+            Entry::Held {
+                node: NodeId(1),
+                file: 2,
+                end: 3,
             },
-            "file 1 rep 131072 1 2 3",
+            "held 1 2 3",
+        ),
+        (
+            Entry::Active {
+                node: NodeId(1),
+                file: 2,
+                count: 0,
+                id: OpId {
+                    client: NodeId(0),
+                    number: 0,
+                },
+            },
+            "active 1 2 0 0 0",
+        ),
+        (
+            Entry::Done {
+                client: NodeId(10),
+                number: 4,
+                outcome: retry,
+            },
+            "done 10 4 retry 1=nolease:1100 2=nomajority:1/2 3=elsewhere:2:18446744073709551615 4=silent",
         ),
         (
             Entry::Done {

@@ -13,10 +13,11 @@ use Rattle.time_line.specs.declared.line.Line.{Line}
 use Rattle.time_line.specs.declared.line.Line.TheVariants as line
 use Rattle.schedule_text.specs.Words.{behind, spaced, hex_of, hex_pair}
 use Rattle.schedule_text.specs.CallText.{call_name, call_words, node_words, kind_word}
-use Rattle.xt_base.specs.Limits.{AreBytes, FitsMembers}
+use Rattle.xt_base.specs.Limits.{AreBytes, FitsNode}
 use Rattle.time_line.specs.Bounds.{FitsCall}
-use Rattle.schedule_text.specs.LineText.{line_words, line_text, IsLine, IsOneOsd, IsCall}
-use Rattle.schedule_text.proofs.WordsAgain.{IsWord, decimal-IsWord, hex-IsWord}
+use Rattle.schedule_text.specs.LineText.{line_words, line_text, IsLine, IsCall}
+use Rattle.schedule_text.proofs.WordsAgain.{IsWord, IsWord-tested, decimal-IsWord, hex-IsWord}
+use Rattle.schedule_text.proofs.ManyAgain.{members_few}
 use Rattle.schedule_text.proofs.InLine.{spaced_in_line}
 use Rattle.time_line.specs.declared.TheConstants.{LINE_BYTES}
 use Rattle.schedule_lines.specs.RawLine.{IsInLine}
@@ -34,6 +35,9 @@ more_words most size word words fits short all = record {
   each = (fits, all.each);
   few = let few = all.few in omega (arith, length-append word (behind words));
 }
+
+fewer : (few most : ℕ) (words : List (List ℕ)) → few ≤ most → AreWords few words → AreWords most words
+fewer few most words less all = record { each = all.each; few = let least = all.few in omega arith }
 
 -- a number of a line
 number_words : (most n : ℕ) (words : List (List ℕ)) → n < 2 ^ 128 → AreWords most words → AreWords (41 + most) (decimal n ∷ words)
@@ -65,16 +69,17 @@ byte_words byte fits = more_words 0 2 (hex_pair byte) [] (hex-IsWord (byte ∷ [
     one zero = fits
     one (suc place) = omega arith
 
-place_words : (members : List NodeId) → IsOneOsd members → FitsMembers members → AreWords 41 (node_words members)
-place_words [] one fits = absurd one
-place_words (node ∷ []) one fits =
-    let small : node.0 < 2 ^ 32 = fits.each.0 in
-    number_words 0 node.0 [] (omega arith) no_words
-place_words (node ∷ next ∷ nodes) one fits = absurd one
+place_words : (places : ℕ) (members : List NodeId) → length members ≤ places → AllByRecursion FitsNode members → AreWords (41 * places) (node_words members)
+place_words places [] few fits = record { each = tt; few = omega arith }
+place_words zero (node ∷ nodes) few fits = absurd (omega arith)
+place_words (suc places) (node ∷ nodes) few fits =
+    let small : node.0 < 2 ^ 32 = fits.0 in
+    fewer (41 + 41 * places) (41 * suc places) (decimal node.0 ∷ node_words nodes) (omega arith)
+    (number_words (41 * places) node.0 (node_words nodes) (omega arith) (place_words places nodes (omega arith) fits.1))
 
-kind_words : (kind : Kind) (words : List (List ℕ)) → AreWords 82 words → AreWords 86 (kind_word kind ∷ words)
-kind_words Replicated words all = more_words 82 3 (codes "rep") words (omega arith, (omega arith, (omega arith, tt))) (omega arith) all
-kind_words Striped words all = more_words 82 3 (codes "str") words (omega arith, (omega arith, (omega arith, tt))) (omega arith) all
+kind_words : (kind : Kind) (words : List (List ℕ)) → AreWords 410 words → AreWords 414 (kind_word kind ∷ words)
+kind_words Replicated words all = more_words 410 3 (codes "rep") words (omega arith, (omega arith, (omega arith, tt))) (omega arith) all
+kind_words Striped words all = more_words 410 3 (codes "str") words (omega arith, (omega arith, (omega arith, tt))) (omega arith) all
 
 -- what the words of a line come to
 abbrev HasWords : List (List ℕ) → Type 0
@@ -86,7 +91,8 @@ call_has_words client (call.Read file object at len) small made (file_fits, obje
     (210, omega arith, more_words 205 4 (codes "read") (decimal client.0 ∷ decimal file ∷ decimal object ∷ decimal at ∷ decimal len ∷ []) (omega arith, (omega arith, (omega arith, (omega arith, tt)))) (omega arith) (number_words 164 client.0 (decimal file ∷ decimal object ∷ decimal at ∷ decimal len ∷ []) (omega arith) (number_words 123 file (decimal object ∷ decimal at ∷ decimal len ∷ []) (omega arith) (number_words 82 object (decimal at ∷ decimal len ∷ []) (omega arith) (number_words 41 at (decimal len ∷ []) (omega arith) (number_words 0 len [] (omega arith) no_words))))))
 call_has_words client (call.Write file object at bytes) small made (file_fits, object_fits, at_fits, fits, some) =
     (262315, omega arith, more_words 262309 5 (codes "write") (decimal client.0 ∷ decimal file ∷ decimal object ∷ decimal at ∷ hex_of bytes ∷ []) (omega arith, (omega arith, (omega arith, (omega arith, (omega arith, tt))))) (omega arith) (number_words 262268 client.0 (decimal file ∷ decimal object ∷ decimal at ∷ hex_of bytes ∷ []) (omega arith) (number_words 262227 file (decimal object ∷ decimal at ∷ hex_of bytes ∷ []) (omega arith) (number_words 262186 object (decimal at ∷ hex_of bytes ∷ []) (omega arith) (number_words 262145 at (hex_of bytes ∷ []) (omega arith) (hex_words bytes fits.all fits.few))))))
-call_has_words client (call.Truncate file size epoch) small never fits = absurd never
+call_has_words client (call.Truncate file size epoch) small made (file_fits, size_fits, epoch_fits) =
+    (173, omega arith, more_words 164 8 (codes "truncate") (decimal client.0 ∷ decimal file ∷ decimal size ∷ decimal epoch ∷ []) (IsWord-tested (codes "truncate") refl) (omega arith) (number_words 123 client.0 (decimal file ∷ decimal size ∷ decimal epoch ∷ []) (omega arith) (number_words 82 file (decimal size ∷ decimal epoch ∷ []) (omega arith) (number_words 41 size (decimal epoch ∷ []) (omega arith) (number_words 0 epoch [] (omega arith) no_words)))))
 call_has_words client (call.Meta user group wanted) small never fits = absurd never
 call_has_words client (call.Report user group file) small never fits = absurd never
 call_has_words client (call.Registry wanted) small never fits = absurd never
@@ -101,14 +107,17 @@ has_words first (line.Osd node) (form, fits) = (45, omega arith, more_words 41 3
 has_words first (line.Client node clock) (form, fits) = (89, omega arith, more_words 82 6 (codes "client") (decimal node.0 ∷ decimal clock ∷ []) (omega arith, (omega arith, (omega arith, (omega arith, (omega arith, (omega arith, tt)))))) (omega arith) (number_words 41 node.0 (decimal clock ∷ []) (omega arith) (number_words 0 clock [] (omega arith) no_words)))
 has_words first (line.File number location) (form, (small, fits)) =
     let most : location.stripe ≤ 131072 = fits.size.most in
-    (132, omega arith, more_words 127 4 (codes "file") (decimal number ∷ kind_word location.kind ∷ decimal location.stripe ∷ node_words location.members) (omega arith, (omega arith, (omega arith, (omega arith, tt)))) (omega arith) (number_words 86 number (kind_word location.kind ∷ decimal location.stripe ∷ node_words location.members) (omega arith) (kind_words location.kind (decimal location.stripe ∷ node_words location.members) (number_words 41 location.stripe (node_words location.members) (omega arith) (place_words location.members form.one fits.nodes)))))
+    (460, omega arith, more_words 455 4 (codes "file") (decimal number ∷ kind_word location.kind ∷ decimal location.stripe ∷ node_words location.members) (omega arith, (omega arith, (omega arith, (omega arith, tt)))) (omega arith) (number_words 414 number (kind_word location.kind ∷ decimal location.stripe ∷ node_words location.members) (omega arith) (kind_words location.kind (decimal location.stripe ∷ node_words location.members) (number_words 369 location.stripe (node_words location.members) (omega arith) (place_words 9 location.members (members_few location.members fits.nodes.different) fits.nodes.each)))))
 has_words first (line.Start node clock) (form, fits) = (88, omega arith, more_words 82 5 (codes "start") (decimal node.0 ∷ decimal clock ∷ []) (omega arith, (omega arith, (omega arith, (omega arith, (omega arith, tt))))) (omega arith) (number_words 41 node.0 (decimal clock ∷ []) (omega arith) (number_words 0 clock [] (omega arith) no_words)))
 has_words first (line.Stop node) (form, fits) = (46, omega arith, more_words 41 4 (codes "stop") (decimal node.0 ∷ []) (omega arith, (omega arith, (omega arith, (omega arith, tt)))) (omega arith) (number_words 0 node.0 [] (omega arith) no_words))
 has_words first (line.Crash node device_call fill) (form, fits) =
     (91, omega arith, more_words 85 5 (codes "crash") (decimal node.0 ∷ decimal device_call ∷ hex_pair fill ∷ []) (omega arith, (omega arith, (omega arith, (omega arith, (omega arith, tt))))) (omega arith) (number_words 44 node.0 (decimal device_call ∷ hex_pair fill ∷ []) (omega arith) (number_words 3 device_call (hex_pair fill ∷ []) (omega arith) (byte_words fill fits.3))))
 has_words first (line.Cut node count) (form, fits) = (86, omega arith, more_words 82 3 (codes "cut") (decimal node.0 ∷ decimal count ∷ []) (omega arith, (omega arith, (omega arith, tt))) (omega arith) (number_words 41 node.0 (decimal count ∷ []) (omega arith) (number_words 0 count [] (omega arith) no_words)))
+has_words first (line.Clock node clock) (form, fits) = (88, omega arith, more_words 82 5 (codes "clock") (decimal node.0 ∷ decimal clock ∷ []) (IsWord-tested (codes "clock") refl) (omega arith) (number_words 41 node.0 (decimal clock ∷ []) (omega arith) (number_words 0 clock [] (omega arith) no_words)))
 has_words first (line.Tick count) (form, fits) = (46, omega arith, more_words 41 4 (codes "tick") (decimal count ∷ []) (omega arith, (omega arith, (omega arith, (omega arith, tt)))) (omega arith) (number_words 0 count [] (omega arith) no_words))
+has_words first (line.Wake node) (form, fits) = (46, omega arith, more_words 41 4 (codes "wake") (decimal node.0 ∷ []) (IsWord-tested (codes "wake") refl) (omega arith) (number_words 0 node.0 [] (omega arith) no_words))
 has_words first (line.Call client made) (form, (small, fits)) = call_has_words client made small form fits
+has_words first (line.Aim client file node) (form, fits) = (127, omega arith, more_words 123 3 (codes "aim") (decimal client.0 ∷ decimal file ∷ decimal node.0 ∷ []) (IsWord-tested (codes "aim") refl) (omega arith) (number_words 82 client.0 (decimal file ∷ decimal node.0 ∷ []) (omega arith) (number_words 41 file (decimal node.0 ∷ []) (omega arith) (number_words 0 node.0 [] (omega arith) no_words))))
 has_words first (line.Deliver number) (form, fits) = (49, omega arith, more_words 41 7 (codes "deliver") (decimal number ∷ []) (omega arith, (omega arith, (omega arith, (omega arith, (omega arith, (omega arith, (omega arith, tt))))))) (omega arith) (number_words 0 number [] (omega arith) no_words))
 has_words first (line.Drop number) (form, fits) = (46, omega arith, more_words 41 4 (codes "drop") (decimal number ∷ []) (omega arith, (omega arith, (omega arith, (omega arith, tt)))) (omega arith) (number_words 0 number [] (omega arith) no_words))
 has_words first (line.Settle count) (form, fits) = (48, omega arith, more_words 41 6 (codes "settle") (decimal count ∷ []) (omega arith, (omega arith, (omega arith, (omega arith, (omega arith, (omega arith, tt)))))) (omega arith) (number_words 0 count [] (omega arith) no_words))

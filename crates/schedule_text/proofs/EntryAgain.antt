@@ -1,6 +1,7 @@
 -- An entry that was written is read, so no two are spelled alike.
 use Rattle.std.proofs.Common.{◌≡◌, ℕ, ◌*◌, ◌^◌, ◌<◌, ◌≤◌, if◌then◌else◌, ◌==◌, Option, List, [], ◌∷◌, Some, None, refl, sym, ap, subst, ◌∙◌, arith}
 use Rattle.std.specs.Prelude.{codes}
+use Rattle.std.specs.List.{AllByRecursion}
 use Rattle.std.specs.Str.{bytes_eq}
 use Rattle.std.specs.Fmt.{decimal}
 use Rattle.xt_base.specs.declared.ids.NodeId.{NodeId}
@@ -15,21 +16,24 @@ use Rattle.xt_base.specs.declared.status.AskRefusal.{AskRefusal}
 use Rattle.xt_base.specs.declared.status.AskRefusal.TheVariants as refusal
 use Rattle.xt_base.specs.declared.reply.Denial.{Denial}
 use Rattle.xt_base.specs.declared.reply.Denial.TheVariants as denial
-use Rattle.xt_base.specs.Limits.{AreBytes, FitsLocation}
+use Rattle.xt_base.specs.declared.reply.Answered.{Answered}
+use Rattle.xt_base.specs.Limits.{AreBytes, FitsLocation, FitsMembers}
 use Rattle.time_line.specs.declared.entry.Entry.{Entry}
 use Rattle.time_line.specs.declared.entry.Entry.TheVariants as entry
 use Rattle.time_line.specs.declared.entry.Halt.{Halt}
 use Rattle.time_line.specs.declared.entry.Halt.TheVariants as halt
-use Rattle.time_line.specs.Bounds.{FitsCall, FitsOutcome, FitsRefusal}
+use Rattle.time_line.specs.Bounds.{FitsCall, FitsAnswered, FitsOutcome, FitsRefusal}
 use Rattle.schedule_text.specs.Words.{spaced, hex_of, hex_or_dash}
 use Rattle.schedule_text.specs.LineText.{IsPlace, IsCall}
-use Rattle.schedule_text.specs.CallText.{call_name, call_words, file_words}
-use Rattle.schedule_text.specs.OutcomeText.{denial_number, ask_refusal_words, outcome_words}
-use Rattle.schedule_text.specs.EntryText.{update_words, halt_word, entry_words, entry_text, IsFinal, IsEntry}
+use Rattle.schedule_text.specs.CallText.{call_name, call_words, node_words, file_words}
+use Rattle.schedule_text.specs.OutcomeText.{denial_number, ask_refusal_words, answer_words, outcome_words}
+use Rattle.schedule_text.specs.EntryText.{update_words, halt_word, entry_words, entry_text, IsFileEnd, IsEntry}
 use Rattle.schedule_text.specs.Reading.{◌>>=◌, first_word, other_words, number_at, bytes_of}
-use Rattle.schedule_text.specs.LineReading.{node_of}
-use Rattle.schedule_text.proofs.LineAgain.{on_one, one_of, place_of}
-use Rattle.schedule_text.proofs.WordsAgain.{IsWord, number_at_again, first_again, others_again, hex-IsWord, hex_again}
+use Rattle.schedule_text.specs.LineReading.{node_of, members_at}
+use Rattle.schedule_text.proofs.AnswersAgain.{answers_in, answers_again}
+use Rattle.schedule_text.proofs.ManyAgain.{members_again}
+use Rattle.schedule_text.proofs.LineAgain.{kept_on, place_of}
+use Rattle.schedule_text.proofs.WordsAgain.{IsWord, IsWord-tested, number_at_again, first_again, others_again, hex-IsWord, hex_again}
 
 -- Readers, of what stands behind the name of an entry.
 
@@ -43,8 +47,14 @@ file_in : List ℕ → Option Entry
 file_in words = do
   number ← number_at 64 words
   stripe ← number_at 32 (other_words number.1)
-  node ← number_at 32 stripe.1
-  Some (entry.File number.0 (on_one stripe.0 (node_of node.0)))
+  nodes ← members_at stripe.1
+  Some (entry.File number.0 (kept_on stripe.0 nodes))
+
+clock_in : List ℕ → Option Entry
+clock_in words = do
+  node ← number_at 32 words
+  clock ← number_at 64 node.1
+  Some (entry.Clock (node_of node.0) clock.0)
 
 tick_in : List ℕ → Option Entry
 tick_in words = do
@@ -79,12 +89,21 @@ call_of name file object at words =
       Some (call.Read file object at len.0))
     else Some (call.Write file object at (bytes_of (first_word words)))
 
+call_on : List ℕ → ℕ → List ℕ → Option Call
+call_on name file words =
+    if bytes_eq name (codes "truncate") then (do
+      size ← number_at 64 words
+      epoch ← number_at 64 size.1
+      Some (call.Truncate file size.0 epoch.0))
+    else (do
+      object ← number_at 64 words
+      at ← number_at 32 object.1
+      call_of name file object.0 at.0 at.1)
+
 call_in : List ℕ → List ℕ → Option Call
 call_in name words = do
   file ← number_at 64 words
-  object ← number_at 64 file.1
-  at ← number_at 32 object.1
-  call_of name file.0 object.0 at.0 at.1
+  call_on name file.0 file.1
 
 begin_in : List ℕ → Option Entry
 begin_in words = do
@@ -92,6 +111,13 @@ begin_in words = do
   number ← number_at 64 client.1
   made ← call_in (first_word number.1) (other_words number.1)
   Some (entry.Begin (node_of client.0) number.0 made)
+
+held_in : List ℕ → Option Entry
+held_in words = do
+  node ← number_at 32 words
+  file ← number_at 64 node.1
+  end ← number_at 64 file.1
+  Some (entry.Held (node_of node.0) file.0 end.0)
 
 id_of : ℕ → ℕ → OpId
 id_of client number = record { client = node_of client; number = number }
@@ -142,6 +168,7 @@ outcome_in name words =
     if bytes_eq name (codes "ok") then (do
       count ← number_at 64 words
       Some (outcome.Ok count.0 (bytes_of (first_word count.1))))
+    else if bytes_eq name (codes "retry") then Some (outcome.Retry (answers_in words))
     else (do
       why ← refusal_in name words
       Some (outcome.Refused why))
@@ -157,10 +184,13 @@ entry_of : List ℕ → List ℕ → Option Entry
 entry_of name words =
     if bytes_eq name (codes "times") then times_in words
     else if bytes_eq name (codes "file") then file_in words
+    else if bytes_eq name (codes "clock") then clock_in words
     else if bytes_eq name (codes "tick") then tick_in words
     else if bytes_eq name (codes "up") then up_in words
     else if bytes_eq name (codes "down") then down_in words
     else if bytes_eq name (codes "begin") then begin_in words
+    else if bytes_eq name (codes "held") then held_in words
+    else if bytes_eq name (codes "active") then update_in entry.Active words
     else if bytes_eq name (codes "issue") then update_in entry.Issue words
     else if bytes_eq name (codes "commit") then update_in entry.Commit words
     else if bytes_eq name (codes "answer") then answer_in words
@@ -177,27 +207,31 @@ unfolding times_in
 times_again lease drift p q =
     rw (number_at_again 64 lease (decimal drift ∷ []) p (omega arith), number_at_again 64 drift [] q (omega arith)) refl
 
+clock_again : (node : NodeId) (clock : ℕ) → node.0 < 2 ^ 32 → clock < 2 ^ 64 → clock_in (spaced (decimal node.0 ∷ decimal clock ∷ [])) ≡ Some (entry.Clock node clock)
+unfolding clock_in
+clock_again node clock p q =
+    rw (number_at_again 32 node.0 (decimal clock ∷ []) p (omega arith), number_at_again 64 clock [] q (omega arith)) refl
+
 tick_again : (count : ℕ) → count < 2 ^ 64 → tick_in (spaced (decimal count ∷ [])) ≡ Some (entry.Tick count)
 unfolding tick_in
 tick_again count p = rw (number_at_again 64 count [] p (omega arith)) refl
 
-file_again : (number stripe : ℕ) (node : NodeId) → number < 2 ^ 64 → stripe < 2 ^ 32 → node.0 < 2 ^ 32 → file_in (spaced (file_words number (on_one stripe node))) ≡ Some (entry.File number (on_one stripe node))
+file_again : (number stripe : ℕ) (nodes : List NodeId) → number < 2 ^ 64 → stripe < 2 ^ 32 → FitsMembers nodes → file_in (spaced (file_words number (kept_on stripe nodes))) ≡ Some (entry.File number (kept_on stripe nodes))
 unfolding file_in
-file_again number stripe node p q r =
+file_again number stripe nodes p q fits =
     rw (
-      number_at_again 64 number (codes "rep" ∷ decimal stripe ∷ decimal node.0 ∷ []) p (omega arith),
-      others_again (codes "rep") (decimal stripe ∷ decimal node.0 ∷ []) (omega arith, (omega arith, (omega arith, tt))),
-      number_at_again 32 stripe (decimal node.0 ∷ []) q (omega arith),
-      number_at_again 32 node.0 [] r (omega arith),
+      number_at_again 64 number (codes "rep" ∷ decimal stripe ∷ node_words nodes) p (omega arith),
+      others_again (codes "rep") (decimal stripe ∷ node_words nodes) (omega arith, (omega arith, (omega arith, tt))),
+      number_at_again 32 stripe (node_words nodes) q (omega arith),
+      members_again nodes fits,
     ) refl
 
 place_again : (number : ℕ) (location : Location) → number < 1000000 → IsPlace location → FitsLocation location → file_in (spaced (file_words number location)) ≡ Some (entry.File number location)
 place_again number location p place fits =
-    let one = one_of location.members place.one fits.nodes in
-    let e : location ≡ on_one location.stripe one.0 = place_of location.version location.kind location.stripe location.members one.0 place.version place.kind one.1 in
+    let e : location ≡ kept_on location.stripe location.members = place_of location.version location.kind location.stripe location.members place.version place.kind in
     let most : location.stripe ≤ 131072 = fits.size.most in
     subst (λ (l : Location). file_in (spaced (file_words number l)) ≡ Some (entry.File number l)) (sym e)
-    (file_again number location.stripe one.0 (omega arith) (omega arith) one.2)
+    (file_again number location.stripe location.members (omega arith) (omega arith) fits.nodes)
 
 up_again : (node : NodeId) (boot : Boot) (clock : ℕ) → node.0 < 2 ^ 32 → boot.0 < 2 ^ 64 → clock < 2 ^ 64 → up_in (spaced (decimal node.0 ∷ decimal boot.0 ∷ decimal clock ∷ [])) ≡ Some (entry.Up node boot clock)
 unfolding up_in
@@ -232,7 +266,7 @@ down_again node clock how p q =
     ) refl
 
 call_again : (made : Call) → IsCall made → FitsCall made → call_in (call_name made) (spaced (call_words made)) ≡ Some made
-unfolding call_name call_words call_in call_of
+unfolding call_name call_words call_in call_on call_of
 call_again (call.Read file object at len) is (p, q, r, s, t) =
     rw (
       number_at_again 64 file (decimal object ∷ decimal at ∷ decimal len ∷ []) p (omega arith),
@@ -248,7 +282,12 @@ call_again (call.Write file object at bytes) is (p, q, r, s, t) =
       first_again (hex_of bytes) [] (hex-IsWord bytes s.all),
       hex_again bytes s.all,
     ) refl
-call_again (call.Truncate file size epoch) never fits = absurd never
+call_again (call.Truncate file size epoch) is (p, q, r) =
+    rw (
+      number_at_again 64 file (decimal size ∷ decimal epoch ∷ []) p (omega arith),
+      number_at_again 64 size (decimal epoch ∷ []) q (omega arith),
+      number_at_again 64 epoch [] (omega arith) (omega arith),
+    ) refl
 call_again (call.Meta user group wanted) never fits = absurd never
 call_again (call.Report user group file) never fits = absurd never
 call_again (call.Registry wanted) never fits = absurd never
@@ -257,7 +296,7 @@ pub name-IsWord : (made : Call) → IsCall made → IsWord (call_name made)
 unfolding call_name
 name-IsWord (call.Read file object at len) is = (omega arith, (omega arith, (omega arith, (omega arith, tt))))
 name-IsWord (call.Write file object at bytes) is = (omega arith, (omega arith, (omega arith, (omega arith, (omega arith, tt)))))
-name-IsWord (call.Truncate file size epoch) never = absurd never
+name-IsWord (call.Truncate file size epoch) is = IsWord-tested (codes "truncate") refl
 name-IsWord (call.Meta user group wanted) never = absurd never
 name-IsWord (call.Report user group file) never = absurd never
 name-IsWord (call.Registry wanted) never = absurd never
@@ -272,6 +311,15 @@ begin_again client number made p q is fits =
       first_again (call_name made) (call_words made) (name-IsWord made is),
       others_again (call_name made) (call_words made) (name-IsWord made is),
       call_again made is fits,
+    ) refl
+
+held_again : (node : NodeId) (file end : ℕ) → node.0 < 2 ^ 32 → file < 2 ^ 64 → end < 2 ^ 64 → held_in (spaced (decimal node.0 ∷ decimal file ∷ decimal end ∷ [])) ≡ Some (entry.Held node file end)
+unfolding held_in
+held_again node file end p q r =
+    rw (
+      number_at_again 32 node.0 (decimal file ∷ decimal end ∷ []) p (omega arith),
+      number_at_again 64 file (decimal end ∷ []) q (omega arith),
+      number_at_again 64 end [] r (omega arith),
     ) refl
 
 update_again : (made : NodeId → ℕ → ℕ → OpId → Entry) (node : NodeId) (file count : ℕ) (id : OpId) → node.0 < 2 ^ 32 → file < 2 ^ 64 → count < 2 ^ 64 → id.client.0 < 2 ^ 32 → id.number < 2 ^ 64
@@ -373,6 +421,10 @@ ok_again count bytes p fits =
       hex_or_dash_again bytes fits,
     ) refl
 
+tried_again : (answers : List Answered) → AllByRecursion FitsAnswered answers → outcome_in (codes "retry") (spaced (answer_words answers)) ≡ Some (outcome.Retry answers)
+unfolding outcome_in
+tried_again answers fits = ap (λ (given : List Answered). Some (outcome.Retry given)) (answers_again answers fits)
+
 -- a call's end, the first of its words apart
 ended_again : (client : NodeId) (number : ℕ) (ended : Outcome) (name : List ℕ) (values : List (List ℕ)) → client.0 < 2 ^ 32 → number < 2 ^ 64 → IsWord name
     → outcome_in name (spaced values) ≡ Some ended
@@ -387,7 +439,7 @@ ended_again client number ended name values p q word again =
       again,
     ) refl
 
-done_again : (client : NodeId) (number : ℕ) (ended : Outcome) → client.0 < 2 ^ 32 → number < 2 ^ 64 → IsFinal ended → FitsOutcome ended
+done_again : (client : NodeId) (number : ℕ) (ended : Outcome) → client.0 < 2 ^ 32 → number < 2 ^ 64 → IsFileEnd ended → FitsOutcome ended
     → done_in (spaced (decimal client.0 ∷ decimal number ∷ outcome_words ended)) ≡ Some (entry.Done client number ended)
 unfolding outcome_words
 done_again client number (outcome.Ok count bytes) p q is (r, s) =
@@ -395,7 +447,8 @@ done_again client number (outcome.Ok count bytes) p q is (r, s) =
 done_again client number (outcome.Refused why) p q is fits =
     ap (λ (words : List (List ℕ)). done_in (spaced (decimal client.0 ∷ decimal number ∷ words))) (refusal_is why)
     ∙ ended_again client number (outcome.Refused why) (refusal_name why) (refusal_values why) p q (refusal-IsWord why) (refusal_again why fits)
-done_again client number (outcome.Retry answers) p q never fits = absurd never
+done_again client number (outcome.Retry answers) p q is fits =
+    ended_again client number (outcome.Retry answers) (codes "retry") (answer_words answers) p q (IsWord-tested (codes "retry") refl) (tried_again answers fits)
 done_again client number (outcome.Meta answer) p q never fits = absurd never
 done_again client number (outcome.Registry answer) p q never fits = absurd never
 
@@ -407,10 +460,14 @@ entry_again (entry.Times lease drift) (is, fits) =
     let small : lease < 2 ^ 40 = fits.small in
     times_again lease drift (omega arith) (omega arith)
 entry_again (entry.File number location) (is, (p, fits)) = place_again number location p is fits
+entry_again (entry.Clock node clock) (is, (p, q)) = clock_again node clock p (omega arith)
 entry_again (entry.Tick count) (is, fits) = tick_again count (omega arith)
 entry_again (entry.Up node boot clock) (is, (p, q, r)) = up_again node boot clock p (omega arith) (omega arith)
 entry_again (entry.Down node clock how) (is, (p, q)) = down_again node clock how p (omega arith)
 entry_again (entry.Begin client number made) (is, (p, q, fits)) = begin_again client number made p (omega arith) is fits
+entry_again (entry.Held node file end) (is, (p, q, r)) = held_again node file end p q r
+entry_again (entry.Active node file count id) (is, (p, q, r, s)) =
+    let whole = s.operation in update_again entry.Active node file count id p q (omega arith) s.who (omega arith)
 entry_again (entry.Issue node file count id) (is, (p, q, r, s)) =
     let whole = s.operation in update_again entry.Issue node file count id p q (omega arith) s.who (omega arith)
 entry_again (entry.Commit node file count id) (is, (p, q, r, s)) =

@@ -1,7 +1,10 @@
+pub mod AnswersAgain
 pub mod Digits
 pub mod EntryAgain
 pub mod InLine
 pub mod LineAgain
+pub mod ManyAgain
+pub mod NodeSteps
 pub mod Trace
 pub mod TraceAgain
 pub mod WordsAgain

@@ -13,36 +13,37 @@ use Rattle.xt_base.specs.declared.ids.NodeId.{NodeId}
 use Rattle.schedule_text.specs.Words.{spaced, hex_of, hex_pair}
 use Rattle.xt_base.specs.Limits.{AreBytes, FitsLocation, FitsMembers}
 use Rattle.time_line.specs.Bounds.{FitsCall}
-use Rattle.schedule_text.specs.LineText.{line_text, line_words, IsLine, IsPlace, IsOneOsd, IsCall}
-use Rattle.schedule_text.specs.CallText.{call_name, call_words, file_words}
+use Rattle.schedule_text.specs.LineText.{line_text, line_words, IsLine, IsPlace, IsCall}
+use Rattle.schedule_text.specs.CallText.{call_name, call_words, node_words, file_words}
 use Rattle.schedule_text.specs.Reading.{first_word, other_words}
-use Rattle.schedule_text.specs.LineReading.{times_at, osd_at, client_at, file_at, start_at, stop_at, crash_at, cut_at, tick_at, read_at, write_place, write_at, deliver_at, drop_at, settle_at, node_line, named_line, line_at}
+use Rattle.schedule_text.specs.LineReading.{times_at, osd_at, client_at, file_at, start_at, stop_at, crash_at, cut_at, clock_at, tick_at, wake_at, read_at, truncate_at, aim_at, write_place, write_at, deliver_at, drop_at, settle_at, node_line, timed_line, named_line, line_at}
+use Rattle.schedule_text.proofs.ManyAgain.{members_again}
 use Rattle.schedule_text.proofs.WordsAgain.{number_at_again, first_again, others_again, hex-IsWord, hex_again, pair-IsWord, byte_again}
 
 abbrev IsRead : Line → Type 0
 IsRead line = line_at (line_text line) ≡ Some line
 
 times_again : (lease drift : ℕ) → lease < 2 ^ 64 → drift < 2 ^ 64 → IsRead (line.Times lease drift)
-unfolding line_text line_words line_at named_line node_line times_at first_word other_words
+unfolding line_text line_words line_at named_line timed_line node_line times_at first_word other_words
 times_again lease drift p q =
     rw (number_at_again 64 lease (decimal drift ∷ []) p (omega arith), number_at_again 64 drift [] q (omega arith)) refl
 
 osd_again : (node : NodeId) → node.0 < 2 ^ 32 → IsRead (line.Osd node)
-unfolding line_text line_words line_at named_line node_line osd_at first_word other_words
+unfolding line_text line_words line_at named_line timed_line node_line osd_at first_word other_words
 osd_again node p = rw (number_at_again 32 node.0 [] p (omega arith)) refl
 
 client_again : (node : NodeId) (clock : ℕ) → node.0 < 2 ^ 32 → clock < 2 ^ 64 → IsRead (line.Client node clock)
-unfolding line_text line_words line_at named_line node_line client_at first_word other_words
+unfolding line_text line_words line_at named_line timed_line node_line client_at first_word other_words
 client_again node clock p q =
     rw (number_at_again 32 node.0 (decimal clock ∷ []) p (omega arith), number_at_again 64 clock [] q (omega arith)) refl
 
 start_again : (node : NodeId) (clock : ℕ) → node.0 < 2 ^ 32 → clock < 2 ^ 64 → IsRead (line.Start node clock)
-unfolding line_text line_words line_at named_line node_line start_at first_word other_words
+unfolding line_text line_words line_at named_line timed_line node_line start_at first_word other_words
 start_again node clock p q =
     rw (number_at_again 32 node.0 (decimal clock ∷ []) p (omega arith), number_at_again 64 clock [] q (omega arith)) refl
 
 stop_again : (node : NodeId) → node.0 < 2 ^ 32 → IsRead (line.Stop node)
-unfolding line_text line_words line_at named_line node_line stop_at first_word other_words
+unfolding line_text line_words line_at named_line timed_line node_line stop_at first_word other_words
 stop_again node p = rw (number_at_again 32 node.0 [] p (omega arith)) refl
 
 -- first_word stays as it is here, so the byte is passed by lemma
@@ -57,16 +58,25 @@ crash_words_again node device_call fill p q r =
     ) refl
 
 crash_again : (node : NodeId) (device_call fill : ℕ) → node.0 < 2 ^ 32 → device_call < 2 ^ 8 → fill < 256 → IsRead (line.Crash node device_call fill)
-unfolding line_text line_words line_at named_line first_word other_words
+unfolding line_text line_words line_at named_line timed_line first_word other_words
 crash_again node device_call fill p q r = crash_words_again node device_call fill p q r
 
 cut_again : (node : NodeId) (count : ℕ) → node.0 < 2 ^ 32 → count < 2 ^ 128 → IsRead (line.Cut node count)
-unfolding line_text line_words line_at named_line cut_at first_word other_words
+unfolding line_text line_words line_at named_line timed_line cut_at first_word other_words
 cut_again node count p q =
     rw (number_at_again 32 node.0 (decimal count ∷ []) p (omega arith), number_at_again 128 count [] q q) refl
 
+clock_again : (node : NodeId) (clock : ℕ) → node.0 < 2 ^ 32 → clock < 2 ^ 64 → IsRead (line.Clock node clock)
+unfolding line_text line_words line_at named_line timed_line clock_at first_word other_words
+clock_again node clock p q =
+    rw (number_at_again 32 node.0 (decimal clock ∷ []) p (omega arith), number_at_again 64 clock [] q (omega arith)) refl
+
+wake_again : (node : NodeId) → node.0 < 2 ^ 32 → IsRead (line.Wake node)
+unfolding line_text line_words line_at named_line timed_line wake_at first_word other_words
+wake_again node p = rw (number_at_again 32 node.0 [] p (omega arith)) refl
+
 tick_again : (count : ℕ) → count < 2 ^ 64 → IsRead (line.Tick count)
-unfolding line_text line_words line_at named_line tick_at first_word other_words
+unfolding line_text line_words line_at named_line timed_line tick_at first_word other_words
 tick_again count p = rw (number_at_again 64 count [] p (omega arith)) refl
 
 deliver_again : (number : ℕ) → number < 2 ^ 128 → IsRead (line.Deliver number)
@@ -81,24 +91,24 @@ settle_again : (count : ℕ) → count < 2 ^ 128 → IsRead (line.Settle count)
 unfolding line_text line_words line_at named_line settle_at first_word other_words
 settle_again count p = rw (number_at_again 128 count [] p p) refl
 
--- where a replicated file lies that has one OSD
-abbrev pub on_one : ℕ → NodeId → Location
-on_one stripe node = record { version = 1; kind = Replicated; stripe = stripe; members = node ∷ [] }
+-- where a replicated file lies that these OSDs keep
+abbrev pub kept_on : ℕ → List NodeId → Location
+kept_on stripe nodes = record { version = 1; kind = Replicated; stripe = stripe; members = nodes }
 
 -- other_words stays as it is here, so the name is passed by lemma
-file_again : (number stripe : ℕ) (node : NodeId) → number < 2 ^ 64 → stripe < 2 ^ 32 → node.0 < 2 ^ 32 → file_at (spaced (file_words number (on_one stripe node))) ≡ Some (line.File number (on_one stripe node))
+file_again : (number stripe : ℕ) (nodes : List NodeId) → number < 2 ^ 64 → stripe < 2 ^ 32 → FitsMembers nodes → file_at (spaced (file_words number (kept_on stripe nodes))) ≡ Some (line.File number (kept_on stripe nodes))
 unfolding file_at
-file_again number stripe node p q r =
+file_again number stripe nodes p q fits =
     rw (
-      number_at_again 64 number (codes "rep" ∷ decimal stripe ∷ decimal node.0 ∷ []) p (omega arith),
-      others_again (codes "rep") (decimal stripe ∷ decimal node.0 ∷ []) (omega arith, (omega arith, (omega arith, tt))),
-      number_at_again 32 stripe (decimal node.0 ∷ []) q (omega arith),
-      number_at_again 32 node.0 [] r (omega arith),
+      number_at_again 64 number (codes "rep" ∷ decimal stripe ∷ node_words nodes) p (omega arith),
+      others_again (codes "rep") (decimal stripe ∷ node_words nodes) (omega arith, (omega arith, (omega arith, tt))),
+      number_at_again 32 stripe (node_words nodes) q (omega arith),
+      members_again nodes fits,
     ) refl
 
-file_line_again : (number stripe : ℕ) (node : NodeId) → number < 2 ^ 64 → stripe < 2 ^ 32 → node.0 < 2 ^ 32 → IsRead (line.File number (on_one stripe node))
-unfolding line_text line_words line_at named_line node_line first_word other_words
-file_line_again number stripe node p q r = file_again number stripe node p q r
+file_line_again : (number stripe : ℕ) (nodes : List NodeId) → number < 2 ^ 64 → stripe < 2 ^ 32 → FitsMembers nodes → IsRead (line.File number (kept_on stripe nodes))
+unfolding line_text line_words line_at named_line timed_line node_line first_word other_words
+file_line_again number stripe nodes p q fits = file_again number stripe nodes p q fits
 
 read_again : (client : NodeId) (file object at len : ℕ) → client.0 < 2 ^ 32 → file < 2 ^ 64 → object < 2 ^ 64 → at < 2 ^ 32 → len < 2 ^ 32 → IsRead (line.Call client (call.Read file object at len))
 unfolding line_text line_words call_name call_words line_at named_line read_at first_word other_words
@@ -109,6 +119,25 @@ read_again client file object at len p q r s t =
       number_at_again 64 object (decimal at ∷ decimal len ∷ []) r (omega arith),
       number_at_again 32 at (decimal len ∷ []) s (omega arith),
       number_at_again 32 len [] t (omega arith),
+    ) refl
+
+truncate_again : (client : NodeId) (file size epoch : ℕ) → client.0 < 2 ^ 32 → file < 2 ^ 64 → size < 2 ^ 64 → epoch < 2 ^ 64 → IsRead (line.Call client (call.Truncate file size epoch))
+unfolding line_text line_words call_name call_words line_at named_line truncate_at first_word other_words
+truncate_again client file size epoch p q r s =
+    rw (
+      number_at_again 32 client.0 (decimal file ∷ decimal size ∷ decimal epoch ∷ []) p (omega arith),
+      number_at_again 64 file (decimal size ∷ decimal epoch ∷ []) q (omega arith),
+      number_at_again 64 size (decimal epoch ∷ []) r (omega arith),
+      number_at_again 64 epoch [] s (omega arith),
+    ) refl
+
+aim_again : (client : NodeId) (file : ℕ) (node : NodeId) → client.0 < 2 ^ 32 → file < 2 ^ 64 → node.0 < 2 ^ 32 → IsRead (line.Aim client file node)
+unfolding line_text line_words line_at named_line aim_at first_word other_words
+aim_again client file node p q r =
+    rw (
+      number_at_again 32 client.0 (decimal file ∷ decimal node.0 ∷ []) p (omega arith),
+      number_at_again 64 file (decimal node.0 ∷ []) q (omega arith),
+      number_at_again 32 node.0 [] r (omega arith),
     ) refl
 
 write_words_again : (client : NodeId) (file object at : ℕ) (bytes : List ℕ) → client.0 < 2 ^ 32 → file < 2 ^ 64 → object < 2 ^ 64 → at < 2 ^ 32 → AreBytes bytes → write_at (spaced (decimal client.0 ∷ call_words (call.Write file object at bytes))) ≡ Some (line.Call client (call.Write file object at bytes))
@@ -127,27 +156,21 @@ write_again : (client : NodeId) (file object at : ℕ) (bytes : List ℕ) → cl
 unfolding line_text line_words call_name line_at first_word other_words
 write_again client file object at bytes p q r s fits = write_words_again client file object at bytes p q r s fits
 
-pub one_of : (nodes : List NodeId) → IsOneOsd nodes → FitsMembers nodes → (node : NodeId) × (nodes ≡ node ∷ []) × (node.0 < 2 ^ 32)
-one_of [] one fits = absurd one
-one_of (node ∷ []) one fits = (node, refl, fits.each.0)
-one_of (node ∷ next ∷ nodes) one fits = absurd one
-
-pub place_of : (version : ℕ) (kind : Kind) (stripe : ℕ) (members : List NodeId) (node : NodeId) → version ≡ 1 → kind ≡ Replicated → members ≡ node ∷ []
-    → (let location : Location = record { version = version; kind = kind; stripe = stripe; members = members } in location) ≡ on_one stripe node
-place_of version kind stripe members node p q r = rw (p, q, r) refl
+pub place_of : (version : ℕ) (kind : Kind) (stripe : ℕ) (members : List NodeId) → version ≡ 1 → kind ≡ Replicated
+    → (let location : Location = record { version = version; kind = kind; stripe = stripe; members = members } in location) ≡ kept_on stripe members
+place_of version kind stripe members p q = rw (p, q) refl
 
 place_again : (number : ℕ) (location : Location) → number < 1000000 → IsPlace location → FitsLocation location → IsRead (line.File number location)
 place_again number location p place fits =
-    let one = one_of location.members place.one fits.nodes in
-    let e : location ≡ on_one location.stripe one.0 = place_of location.version location.kind location.stripe location.members one.0 place.version place.kind one.1 in
+    let e : location ≡ kept_on location.stripe location.members = place_of location.version location.kind location.stripe location.members place.version place.kind in
     let most : location.stripe ≤ 131072 = fits.size.most in
-    subst (λ (l : Location). IsRead (line.File number l)) (sym e) (file_line_again number location.stripe one.0 (omega arith) (omega arith) one.2)
+    subst (λ (l : Location). IsRead (line.File number l)) (sym e) (file_line_again number location.stripe location.members (omega arith) (omega arith) fits.nodes)
 
 -- a call that was written is read
 call_again : (client : NodeId) (made : Call) → client.0 < 2 ^ 32 → IsCall made → FitsCall made → IsRead (line.Call client made)
 call_again client (call.Read file object at len) p made (q, r, s, t, u) = read_again client file object at len p q (omega arith) s (omega arith)
 call_again client (call.Write file object at bytes) p made (q, r, s, t, u) = write_again client file object at bytes p q (omega arith) s t.all
-call_again client (call.Truncate file size epoch) p never fits = absurd never
+call_again client (call.Truncate file size epoch) p made (q, r, s) = truncate_again client file size epoch p q r (omega arith)
 call_again client (call.Meta user group wanted) p never fits = absurd never
 call_again client (call.Report user group file) p never fits = absurd never
 call_again client (call.Registry wanted) p never fits = absurd never
@@ -165,8 +188,11 @@ line_again first (line.Start node clock) (form, (p, q)) = start_again node clock
 line_again first (line.Stop node) (form, fits) = stop_again node fits
 line_again first (line.Crash node device_call fill) (form, (p, q, r, s)) = crash_again node device_call fill p (omega arith) s
 line_again first (line.Cut node count) (form, fits) = cut_again node count fits form
+line_again first (line.Clock node clock) (form, (p, q)) = clock_again node clock p (omega arith)
 line_again first (line.Tick count) (form, fits) = tick_again count (omega arith)
+line_again first (line.Wake node) (form, fits) = wake_again node fits
 line_again first (line.Call client made) (form, (p, fits)) = call_again client made p form fits
+line_again first (line.Aim client file node) (form, (p, q, r)) = aim_again client file node p q r
 line_again first (line.Deliver number) (form, fits) = deliver_again number form
 line_again first (line.Drop number) (form, fits) = drop_again number form
 line_again first (line.Settle count) (form, fits) = settle_again count form

@@ -1,5 +1,6 @@
 -- Traces that are spelled alike are one.
 use Rattle.std.proofs.Common.{◌≡◌, ◌∙◌, ℕ, ◌^◌, ◌<◌, ◌*◌, List, [], ◌∷◌, ◌++◌, length, length-append, refl, sym, ap, subst, append_assoc, arith}
+use Rattle.std.specs.Prelude.{codes}
 use Rattle.std.specs.List.{AllByRecursion}
 use Rattle.std.specs.Fmt.{decimal}
 use Rattle.xt_base.specs.declared.ids.NodeId.{NodeId}
@@ -19,8 +20,9 @@ use Rattle.time_line.specs.Bounds.{FitsCall, FitsOutcome, FitsRefusal, FitsPosit
 use Rattle.schedule_text.specs.LineText.{IsCall}
 use Rattle.schedule_text.specs.CallText.{call_words, kind_word, node_words}
 use Rattle.schedule_text.specs.OutcomeText.{outcome_words}
-use Rattle.schedule_text.specs.EntryText.{update_words, entry_words, entry_text, trace_text, IsFinal, IsEntry}
-use Rattle.schedule_text.proofs.WordsAgain.{IsWord, decimal-IsWord, hex-IsWord}
+use Rattle.schedule_text.specs.EntryText.{update_words, entry_words, entry_text, trace_text, IsFileEnd, IsEntry}
+use Rattle.schedule_text.proofs.WordsAgain.{IsWord, IsWord-tested, decimal-IsWord, hex-IsWord}
+use Rattle.schedule_text.proofs.AnswersAgain.{answers-AreWords}
 use Rattle.schedule_text.proofs.InLine.{HasNoFeed, spaced_in_line, same_line}
 use Rattle.schedule_text.proofs.EntryAgain.{name-IsWord, halt-IsWord, hex_or_dash-IsWord, refusal_is, refusal_values, refusal-IsWord, denial_small, one_entry}
 
@@ -46,7 +48,8 @@ call_are (call.Read file object at len) is (p, q, r, s, t) =
     (number-IsWord file (omega arith), (number-IsWord object (omega arith), (number-IsWord at (omega arith), (number-IsWord len (omega arith), tt))))
 call_are (call.Write file object at bytes) is (p, q, r, s, t) =
     (number-IsWord file (omega arith), (number-IsWord object (omega arith), (number-IsWord at (omega arith), (hex-IsWord bytes s.all, tt))))
-call_are (call.Truncate file size epoch) never fits = absurd never
+call_are (call.Truncate file size epoch) is (p, q, r) =
+    (number-IsWord file (omega arith), (number-IsWord size (omega arith), (number-IsWord epoch (omega arith), tt)))
 call_are (call.Meta user group wanted) never fits = absurd never
 call_are (call.Report user group file) never fits = absurd never
 call_are (call.Registry wanted) never fits = absurd never
@@ -64,12 +67,12 @@ values_are (refusal.OldEpoch epoch) fits = (number-IsWord epoch (omega arith), t
 values_are (refusal.TooFar object) fits = (number-IsWord object (omega arith), tt)
 values_are refusal.ClientsFull fits = tt
 
-outcome_are : (ended : Outcome) → IsFinal ended → FitsOutcome ended → AreWords (outcome_words ended)
+outcome_are : (ended : Outcome) → IsFileEnd ended → FitsOutcome ended → AreWords (outcome_words ended)
 unfolding outcome_words
 outcome_are (outcome.Ok count bytes) is (p, q) = ((omega arith, (omega arith, tt)), (number-IsWord count (omega arith), (hex_or_dash-IsWord bytes q.all, tt)))
 outcome_are (outcome.Refused why) is fits =
     subst AreWords (sym (refusal_is why)) (refusal-IsWord why, values_are why fits)
-outcome_are (outcome.Retry answers) never fits = absurd never
+outcome_are (outcome.Retry answers) is fits = (IsWord-tested (codes "retry") refl, answers-AreWords answers fits)
 outcome_are (outcome.Meta answer) never fits = absurd never
 outcome_are (outcome.Registry answer) never fits = absurd never
 
@@ -82,6 +85,8 @@ entry_are (entry.Times lease drift) (is, fits) =
 entry_are (entry.File number location) (is, (p, fits)) =
     let most = fits.size.most in
     ((omega arith, (omega arith, (omega arith, (omega arith, tt)))), (number-IsWord number (omega arith), (kind-IsWord location.kind, (number-IsWord location.stripe (omega arith), nodes_are location.members fits.nodes.each))))
+entry_are (entry.Clock node clock) (is, (p, q)) =
+    (IsWord-tested (codes "clock") refl, (number-IsWord node.0 (omega arith), (number-IsWord clock (omega arith), tt)))
 entry_are (entry.Tick count) (is, fits) = ((omega arith, (omega arith, (omega arith, (omega arith, tt)))), (number-IsWord count (omega arith), tt))
 entry_are (entry.Up node boot clock) (is, (p, q, r)) =
     ((omega arith, (omega arith, tt)), (number-IsWord node.0 (omega arith), (number-IsWord boot.0 (omega arith), (number-IsWord clock (omega arith), tt))))
@@ -89,6 +94,9 @@ entry_are (entry.Down node clock how) (is, (p, q)) =
     ((omega arith, (omega arith, (omega arith, (omega arith, tt)))), (number-IsWord node.0 (omega arith), (number-IsWord clock (omega arith), (halt-IsWord how, tt))))
 entry_are (entry.Begin client number made) (is, (p, q, fits)) =
     ((omega arith, (omega arith, (omega arith, (omega arith, (omega arith, tt))))), (number-IsWord client.0 (omega arith), (number-IsWord number (omega arith), (name-IsWord made is, call_are made is fits))))
+entry_are (entry.Held node file end) (is, (p, q, r)) =
+    (IsWord-tested (codes "held") refl, (number-IsWord node.0 (omega arith), (number-IsWord file (omega arith), (number-IsWord end (omega arith), tt))))
+entry_are (entry.Active node file count id) (is, fits) = (IsWord-tested (codes "active") refl, update_are node file count id fits)
 entry_are (entry.Issue node file count id) (is, fits) = ((omega arith, (omega arith, (omega arith, (omega arith, (omega arith, tt))))), update_are node file count id fits)
 entry_are (entry.Commit node file count id) (is, fits) = ((omega arith, (omega arith, (omega arith, (omega arith, (omega arith, (omega arith, tt)))))), update_are node file count id fits)
 entry_are (entry.Answer node file id count bytes) (is, ((p, q, r, s), fits)) =

@@ -1,10 +1,10 @@
 -- What is spelled as a word is read as one.
-use Rattle.std.proofs.Common.{◌≡◌, ℕ, suc, ◌+◌, ◌/◌, ◌%◌, ◌^◌, ◌<◌, not, List, [], ◌∷◌, ◌++◌, length, Some, refl, ap, eq-eqb, arith}
+use Rattle.std.proofs.Common.{◌≡◌, ℕ, suc, ◌+◌, ◌/◌, ◌%◌, ◌^◌, ◌<◌, Bool, true, false, ltb, ◌&&◌, not, List, [], ◌∷◌, ◌++◌, length, Some, refl, ap, eq-eqb, arith}
 use Rattle.std.specs.Prelude.{◌==◌}
 use Rattle.std.specs.List.{position_or_len, fold}
 use Rattle.std.specs.Fmt.{decimal}
 use Rattle.std.specs.Str.Parse.{AllDigits}
-use Rattle.std.proofs.lemmas.Bool.{lt-ltb, ne_eqb}
+use Rattle.std.proofs.lemmas.Bool.{lt-ltb, ltb-true, ne_eqb}
 use Rattle.std.proofs.lemmas.List.{take_at, append-nil}
 use Rattle.std.proofs.Math.Seq.{drop-append-add, take-length}
 use Rattle.std.proofs.Math.ListN.{drop_of_length-le}
@@ -17,10 +17,31 @@ use Rattle.xt_base.specs.Limits.{AreBytes}
 use Rattle.schedule_text.specs.Words.{spaced, hex_of, hex_pair, hex_digit}
 use Rattle.schedule_text.specs.Reading.{first_word, other_words, with_digit, number_of, number_at, digit_of, byte_of, bytes_of}
 
+-- two tests that pass together
+pub both_are : (a b : Bool) → (a && b) ≡ true → (a ≡ true) × (b ≡ true)
+both_are true true t = (refl, refl)
+both_are true false t = absurd cc
+both_are false b t = absurd cc
+
 -- no space stands in it
 abbrev pub IsWord : List ℕ → Type 0
 IsWord [] = Unit {0}
 IsWord (byte ∷ word) = (32 < byte) × IsWord word
+
+-- whether no space stands in it
+abbrev pub is_word : List ℕ → Bool
+is_word [] = true
+is_word (byte ∷ word) = ltb 32 byte && is_word word
+
+pub IsWord-tested : (word : List ℕ) → is_word word ≡ true → IsWord word
+IsWord-tested [] t = tt
+IsWord-tested (byte ∷ word) t =
+    let both = both_are (ltb 32 byte) (is_word word) t in
+    (ltb-true 32 byte both.0, IsWord-tested word both.1)
+
+pub IsWord-append : (first second : List ℕ) → IsWord first → IsWord second → IsWord (first ++ second)
+IsWord-append [] second f s = s
+IsWord-append (byte ∷ first) second f s = (f.0, IsWord-append first second f.1 s)
 
 -- the bytes of a word that are passed over
 word_len : (word : List ℕ) → IsWord word → position_or_len (λ byte. byte == 32) word ≡ length word

@@ -32,11 +32,14 @@ halt_word halt.Cut = codes "cut"
 unfoldable pub entry_words : Entry → List (List ℕ)
 entry_words (entry.Times lease drift) = codes "times" ∷ decimal lease ∷ decimal drift ∷ []
 entry_words (entry.File number location) = codes "file" ∷ file_words number location
+entry_words (entry.Clock node clock) = codes "clock" ∷ decimal node.0 ∷ decimal clock ∷ []
 entry_words (entry.Tick count) = codes "tick" ∷ decimal count ∷ []
 entry_words (entry.Up node boot clock) = codes "up" ∷ decimal node.0 ∷ decimal boot.0 ∷ decimal clock ∷ []
 entry_words (entry.Down node clock how) = codes "down" ∷ decimal node.0 ∷ decimal clock ∷ halt_word how ∷ []
 entry_words (entry.Begin client number call) =
     codes "begin" ∷ decimal client.0 ∷ decimal number ∷ call_name call ∷ call_words call
+entry_words (entry.Held node file end) = codes "held" ∷ decimal node.0 ∷ decimal file ∷ decimal end ∷ []
+entry_words (entry.Active node file count id) = codes "active" ∷ update_words node file count id
 entry_words (entry.Issue node file count id) = codes "issue" ∷ update_words node file count id
 entry_words (entry.Commit node file count id) = codes "commit" ∷ update_words node file count id
 entry_words (entry.Answer node file id count bytes) =
@@ -52,17 +55,18 @@ entry_text e = spaced (entry_words e)
 unfoldable pub trace_text : List Entry → List ℕ
 trace_text entries = flat_map (λ e. entry_text e ++ 10 ∷ []) entries
 
--- the end of a call on a file that isn't to be tried again
-abbrev pub IsFinal : Outcome → Type 0
-IsFinal (outcome.Ok count bytes) = Unit {0}
-IsFinal (outcome.Refused why) = Unit {0}
-IsFinal _ = ⊥
+-- the end of a call on a file
+abbrev pub IsFileEnd : Outcome → Type 0
+IsFileEnd (outcome.Ok count bytes) = Unit {0}
+IsFileEnd (outcome.Retry answers) = Unit {0}
+IsFileEnd (outcome.Refused why) = Unit {0}
+IsFileEnd _ = ⊥
 
 -- what an entry is about: files and calls are those of a schedule's lines
 abbrev pub IsOfSchedule : Entry → Type 0
 IsOfSchedule (entry.File number location) = IsPlace location
 IsOfSchedule (entry.Begin client number made) = IsCall made
-IsOfSchedule (entry.Done client number ended) = IsFinal ended
+IsOfSchedule (entry.Done client number ended) = IsFileEnd ended
 IsOfSchedule _ = Unit {0}
 
 -- an entry of a schedule's trace, within the limits of its values

@@ -2,7 +2,6 @@
 use Rattle.std.specs.Prelude.{ℕ, Bool, IsTrue, List, [], ◌∷◌, ◌++◌, ◌≡◌, ◌<◌, ◌^◌, codes}
 use Rattle.std.specs.List.{flat_map}
 use Rattle.std.specs.Fmt.{decimal}
-use Rattle.xt_base.specs.declared.ids.NodeId.{NodeId}
 use Rattle.xt_base.specs.declared.file.Kind.TheVariants.{Replicated}
 use Rattle.xt_base.specs.declared.file.Location.{Location}
 use Rattle.xt_base.specs.declared.event.Call.{Call}
@@ -23,8 +22,11 @@ line_words (line.Start node clock) = codes "start" ∷ decimal node.0 ∷ decima
 line_words (line.Stop node) = codes "stop" ∷ decimal node.0 ∷ []
 line_words (line.Crash node device_call fill) = codes "crash" ∷ decimal node.0 ∷ decimal device_call ∷ hex_pair fill ∷ []
 line_words (line.Cut node count) = codes "cut" ∷ decimal node.0 ∷ decimal count ∷ []
+line_words (line.Clock node clock) = codes "clock" ∷ decimal node.0 ∷ decimal clock ∷ []
 line_words (line.Tick count) = codes "tick" ∷ decimal count ∷ []
+line_words (line.Wake node) = codes "wake" ∷ decimal node.0 ∷ []
 line_words (line.Call client made) = call_name made ∷ decimal client.0 ∷ call_words made
+line_words (line.Aim client file node) = codes "aim" ∷ decimal client.0 ∷ decimal file ∷ decimal node.0 ∷ []
 line_words (line.Deliver number) = codes "deliver" ∷ decimal number ∷ []
 line_words (line.Drop number) = codes "drop" ∷ decimal number ∷ []
 line_words (line.Settle count) = codes "settle" ∷ decimal count ∷ []
@@ -33,22 +35,16 @@ line_words (line.Settle count) = codes "settle" ∷ decimal count ∷ []
 unfoldable pub line_text : Line → List ℕ
 line_text line = spaced (line_words line)
 
--- one OSD
-abbrev pub IsOneOsd : List NodeId → Type 0
-IsOneOsd [] = ⊥
-IsOneOsd (node ∷ []) = Unit {0}
-IsOneOsd (node ∷ next ∷ nodes) = ⊥
-
 -- where a schedule may put a file, of the places that fit
 pub record IsPlace (location : Location) : Type 0 where
   pub version : location.version ≡ 1
   pub kind : location.kind ≡ Replicated
-  pub one : IsOneOsd location.members
 
 -- a call that a schedule may make, of those that fit
 abbrev pub IsCall : Call → Type 0
 IsCall (call.Read file object at len) = Unit {0}
 IsCall (call.Write file object at bytes) = Unit {0}
+IsCall (call.Truncate file size epoch) = Unit {0}
 IsCall _ = ⊥
 
 -- what the language asks of a line, beside the limits of its values; `first` says whether it is the first one

@@ -1,5 +1,5 @@
 -- how a line is read: loosely, since its spelling is compared with it afterwards
-use Rattle.std.specs.Prelude.{ℕ, List, [], ◌∷◌, ◌+◌, ◌-◌, ◌*◌, ◌%◌, ◌^◌, ◌==◌, min, nat_lt, if◌then◌else◌, Option, Some, None, option_and_then}
+use Rattle.std.specs.Prelude.{ℕ, zero, suc, List, [], ◌∷◌, ◌+◌, ◌-◌, ◌*◌, ◌%◌, ◌^◌, ◌==◌, min, nat_lt, if◌then◌else◌, Option, Some, None, option_and_then}
 use Rattle.std.specs.List.{fold, before_first, after_first}
 
 infixl 10 ◌>>=◌
@@ -25,6 +25,12 @@ number_of word = fold with_digit 0 word
 -- a number below 2 to the power of `bits`, and the words behind it
 unfoldable pub number_at : ℕ → List ℕ → Option (ℕ × List ℕ)
 number_at bits words = if nat_lt (number_of (first_word words)) (2 ^ bits) then Some (number_of (first_word words), other_words words) else None
+
+-- what the first words say, at most so many of them, each read by itself
+unfoldable pub each_word : {A : Type 0} → (List ℕ → A) → ℕ → List ℕ → List A
+each_word read zero words = []
+each_word read (suc most) [] = []
+each_word read (suc most) (byte ∷ words) = read (first_word (byte ∷ words)) ∷ each_word read most (other_words (byte ∷ words))
 
 -- what a hex digit stands for
 abbrev pub digit_of : ℕ → ℕ

@@ -1,10 +1,11 @@
-ghost use Rattle.std.specs.Prelude.{◌≡◌, ◌<◌, ◌^◌, ◌↔◌, IsTrue};
+ghost use Rattle.std.specs.Prelude.{◌≡◌, ◌<◌, ◌^◌, ◌↔◌, IsTrue, nat_lt};
+ghost use Rattle.std.specs.List.{list_all};
 ghost use Rattle.xt_base.specs.Limits.{FitsStripe, FitsMembers, FitsLocation};
 ghost use Rattle.time_line.specs.Bounds.{FitsCall};
-ghost use Rattle.schedule_text.specs.LineText.{IsLine, IsPlace, IsOneOsd, IsCall};
+ghost use Rattle.schedule_text.specs.LineText.{IsLine, IsPlace, IsCall};
 
 use time_line::Line;
-use xt_base::{BODY, COUNTS, Call, Kind, Location, NodeId, Times};
+use xt_base::{BODY, COUNTS, Call, Kind, Location, Members, NodeId, Times};
 
 /// Whether a stripe is 1,024 to 131,072 bytes, in steps of 1,024.
 pub(crate) fn is_stripe(stripe: u32) -> bool
@@ -13,17 +14,19 @@ pub(crate) fn is_stripe(stripe: u32) -> bool
     (1_024..=131_072).contains(&stripe) && stripe % 1_024 == 0
 }
 
-/// Whether the nodes are one OSD.
-pub(crate) fn is_one_osd(nodes: &[NodeId]) -> bool
-    ensures { IsTrue result ↔ (IsOneOsd nodes.now × FitsMembers nodes.now) }
+/// Whether each node's number is below 2^32, as it always is.
+fn are_nodes(nodes: &[NodeId]) -> bool
+    ensures { result ≡ list_all (λ node. nat_lt node.0 4294967296) nodes.now }
 {
-    match nodes {
-        [node] => {
-            let _fits = node.0;
-            true
-        }
-        _ => false,
-    }
+    nodes.iter().all(|node| u64::from(node.0) < 1 << 32)
+}
+
+/// Whether the nodes are one to nine different ones.
+#[tactic(auto, using(crate::proofs::ManyAgain::nodes_fit, crate::proofs::ManyAgain::nodes_pass))]
+pub(crate) fn are_members(nodes: &[NodeId]) -> bool
+    ensures { IsTrue result ↔ FitsMembers nodes.now }
+{
+    are_nodes(nodes) && Members::new(nodes).is_ok()
 }
 
 /// Whether a schedule may put a file so.
@@ -33,7 +36,7 @@ pub(crate) fn is_place(location: &Location) -> bool
     location.version == 1
         && location.kind == Kind::Replicated
         && is_stripe(location.stripe)
-        && is_one_osd(location.members.as_slice())
+        && are_members(location.members.as_slice())
 }
 
 /// Whether a call may read this range of an object.
@@ -67,6 +70,11 @@ pub(crate) fn is_call(call: &Call) -> bool
             at,
             bytes,
         } => is_written(*file, *object, *at, bytes.as_slice()),
+        Call::Truncate { file, size, epoch } => {
+            let _file_fits = *file;
+            let _size_fits = *size;
+            *epoch < COUNTS
+        }
         _ => false,
     }
 }
@@ -77,11 +85,15 @@ pub(crate) fn is_line(first: bool, line: &Line) -> bool
 {
     match line {
         Line::Times { lease, drift } => first && Times::new(*lease, *drift).is_ok(),
-        Line::Osd { node } | Line::Stop { node } => {
+        Line::Osd { node } | Line::Stop { node } | Line::Wake { node } => {
             let _fits = node.0;
             true
         }
         Line::Client { node, clock } | Line::Start { node, clock } => {
+            let _fits = node.0;
+            *clock < COUNTS
+        }
+        Line::Clock { node, clock } => {
             let _fits = node.0;
             *clock < COUNTS
         }
@@ -100,6 +112,12 @@ pub(crate) fn is_line(first: bool, line: &Line) -> bool
         Line::Call { client, call } => {
             let _fits = client.0;
             is_call(call)
+        }
+        Line::Aim { client, file, node } => {
+            let _client_fits = client.0;
+            let _file_fits = *file;
+            let _node_fits = node.0;
+            true
         }
         Line::Deliver { number } | Line::Drop { number } | Line::Settle { count: number } => {
             let _fits = *number;

@@ -75,6 +75,16 @@ fn push_begin(
     push_call(out, call)
 }
 
+/// Appends `held N F END`.
+fn push_held(out: &mut Vec<u8>, node: NodeId, file: u64, end: u64) -> Result<(), OutOfMemory>
+    ensures { OnOk result (out.new.items ≡
+        out.old.items ++
+        spaced (codes "held" ∷ decimal node.0 ∷ decimal file ∷ decimal end ∷ [])) }
+{
+    push_clock(out, b"held", node, file)?;
+    push_number(out, end)
+}
+
 /// Appends a name and `N F COUNT CLIENT NUMBER`.
 fn push_update(
     out: &mut Vec<u8>,
@@ -135,6 +145,7 @@ fn push_entry(out: &mut Vec<u8>, entry: &Entry) -> Result<(), OutOfMemory>
     match entry {
         Entry::Times { lease, drift } => push_times(out, *lease, *drift),
         Entry::File { number, location } => push_file_line(out, *number, location),
+        Entry::Clock { node, clock } => push_clock(out, b"clock", *node, *clock),
         Entry::Tick { count } => push_named(out, b"tick", u128::from(*count)),
         Entry::Up { node, boot, clock } => push_up(out, *node, *boot, *clock),
         Entry::Down { node, clock, how } => push_down(out, *node, *clock, *how),
@@ -143,6 +154,13 @@ fn push_entry(out: &mut Vec<u8>, entry: &Entry) -> Result<(), OutOfMemory>
             number,
             call,
         } => push_begin(out, *client, *number, call),
+        Entry::Held { node, file, end } => push_held(out, *node, *file, *end),
+        Entry::Active {
+            node,
+            file,
+            count,
+            id,
+        } => push_update(out, b"active", *node, *file, *count, *id),
         Entry::Issue {
             node,
             file,

@@ -1,10 +1,11 @@
 ghost use Rattle.std.specs.Prelude.{◌≡◌, IfOk, MatchOption, Some, None};
-ghost use Rattle.schedule_text.specs.LineReading.{times_at, osd_at, client_at, file_at, start_at, stop_at, crash_at, cut_at, tick_at, read_at, write_place, write_at, deliver_at, drop_at, settle_at, node_line, named_line, line_at};
+ghost use Rattle.schedule_text.specs.LineReading.{times_at, osd_at, client_at, file_at, start_at, stop_at, crash_at, cut_at, clock_at, tick_at, wake_at, read_at, truncate_at, aim_at, write_place, write_at, deliver_at, drop_at, settle_at, node_line, timed_line, named_line, line_at};
 
+use crate::nodes::members_at;
 use crate::words::{byte_of, bytes_of, cut, u8_at, u32_at, u64_at, u128_at};
 use std::alloc::Global;
 use time_line::Line;
-use xt_base::{Call, Kind, Location, Members, NodeId, OutOfMemory};
+use xt_base::{Call, Kind, Location, NodeId, OutOfMemory};
 
 /// `times L E`
 #[tactic(auto, unfolding(crate::specs::LineReading::times_at))]
@@ -36,7 +37,7 @@ pub(crate) fn client(words: &[u8]) -> Option<Line>
     Some(Line::Client { node, clock })
 }
 
-/// `file F rep STRIPE N`
+/// `file F rep STRIPE N1 .. Nn`
 #[tactic(auto, unfolding(crate::specs::LineReading::file_at))]
 pub(crate) fn file(words: &[u8]) -> Option<Line>
     ensures { result ≡ file_at words.now }
@@ -44,12 +45,11 @@ pub(crate) fn file(words: &[u8]) -> Option<Line>
     let (number, words) = u64_at(words)?;
     let (_, words) = cut(words);
     let (stripe, words) = u32_at(words)?;
-    let (node, _) = u32_at(words)?;
     let location = Location {
         version: 1,
         kind: Kind::Replicated,
         stripe,
-        members: Members::new(&[NodeId(node)]).ok()?,
+        members: members_at(words)?,
     };
     Some(Line::File { number, location })
 }
@@ -98,6 +98,17 @@ pub(crate) fn cut_line(words: &[u8]) -> Option<Line>
     Some(Line::Cut { node, count })
 }
 
+/// `clock N VALUE`
+#[tactic(auto, unfolding(crate::specs::LineReading::clock_at))]
+pub(crate) fn clock(words: &[u8]) -> Option<Line>
+    ensures { result ≡ clock_at words.now }
+{
+    let (node, words) = u32_at(words)?;
+    let (clock, _) = u64_at(words)?;
+    let node = NodeId(node);
+    Some(Line::Clock { node, clock })
+}
+
 /// `tick COUNT`
 #[tactic(auto, unfolding(crate::specs::LineReading::tick_at))]
 pub(crate) fn tick(words: &[u8]) -> Option<Line>
@@ -105,6 +116,15 @@ pub(crate) fn tick(words: &[u8]) -> Option<Line>
 {
     let (count, _) = u64_at(words)?;
     Some(Line::Tick { count })
+}
+
+/// `wake N`
+#[tactic(auto, unfolding(crate::specs::LineReading::wake_at))]
+pub(crate) fn wake(words: &[u8]) -> Option<Line>
+    ensures { result ≡ wake_at words.now }
+{
+    let (node, _) = u32_at(words)?;
+    Some(Line::Wake { node: NodeId(node) })
 }
 
 /// `read C F OBJ AT LEN`
@@ -125,6 +145,33 @@ pub(crate) fn read(words: &[u8]) -> Option<Line>
     };
     let client = NodeId(client);
     Some(Line::Call { client, call })
+}
+
+/// `truncate C F SIZE EPOCH`
+#[tactic(auto, unfolding(crate::specs::LineReading::truncate_at))]
+pub(crate) fn truncate(words: &[u8]) -> Option<Line>
+    ensures { result ≡ truncate_at words.now }
+{
+    let (client, words) = u32_at(words)?;
+    let (file, words) = u64_at(words)?;
+    let (size, words) = u64_at(words)?;
+    let (epoch, _) = u64_at(words)?;
+    let call = Call::Truncate { file, size, epoch };
+    let client = NodeId(client);
+    Some(Line::Call { client, call })
+}
+
+/// `aim C F N`
+#[tactic(auto, unfolding(crate::specs::LineReading::aim_at))]
+pub(crate) fn aim(words: &[u8]) -> Option<Line>
+    ensures { result ≡ aim_at words.now }
+{
+    let (client, words) = u32_at(words)?;
+    let (file, words) = u64_at(words)?;
+    let (node, _) = u32_at(words)?;
+    let client = NodeId(client);
+    let node = NodeId(node);
+    Some(Line::Aim { client, file, node })
 }
 
 /// `deliver M`
@@ -176,19 +223,37 @@ pub(crate) fn node_line(name: &[u8], words: &[u8]) -> Option<Line>
     }
 }
 
-/// A line of this name, of any but a write.
-#[tactic(auto, unfolding(crate::specs::LineReading::named_line))]
-pub(crate) fn named_line(name: &[u8], words: &[u8]) -> Option<Line>
-    ensures { result ≡ named_line name.now words.now }
+/// A line of this name, of those that plan a stop, move a clock or wake, and those before.
+#[tactic(auto, unfolding(crate::specs::LineReading::timed_line))]
+pub(crate) fn timed_line(name: &[u8], words: &[u8]) -> Option<Line>
+    ensures { result ≡ timed_line name.now words.now }
 {
     if name == b"crash".as_slice() {
         crash(words)
     } else if name == b"cut".as_slice() {
         cut_line(words)
+    } else if name == b"clock".as_slice() {
+        clock(words)
     } else if name == b"tick".as_slice() {
         tick(words)
-    } else if name == b"read".as_slice() {
+    } else if name == b"wake".as_slice() {
+        wake(words)
+    } else {
+        node_line(name, words)
+    }
+}
+
+/// A line of this name, of any but a write.
+#[tactic(auto, unfolding(crate::specs::LineReading::named_line))]
+pub(crate) fn named_line(name: &[u8], words: &[u8]) -> Option<Line>
+    ensures { result ≡ named_line name.now words.now }
+{
+    if name == b"read".as_slice() {
         read(words)
+    } else if name == b"truncate".as_slice() {
+        truncate(words)
+    } else if name == b"aim".as_slice() {
+        aim(words)
     } else if name == b"deliver".as_slice() {
         deliver(words)
     } else if name == b"drop".as_slice() {
@@ -196,7 +261,7 @@ pub(crate) fn named_line(name: &[u8], words: &[u8]) -> Option<Line>
     } else if name == b"settle".as_slice() {
         settle(words)
     } else {
-        node_line(name, words)
+        timed_line(name, words)
     }
 }
 

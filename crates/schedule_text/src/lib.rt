@@ -11,6 +11,7 @@ mod call;
 mod entry;
 mod forms;
 mod line;
+mod nodes;
 mod outcome;
 mod spelling;
 mod status;

@@ -63,6 +63,16 @@ fn push_cut(out: &mut Vec<u8>, node: NodeId, count: u128) -> Result<(), OutOfMem
     push_wide_number(out, count)
 }
 
+/// Appends `aim C F N`.
+fn push_aim(out: &mut Vec<u8>, client: NodeId, file: u64, node: NodeId) -> Result<(), OutOfMemory>
+    ensures { OnOk result (out.new.items ≡
+        out.old.items ++
+        spaced (codes "aim" ∷ decimal client.0 ∷ decimal file ∷ decimal node.0 ∷ [])) }
+{
+    push_clock(out, b"aim", client, file)?;
+    push_node(out, node)
+}
+
 /// Appends a line, without a line feed.
 #[tactic(auto, unfolding(crate::specs::LineText::line_text, crate::specs::LineText::line_words))]
 fn push_line(out: &mut Vec<u8>, line: &Line) -> Result<(), OutOfMemory>
@@ -77,8 +87,11 @@ fn push_line(out: &mut Vec<u8>, line: &Line) -> Result<(), OutOfMemory>
         Line::Stop { node } => push_named_node(out, b"stop", *node),
         Line::Crash { node, call, fill } => push_crash(out, *node, *call, *fill),
         Line::Cut { node, count } => push_cut(out, *node, *count),
+        Line::Clock { node, clock } => push_clock(out, b"clock", *node, *clock),
         Line::Tick { count } => push_named(out, b"tick", u128::from(*count)),
+        Line::Wake { node } => push_named_node(out, b"wake", *node),
         Line::Call { client, call } => push_call_line(out, *client, call),
+        Line::Aim { client, file, node } => push_aim(out, *client, *file, *node),
         Line::Deliver { number } => push_named(out, b"deliver", *number),
         Line::Drop { number } => push_named(out, b"drop", *number),
         Line::Settle { count } => push_named(out, b"settle", *count),

@@ -1,11 +1,15 @@
 -- what may stand in a line of a schedule and in an entry of a trace: the limits of their values
-use Rattle.std.specs.Prelude.{ℕ, ◌<◌, ◌≤◌, ◌^◌, length}
+use Rattle.std.specs.Prelude.{ℕ, ◌≡◌, ◌<◌, ◌≤◌, ◌^◌, Bool, true, false, List, [], ◌∷◌, length}
+use Rattle.std.specs.List.{AllByRecursion}
 use Rattle.xt_base.specs.declared.ids.NodeId.{NodeId}
 use Rattle.xt_base.specs.declared.ids.OpId.{OpId}
 use Rattle.xt_base.specs.declared.event.Call.{Call}
 use Rattle.xt_base.specs.declared.event.Call.TheVariants as call
 use Rattle.xt_base.specs.declared.event.Outcome.{Outcome}
 use Rattle.xt_base.specs.declared.event.Outcome.TheVariants as outcome
+use Rattle.xt_base.specs.declared.reply.Answered.{Answered}
+use Rattle.xt_base.specs.declared.reply.Retry.{Retry}
+use Rattle.xt_base.specs.declared.reply.Retry.TheVariants as retry
 use Rattle.xt_base.specs.declared.status.AskRefusal.{AskRefusal}
 use Rattle.xt_base.specs.declared.status.AskRefusal.TheVariants as refusal
 use Rattle.xt_base.specs.Limits.{IsCount, FitsNode, FitsBoot, FitsOpId, FitsLocation, FitsBytes, IsObject}
@@ -32,11 +36,28 @@ FitsLine (line.Start node clock) = FitsNode node × (clock < 2 ^ 62)
 FitsLine (line.Stop node) = FitsNode node
 FitsLine (line.Crash node k fill) = FitsNode node × (1 ≤ k) × (k ≤ 4) × (fill < 256)
 FitsLine (line.Cut node count) = FitsNode node
+FitsLine (line.Clock node clock) = FitsNode node × (clock < 2 ^ 62)
 FitsLine (line.Tick count) = count < 2 ^ 32
+FitsLine (line.Wake node) = FitsNode node
 FitsLine (line.Call client c) = FitsNode client × FitsCall c
+FitsLine (line.Aim client file node) = FitsNode client × (file < 2 ^ 64) × FitsNode node
 FitsLine (line.Deliver number) = Unit {0}
 FitsLine (line.Drop number) = Unit {0}
 FitsLine (line.Settle count) = Unit {0}
+
+-- whether the line sets the times
+abbrev pub sets_times : Line → Bool
+sets_times (line.Times lease drift) = true
+sets_times _ = false
+
+-- a line that may stand behind the first one
+abbrev pub FitsLater : Line → Type 0
+FitsLater l = FitsLine l × (sets_times l ≡ false)
+
+-- Lines within the limits; the times stand first, if anywhere.
+abbrev pub AreLines : List Line → Type 0
+AreLines [] = Unit {0}
+AreLines (l ∷ later) = FitsLine l × AllByRecursion FitsLater later
 
 -- the values of a refusal
 abbrev pub FitsRefusal : AskRefusal → Type 0
@@ -46,9 +67,22 @@ FitsRefusal (refusal.OldEpoch epoch) = IsCount epoch
 FitsRefusal (refusal.TooFar object) = object < 2 ^ 64
 FitsRefusal refusal.ClientsFull = Unit {0}
 
+-- the values of what a member gave to a call that may be made again
+abbrev pub FitsRetry : Retry → Type 0
+FitsRetry (retry.NoLease end) = end < 2 ^ 64
+FitsRetry (retry.NoMajority have need) = (have < 256) × (need < 256)
+FitsRetry (retry.Elsewhere node end) = FitsNode node × (end < 2 ^ 64)
+FitsRetry retry.Silent = Unit {0}
+
+-- the values of a member's answer
+pub record FitsAnswered (answered : Answered) : Type 0 where
+  pub who : FitsNode answered.node
+  pub gave : FitsRetry answered.outcome
+
 -- the values of the end of a call on a file; those of other ends have no limits yet
 abbrev pub FitsOutcome : Outcome → Type 0
 FitsOutcome (outcome.Ok count bytes) = IsCount count × FitsBytes bytes
+FitsOutcome (outcome.Retry answers) = AllByRecursion FitsAnswered answers
 FitsOutcome (outcome.Refused why) = FitsRefusal why
 FitsOutcome _ = Unit {0}
 
@@ -60,10 +94,13 @@ FitsPosition node file count id = FitsNode node × (file < 2 ^ 64) × IsCount co
 abbrev pub FitsEntry : Entry → Type 0
 FitsEntry (entry.Times lease drift) = AreTimes lease drift
 FitsEntry (entry.File number location) = (number < 1000000) × FitsLocation location
+FitsEntry (entry.Clock node clock) = FitsNode node × (clock < 2 ^ 62)
 FitsEntry (entry.Tick count) = count < 2 ^ 32
 FitsEntry (entry.Up node boot clock) = FitsNode node × FitsBoot boot × (clock < 2 ^ 62)
 FitsEntry (entry.Down node clock how) = FitsNode node × (clock < 2 ^ 62)
 FitsEntry (entry.Begin client number c) = FitsNode client × IsCount number × FitsCall c
+FitsEntry (entry.Held node file end) = FitsNode node × (file < 2 ^ 64) × (end < 2 ^ 64)
+FitsEntry (entry.Active node file count id) = FitsPosition node file count id
 FitsEntry (entry.Issue node file count id) = FitsPosition node file count id
 FitsEntry (entry.Commit node file count id) = FitsPosition node file count id
 FitsEntry (entry.Answer node file id count bytes) = FitsPosition node file count id × FitsBytes bytes

@@ -1,4 +1,5 @@
 pub mod Content
 pub mod TimeLine
-pub mod Fresh
+pub mod Clauses
+pub mod Verdicts
 pub mod Bounds

@@ -27,6 +27,11 @@ pub enum Entry {
         number: u64,
         location: Location,
     },
+    /// A running clock was set.
+    Clock {
+        node: NodeId,
+        clock: u64,
+    },
     /// Every running clock advanced.
     Tick {
         count: u64,
@@ -48,6 +53,19 @@ pub enum Entry {
         client: NodeId,
         number: u64,
         call: Call,
+    },
+    /// A lease or a renewal was chosen.
+    Held {
+        node: NodeId,
+        file: u64,
+        end: u64,
+    },
+    /// The node became the file's active primary; `count` is how many writes the file has, and the id is the last one's.
+    Active {
+        node: NodeId,
+        file: u64,
+        count: u64,
+        id: OpId,
     },
     /// A primary sent an update to its replicas; `count` is how many writes the file has with it.
     Issue {
@@ -90,6 +108,10 @@ impl Copies for Entry {
                 number: *number,
                 location: *location,
             },
+            Entry::Clock { node, clock } => Entry::Clock {
+                node: *node,
+                clock: *clock,
+            },
             Entry::Tick { count } => Entry::Tick { count: *count },
             Entry::Up { node, boot, clock } => Entry::Up {
                 node: *node,
@@ -109,6 +131,22 @@ impl Copies for Entry {
                 client: *client,
                 number: *number,
                 call: call.copy(alloc)?,
+            },
+            Entry::Held { node, file, end } => Entry::Held {
+                node: *node,
+                file: *file,
+                end: *end,
+            },
+            Entry::Active {
+                node,
+                file,
+                count,
+                id,
+            } => Entry::Active {
+                node: *node,
+                file: *file,
+                count: *count,
+                id: *id,
             },
             Entry::Issue {
                 node,

@@ -1,7 +1,8 @@
-//! The lines of a schedule and their limits, the entries of a trace, and what a trace says: the write order of a
-//! file, the file's content by position, what its answers have to show, and when they are fresh.
+//! The lines of a schedule and their limits, the entries of a trace, and what a trace says at a moment: which boots run,
+//! who holds a file, the file's writes in order and its content. When a trace is safe, clause by clause, and where it is
+//! broken first.
 //!
-//! The definitions in `specs/` speak of entries alone: no message, version, ballot or epoch occurs in them.
+//! The definitions in `specs/` speak of lines and entries alone: no message, version, ballot or epoch occurs in them.
 #![tactic(auto)]
 
 mod entry;

@@ -5,31 +5,80 @@ use xt_base::{Call, Copies, Location, NodeId, OutOfMemory};
 #[derive(Drop)]
 pub enum Line {
     /// The lease length and the drift, in milliseconds. It is the first line, if any.
-    Times { lease: u64, drift: u64 },
+    Times {
+        lease: u64,
+        drift: u64,
+    },
     /// Declares an OSD.
-    Osd { node: NodeId },
+    Osd {
+        node: NodeId,
+    },
     /// Declares a client, and starts it for good.
-    Client { node: NodeId, clock: u64 },
+    Client {
+        node: NodeId,
+        clock: u64,
+    },
     /// Declares a file.
-    File { number: u64, location: Location },
+    File {
+        number: u64,
+        location: Location,
+    },
     /// Starts a node.
-    Start { node: NodeId, clock: u64 },
+    Start {
+        node: NodeId,
+        clock: u64,
+    },
     /// Stops a node between two steps.
-    Stop { node: NodeId },
+    Stop {
+        node: NodeId,
+    },
     /// The node's next append stops in this device call, from 1 to 4; each place that isn't synced then holds the byte.
-    Crash { node: NodeId, call: u8, fill: u8 },
+    Crash {
+        node: NodeId,
+        call: u8,
+        fill: u8,
+    },
     /// The node's next step that sends stops behind so many messages, or behind all.
-    Cut { node: NodeId, count: u128 },
+    Cut {
+        node: NodeId,
+        count: u128,
+    },
+    /// Sets a running clock.
+    Clock {
+        node: NodeId,
+        clock: u64,
+    },
     /// Advances every running clock at once, in milliseconds.
-    Tick { count: u64 },
+    Tick {
+        count: u64,
+    },
+    /// Some time has passed at a node.
+    Wake {
+        node: NodeId,
+    },
     /// A client's call.
-    Call { client: NodeId, call: Call },
+    Call {
+        client: NodeId,
+        call: Call,
+    },
+    /// A client's first target for a file.
+    Aim {
+        client: NodeId,
+        file: u64,
+        node: NodeId,
+    },
     /// Delivers a message that was ever sent, again too. The first has number 1.
-    Deliver { number: u128 },
+    Deliver {
+        number: u128,
+    },
     /// A pending message is no longer so.
-    Drop { number: u128 },
+    Drop {
+        number: u128,
+    },
     /// As many times, the pending message of least number is delivered.
-    Settle { count: u128 },
+    Settle {
+        count: u128,
+    },
 }
 
 impl Copies for Line {
@@ -62,10 +111,20 @@ impl Copies for Line {
                 node: *node,
                 count: *count,
             },
+            Line::Clock { node, clock } => Line::Clock {
+                node: *node,
+                clock: *clock,
+            },
             Line::Tick { count } => Line::Tick { count: *count },
+            Line::Wake { node } => Line::Wake { node: *node },
             Line::Call { client, call } => Line::Call {
                 client: *client,
                 call: call.copy(alloc)?,
+            },
+            Line::Aim { client, file, node } => Line::Aim {
+                client: *client,
+                file: *file,
+                node: *node,
             },
             Line::Deliver { number } => Line::Deliver { number: *number },
             Line::Drop { number } => Line::Drop { number: *number },

@@ -21,13 +21,13 @@ use Rattle.xt_base.specs.declared.event.Outcome.{Outcome}
 use Rattle.xt_base.specs.declared.event.Outcome.TheVariants as outcome
 use Rattle.xt_base.specs.declared.status.AskRefusal.TheVariants as refusal
 use Rattle.lease_safety.specs.State.{Has}
-use Rattle.cluster_runs.specs.declared.Entry.{Entry}
+use Rattle.time_line.specs.declared.entry.Entry.{Entry}
 use Rattle.cluster_runs.specs.declared.RunningCall.{RunningCall}
 use Rattle.cluster_runs.specs.declared.ClientState.{ClientState}
 use Rattle.cluster_runs.specs.Steps.{Step, stays}
 use Rattle.cluster_runs.specs.Clients.{ClientSite, step_of_client}
 use Rattle.cluster_runs.specs.Clients as clients
-use Rattle.cluster_runs.specs.TimeLine.{id_of, operation_begun}
+use Rattle.time_line.specs.TimeLine.{id_of, operation_begun}
 use Rattle.world_ends.proofs.Entries.{HasAnswer}
 
 -- these entries have an answer of the call, on some file

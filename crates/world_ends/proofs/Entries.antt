@@ -12,10 +12,10 @@ use Rattle.xt_base.specs.declared.ids.OpId.{OpId}
 use Rattle.xt_base.specs.declared.file.Op.{Op}
 use Rattle.xt_base.specs.declared.event.Call.{Call}
 use Rattle.xt_base.specs.declared.event.Call.TheVariants as call
-use Rattle.cluster_runs.specs.declared.Entry.{Entry}
-use Rattle.cluster_runs.specs.declared.Entry.TheVariants as entry
-use Rattle.cluster_runs.specs.TimeLine.{call_begun, begun, operation_on, operation_begun, Claim, claim_on, order_by, write_order, HasPosition}
-use Rattle.cluster_runs.specs.Clauses.{HasBegunOn}
+use Rattle.time_line.specs.declared.entry.Entry.{Entry}
+use Rattle.time_line.specs.declared.entry.Entry.TheVariants as entry
+use Rattle.time_line.specs.TimeLine.{call_begun, begun, operation_on, operation_begun, Claim, claim_on, order_by, write_order, HasPosition}
+use Rattle.time_line.specs.Clauses.{HasBegunOn}
 
 -- ---- lists
 

@@ -53,7 +53,7 @@ use Rattle.osd_rows.specs.FileLeases.{read_comes, write_comes, answer_comes, ans
 use Rattle.osd_rows.specs.AskRows.{ask_waits, ask_served, elsewhere, ask_without_lease, ask_under, ask_rows, ask_let_in, refusal_of, capability_refused, capability_list_range, list_and_range, with_member, list_against, same_list, leaves_object, ask_handled, waiting_ask, view_record}
 use Rattle.osd_rows.specs.FileSteps.{ask_comes, primary_hears, message_comes, renews, step_of_file, wakes_under_lease, wake_of_file}
 use Rattle.osd_lease_views.proofs.LeaseSteps.{expired_keeps}
-use Rattle.cluster_runs.specs.TimeLine.{id_of}
+use Rattle.time_line.specs.TimeLine.{id_of}
 use Rattle.world_leases.proofs.Lists.{has_in, has_filter}
 use Rattle.world_ends.proofs.Said.{IsNo, IsNoIfAny, AreSaid, AreMarked, both_marked, no_said, both_said, joined_said, map_said, said_more}
 use Rattle.world_ends.proofs.PrimaryIds.{wakes_marks, TenureIs, LedSaid, LedSaidIfAny, drawn_said, hears_said, writes_said, wakes_said}

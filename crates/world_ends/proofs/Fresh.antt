@@ -7,10 +7,10 @@ use Rattle.std.proofs.lemmas.List.{append_assoc, append-nil}
 use Rattle.xt_base.specs.declared.ids.OpId.{OpId}
 use Rattle.xt_base.specs.declared.file.Op.{Op}
 use Rattle.xt_base.specs.declared.file.Op.TheVariants as op
-use Rattle.cluster_runs.specs.declared.Entry.{Entry}
-use Rattle.cluster_runs.specs.declared.Entry.TheVariants as entry
-use Rattle.cluster_runs.specs.TimeLine.{begun, stripe_of, operation_begun, Claim, claim_on, order_by, write_order, HasPosition}
-use Rattle.cluster_runs.specs.Clauses.{is_change, is_reading, ok_entry, HasBegunOn, IsChange, IsReading, IsBefore, IsShown, AreOnce, AnswersShow, BeginsBehind, EndsWell, EndsAreAnswered, ReadsSeeWrites, ReadsDoNotGoBack, WritesKeepOrder, AreFresh}
+use Rattle.time_line.specs.declared.entry.Entry.{Entry}
+use Rattle.time_line.specs.declared.entry.Entry.TheVariants as entry
+use Rattle.time_line.specs.TimeLine.{begun, stripe_of, operation_begun, Claim, claim_on, order_by, write_order, HasPosition}
+use Rattle.time_line.specs.Clauses.{is_change, is_reading, ok_entry, HasBegunOn, IsChange, IsReading, IsBefore, IsShown, AreOnce, AnswersShow, BeginsBehind, EndsWell, EndsAreAnswered, ReadsSeeWrites, ReadsDoNotGoBack, WritesKeepOrder, AreFresh}
 use Rattle.world_ends.proofs.Entries.{HasAnswer, two_fronts, get-push, has_begun, operation-same, begun_on-grown, order-push, order-length, position-within, position-front, position-grown}
 
 -- a contained item splits the list

@@ -20,12 +20,12 @@ use Rattle.osd_rows.specs.declared.Progress.{Progress}
 use Rattle.osd_rows.specs.declared.Progress.TheVariants as progress
 use Rattle.osd_rows.specs.declared.Tenure.{Tenure}
 use Rattle.osd_rows.specs.FileStates.{FileState}
-use Rattle.cluster_runs.specs.declared.Entry.{Entry}
-use Rattle.cluster_runs.specs.declared.Entry.TheVariants as entry
+use Rattle.time_line.specs.declared.entry.Entry.{Entry}
+use Rattle.time_line.specs.declared.entry.Entry.TheVariants as entry
 use Rattle.cluster_runs.specs.declared.ClientState.{ClientState}
 use Rattle.cluster_runs.specs.declared.RunningCall.{RunningCall}
-use Rattle.cluster_runs.specs.TimeLine.{id_of, begun, call_begun}
-use Rattle.cluster_runs.specs.Clauses.{IsBefore, ok_entry, HasBegunOn, EndsAreAnswered}
+use Rattle.time_line.specs.TimeLine.{id_of, begun, call_begun}
+use Rattle.time_line.specs.Clauses.{IsBefore, ok_entry, HasBegunOn, EndsAreAnswered}
 use Rattle.cluster_runs.specs.World.{Node, Running, Core, osd, client, node_in}
 use Rattle.cluster_runs.specs.NodeSteps.{entry_of}
 use Rattle.world_leases.specs.View.{node_id}

@@ -28,9 +28,9 @@ use Rattle.osd_lease_views.specs.LeaseView.{settled_row}
 use Rattle.osd_lease_views.proofs.LeaseSteps.{expired_keeps}
 use Rattle.osd_lease_views.proofs.OsdLeases.{at_file}
 use Rattle.osd_lease_views.proofs.ActSteps.{step_marks, woken_quiet}
-use Rattle.cluster_runs.specs.declared.Entry.{Entry}
-use Rattle.cluster_runs.specs.TimeLine.{id_of}
-use Rattle.cluster_runs.specs.Clauses.{HasBegunOn}
+use Rattle.time_line.specs.declared.entry.Entry.{Entry}
+use Rattle.time_line.specs.TimeLine.{id_of}
+use Rattle.time_line.specs.Clauses.{HasBegunOn}
 use Rattle.world_leases.proofs.Lists.{has_in, has_left, has_right}
 use Rattle.world_leases.proofs.Files.{file_after}
 use Rattle.world_leases.proofs.Rising.{with_file_has}

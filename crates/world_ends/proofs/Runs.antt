@@ -16,14 +16,14 @@ use Rattle.time_line.specs.declared.entry.Halt.{Halt}
 use Rattle.time_line.specs.declared.entry.Halt.TheVariants as halt
 use Rattle.lease_safety.specs.State.{Has}
 use Rattle.osd_rows.specs.FileStates.{FileState, file_from}
-use Rattle.cluster_runs.specs.declared.Entry.{Entry}
-use Rattle.cluster_runs.specs.declared.Entry.TheVariants as entry
-use Rattle.cluster_runs.specs.declared.Line.{Line}
+use Rattle.time_line.specs.declared.entry.Entry.{Entry}
+use Rattle.time_line.specs.declared.entry.Entry.TheVariants as entry
+use Rattle.time_line.specs.declared.line.Line.{Line}
 use Rattle.cluster_runs.specs.declared.Role.TheVariants as role
-use Rattle.cluster_runs.specs.Bounds.{AreLines}
+use Rattle.time_line.specs.Bounds.{AreLines}
 use Rattle.cluster_runs.specs.Rules.{refusal}
 use Rattle.cluster_runs.specs.Clients.{new_client, knows, aimed, step_of_client}
-use Rattle.cluster_runs.specs.Clauses.{HasBegunOn, EndsAreAnswered}
+use Rattle.time_line.specs.Clauses.{HasBegunOn, EndsAreAnswered}
 use Rattle.cluster_runs.specs.World.{World, Node, Running, Core, osd, client, node_in, with_node}
 use Rattle.cluster_runs.specs.NodeSteps.{Room, halted}
 use Rattle.cluster_runs.specs.Lines.{Next, finished, opens, goes_on, ends, begins, steps, so_far, runs, first_boot, next_boot, osd_starting, ticked, declared_file, epoch_of, declared_capability, uses, no_longer_pending}

@@ -20,7 +20,7 @@ use Rattle.osd_rows.specs.declared.PeerState.{PeerState}
 use Rattle.osd_rows.specs.declared.PeerState.TheVariants as peer
 use Rattle.osd_rows.specs.Turns.{joined}
 use Rattle.osd_rows.specs.Primaries.{if_any, last_sent, last_to_each}
-use Rattle.cluster_runs.specs.TimeLine.{id_of}
+use Rattle.time_line.specs.TimeLine.{id_of}
 use Rattle.world_leases.proofs.Lists.{has_left, has_right}
 
 -- a reply that isn't Ok

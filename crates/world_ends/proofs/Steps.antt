@@ -20,15 +20,15 @@ use Rattle.xt_base.specs.declared.TheConstants.{COUNTS}
 use Rattle.xt_protocol.specs.declared.Turned.{Turned}
 use Rattle.lease_safety.specs.State.{Has}
 use Rattle.osd_rows.specs.OsdSteps.{OsdState, step_of_osd}
-use Rattle.cluster_runs.specs.declared.Entry.{Entry}
-use Rattle.cluster_runs.specs.declared.Entry.TheVariants as entry
+use Rattle.time_line.specs.declared.entry.Entry.{Entry}
+use Rattle.time_line.specs.declared.entry.Entry.TheVariants as entry
 use Rattle.cluster_runs.specs.declared.Sent.{Sent}
 use Rattle.cluster_runs.specs.declared.ClientState.{ClientState}
 use Rattle.cluster_runs.specs.Steps.{Step, stays}
 use Rattle.cluster_runs.specs.Clients.{call_of_client, begins_call}
-use Rattle.cluster_runs.specs.Bounds.{FitsCall}
+use Rattle.time_line.specs.Bounds.{FitsCall}
 use Rattle.cluster_runs.specs.Rules.{called_file}
-use Rattle.cluster_runs.specs.TimeLine.{id_of, begun, call_begun, operation_on, operation_begun}
+use Rattle.time_line.specs.TimeLine.{id_of, begun, call_begun, operation_on, operation_begun}
 use Rattle.cluster_runs.specs.World.{World, Node, Running, Core, osd, client, node_in, with_node}
 use Rattle.cluster_runs.specs.NodeSteps.{entry_of, pending, numbered, to_itself, after_turn, outside_of}
 use Rattle.cluster_runs.specs.Lines.{ticked, operation_of}

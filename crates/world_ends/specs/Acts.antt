@@ -1,9 +1,9 @@
 -- what stands in the trace behind the acts of a primary that name a call
 use Rattle.std.specs.Prelude.{◌≡◌, ◌==◌, ℕ, if◌then◌else◌, Option, Some, None, List}
 use Rattle.xt_base.specs.declared.ids.OpId.{OpId}
-use Rattle.cluster_runs.specs.declared.Entry.{Entry}
-use Rattle.cluster_runs.specs.declared.Entry.TheVariants as entry
-use Rattle.cluster_runs.specs.Clauses.{IsBefore, HasBegunOn}
+use Rattle.time_line.specs.declared.entry.Entry.{Entry}
+use Rattle.time_line.specs.declared.entry.Entry.TheVariants as entry
+use Rattle.time_line.specs.Clauses.{IsBefore, HasBegunOn}
 
 -- the call whose write is issued or committed, or that is answered, on this file
 abbrev pub acted_for : ℕ → Entry → Option OpId

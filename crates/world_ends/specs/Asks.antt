@@ -6,8 +6,8 @@ use Rattle.xt_base.specs.declared.message.Msg.{Msg}
 use Rattle.xt_base.specs.declared.message.Payload.{Payload}
 use Rattle.xt_base.specs.declared.message.Payload.TheVariants as payload
 use Rattle.lease_safety.specs.State.{Has}
-use Rattle.cluster_runs.specs.declared.Entry.{Entry}
-use Rattle.cluster_runs.specs.TimeLine.{id_of, operation_begun}
+use Rattle.time_line.specs.declared.entry.Entry.{Entry}
+use Rattle.time_line.specs.TimeLine.{id_of, operation_begun}
 use Rattle.cluster_runs.specs.World.{World}
 use Rattle.cluster_runs.specs.Lines.{Next, finished, opens, goes_on, ends}
 use Rattle.world_leases.specs.View.{messages}

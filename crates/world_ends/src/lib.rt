@@ -6,14 +6,14 @@
 #![tactic(auto)]
 
 ghost use Rattle.std.specs.Prelude.{◌≡◌, ℕ, None, List, [], ◌∷◌, ◌++◌};
-ghost use Rattle.cluster_runs.specs.declared.Entry.{Entry};
-ghost use Rattle.cluster_runs.specs.declared.Line.{Line};
+ghost use Rattle.time_line.specs.declared.entry.Entry.{Entry};
+ghost use Rattle.time_line.specs.declared.line.Line.{Line};
 ghost use Rattle.cluster_runs.specs.NodeSteps.{Room};
 ghost use Rattle.cluster_runs.specs.Rules.{refusal};
-ghost use Rattle.cluster_runs.specs.Bounds.{AreLines};
+ghost use Rattle.time_line.specs.Bounds.{AreLines};
 ghost use Rattle.cluster_runs.specs.Runs.{run_of, IsRunInto};
 ghost use Rattle.cluster_runs.specs.Lines.{begins, steps};
-ghost use Rattle.cluster_runs.specs.Clauses.{AreOnce, AnswersShow, EndsAreAnswered, AreFresh};
+ghost use Rattle.time_line.specs.Clauses.{AreOnce, AnswersShow, EndsAreAnswered, AreFresh};
 ghost use Rattle.world_ends.specs.Acts.{ActsHaveBegun};
 ghost use Rattle.world_ends.specs.Asks.{AsksHaveBegun, NextHasBegun};
 

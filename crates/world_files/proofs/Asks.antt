@@ -30,8 +30,8 @@ use Rattle.osd_replica_views.specs.FileView.{IsList, AskComes}
 use Rattle.osd_replica_views.proofs.Files.{expired_none}
 use Rattle.replica_runs.specs.HeadWorld.{shown}
 use Rattle.cluster_runs.specs.declared.DeclaredFile.{DeclaredFile}
-use Rattle.cluster_runs.specs.declared.Entry.{Entry}
-use Rattle.cluster_runs.specs.TimeLine.{id_of, operation_begun}
+use Rattle.time_line.specs.declared.entry.Entry.{Entry}
+use Rattle.time_line.specs.TimeLine.{id_of, operation_begun}
 use Rattle.cluster_runs.specs.World.{file_in}
 use Rattle.world_leases.specs.Worlds.{AskFits}
 use Rattle.world_leases.proofs.Lists.{has_in, has_left}

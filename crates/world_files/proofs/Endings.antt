@@ -10,8 +10,8 @@ use Rattle.time_line.specs.declared.entry.Halt.{Halt}
 use Rattle.osd_rows.specs.OsdSteps.{OsdState, file_concerned}
 use Rattle.osd_invariants.specs.Sound.{IsHeld}
 use Rattle.file_runs.specs.FileRuns.{FileWorld, Sent, Tale, Event, Happening, message, wake, Ending, stops_kept, stops_lost, acts, step_on, Comes, MayEnd, May, after, after_all}
-use Rattle.cluster_runs.specs.declared.Entry.TheVariants as entry
-use Rattle.cluster_runs.specs.Clauses.{AreApart}
+use Rattle.time_line.specs.declared.entry.Entry.TheVariants as entry
+use Rattle.time_line.specs.Clauses.{AreApart}
 use Rattle.cluster_runs.specs.World.{World, Node, Running, osd}
 use Rattle.cluster_runs.specs.NodeSteps.{halted, one_more}
 use Rattle.world_leases.specs.View.{messages}

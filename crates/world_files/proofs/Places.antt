@@ -9,9 +9,9 @@ use Rattle.xt_base.specs.declared.event.Mark.TheVariants as mark
 use Rattle.xt_base.specs.declared.file.Location.{Location}
 use Rattle.osd_lease_views.specs.ActsView.{AreActs}
 use Rattle.cluster_runs.specs.declared.DeclaredFile.{DeclaredFile}
-use Rattle.cluster_runs.specs.declared.Entry.{Entry}
-use Rattle.cluster_runs.specs.declared.Entry.TheVariants as entry
-use Rattle.cluster_runs.specs.TimeLine.{location_told, location_in}
+use Rattle.time_line.specs.declared.entry.Entry.{Entry}
+use Rattle.time_line.specs.declared.entry.Entry.TheVariants as entry
+use Rattle.time_line.specs.TimeLine.{location_told, location_in}
 use Rattle.cluster_runs.specs.World.{World, start_world, file_in}
 use Rattle.cluster_runs.specs.Lines.{tells}
 use Rattle.cluster_runs.specs.NodeSteps.{entry_of}

@@ -17,11 +17,11 @@ use Rattle.replica_runs.specs.Marks.{Begins}
 use Rattle.file_runs.specs.FileRuns.{first_world, after_all, BeginsFile, IsOnOneOrder}
 use Rattle.file_runs.proofs.Runs.{on_one_order}
 use Rattle.file_traces.proofs.Lists.{length_mapped}
-use Rattle.cluster_runs.specs.declared.Entry.{Entry}
-use Rattle.cluster_runs.specs.declared.Line.{Line}
-use Rattle.cluster_runs.specs.Bounds.{AreLines}
+use Rattle.time_line.specs.declared.entry.Entry.{Entry}
+use Rattle.time_line.specs.declared.line.Line.{Line}
+use Rattle.time_line.specs.Bounds.{AreLines}
 use Rattle.cluster_runs.specs.Rules.{refusal}
-use Rattle.cluster_runs.specs.TimeLine.{location_in, is_replicated_at, stripe_at}
+use Rattle.time_line.specs.TimeLine.{location_in, is_replicated_at, stripe_at}
 use Rattle.cluster_runs.specs.World.{World, file_in}
 use Rattle.cluster_runs.specs.Lines.{declared_file, Next, finished, opens, goes_on, ends, begins, steps, so_far}
 use Rattle.cluster_runs.specs.NodeSteps.{Room}

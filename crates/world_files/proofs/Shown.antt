@@ -15,10 +15,10 @@ use Rattle.osd_lease_views.specs.ActsView.{MarksAre, no_marks, won, acting}
 use Rattle.replica_safety.specs.Lists.{Has}
 use Rattle.replica_runs.specs.HeadWorld.{shown}
 use Rattle.file_runs.specs.FileRuns.{FileWorld, first_world, Tale, after_all}
-use Rattle.cluster_runs.specs.declared.Entry.{Entry}
-use Rattle.cluster_runs.specs.declared.Entry.TheVariants as entry
-use Rattle.cluster_runs.specs.TimeLine.{operation_begun}
-use Rattle.cluster_runs.specs.Clauses.{acts_on}
+use Rattle.time_line.specs.declared.entry.Entry.{Entry}
+use Rattle.time_line.specs.declared.entry.Entry.TheVariants as entry
+use Rattle.time_line.specs.TimeLine.{operation_begun}
+use Rattle.time_line.specs.Clauses.{acts_on}
 use Rattle.cluster_runs.specs.World.{World}
 use Rattle.cluster_runs.specs.Lines.{declared_file}
 use Rattle.cluster_runs.specs.NodeSteps.{entry_of}

@@ -27,7 +27,7 @@ use Rattle.osd_rows.specs.OsdSteps.{OsdState, file_concerned}
 use Rattle.osd_rows.specs.declared.Tenure.{Tenure}
 use Rattle.osd_replica_views.specs.FileView.{IsFree}
 use Rattle.file_runs.specs.FileRuns.{FileWorld, Event, Happening, Sent, Tale, message, wake, goes_on, acts, step_on, sent_by, Comes, May, after, after_all}
-use Rattle.cluster_runs.specs.Clauses.{AreApart}
+use Rattle.time_line.specs.Clauses.{AreApart}
 use Rattle.cluster_runs.specs.World.{World, Node, Running, osd}
 use Rattle.cluster_runs.specs.NodeSteps.{one_more}
 use Rattle.world_leases.specs.View.{awake_as}

@@ -23,9 +23,9 @@ use Rattle.file_traces.proofs.Named.{of_step}
 use Rattle.file_traces.proofs.Order.{hold}
 use Rattle.file_traces.proofs.Runs.{joined, marked}
 use Rattle.file_traces.proofs.Shown.{show}
-use Rattle.cluster_runs.specs.declared.Entry.{Entry}
-use Rattle.cluster_runs.specs.declared.Entry.TheVariants as entry
-use Rattle.cluster_runs.specs.Clauses.{acts_on}
+use Rattle.time_line.specs.declared.entry.Entry.{Entry}
+use Rattle.time_line.specs.declared.entry.Entry.TheVariants as entry
+use Rattle.time_line.specs.Clauses.{acts_on}
 use Rattle.cluster_runs.specs.NodeSteps.{entry_of}
 use Rattle.world_files.specs.Tellings.{TellsAs, Telling}
 

@@ -22,8 +22,8 @@ use Rattle.replica_runs.specs.HeadWorld.{shown}
 use Rattle.file_runs.specs.FileRuns.{FileNode, FileWorld, first_world, starts}
 use Rattle.cluster_runs.specs.declared.ClientState.{ClientState}
 use Rattle.cluster_runs.specs.declared.DeclaredFile.{DeclaredFile}
-use Rattle.cluster_runs.specs.declared.Entry.{Entry}
-use Rattle.cluster_runs.specs.declared.Entry.TheVariants as entry
+use Rattle.time_line.specs.declared.entry.Entry.{Entry}
+use Rattle.time_line.specs.declared.entry.Entry.TheVariants as entry
 use Rattle.cluster_runs.specs.declared.Role.TheVariants as role
 use Rattle.cluster_runs.specs.Clients.{new_client, knows, aimed, step_of_client}
 use Rattle.cluster_runs.specs.Steps.{Step}

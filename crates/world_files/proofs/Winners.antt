@@ -24,8 +24,8 @@ use Rattle.osd_rows.specs.OsdSteps.{OsdState, file_at}
 use Rattle.osd_rows.specs.Overdue.{expired}
 use Rattle.osd_rows.specs.declared.Tenure.{Tenure}
 use Rattle.file_runs.specs.FileRuns.{Happening, message, wake, step_on}
-use Rattle.cluster_runs.specs.Clauses.{AreApart}
-use Rattle.cluster_runs.specs.TimeLine.{holds}
+use Rattle.time_line.specs.Clauses.{AreApart}
+use Rattle.time_line.specs.TimeLine.{holds}
 use Rattle.cluster_runs.specs.World.{World, Node, Running}
 use Rattle.cluster_runs.specs.NodeSteps.{outside_of}
 use Rattle.world_leases.specs.View.{node_id, awake_as}

@@ -17,8 +17,8 @@ use Rattle.osd_rows.specs.OsdSteps.{file_concerned}
 use Rattle.osd_replica_views.specs.FileView.{IsList, AskComes}
 use Rattle.osd_replica_views.specs.Seen.{name_of}
 use Rattle.cluster_runs.specs.declared.DeclaredFile.{DeclaredFile}
-use Rattle.cluster_runs.specs.declared.Entry.{Entry}
-use Rattle.cluster_runs.specs.TimeLine.{operation_begun}
+use Rattle.time_line.specs.declared.entry.Entry.{Entry}
+use Rattle.time_line.specs.TimeLine.{operation_begun}
 use Rattle.cluster_runs.specs.World.{file_in}
 use Rattle.world_leases.specs.Worlds.{AskFits}
 use Rattle.world_ends.specs.Asks.{HasBegunSo}

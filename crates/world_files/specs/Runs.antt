@@ -13,8 +13,8 @@ use Rattle.replica_runs.specs.HeadWorld as heads
 use Rattle.file_runs.specs.FileRuns.{FileWorld, first_world, Event, MayAll, after_all}
 use Rattle.file_traces.specs.Traces.{Tells}
 use Rattle.file_traces.specs.Runs.{IsSafe}
-use Rattle.cluster_runs.specs.declared.Entry.{Entry}
-use Rattle.cluster_runs.specs.TimeLine.{location_in, is_replicated, stripe_of}
+use Rattle.time_line.specs.declared.entry.Entry.{Entry}
+use Rattle.time_line.specs.TimeLine.{location_in, is_replicated, stripe_of}
 use Rattle.cluster_runs.specs.World.{World, file_in}
 use Rattle.cluster_runs.specs.Lines.{declared_file, Next, finished, opens, goes_on, ends}
 use Rattle.world_leases.specs.View.{messages}

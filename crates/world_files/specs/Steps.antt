@@ -12,7 +12,7 @@ use Rattle.osd_rows.specs.FileStates.{FileStep}
 use Rattle.osd_rows.specs.OsdSteps.{OsdState, file_concerned}
 use Rattle.lease_safety.specs.State.{Has}
 use Rattle.file_runs.specs.FileRuns.{FileWorld, Event, message, wake, step_on, sent_by, Comes, MayAll, after_all}
-use Rattle.cluster_runs.specs.Clauses.{AreApart}
+use Rattle.time_line.specs.Clauses.{AreApart}
 use Rattle.cluster_runs.specs.World.{World, Node, Running}
 use Rattle.world_leases.specs.Worlds.{IsInOrder}
 use Rattle.world_files.specs.Seen.{file_seen, Sees}

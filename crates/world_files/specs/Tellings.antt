@@ -14,8 +14,8 @@ use Rattle.file_runs.specs.FileRuns.{Tale, FileWorld, Happening, Event, step_on,
 use Rattle.file_runs.specs.FileRuns as files
 use Rattle.file_traces.specs.Traces.{Tells}
 use Rattle.file_traces.specs.Runs.{IsSafe}
-use Rattle.cluster_runs.specs.declared.Entry.{Entry}
-use Rattle.cluster_runs.specs.Clauses.{acts_on}
+use Rattle.time_line.specs.declared.entry.Entry.{Entry}
+use Rattle.time_line.specs.Clauses.{acts_on}
 use Rattle.cluster_runs.specs.NodeSteps.{entry_of}
 
 -- what the tales of the file's world tell, the trace tells

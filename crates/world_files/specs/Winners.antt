@@ -8,7 +8,7 @@ use Rattle.osd_lease_views.specs.LeaseView.{settled_row}
 use Rattle.osd_rows.specs.FileStates.{FileState, Site}
 use Rattle.osd_rows.specs.OsdSteps.{OsdState}
 use Rattle.file_runs.specs.FileRuns.{Happening, step_on}
-use Rattle.cluster_runs.specs.Clauses.{AreApart}
+use Rattle.time_line.specs.Clauses.{AreApart}
 use Rattle.cluster_runs.specs.World.{World, Node, Running}
 use Rattle.world_leases.specs.Worlds.{IsInOrder, Leads}
 use Rattle.world_files.specs.Seen.{file_seen}

@@ -25,8 +25,8 @@ use Rattle.osd_rows.specs.FileStates.{file_from}
 use Rattle.osd_rows.specs.OsdSteps.{OsdState, file_at}
 use Rattle.osd_lease_views.specs.LeaseView.{lease_row_of}
 use Rattle.cluster_runs.specs.declared.DeclaredFile.{DeclaredFile}
-use Rattle.cluster_runs.specs.declared.Entry.TheVariants as entry
-use Rattle.cluster_runs.specs.TimeLine.{Standing, standing, standing_after, reads, advances}
+use Rattle.time_line.specs.declared.entry.Entry.TheVariants as entry
+use Rattle.time_line.specs.TimeLine.{Standing, standing, standing_after, reads, advances}
 use Rattle.cluster_runs.specs.World.{World, Node, Running, Core, osd, client, node_in, with_node, up_of}
 use Rattle.cluster_runs.specs.Rules.{Reading, lesser, reading_where, least_where, are_apart, drift_named, drifts, end_named, clock_ends}
 use Rattle.cluster_runs.specs.Lines.{runs, next_boot, osd_starting, starts_as, ticked, tells}

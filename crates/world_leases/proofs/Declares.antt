@@ -8,12 +8,12 @@ use Rattle.xt_base.specs.declared.record.Record.{Record}
 use Rattle.lease_runs.specs.LeaseWorld.{LeaseSetting, IsSeenAs, starts, start_lease_world}
 use Rattle.lease_runs.proofs.Seen as seen_steps
 use Rattle.cluster_runs.specs.declared.DeclaredFile.{DeclaredFile}
-use Rattle.cluster_runs.specs.declared.Line.{Line}
-use Rattle.cluster_runs.specs.declared.Entry.{Entry}
-use Rattle.cluster_runs.specs.declared.Entry.TheVariants as entry
+use Rattle.time_line.specs.declared.line.Line.{Line}
+use Rattle.time_line.specs.declared.entry.Entry.{Entry}
+use Rattle.time_line.specs.declared.entry.Entry.TheVariants as entry
 use Rattle.cluster_runs.specs.declared.Role.TheVariants as role
 use Rattle.cluster_runs.specs.declared.RunningCall.{RunningCall}
-use Rattle.cluster_runs.specs.TimeLine.{Standing, standing, times_of}
+use Rattle.time_line.specs.TimeLine.{Standing, standing, times_of}
 use Rattle.cluster_runs.specs.Clients.{new_client}
 use Rattle.cluster_runs.specs.World.{World, start_world, Node, Running, Core, osd, client, node_in, file_in, up_of}
 use Rattle.cluster_runs.specs.Lines.{runs, first_boot, tells}

@@ -13,7 +13,7 @@ use Rattle.xt_protocol.specs.Folds.{fold_of}
 use Rattle.time_line.specs.declared.entry.Halt.{Halt}
 use Rattle.time_line.specs.declared.entry.Halt.TheVariants as halt
 use Rattle.cluster_runs.specs.declared.DeclaredFile.{DeclaredFile}
-use Rattle.cluster_runs.specs.declared.Entry.TheVariants as entry
+use Rattle.time_line.specs.declared.entry.Entry.TheVariants as entry
 use Rattle.cluster_runs.specs.declared.Sent.{Sent}
 use Rattle.cluster_runs.specs.World.{World, Node, Running, Core, node_in, file_in}
 use Rattle.cluster_runs.specs.NodeSteps.{entry_of, pending, numbered, to_itself, one_more, after_turn, halted, keeps_record, cut_in_sending, Doing, loses_own, sends, appends}

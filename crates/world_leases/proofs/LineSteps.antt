@@ -11,9 +11,9 @@ use Rattle.xt_protocol.specs.Folds.{fold_of}
 use Rattle.lease_runs.specs.LeaseWorld.{LeaseSetting}
 use Rattle.lease_runs.proofs.Seen as seen_steps
 use Rattle.cluster_runs.specs.declared.DeclaredFile.{DeclaredFile}
-use Rattle.cluster_runs.specs.declared.Line.{Line}
+use Rattle.time_line.specs.declared.line.Line.{Line}
 use Rattle.cluster_runs.specs.declared.ClientState.{ClientState}
-use Rattle.cluster_runs.specs.TimeLine.{Standing, standing}
+use Rattle.time_line.specs.TimeLine.{Standing, standing}
 use Rattle.cluster_runs.specs.Clients.{knows, aimed}
 use Rattle.cluster_runs.specs.World.{World, Node, Running, Core, osd, client, node_in, with_node, up_of}
 use Rattle.cluster_runs.specs.Lines.{declared_file, no_longer_pending}

@@ -12,9 +12,9 @@ use Rattle.lease_runs.specs.LeaseWorld.{LeaseSetting, LeaseNode, told_now, IsHol
 use Rattle.osd_invariants.specs.Sound.{IsHeld}
 use Rattle.osd_lease_views.specs.LeaseView.{held_ends, listed}
 use Rattle.osd_lease_views.specs.ActsView.{AreActs, IsBusy, MarksAre, no_marks, won, acting}
-use Rattle.cluster_runs.specs.declared.Entry.{Entry}
-use Rattle.cluster_runs.specs.declared.Entry.TheVariants as entry
-use Rattle.cluster_runs.specs.TimeLine.{Standing, standing, standing_after, held_until, holds, holds_as, times_of, is_before_end}
+use Rattle.time_line.specs.declared.entry.Entry.{Entry}
+use Rattle.time_line.specs.declared.entry.Entry.TheVariants as entry
+use Rattle.time_line.specs.TimeLine.{Standing, standing, standing_after, held_until, holds, holds_as, times_of, is_before_end}
 use Rattle.cluster_runs.specs.NodeSteps.{entry_of}
 use Rattle.world_leases.specs.View.{node_id, end_in, told}
 use Rattle.world_leases.proofs.Tables.{same}

@@ -8,10 +8,10 @@ use Rattle.xt_base.specs.declared.ids.NodeId.{NodeId}
 use Rattle.xt_base.specs.declared.event.Mark.{Mark}
 use Rattle.xt_base.specs.declared.event.Mark.TheVariants as mark
 use Rattle.osd_lease_views.specs.ActsView.{AreActs}
-use Rattle.cluster_runs.specs.declared.Entry.{Entry}
-use Rattle.cluster_runs.specs.declared.Entry.TheVariants as entry
-use Rattle.cluster_runs.specs.TimeLine.{Standing, standing, standing_after, holds, holds_as, times_of, times_told, first_times, or_defaults}
-use Rattle.cluster_runs.specs.Clauses.{IsBefore, IsMoment, AreApart, HoldersAct, acts_on}
+use Rattle.time_line.specs.declared.entry.Entry.{Entry}
+use Rattle.time_line.specs.declared.entry.Entry.TheVariants as entry
+use Rattle.time_line.specs.TimeLine.{Standing, standing, standing_after, holds, holds_as, times_of, times_told, first_times, or_defaults}
+use Rattle.time_line.specs.Clauses.{IsBefore, IsMoment, AreApart, HoldersAct, acts_on}
 use Rattle.cluster_runs.specs.NodeSteps.{entry_of}
 use Rattle.std.proofs.lemmas.Bool.Decides.{nat_tests}
 use Rattle.std.proofs.lemmas.Bool.{cases_eq}

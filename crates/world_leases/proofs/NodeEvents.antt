@@ -30,7 +30,7 @@ use Rattle.osd_lease_views.specs.LeaseView.{lease_row_of, is_about, is_ask}
 use Rattle.cluster_runs.specs.declared.DeclaredFile.{DeclaredFile}
 use Rattle.cluster_runs.specs.declared.RunningCall.{RunningCall}
 use Rattle.cluster_runs.specs.declared.ClientState.{ClientState}
-use Rattle.cluster_runs.specs.TimeLine.{Standing, standing}
+use Rattle.time_line.specs.TimeLine.{Standing, standing}
 use Rattle.cluster_runs.specs.Steps.{Step, stays}
 use Rattle.cluster_runs.specs.Clients as clients
 use Rattle.cluster_runs.specs.Clients.{ClientSite, step_of_client, call_of_client}

@@ -23,7 +23,7 @@ use Rattle.osd_rows.specs.OsdSteps.{file_at}
 use Rattle.osd_lease_views.specs.OsdView.{site_of}
 use Rattle.osd_lease_views.proofs.LeaseSteps.{expired_shows}
 use Rattle.cluster_runs.specs.NodeSteps.{outside_of}
-use Rattle.cluster_runs.specs.TimeLine.{holds}
+use Rattle.time_line.specs.TimeLine.{holds}
 use Rattle.world_leases.specs.View.{node_id, awake_as}
 use Rattle.world_leases.proofs.Files.{at_fits}
 

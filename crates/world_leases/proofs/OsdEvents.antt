@@ -37,7 +37,7 @@ use Rattle.osd_lease_views.proofs.LeaseSteps as lease_steps
 use Rattle.osd_lease_views.proofs.OsdLeases as osd_leases
 use Rattle.osd_lease_views.proofs.ActSteps as act_steps
 use Rattle.cluster_runs.specs.declared.DeclaredFile.{DeclaredFile}
-use Rattle.cluster_runs.specs.TimeLine.{Standing, standing, holds, times_of}
+use Rattle.time_line.specs.TimeLine.{Standing, standing, holds, times_of}
 use Rattle.cluster_runs.specs.World.{World, Node, Running, osd, node_in}
 use Rattle.cluster_runs.specs.Lines.{declared_file}
 use Rattle.cluster_runs.specs.NodeSteps.{entry_of, one_more, outside_of}

@@ -1,13 +1,13 @@
 -- every run leaves worlds that fit; so no two nodes hold a file, and only holders act
 use Rattle.std.proofs.Common.{◌≡◌, ℕ, List, [], ◌∷◌, ◌++◌, subst, None}
-use Rattle.cluster_runs.specs.declared.Line.{Line}
-use Rattle.cluster_runs.specs.declared.Entry.{Entry}
+use Rattle.time_line.specs.declared.line.Line.{Line}
+use Rattle.time_line.specs.declared.entry.Entry.{Entry}
 use Rattle.cluster_runs.specs.World.{World}
 use Rattle.cluster_runs.specs.Rules.{refusal}
 use Rattle.cluster_runs.specs.NodeSteps.{Room}
 use Rattle.cluster_runs.specs.Lines.{begins, steps, so_far}
-use Rattle.cluster_runs.specs.Bounds.{AreLines}
-use Rattle.cluster_runs.specs.Clauses.{AreApart, HoldersAct}
+use Rattle.time_line.specs.Bounds.{AreLines}
+use Rattle.time_line.specs.Clauses.{AreApart, HoldersAct}
 use Rattle.cluster_runs.specs.Runs.{run_of, IsRunInto}
 use Rattle.world_leases.specs.Worlds.{IsInOrder, IsNextInOrder}
 use Rattle.world_leases.proofs.Order.{in_order, next_in_order}

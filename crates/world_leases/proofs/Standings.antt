@@ -9,9 +9,9 @@ use Rattle.xt_base.specs.declared.ids.Boot.{Boot}
 use Rattle.xt_base.specs.declared.event.Mark.{Mark}
 use Rattle.xt_base.specs.declared.event.Mark.TheVariants as mark
 use Rattle.time_line.specs.declared.entry.Halt.{Halt}
-use Rattle.cluster_runs.specs.declared.Entry.{Entry}
-use Rattle.cluster_runs.specs.declared.Entry.TheVariants as entry
-use Rattle.cluster_runs.specs.TimeLine.{Standing, standing, standing_after, held_until, reads}
+use Rattle.time_line.specs.declared.entry.Entry.{Entry}
+use Rattle.time_line.specs.declared.entry.Entry.TheVariants as entry
+use Rattle.time_line.specs.TimeLine.{Standing, standing, standing_after, held_until, reads}
 use Rattle.cluster_runs.specs.NodeSteps.{entry_of}
 use Rattle.osd_lease_views.specs.ActsView.{AreActs}
 

@@ -18,11 +18,11 @@ use Rattle.xt_base.specs.declared.TheConstants.{COUNTS}
 use Rattle.time_line.specs.declared.entry.Halt.TheVariants as halt
 use Rattle.lease_safety.specs.State.{Has}
 use Rattle.lease_runs.proofs.Tests.{same_node}
-use Rattle.cluster_runs.specs.declared.Line.{Line}
-use Rattle.cluster_runs.specs.declared.Line.TheVariants as line
+use Rattle.time_line.specs.declared.line.Line.{Line}
+use Rattle.time_line.specs.declared.line.Line.TheVariants as line
 use Rattle.cluster_runs.specs.declared.Sent.{Sent}
-use Rattle.cluster_runs.specs.declared.Entry.{Entry}
-use Rattle.cluster_runs.specs.declared.Entry.TheVariants as entry
+use Rattle.time_line.specs.declared.entry.Entry.{Entry}
+use Rattle.time_line.specs.declared.entry.Entry.TheVariants as entry
 use Rattle.cluster_runs.specs.declared.Role.TheVariants as role
 use Rattle.cluster_runs.specs.declared.ClientState.{ClientState}
 use Rattle.cluster_runs.specs.Clients.{new_client, knows, aimed, call_of_client}
@@ -50,7 +50,7 @@ use Rattle.cluster_runs.specs.Runs.{with_line, after, after_refusal, run_of}
 use Rattle.std.specs.Prelude.{◌<◌, ◌^◌}
 use Rattle.xt_base.specs.TimeSettings.{AreTimes}
 use Rattle.xt_base.specs.Limits.{FitsNode, FitsLocation}
-use Rattle.cluster_runs.specs.Bounds.{AreLines, FitsLine, FitsCall, FitsLater}
+use Rattle.time_line.specs.Bounds.{AreLines, FitsLine, FitsCall, FitsLater}
 use Rattle.cluster_runs.specs.Rules.{has_call, busy, no_client, no_called_file}
 use Rattle.std.specs.List.{fold, AllByRecursion}
 use Rattle.cluster_runs.specs.Lines.{done, enough}

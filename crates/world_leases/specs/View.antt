@@ -8,9 +8,9 @@ use Rattle.xt_base.specs.declared.record.Record.{Record}
 use Rattle.xt_protocol.specs.Folds.{fold_of}
 use Rattle.xt_protocol.specs.LeaseRows.{Silent, Awake}
 use Rattle.osd_rows.specs.OsdSteps.{file_at}
-use Rattle.cluster_runs.specs.declared.Entry.{Entry}
+use Rattle.time_line.specs.declared.entry.Entry.{Entry}
 use Rattle.cluster_runs.specs.declared.Sent.{Sent}
-use Rattle.cluster_runs.specs.TimeLine.{Standing, standing}
+use Rattle.time_line.specs.TimeLine.{Standing, standing}
 use Rattle.cluster_runs.specs.World.{World, Node, Running, Core, osd, client, node_in}
 use Rattle.cluster_runs.specs.Lines.{declared_file}
 use Rattle.lease_runs.specs.LeaseWorld.{LeaseSetting, fresh_row, LeaseNode, LeaseWorld, lease_file}

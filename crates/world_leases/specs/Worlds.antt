@@ -23,7 +23,7 @@ use Rattle.osd_lease_views.specs.OsdView.{site_of}
 use Rattle.osd_lease_views.specs.ActsView.{IsBusy}
 use Rattle.cluster_runs.specs.declared.DeclaredFile.{DeclaredFile}
 use Rattle.cluster_runs.specs.declared.RunningCall.{RunningCall}
-use Rattle.cluster_runs.specs.TimeLine.{Standing, standing, holds, times_of}
+use Rattle.time_line.specs.TimeLine.{Standing, standing, holds, times_of}
 use Rattle.cluster_runs.specs.World.{World, Node, Running, Core, osd, client, node_in, file_in, up_of}
 use Rattle.cluster_runs.specs.NodeSteps.{outside_of}
 use Rattle.cluster_runs.specs.Lines.{Next, finished, opens, goes_on, ends, declared_file}

@@ -7,16 +7,16 @@
 #![tactic(auto)]
 
 ghost use Rattle.std.specs.Prelude.{◌≡◌, ℕ, true, None, List, [], ◌∷◌, ◌++◌, take};
-ghost use Rattle.cluster_runs.specs.declared.Entry.{Entry};
-ghost use Rattle.cluster_runs.specs.declared.Line.{Line};
+ghost use Rattle.time_line.specs.declared.entry.Entry.{Entry};
+ghost use Rattle.time_line.specs.declared.line.Line.{Line};
 ghost use Rattle.cluster_runs.specs.NodeSteps.{Room};
 ghost use Rattle.cluster_runs.specs.Rules.{refusal};
 ghost use Rattle.cluster_runs.specs.Lines.{begins, steps};
-ghost use Rattle.cluster_runs.specs.Bounds.{AreLines};
+ghost use Rattle.time_line.specs.Bounds.{AreLines};
 ghost use Rattle.world_leases.specs.Worlds.{IsInOrder, IsNextInOrder};
 ghost use Rattle.cluster_runs.specs.Runs.{run_of, IsRunInto};
-ghost use Rattle.cluster_runs.specs.Clauses.{AreApart, HoldersAct};
-ghost use Rattle.cluster_runs.specs.TimeLine.{holds};
+ghost use Rattle.time_line.specs.Clauses.{AreApart, HoldersAct};
+ghost use Rattle.time_line.specs.TimeLine.{holds};
 ghost use Rattle.cluster_runs.specs.Examples.{node, trace_of, vanished};
 
 /// At no moment of a run of any lines do two nodes hold a file; nor behind some steps of a line more.

@@ -1,7 +1,7 @@
 -- The run is computed.
 use Rattle.std.proofs.Common.{refl}
 use Rattle.cluster_runs.specs.Examples.{trace_of}
-use Rattle.cluster_runs.specs.TimeLine.{location_in}
+use Rattle.time_line.specs.TimeLine.{location_in}
 use Rattle.cluster_safety.proofs.Lines.{caught_up_fits}
 use Rattle.cluster_safety.proofs.a_replica_is_caught_up.Goals as goal
 

@@ -1,5 +1,5 @@
 -- One of the clauses.
-use Rattle.cluster_runs.specs.Verdicts.{shown}
+use Rattle.time_line.specs.Verdicts.{shown}
 use Rattle.cluster_safety.proofs.Runs.{always}
 use Rattle.cluster_safety.proofs.answers_show_the_file.Goals as goal
 

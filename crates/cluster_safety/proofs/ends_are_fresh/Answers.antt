@@ -1,5 +1,5 @@
 -- One of the clauses.
-use Rattle.cluster_runs.specs.Verdicts.{fresh}
+use Rattle.time_line.specs.Verdicts.{fresh}
 use Rattle.cluster_safety.proofs.Runs.{always}
 use Rattle.cluster_safety.proofs.ends_are_fresh.Goals as goal
 

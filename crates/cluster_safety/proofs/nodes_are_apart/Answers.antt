@@ -1,5 +1,5 @@
 -- One of the clauses.
-use Rattle.cluster_runs.specs.Verdicts.{apart}
+use Rattle.time_line.specs.Verdicts.{apart}
 use Rattle.cluster_safety.proofs.Runs.{always}
 use Rattle.cluster_safety.proofs.nodes_are_apart.Goals as goal
 

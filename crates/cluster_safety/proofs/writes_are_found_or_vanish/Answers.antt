@@ -1,6 +1,6 @@
 -- Line by line.
 use Rattle.std.proofs.Common.{refl}
-use Rattle.cluster_runs.specs.TimeLine.{location_in}
+use Rattle.time_line.specs.TimeLine.{location_in}
 use Rattle.cluster_safety.proofs.Lines.{found_fits, vanished_fits}
 use Rattle.cluster_safety.proofs.writes_are_found_or_vanish.Goals as goal
 

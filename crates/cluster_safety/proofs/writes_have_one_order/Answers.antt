@@ -1,5 +1,5 @@
 -- One of the clauses.
-use Rattle.cluster_runs.specs.Verdicts.{one_order}
+use Rattle.time_line.specs.Verdicts.{one_order}
 use Rattle.cluster_safety.proofs.Runs.{always}
 use Rattle.cluster_safety.proofs.writes_have_one_order.Goals as goal
 

@@ -1,5 +1,5 @@
 -- One of the clauses.
-use Rattle.cluster_runs.specs.Verdicts.{once}
+use Rattle.time_line.specs.Verdicts.{once}
 use Rattle.cluster_safety.proofs.Runs.{always}
 use Rattle.cluster_safety.proofs.writes_stand_once.Goals as goal
 

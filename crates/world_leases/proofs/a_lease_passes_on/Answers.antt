@@ -2,10 +2,10 @@ use Rattle.std.proofs.Common.{ℕ, ◌<◌, List, [], ◌∷◌, ◌++◌, refl,
 use Rattle.std.specs.Prelude.{slice_index}
 use Rattle.std.specs.List.{AllByRecursion}
 use Rattle.xt_base.specs.Limits.{FitsBytes}
-use Rattle.cluster_runs.specs.TimeLine.{standing, first_times}
-use Rattle.cluster_runs.specs.declared.Line.{Line}
-use Rattle.cluster_runs.specs.declared.Line.TheVariants as line
-use Rattle.cluster_runs.specs.Bounds.{FitsLater}
+use Rattle.time_line.specs.TimeLine.{standing, first_times}
+use Rattle.time_line.specs.declared.line.Line.{Line}
+use Rattle.time_line.specs.declared.line.Line.TheVariants as line
+use Rattle.time_line.specs.Bounds.{FitsLater}
 use Rattle.cluster_runs.specs.Examples.{node, trio, osd_is, client_at, start_at, file_on, write_at, read_byte, aims_at, trace_of}
 use Rattle.world_leases.proofs.a_lease_passes_on.Goals as goal
 

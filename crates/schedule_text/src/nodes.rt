@@ -1,0 +1,47 @@
+//! The members of a file, as the words of a line number them.
+ghost use Rattle.std.specs.Prelude.{◌≡◌, ◌≤◌, length, take};
+ghost use Rattle.schedule_text.specs.LineReading.{node_in, nodes_of, as_members, members_at};
+
+use crate::words::{cut, number_of};
+use xt_base::{Members, NodeId};
+
+/// The node that a word numbers, or the greatest one.
+fn node_in(word: &[u8]) -> NodeId
+    ensures { result ≡ node_in word.now }
+{
+    NodeId(number_of(word).min(u128::from(u32::MAX)) as u32)
+}
+
+/// Puts the nodes that the words number into the places, as many as there are: how many it puts.
+fn read_nodes(places: &mut [NodeId], words: &[u8]) -> usize
+    ensures count { result ≤ length places.new }
+    ensures nodes { take result places.new ≡ nodes_of (length places.old) words.now }
+{
+    let mut rest = words;
+    for count in 0..places.len() {
+        if rest.is_empty() {
+            return count;
+        }
+        let (word, behind) = cut(rest);
+        places[count] = node_in(word);
+        rest = behind;
+    }
+    places.len()
+}
+
+/// These nodes, where they are one to nine different ones.
+fn as_members(nodes: &[NodeId]) -> Option<Members>
+    ensures { result ≡ as_members nodes.now }
+{
+    Members::new(nodes).ok()
+}
+
+/// The members of a file that the words number.
+#[tactic(auto, unfolding(crate::specs::LineReading::members_at))]
+pub(crate) fn members_at(words: &[u8]) -> Option<Members>
+    ensures { result ≡ members_at words.now }
+{
+    let mut places = [NodeId(0); 9];
+    let count = read_nodes(&mut places, words);
+    as_members(&places[..count])
+}
