@@ -123,7 +123,7 @@ impl Hull for DiskHull {
     }
 
     fn body(
-        &mut self,
+        &self,
         alloc: Global,
         node: NodeId,
         file: &FileId,

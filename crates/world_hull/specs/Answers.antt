@@ -25,9 +25,9 @@ IsFullExactly overflow (Err (error.Limit what limit)) = overflow ≡ None
 IsFullExactly overflow (Err (error.Full need limit)) = overflow ≡ Some (record { need = need; limit = limit })
 IsFullExactly overflow (Err error.OutOfMemory) = Unit {0}
 
--- the body that is kept, or that none is; or memory ran out
+-- the body that is kept, or that none is; memory runs out only where one is kept
 abbrev pub GivesBody : Option (List ℕ) → Result (List ℕ) BodyErr → Type 0
 GivesBody kept (Ok bytes) = kept ≡ Some bytes
 GivesBody kept (Err body.NoSuchVersion) = kept ≡ None
 GivesBody kept (Err (body.Failed count)) = ⊥
-GivesBody kept (Err body.OutOfMemory) = Unit {0}
+GivesBody kept (Err body.OutOfMemory) = kept ≡ None → ⊥

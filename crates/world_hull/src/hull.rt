@@ -82,15 +82,14 @@ pub trait Hull: Drop {
         ensures records { kept self.new ≡ kept self.old };
 
     /// What the node keeps as this version of this object of the file. `NoSuchVersion` comes exactly where it keeps
-    /// none; it is never `Failed`.
+    /// none; it is never `Failed`. Bodies are in memory, so nothing changes.
     fn body(
-        &mut self,
+        &self,
         alloc: Global,
         node: NodeId,
         file: &FileId,
         object: u64,
         version: &Stamp,
     ) -> Result<Octets, BodyErr>
-        ensures body { GivesBody (body_kept (kept self.old node.0) file.now object version.now) result }
-        ensures records { kept self.new ≡ kept self.old };
+        ensures { GivesBody (body_kept (kept self.now node.0) file.now object version.now) result };
 }

@@ -76,7 +76,7 @@ impl Hull for ListHull {
     }
 
     fn body(
-        &mut self,
+        &self,
         alloc: Global,
         node: NodeId,
         file: &FileId,

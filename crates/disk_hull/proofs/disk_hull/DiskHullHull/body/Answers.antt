@@ -3,7 +3,7 @@ use Rattle.xt_protocol.specs.Folds.{body_kept}
 use Rattle.xt_protocol.proofs.Folds.{body_kept-nothing}
 use Rattle.disk_hull.proofs.disk_hull.DiskHullHull.body.Goals as goal
 
-pub returns-in-None-clause-body : goal.returns-in-None-clause-body
-returns-in-None-clause-body c =
+pub returns-in-None : goal.returns-in-None
+returns-in-None c =
     ap (λ log. body_kept (unwrap_or log []) c.args.file.now c.args.object c.args.version.now) (sym c.in-None.ensures.value)
     ∙ body_kept-nothing c.args.file.now c.args.object c.args.version.now
