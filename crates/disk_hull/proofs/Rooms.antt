@@ -17,7 +17,8 @@ use Rattle.xt_journal.proofs.Steps.{place_of_end}
 use Rattle.object_store.specs.declared.store.Store.{Store}
 use Rattle.object_store.specs.Access.{journal_of, disk_of, records_of}
 use Rattle.object_store.specs.Texts.{texts_of}
-use Rattle.world_hull.specs.Answers.{Overflow, IsFullExactly}
+use Rattle.cluster_runs.specs.NodeSteps.{Overflow}
+use Rattle.world_hull.specs.Answers.{IsFullExactly}
 use Rattle.world_hull.specs.declared.errors.WorldErr.{WorldErr}
 use Rattle.world_hull.specs.declared.errors.WorldErr.TheVariants as error
 use Rattle.disk_hull.specs.Room.{journal_need, journal_overflow}

@@ -15,18 +15,18 @@ use Rattle.schedule_text.specs.EntryText.{trace_text}
 use Rattle.schedule_text.specs.StatusText.{last_line}
 use Rattle.schedule_text.proofs.LineAgain.{one_line}
 use Rattle.schedule_text.proofs.InLine.{same_line}
-use Rattle.world_runs.specs.World.{World, start_world}
-use Rattle.world_runs.specs.Rules.{refusal}
-use Rattle.world_runs.specs.Lines.{Whole, Stopped, line_applied}
-use Rattle.world_runs.specs.Runs.{after, after_refusal, run_of}
-use Rattle.world_runs.proofs.Grows.{line_grows}
+use Rattle.cluster_runs.specs.World.{World, start_world}
+use Rattle.cluster_runs.specs.Rules.{refusal}
+use Rattle.cluster_runs.specs.NodeSteps.{Room, Cause, came_to, has_no_room}
+use Rattle.cluster_runs.specs.Lines.{finished, ends, done}
+use Rattle.cluster_runs.specs.Runs.{after, after_refusal, run_of}
 use Rattle.time_line.specs.declared.TheConstants.{LINES, LINE_BYTES}
-use Rattle.world_core.specs.Room.{Room, line_overflow}
 use Rattle.schedule_lines.specs.RawLine.{line_feed, IsInLine}
 use Rattle.schedule_lines.specs.NextLine.{ended, IsNoLine, StopsReading}
 use Rattle.schedule_lines.specs.Causes.{HasCause}
-use Rattle.schedule_replay.specs.Replay.{AreLines, IsDoneFrom, AreDoneFrom, AreRun, EndsWith, EndsAt, IsReplay, IsWhole, Completes}
+use Rattle.schedule_replay.specs.Replay.{AreOfSchedule, IsDoneFrom, AreDoneFrom, AreRun, EndsEarly, EndsWith, EndsAt, IsReplay, IsWhole, Completes}
 use Rattle.schedule_lines.proofs.LineBytes.{line_fits}
+use Rattle.schedule_replay.proofs.Growth.{done_grows}
 
 -- what is in a line at the front of a line is no longer than it
 no_longer : (xs first ys second : List ℕ) → IsInLine xs → xs ++ first ≡ ys ++ line_feed ∷ second → length xs ≤ length ys
@@ -55,7 +55,7 @@ unfolding schedule_text
 no_lines = refl
 
 -- the lines of a schedule whose text begins with that of others begin with these
-pub lines_behind : (before : ℕ) (all lines : List Line) (more : List ℕ) → AreLines before all → AreLines before lines → schedule_text all ≡ schedule_text lines ++ more → (rest : List Line) × (all ≡ lines ++ rest) × (schedule_text rest ≡ more)
+pub lines_behind : (before : ℕ) (all lines : List Line) (more : List ℕ) → AreOfSchedule before all → AreOfSchedule before lines → schedule_text all ≡ schedule_text lines ++ more → (rest : List Line) × (all ≡ lines ++ rest) × (schedule_text rest ≡ more)
 lines_behind before all [] more p q e = (all, refl, e ∙ ap (λ (text : List ℕ). text ++ more) no_lines)
 lines_behind before [] (l ∷ ls) more p q e =
     absurd (omega (arith, ap length no_lines, ap length e, ap length (first_line l ls), length-append (schedule_text (l ∷ ls)) more, length-append (line_text l) (line_feed ∷ schedule_text ls)))
@@ -69,36 +69,36 @@ lines_behind before (k ∷ ks) (l ∷ ls) more p q e =
     (rest.0, ap (λ (m : Line). m ∷ ks) line ∙ ap (λ (ms : List Line). l ∷ ms) rest.1, rest.2)
 
 -- what is so of the lines that are left
-are_lines-rest : (before : ℕ) (lines rest : List Line) → AreLines before (lines ++ rest) → AreLines (before + length lines) rest
-are_lines-rest before [] rest all = subst (λ (n : ℕ). AreLines n rest) (let e : before ≡ before + 0 = omega arith in e) all
-are_lines-rest before (l ∷ ls) rest all =
-    subst (λ (n : ℕ). AreLines n rest) (let e : before + 1 + length ls ≡ before + suc (length ls) = omega arith in e) (are_lines-rest (before + 1) ls rest all.1)
+of_schedule-rest : (before : ℕ) (lines rest : List Line) → AreOfSchedule before (lines ++ rest) → AreOfSchedule (before + length lines) rest
+of_schedule-rest before [] rest all = subst (λ (n : ℕ). AreOfSchedule n rest) (let e : before ≡ before + 0 = omega arith in e) all
+of_schedule-rest before (l ∷ ls) rest all =
+    subst (λ (n : ℕ). AreOfSchedule n rest) (let e : before + 1 + length ls ≡ before + suc (length ls) = omega arith in e) (of_schedule-rest (before + 1) ls rest all.1)
 
-are_done-rest : (room : Room) (w : World) (lines rest : List Line) → AreDoneFrom room w (lines ++ rest) → AreDoneFrom room (fold after w lines) rest
+are_done-rest : (room : Room) (w : World) (lines rest : List Line) → AreDoneFrom room w (lines ++ rest) → AreDoneFrom room (fold (after room) w lines) rest
 are_done-rest room w [] rest all = all
-are_done-rest room w (l ∷ ls) rest all = are_done-rest room (after w l) ls rest all.1
+are_done-rest room w (l ∷ ls) rest all = are_done-rest room (after room w l) ls rest all.1
 
-run_done-rest : (room : Room) (lines rest : List Line) → AreDoneFrom room start_world (lines ++ rest) → AreDoneFrom room (run_of lines) rest
+run_done-rest : (room : Room) (lines rest : List Line) → AreDoneFrom room start_world (lines ++ rest) → AreDoneFrom room (run_of room lines) rest
 unfolding run_of
 run_done-rest room lines rest all = are_done-rest room start_world lines rest all
 
-line_after : (w : World) (l : Line) → refusal w l ≡ None → (after w l).lines ≡ w.lines ++ l ∷ []
+line_after : (room : Room) (w : World) (l : Line) → refusal w l ≡ None → (after room w l).lines ≡ w.lines ++ l ∷ []
 unfolding after
-line_after w l legal =
-    let grows = line_grows w l in
-    ap (λ (r : Option Rule). (after_refusal w l r).lines) legal ∙ ap (λ (ls : List Line). ls ++ l ∷ []) grows.same
+line_after room w l legal =
+    let grows = done_grows room w l in
+    ap (λ (r : Option Rule). (after_refusal room w l r).lines) legal ∙ ap (λ (ls : List Line). ls ++ l ∷ []) grows.same
 
-lines_after : (room : Room) (w : World) (lines : List Line) → AreDoneFrom room w lines → (fold after w lines).lines ≡ w.lines ++ lines
+lines_after : (room : Room) (w : World) (lines : List Line) → AreDoneFrom room w lines → (fold (after room) w lines).lines ≡ w.lines ++ lines
 lines_after room w [] all = sym (append-nil w.lines)
 lines_after room w (l ∷ ls) all =
-    lines_after room (after w l) ls all.1 ∙ ap (λ (ms : List Line). ms ++ ls) (line_after w l all.0.0) ∙ append_assoc w.lines (l ∷ []) ls
+    lines_after room (after room w l) ls all.1 ∙ ap (λ (ms : List Line). ms ++ ls) (line_after room w l all.0.0) ∙ append_assoc w.lines (l ∷ []) ls
 
-pub run_lines : (room : Room) (lines : List Line) → AreRun room lines → (run_of lines).lines ≡ lines
+pub run_lines : (room : Room) (lines : List Line) → AreRun room lines → (run_of room lines).lines ≡ lines
 unfolding run_of
 run_lines room lines run = lines_after room start_world lines run.done
 
 -- The line that is taken is the first of those that are left.
-first_taken : (before : ℕ) (rest : List Line) (line : Line) (taken behind : List ℕ) → AreLines before rest → schedule_text rest ≡ taken ++ behind → IsLine (before == 0) line → taken ≡ ended (line_text line) → (others : List Line) × (rest ≡ line ∷ others)
+first_taken : (before : ℕ) (rest : List Line) (line : Line) (taken behind : List ℕ) → AreOfSchedule before rest → schedule_text rest ≡ taken ++ behind → IsLine (before == 0) line → taken ≡ ended (line_text line) → (others : List Line) × (rest ≡ line ∷ others)
 first_taken before [] line taken behind p e formed text =
     absurd (omega (arith, ap length no_lines, ap length e, ap length text, length-append taken behind, length-append (line_text line) (line_feed ∷ [])))
 first_taken before (l ∷ ls) line taken behind p e formed text =
@@ -108,14 +108,14 @@ first_taken before (l ∷ ls) line taken behind p e formed text =
     let same = same_line (line_text l) (line_text line) (schedule_text ls) behind fits.in_line other.in_line bytes in
     (ls, ap (λ (m : Line). m ∷ ls) (one_line (before == 0) (before == 0) l line p.0 formed same.0))
 
-taken_done : (room : Room) (w : World) (rest : List Line) (line : Line) (taken behind : List ℕ) → AreLines (length w.lines) rest → AreDoneFrom room w rest → schedule_text rest ≡ taken ++ behind → IsLine (length w.lines == 0) line → taken ≡ ended (line_text line) → IsDoneFrom room w line
+taken_done : (room : Room) (w : World) (rest : List Line) (line : Line) (taken behind : List ℕ) → AreOfSchedule (length w.lines) rest → AreDoneFrom room w rest → schedule_text rest ≡ taken ++ behind → IsLine (length w.lines == 0) line → taken ≡ ended (line_text line) → IsDoneFrom room w line
 taken_done room w rest line taken behind p done e formed text =
     let first = first_taken (length w.lines) rest line taken behind p e formed text in
     let all : AreDoneFrom room w (line ∷ first.0) = subst (AreDoneFrom room w) first.1 done in
     all.0
 
 -- none is malformed
-no_malformed : (before : ℕ) (rest : List Line) (taken behind text : List ℕ) → AreLines before rest → schedule_text rest ≡ taken ++ behind → IsInLine text
+no_malformed : (before : ℕ) (rest : List Line) (taken behind text : List ℕ) → AreOfSchedule before rest → schedule_text rest ≡ taken ++ behind → IsInLine text
     → ((taken ≡ ended text) × IsNoLine before text) ⊎ ((taken ≡ text) × (text ≢ []) × (behind ≡ []))
     → ⊥
 no_malformed before [] taken behind text p e inside (inl (whole, none)) =
@@ -136,7 +136,7 @@ no_malformed before (l ∷ ls) taken behind text p e inside (inr (same, some, en
     (sym same ∙ sym (append-nil taken) ∙ ap (λ (rest : List ℕ). taken ++ rest) (sym end) ∙ sym e ∙ first_line l ls)
 
 -- none is too long
-no_long : (before : ℕ) (rest : List Line) (taken behind : List ℕ) → AreLines before rest → schedule_text rest ≡ taken ++ behind → IsInLine taken → length taken ≡ LINE_BYTES + 1 → ⊥
+no_long : (before : ℕ) (rest : List Line) (taken behind : List ℕ) → AreOfSchedule before rest → schedule_text rest ≡ taken ++ behind → IsInLine taken → length taken ≡ LINE_BYTES + 1 → ⊥
 no_long before [] taken behind p e inside long =
     absurd (omega (arith, ap length no_lines, ap length e, length-append taken behind))
 no_long before (l ∷ ls) taken behind p e inside long =
@@ -145,7 +145,7 @@ no_long before (l ∷ ls) taken behind p e inside long =
     let within = no_longer taken behind (line_text l) (schedule_text ls) inside (sym e ∙ first_line l ls) in
     absurd (omega arith)
 
-unread_long : (before : ℕ) (rest : List Line) (taken behind : List ℕ) (what : Limited) (limit : ℕ) → AreLines before rest → schedule_text rest ≡ taken ++ behind → StopsReading before taken (Some behind) (status.Limit what limit) → ⊥
+unread_long : (before : ℕ) (rest : List Line) (taken behind : List ℕ) (what : Limited) (limit : ℕ) → AreOfSchedule before rest → schedule_text rest ≡ taken ++ behind → StopsReading before taken (Some behind) (status.Limit what limit) → ⊥
 unread_long before rest taken behind limited.Line limit p e stops = no_long before rest taken behind p e stops.0 stops.1
 unread_long before rest taken behind _ limit p e stops = stops
 
@@ -162,30 +162,31 @@ IsExcused (status.SourceFault count) = Unit {0}
 IsExcused (status.SinkFault count) = Unit {0}
 IsExcused _ = ⊥
 
+-- a line that is done doesn't end early
+not_early : (room : Room) (w : World) (line : Line) (cause : Cause) (new : List Entry) → IsDoneFrom room w line → EndsEarly room w line cause new → ⊥
+not_early room w line cause new is early =
+    let is_whole : done room w line ≡ finished is.1.0 = is.1.1 in
+    let is_early : done room w line ≡ ends cause early.0 = early.1 in
+    cc
+
 good_limit : (room : Room) (w : World) (rest : List Line) (taken behind : List ℕ) (new : List Entry) (what : Limited) (limit : ℕ)
-    → AreLines (length w.lines) rest → AreDoneFrom room w rest → length w.lines + length rest ≤ LINES → schedule_text rest ≡ taken ++ behind
+    → AreOfSchedule (length w.lines) rest → AreDoneFrom room w rest → length w.lines + length rest ≤ LINES → schedule_text rest ≡ taken ++ behind
     → EndsWith room w taken (Some behind) new (status.Limit what limit)
     → ⊥
 good_limit room w rest taken behind new what limit p done few e (inl lines) = no_more (length w.lines) rest taken behind lines.1 few e lines.2
 good_limit room w rest taken behind new what limit p done few e (inr (inl unread)) = unread_long (length w.lines) rest taken behind what limit p e unread.0.1
-good_limit room w rest taken behind new what limit p done few e (inr (inr (line, begun, fits, stopped))) =
-    let whole = taken_done room w rest line taken behind p done e begun.0.1 begun.0.2 in
-    let is_whole : line_applied w line ≡ Whole whole.2.0 = whole.2.1 in
-    let is_stopped : line_applied w line ≡ Stopped what stopped.0 = stopped.1 in
-    cc
+good_limit room w rest taken behind new what limit p legal few e (inr (inr (line, begun, early, limited))) =
+    not_early room w line (came_to what) new (taken_done room w rest line taken behind p legal e begun.0.1 begun.0.2) early
 
 good_end : (room : Room) (w : World) (rest : List Line) (taken behind : List ℕ) (new : List Entry) (s : Status)
-    → AreLines (length w.lines) rest → AreDoneFrom room w rest → length w.lines + length rest ≤ LINES → schedule_text rest ≡ taken ++ behind
+    → AreOfSchedule (length w.lines) rest → AreDoneFrom room w rest → length w.lines + length rest ≤ LINES → schedule_text rest ≡ taken ++ behind
     → EndsWith room w taken (Some behind) new s
     → IsExcused s
 good_end room w rest taken behind new status.Done p done few e ends = tt
 good_end room w rest taken behind new status.OutOfMemory p done few e ends = tt
 good_end room w rest taken behind new (status.SourceFault count) p done few e ends = tt
-good_end room w rest taken behind new (status.JournalFull need limit) p done few e (line, begun, found) =
-    let whole = taken_done room w rest line taken behind p done e begun.0.1 begun.0.2 in
-    let fits : line_overflow room w line ≡ None = whole.1 in
-    let full : line_overflow room w line ≡ Some (record { world = found.0; overflow = record { need = need; limit = limit } }) = found.1 in
-    cc
+good_end room w rest taken behind new (status.JournalFull need limit) p legal few e (line, begun, early) =
+    not_early room w line (has_no_room (record { need = need; limit = limit })) new (taken_done room w rest line taken behind p legal e begun.0.1 begun.0.2) early
 good_end room w rest taken behind new (status.Malformed number) p done few e ends =
     let stops = ends.0.1 in no_malformed (length w.lines) rest taken behind stops.0 p e stops.1 stops.4
 good_end room w rest taken behind new (status.Illegal number rule) p done few e (line, is_taken, broken, counted, none) =
@@ -204,24 +205,24 @@ none_left (l ∷ ls) e = absurd (omega (arith, ap length e, ap length (first_lin
 -- the replay ended behind the lines that it did, of a good schedule
 ended_whole : (room : Room) (lines done rest : List Line) (taken behind : List ℕ) (new : List Entry) (put : List ℕ) (sink_before sink_after : Option (List ℕ)) (sb sa kb ka : ℕ) (s : Status)
     → lines ≡ done ++ rest
-    → AreLines (length (run_of done).lines) rest → AreDoneFrom room (run_of done) rest → length (run_of done).lines + length rest ≤ LINES → schedule_text rest ≡ taken ++ behind
-    → Puts sink_before sink_after (trace_text (run_of done).entries ++ put)
+    → AreOfSchedule (length (run_of room done).lines) rest → AreDoneFrom room (run_of room done) rest → length (run_of room done).lines + length rest ≤ LINES → schedule_text rest ≡ taken ++ behind
+    → Puts sink_before sink_after (trace_text (run_of room done).entries ++ put)
     → HasCause sb sa kb ka s → (Rose sb sa → ⊥) → (Rose kb ka → ⊥)
-    → EndsAt room (run_of done) taken (Some behind) new put s
-    → IsWhole lines sink_before sink_after s
+    → EndsAt room (run_of room done) taken (Some behind) new put s
+    → IsWhole room lines sink_before sink_after s
 unfolding trace_text last_line
 ended_whole room lines done rest taken behind new put before later sb sa kb ka status.Done split p legal few e sink cause no_source no_sink ((untaken, end, none), is_put) =
     let nothing = none_left rest (e ∙ ap (λ (front : List ℕ). front ++ behind) untaken ∙ end) in
     let all : lines ≡ done = split ∙ ap (λ (ls : List Line). done ++ ls) nothing ∙ append-nil done in
     let no_put : put ≡ [] = is_put ∙ ap (λ (es : List Entry). trace_text es ++ last_line status.Done) none in
-    let trace = trace_text (run_of done).entries in
+    let trace = trace_text (run_of room done).entries in
     let shown = subst (Puts before later) (ap (λ (bytes : List ℕ). trace ++ bytes) no_put ∙ append-nil trace) sink in
-    subst (λ (ls : List Line). Puts before later (trace_text (run_of ls).entries)) (sym all) shown
+    subst (λ (ls : List Line). Puts before later (trace_text (run_of room ls).entries)) (sym all) shown
 ended_whole room lines done rest taken behind new put before later sb sa kb ka status.OutOfMemory split p legal few e sink cause no_source no_sink at = tt
 ended_whole room lines done rest taken behind new put before later sb sa kb ka (status.SourceFault count) split p legal few e sink cause no_source no_sink at = absurd (no_source cause.0)
 ended_whole room lines done rest taken behind new put before later sb sa kb ka (status.SinkFault count) split p legal few e sink cause no_source no_sink at = absurd (no_sink cause.0)
 ended_whole room lines done rest taken behind new put before later sb sa kb ka s split p legal few e sink cause no_source no_sink at =
-    absurd (good_end room (run_of done) rest taken behind new s p legal few e at.0)
+    absurd (good_end room (run_of room done) rest taken behind new s p legal few e at.0)
 
 -- A replay of a good schedule, whose source and sink don't fail, is done, unless memory runs out.
 pub complete : (room : Room) (source_before source_after sink_before sink_after : Option (List ℕ)) (sb sa kb ka : ℕ) (s : Status)
@@ -233,10 +234,10 @@ pub complete : (room : Room) (source_before source_after sink_before sink_after 
 complete room source_before source_after sink_before sink_after sb sa kb ka s r cause no_source no_sink = λ lines text run few.
     let took = subst (λ (left : Option (List ℕ)). Takes left source_after (schedule_text r.lines ++ r.taken)) text r.source in
     let split = lines_behind 0 lines r.lines (r.taken ++ took.0) run.formed r.run.formed (took.1 ∙ append_assoc (schedule_text r.lines) r.taken took.0) in
-    let count : length (run_of r.lines).lines ≡ length r.lines = ap length (run_lines room r.lines r.run) in
-    let counted : 0 + length r.lines ≡ length (run_of r.lines).lines = omega (arith, count) in
-    let formed = subst (λ (n : ℕ). AreLines n split.0) counted (are_lines-rest 0 r.lines split.0 (subst (AreLines 0) split.1 run.formed)) in
-    let done : AreDoneFrom room (run_of r.lines) split.0 = run_done-rest room r.lines split.0 (subst (AreDoneFrom room start_world) split.1 run.done) in
-    let within : length (run_of r.lines).lines + length split.0 ≤ LINES = omega (arith, count, few, ap length split.1, length-append r.lines split.0) in
+    let count : length (run_of room r.lines).lines ≡ length r.lines = ap length (run_lines room r.lines r.run) in
+    let counted : 0 + length r.lines ≡ length (run_of room r.lines).lines = omega (arith, count) in
+    let formed = subst (λ (n : ℕ). AreOfSchedule n split.0) counted (of_schedule-rest 0 r.lines split.0 (subst (AreOfSchedule 0) split.1 run.formed)) in
+    let done : AreDoneFrom room (run_of room r.lines) split.0 = run_done-rest room r.lines split.0 (subst (AreDoneFrom room start_world) split.1 run.done) in
+    let within : length (run_of room r.lines).lines + length split.0 ≤ LINES = omega (arith, count, few, ap length split.1, length-append r.lines split.0) in
     ended_whole room lines r.lines split.0 r.taken took.0 r.more r.put sink_before sink_after sb sa kb ka s split.1 formed done within split.2 r.sink cause no_source no_sink
-    (subst (λ (left : Option (List ℕ)). EndsAt room (run_of r.lines) r.taken left r.more r.put s) took.2 r.ending)
+    (subst (λ (left : Option (List ℕ)). EndsAt room (run_of room r.lines) r.taken left r.more r.put s) took.2 r.ending)

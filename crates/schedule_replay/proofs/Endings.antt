@@ -1,29 +1,27 @@
 -- why a replay ends, from what its steps did
-use Rattle.std.proofs.Common.{◌≡◌, ◌∙◌, ℕ, ◌+◌, ◌<◌, ◌==◌, ◌⊎◌, Option, None, Some, Result, Ok, Err, OnOk, IfErr, List, [], ◌∷◌, ◌++◌, length, refl, sym, ap, subst, inl, inr, append_assoc, append-nil}
+use Rattle.std.proofs.Common.{◌≡◌, ◌∙◌, ℕ, ◌+◌, ◌<◌, ◌==◌, ◌⊎◌, Option, None, Some, Result, Ok, Err, List, [], ◌∷◌, ◌++◌, length, refl, sym, ap, subst, inl, inr, append_assoc, append-nil}
 use Rattle.xt_base.specs.declared.status.Status.{Status}
 use Rattle.xt_base.specs.declared.status.Status.TheVariants as status
 use Rattle.node_links.specs.Streams.{Puts}
 use Rattle.time_line.specs.declared.line.Line.{Line}
-use Rattle.time_line.specs.declared.line.Line.TheVariants as line
 use Rattle.time_line.specs.declared.entry.Entry.{Entry}
 use Rattle.schedule_text.specs.LineText.{line_text, IsLine}
 use Rattle.schedule_text.specs.EntryText.{trace_text}
 use Rattle.schedule_text.specs.StatusText.{last_line}
-use Rattle.world_runs.specs.World.{World}
-use Rattle.world_runs.specs.Lines.{Applied}
-use Rattle.world_runs.specs.Runs.{left_by}
-use Rattle.world_runs.proofs.Grows.{line_grows}
+use Rattle.cluster_runs.specs.World.{World}
+use Rattle.cluster_runs.specs.NodeSteps.{Room, Cause}
+use Rattle.cluster_runs.specs.Lines.{Next, so_far}
 use Rattle.world_hull.specs.declared.errors.WorldErr.{WorldErr}
 use Rattle.world_hull.specs.declared.errors.WorldErr.TheVariants as error
-use Rattle.world_core.specs.Standing.{Standing, IsDone, IsRefused, IsLeft}
-use Rattle.world_core.specs.Room.{Room, line_overflow, IsRoomToldBy}
+use Rattle.cluster_core.specs.Standing.{Standing, IsDone, IsRefused, IsLeft, CameTo, IsApplied}
 use Rattle.time_line.specs.declared.TheConstants.{LINES}
 use Rattle.schedule_lines.specs.Fronts.{IsFrontOf}
 use Rattle.schedule_lines.specs.NextLine.{ended, StopsReading}
-use Rattle.schedule_replay.specs.Replay.{AddsPart, AddsAll, EndsWith, IsCutShort, EndsAt}
+use Rattle.schedule_replay.specs.Replay.{EndsEarly, AddsPart, AddsAll, EndsWith, IsCutShort, EndsAt}
 use Rattle.schedule_lines.specs.Putting.{IsPut, IsFinished}
 use Rattle.schedule_replay.specs.Steps.{Grown, status_for}
 use Rattle.schedule_lines.proofs.Streamed.{Puts-append}
+use Rattle.schedule_replay.proofs.Growth.{part_grows, done_grows}
 
 -- a front behind the same bytes
 front_behind : (before front bytes : List ℕ) → IsFrontOf front bytes → IsFrontOf (before ++ front) (before ++ bytes)
@@ -118,34 +116,37 @@ put_ends room w taken left more _ before after put comes = absurd put
 pub done_adds : (room : Room) (old new : Standing) (l : Line) (more : List Entry)
     → length old.world.lines < LINES
     → IsLine (length old.world.lines == 0) l
-    → IsDone old l new
-    → line_overflow room old.world l ≡ None
+    → IsDone room old l new
     → new.world.entries ≡ old.world.entries ++ more
     → AddsAll room old.world (ended (line_text l)) more
-done_adds room old new l more few formed done fits same =
-    (l, ((few, formed, refl), done.0), fits, (done.1.0, done.1.1, sym (ap (λ (s : Standing). s.world.entries) done.1.2) ∙ same))
+done_adds room old new l more few formed is same =
+    (l, ((few, formed, refl), is.legal), (is.whole, is.finished_in, sym (ap (λ (s : Standing). s.world.entries) is.after_it) ∙ same))
 
--- and one that ended early what its finished steps add
-left_adds : (old new : World) (l : Line) (more : List Entry) → IsLeft old l new → new.entries ≡ old.entries ++ more → AddsPart old l more
-left_adds old new l more (inl kept) same = inl (nothing_added old.entries more (sym kept.0 ∙ same))
-left_adds old new l more (inr part) same = inr (part.0, part.1, sym part.2 ∙ same)
+-- one that came to its end by a cause, what its finished steps add
+ends_early : (room : Room) (old new : World) (l : Line) (cause : Cause) (more : List Entry) → CameTo room old l cause new → new.entries ≡ old.entries ++ more → EndsEarly room old l cause more
+ends_early room old new l cause more came same = (came.part, came.ended, sym came.entries ∙ same)
+
+-- and one behind which memory ran out, those or nothing
+left_adds : (room : Room) (old new : World) (l : Line) (more : List Entry) → IsLeft room old l new → new.entries ≡ old.entries ++ more → AddsPart room old l more
+left_adds room old new l more (inl kept) same = inl (nothing_added old.entries more (sym kept.0 ∙ same))
+left_adds room old new l more (inr (lines, inl kept)) same = inl (nothing_added old.entries more (sym kept ∙ same))
+left_adds room old new l more (inr (lines, inr (part, is, kept))) same = inr (part, is, sym kept ∙ same)
 
 -- a line that isn't done ends the replay behind what its finished steps add
 pub refused_ends : (room : Room) (old new : Standing) (l : Line) (e : WorldErr) (more : List Entry) (left : Option (List ℕ))
     → length old.world.lines < LINES
     → IsLine (length old.world.lines == 0) l
-    → IsRefused old l new e
-    → IsRoomToldBy (line_overflow room old.world l) new.world.entries e
+    → IsRefused room old l new e
     → new.world.entries ≡ old.world.entries ++ more
     → EndsWith room old.world (ended (line_text l)) left more (status_for (length old.world.lines + 1) e)
-refused_ends room old new l (error.Illegal rule) more left few formed r told same =
+refused_ends room old new l (error.Illegal rule) more left few formed r same =
     (l, (few, formed, refl), r.0, refl, nothing_added old.world.entries more (sym (ap (λ (s : Standing). s.world.entries) r.1) ∙ same))
-refused_ends room old new l (error.Limit what limit) more left few formed r told same =
-    inr (inr (l, ((few, formed, refl), r.0.0), told, (r.1.0, r.1.1, r.2, sym r.1.2 ∙ same)))
-refused_ends room old new l (error.Full need limit) more left few formed r told same =
-    (l, ((few, formed, refl), r.0), (told.0, told.1, sym told.2 ∙ same))
-refused_ends room old new l error.OutOfMemory more left few formed r told same =
-    inr (l, ((few, formed, refl), r.0), left_adds old.world new.world l more r.2 same)
+refused_ends room old new l (error.Limit what limit) more left few formed r same =
+    inr (inr (l, ((few, formed, refl), r.0), ends_early room old.world new.world l _ more r.1 same, r.2))
+refused_ends room old new l (error.Full need limit) more left few formed r same =
+    (l, ((few, formed, refl), r.0), ends_early room old.world new.world l _ more r.1 same)
+refused_ends room old new l error.OutOfMemory more left few formed r same =
+    inr (l, ((few, formed, refl), r.0), left_adds room old.world new.world l more r.1 same)
 
 pub refused_told : (number : ℕ) (e : WorldErr) → IsTold (status_for number e)
 refused_told number (error.Illegal rule) = tt
@@ -153,19 +154,25 @@ refused_told number (error.Limit what limit) = tt
 refused_told number (error.Full need limit) = tt
 refused_told number error.OutOfMemory = tt
 
-left_grown : (old new : World) (l : Line) → IsLeft old l new → Grown old.entries new.entries
-left_grown old new l (inl kept) = ([], kept.0 ∙ sym (append-nil old.entries))
-left_grown old new l (inr part) =
-    let grows = line_grows old (line.Settle part.1.1) in
-    (grows.more, part.2 ∙ sym (ap (λ (a : Applied). (left_by a).entries) part.1.5) ∙ grows.entries)
+came_grown : (room : Room) (old new : World) (l : Line) (cause : Cause) → CameTo room old l cause new → Grown old.entries new.entries
+came_grown room old new l cause came =
+    let grows = done_grows room old l in
+    (grows.more, came.entries ∙ sym (ap (λ (n : Next). (so_far n).entries) came.ended) ∙ grows.entries)
+
+left_grown : (room : Room) (old new : World) (l : Line) → IsLeft room old l new → Grown old.entries new.entries
+left_grown room old new l (inl kept) = ([], kept.0 ∙ sym (append-nil old.entries))
+left_grown room old new l (inr (lines, inl kept)) = ([], kept ∙ sym (append-nil old.entries))
+left_grown room old new l (inr (lines, inr (part, is, kept))) =
+    let grows = part_grows room old l part is in
+    (grows.more, kept ∙ grows.entries)
 
 -- entries only grow
-pub applied_grown : (old new : Standing) (l : Line) (r : Result (Unit {0}) WorldErr) → OnOk r (IsDone old l new) → IfErr r (λ e. IsRefused old l new e) → Grown old.world.entries new.world.entries
-applied_grown old new l (Ok u) done refused =
-    let grows = line_grows old.world l in
-    (grows.more, ap (λ (s : Standing). s.world.entries) done.1.2 ∙ sym (ap (λ (a : Applied). (left_by a).entries) done.1.1) ∙ grows.entries)
-applied_grown old new l (Err (error.Illegal rule)) done r =
+pub applied_grown : (room : Room) (old new : Standing) (l : Line) (r : Result (Unit {0}) WorldErr) → IsApplied room old l new r → Grown old.world.entries new.world.entries
+applied_grown room old new l (Ok u) is =
+    let grows = done_grows room old.world l in
+    (grows.more, ap (λ (s : Standing). s.world.entries) is.after_it ∙ sym (ap (λ (n : Next). (so_far n).entries) is.finished_in) ∙ grows.entries)
+applied_grown room old new l (Err (error.Illegal rule)) r =
     ([], ap (λ (s : Standing). s.world.entries) r.1 ∙ sym (append-nil old.world.entries))
-applied_grown old new l (Err (error.Limit what limit)) done r = left_grown old.world new.world l r.0.2
-applied_grown old new l (Err (error.Full need limit)) done r = left_grown old.world new.world l r.2
-applied_grown old new l (Err error.OutOfMemory) done r = left_grown old.world new.world l r.2
+applied_grown room old new l (Err (error.Limit what limit)) r = came_grown room old.world new.world l _ r.1
+applied_grown room old new l (Err (error.Full need limit)) r = came_grown room old.world new.world l _ r.1
+applied_grown room old new l (Err error.OutOfMemory) r = left_grown room old.world new.world l r.1

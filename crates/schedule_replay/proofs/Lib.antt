@@ -1,3 +1,5 @@
+pub mod Growth
+pub mod Schedules
 pub mod Endings
 pub mod Whole
 pub mod LineEnds

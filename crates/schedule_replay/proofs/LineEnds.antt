@@ -1,5 +1,5 @@
 -- how a replay goes on or ends with its next line
-use Rattle.std.proofs.Common.{◌≡◌, ◌∙◌, ℕ, ◌+◌, ◌-◌, ◌<◌, ◌==◌, Option, None, Some, Result, Ok, Err, OnOk, IfErr, List, [], ◌++◌, length, length-append, take, drop, refl, sym, ap, subst, inl, inr, arith}
+use Rattle.std.proofs.Common.{◌≡◌, ◌∙◌, ℕ, ◌+◌, ◌-◌, ◌<◌, ◌==◌, Option, None, Some, Result, Ok, Err, List, [], ◌++◌, length, length-append, take, drop, refl, sym, ap, subst, inl, inr, arith}
 use Rattle.std.proofs.Math.Seq.{drop-append_seam, take-length}
 use Rattle.xt_base.specs.declared.status.Status.{Status}
 use Rattle.node_links.specs.Streams.{Takes, Puts}
@@ -8,11 +8,11 @@ use Rattle.time_line.specs.declared.entry.Entry.{Entry}
 use Rattle.schedule_text.specs.LineText.{line_text, IsLine}
 use Rattle.schedule_text.specs.EntryText.{trace_text}
 use Rattle.world_hull.specs.declared.errors.WorldErr.{WorldErr}
-use Rattle.world_core.specs.Room.{Room, line_overflow, IsRoomToldBy, IsRoomTold}
-use Rattle.world_core.specs.Standing.{Standing, IsDone, IsRefused}
+use Rattle.cluster_runs.specs.NodeSteps.{Room}
+use Rattle.cluster_core.specs.Standing.{Standing, IsDone, IsRefused, IsApplied}
 use Rattle.time_line.specs.declared.TheConstants.{LINES}
+use Rattle.time_line.specs.Verdicts.{IsSafe}
 use Rattle.schedule_lines.specs.NextLine.{ended, StopsReading}
-use Rattle.schedule_replay.specs.Replay.{ShowsFiles}
 use Rattle.schedule_lines.specs.Putting.{IsPut, IsFinished}
 use Rattle.schedule_replay.specs.Steps.{IsNext, IsEnd, Grown, status_for}
 use Rattle.schedule_lines.proofs.Streamed.{Puts-nothing}
@@ -42,19 +42,18 @@ unfolding trace_text
 stopped_end room source_before source_after sink_before sink_after w lines s given few same (taken, source, stops) finished =
     let stop = subst (λ (ls : List Line). StopsReading (length ls) taken source_after s) same stops in
     let ends = finished_ends room w.world taken source_after [] s given sink_before sink_before sink_after (Puts-nothing sink_before) finished (stop_told (length w.world.lines) taken source_after s stop) (stop_ends room w.world taken source_after s few stop) in
-    record { more = []; taken = taken; put = ends.0; source = source; sink = ends.1; ending = ends.2; shows = inl refl }
+    record { more = []; taken = taken; put = ends.0; source = source; sink = ends.1; ending = ends.2; safe = inl refl }
 
 -- what a line comes to, done or not
 come_to : (room : Room) (old new : Standing) (l : Line) (r : Result (Unit {0}) WorldErr) (more : List Entry) (left : Option (List ℕ))
     → length old.world.lines < LINES
     → IsLine (length old.world.lines == 0) l
-    → OnOk r (IsDone old l new) → IfErr r (λ e. IsRefused old l new e)
-    → IsRoomTold (line_overflow room old.world l) new.world.entries r
+    → IsApplied room old l new r
     → new.world.entries ≡ old.world.entries ++ more
     → Comes room old.world (ended (line_text l)) left more
-come_to room old new l (Ok u) more left few formed done refused told same = inl (done_adds room old new l more few formed done told same)
-come_to room old new l (Err e) more left few formed done refused told same =
-    inr (status_for (length old.world.lines + 1) e, refused_told (length old.world.lines + 1) e, refused_ends room old new l e more left few formed refused told same)
+come_to room old new l (Ok u) more left few formed applied same = inl (done_adds room old new l more few formed applied same)
+come_to room old new l (Err e) more left few formed applied same =
+    inr (status_for (length old.world.lines + 1) e, refused_told (length old.world.lines + 1) e, refused_ends room old new l e more left few formed applied same)
 
 -- the line, as one behind those of the world
 formed_behind : (w : Standing) (lines : List Line) (l : Line) → lines ≡ w.world.lines → IsLine (length lines == 0) l → IsLine (length w.world.lines == 0) l
@@ -66,15 +65,14 @@ pub unshown_end : (room : Room) (source_before source_after sink_before sink_aft
     → lines ≡ old.world.lines
     → IsLine (length lines == 0) l
     → Takes source_before source_after (ended (line_text l))
-    → OnOk r (IsDone old l new) → IfErr r (λ e. IsRefused old l new e)
-    → IsRoomTold (line_overflow room old.world l) new.world.entries r
-    → ShowsFiles new.world.entries
+    → IsApplied room old l new r
+    → IsSafe new.world.entries
     → shown ≡ grown.0
     → IsPut sink_before sink_after (trace_text shown) (Some s)
     → IsEnd room source_before source_after sink_before sink_after old s
-unshown_end room source_before source_after sink_before sink_after old new l lines r grown shown s few counted formed source done refused told shows same put =
+unshown_end room source_before source_after sink_before sink_after old new l lines r grown shown s few counted formed source applied safe same put =
     let tried = subst (λ (es : List Entry). IsPut sink_before sink_after (trace_text es) (Some s)) same put in
-    let comes = come_to room old new l r grown.0 source_after few (formed_behind old lines l counted formed) done refused told grown.1 in
+    let comes = come_to room old new l r grown.0 source_after few (formed_behind old lines l counted formed) applied grown.1 in
     let ends = put_ends room old.world (ended (line_text l)) source_after grown.0 s sink_before sink_after tried comes in
     record {
       more = grown.0;
@@ -83,7 +81,7 @@ unshown_end room source_before source_after sink_before sink_after old new l lin
       source = source;
       sink = ends.1;
       ending = ends.2;
-      shows = inr (subst ShowsFiles grown.1 shows);
+      safe = inr (subst IsSafe grown.1 safe);
     }
 
 -- the line is done and shown
@@ -91,17 +89,15 @@ pub line_next : (room : Room) (source_before source_after sink_before sink_after
     → lines ≡ old.world.lines
     → IsLine (length lines == 0) l
     → Takes source_before source_after (ended (line_text l))
-    → IsDone old l new
-    → line_overflow room old.world l ≡ None
+    → IsDone room old l new
     → shown ≡ grown.0
     → Puts sink_before sink_after (trace_text shown)
     → IsNext room source_before source_after sink_before sink_after old new
-line_next room source_before source_after sink_before sink_after old new l lines grown shown same formed source done fits is_more put =
+line_next room source_before source_after sink_before sink_after old new l lines grown shown same formed source done is_more put =
     record {
       line = l;
       formed = subst (λ (ls : List Line). IsLine (length ls == 0) l) same formed;
       done = done;
-      fits = fits;
       source = source;
       more = grown.0;
       added = grown.1;
@@ -114,20 +110,19 @@ pub refused_end : (room : Room) (source_before source_after sink_before sink_mid
     → lines ≡ old.world.lines
     → IsLine (length lines == 0) l
     → Takes source_before source_after (ended (line_text l))
-    → IsRefused old l new e
-    → IsRoomToldBy (line_overflow room old.world l) new.world.entries e
-    → ShowsFiles new.world.entries
+    → IsRefused room old l new e
+    → IsSafe new.world.entries
     → shown ≡ grown.0
     → Puts sink_before sink_mid (trace_text shown)
     → s ≡ status_for (length lines + 1) e
     → IsFinished sink_mid sink_after s given
     → IsEnd room source_before source_after sink_before sink_after old given
-refused_end room source_before source_after sink_before sink_mid sink_after old new l e lines grown shown s given few same formed source refused told shows is_more put is_status finished =
+refused_end room source_before source_after sink_before sink_mid sink_after old new l e lines grown shown s given few same formed source refused safe is_more put is_status finished =
     let shown_put = subst (λ (es : List Entry). Puts sink_before sink_mid (trace_text es)) is_more put in
     let said : Status = status_for (length old.world.lines + 1) e in
     let status_is : s ≡ said = is_status ∙ ap (λ (ls : List Line). status_for (length ls + 1) e) same in
     let given_said = subst (λ (t : Status). IsFinished sink_mid sink_after t given) status_is finished in
-    let ending = refused_ends room old new l e grown.0 source_after few (formed_behind old lines l same formed) refused told grown.1 in
+    let ending = refused_ends room old new l e grown.0 source_after few (formed_behind old lines l same formed) refused grown.1 in
     let ends = finished_ends room old.world (ended (line_text l)) source_after grown.0 said given sink_before sink_mid sink_after shown_put given_said (refused_told (length old.world.lines + 1) e) ending in
     record {
       more = grown.0;
@@ -136,5 +131,5 @@ refused_end room source_before source_after sink_before sink_mid sink_after old 
       source = source;
       sink = ends.1;
       ending = ends.2;
-      shows = inr (subst ShowsFiles grown.1 shows);
+      safe = inr (subst IsSafe grown.1 safe);
     }

@@ -6,39 +6,37 @@ use Rattle.xt_base.specs.declared.status.Status.TheVariants as status
 use Rattle.node_links.specs.Streams.{Takes, IsAtEnd, Puts}
 use Rattle.time_line.specs.declared.line.Line.{Line}
 use Rattle.time_line.specs.declared.entry.Entry.{Entry}
-use Rattle.time_line.specs.TimeLine.{IsToldWhole, AnswersShow}
-use Rattle.time_line.specs.Fresh.{IsFresh}
+use Rattle.time_line.specs.declared.TheConstants.{LINES}
+use Rattle.time_line.specs.Verdicts.{IsSafe}
 use Rattle.schedule_text.specs.LineText.{line_text, schedule_text, IsLine}
 use Rattle.schedule_text.specs.EntryText.{trace_text}
 use Rattle.schedule_text.specs.StatusText.{last_line}
-use Rattle.time_line.specs.declared.TheConstants.{LINES}
-use Rattle.world_runs.specs.World.{World, start_world}
-use Rattle.world_runs.specs.Rules.{refusal}
-use Rattle.world_runs.specs.Lines.{Whole, Stopped, line_applied}
-use Rattle.world_runs.specs.Runs.{after, run_of, IsPartOf}
-use Rattle.world_core.specs.Standing.{limit_of}
-use Rattle.world_core.specs.Room.{Room, line_overflow}
+use Rattle.cluster_runs.specs.World.{World, start_world}
+use Rattle.cluster_runs.specs.Rules.{refusal}
+use Rattle.cluster_runs.specs.NodeSteps.{Room, Cause, came_to, has_no_room}
+use Rattle.cluster_runs.specs.Lines.{finished, ends, done}
+use Rattle.cluster_runs.specs.Runs.{after, run_of, IsPartOf}
+use Rattle.cluster_core.specs.Standing.{limit_of}
 use Rattle.schedule_lines.specs.Fronts.{IsFrontOf}
 use Rattle.schedule_lines.specs.NextLine.{ended, StopsReading}
 
--- each line is within its bounds; only the first may set the times
-abbrev pub AreLines : ℕ → List Line → Type 0
-AreLines before [] = Unit {0}
-AreLines before (line ∷ lines) = IsLine (before == 0) line × AreLines (before + 1) lines
+-- each line is one of a schedule, behind so many others; only the first may set the times
+abbrev pub AreOfSchedule : ℕ → List Line → Type 0
+AreOfSchedule before [] = Unit {0}
+AreOfSchedule before (line ∷ lines) = IsLine (before == 0) line × AreOfSchedule (before + 1) lines
 
 -- the line is done from this world on: it breaks no rule, each record of its steps has room, and it comes to no limit
 abbrev pub IsDoneFrom : Room → World → Line → Type 0
-IsDoneFrom room w line =
-    (refusal w line ≡ None) × (line_overflow room w line ≡ None) × ((whole : World) × (line_applied w line ≡ Whole whole))
+IsDoneFrom room w line = (refusal w line ≡ None) × ((whole : World) × (done room w line ≡ finished whole))
 
 -- each line is done, one after the other
 abbrev pub AreDoneFrom : Room → World → List Line → Type 0
 AreDoneFrom room w [] = Unit {0}
-AreDoneFrom room w (line ∷ lines) = IsDoneFrom room w line × AreDoneFrom room (after w line) lines
+AreDoneFrom room w (line ∷ lines) = IsDoneFrom room w line × AreDoneFrom room (after room w line) lines
 
 -- lines of a schedule, each well formed, legal and within the limits, over journals with this room
 pub record AreRun (room : Room) (lines : List Line) : Type 0 where
-  pub formed : AreLines 0 lines
+  pub formed : AreOfSchedule 0 lines
   pub done : AreDoneFrom room start_world lines
 
 -- the line is taken whole, behind those that made the world, of which there are fewer than a schedule may have
@@ -54,15 +52,19 @@ IsUnread w taken left s = (length w.lines < LINES) × StopsReading (length w.lin
 abbrev pub IsBegun : World → List ℕ → Line → Type 0
 IsBegun w taken line = IsTaken w taken line × (refusal w line ≡ None)
 
--- a line that ended early adds the entries of its finished steps: none, or those of a settling's first deliveries
-abbrev pub AddsPart : World → Line → List Entry → Type 0
-AddsPart w line new = (new ≡ []) ⊎ ((part : World) × IsPartOf w line part × (part.entries ≡ w.entries ++ new))
+-- the line ended early by this cause, and added the entries of the steps that it had finished
+abbrev pub EndsEarly : Room → World → Line → Cause → List Entry → Type 0
+EndsEarly room w line cause new = (part : World) × (done room w line ≡ ends cause part) × (part.entries ≡ w.entries ++ new)
+
+-- a line that ended early adds nothing, or the entries of steps that it had finished
+abbrev pub AddsPart : Room → World → Line → List Entry → Type 0
+AddsPart room w line new = (new ≡ []) ⊎ ((part : World) × IsPartOf room w line part × (part.entries ≡ w.entries ++ new))
 
 -- the line that is taken is done, and adds these entries
 abbrev pub AddsAll : Room → World → List ℕ → List Entry → Type 0
 AddsAll room w taken new =
-    (line : Line) × IsBegun w taken line × (line_overflow room w line ≡ None)
-    × ((whole : World) × (line_applied w line ≡ Whole whole) × (whole.entries ≡ w.entries ++ new))
+    (line : Line) × IsBegun w taken line
+    × ((whole : World) × (done room w line ≡ finished whole) × (whole.entries ≡ w.entries ++ new))
 
 -- Why a replay ends with a status behind the lines that made this world, by the bytes that it takes from there on and what
 -- is left of the source, and by the entries that come before the status.
@@ -78,21 +80,17 @@ EndsWith room w taken left new (status.SourceFault count) =
 EndsWith room w taken left new (status.Illegal number rule) =
     (line : Line) × IsTaken w taken line × (refusal w line ≡ Some rule) × (number ≡ length w.lines + 1) × (new ≡ [])
 -- there is a line more than a schedule may have, or the next one is longer than a line may be, or it came to another limit
--- behind the steps that added these entries, and each of its records had room
 EndsWith room w taken left new (status.Limit what limit) =
     ((what ≡ limited.Lines) × (length w.lines ≡ LINES) × (length taken ≡ 1) × (limit ≡ LINES) × (new ≡ []))
     ⊎ (IsUnread w taken left (status.Limit what limit) × (new ≡ []))
-    ⊎ ((line : Line) × IsBegun w taken line × (line_overflow room w line ≡ None)
-    × ((stopped : World) × (line_applied w line ≡ Stopped what stopped) × (limit ≡ limit_of what) × (stopped.entries ≡ w.entries ++ new)))
--- a record of the next line had no room, behind the steps that added these entries
+    ⊎ ((line : Line) × IsBegun w taken line × EndsEarly room w line (came_to what) new × (limit ≡ limit_of what))
+-- a record of the next line had no room
 EndsWith room w taken left new (status.JournalFull need limit) =
-    (line : Line) × IsBegun w taken line
-    × ((behind : World) × (line_overflow room w line ≡ Some (record { world = behind; overflow = record { need = need; limit = limit } }))
-    × (behind.entries ≡ w.entries ++ new))
+    (line : Line) × IsBegun w taken line × EndsEarly room w line (has_no_room (record { need = need; limit = limit })) new
 -- memory ran out as the next line was read or done
 EndsWith room w taken left new status.OutOfMemory =
     (IsUnread w taken left status.OutOfMemory × (new ≡ []))
-    ⊎ ((line : Line) × IsBegun w taken line × AddsPart w line new)
+    ⊎ ((line : Line) × IsBegun w taken line × AddsPart room w line new)
 -- no other status ends a replay
 EndsWith room w taken left new _ = ⊥
 
@@ -117,14 +115,8 @@ EndsAt room w taken left new put status.OutOfMemory =
 -- all was put
 EndsAt room w taken left new put s = EndsWith room w taken left new s × (put ≡ trace_text new ++ last_line s)
 
--- What a trace shows of each file that it tells whole: each answer shows the file as it stands, and the ends of its calls are
--- fresh.
-pub record ShowsFiles (entries : List Entry) : Type 0 where
-  pub answers : (file : ℕ) → IsToldWhole file entries → AnswersShow file entries
-  pub acknowledgements : (file : ℕ) → IsToldWhole file entries → IsFresh file entries
-
 -- A replay over journals with this room: the lines that it did, the entries of the steps that a line behind them finished, what
--- it took and put behind the text of these lines, and why it ended.
+-- it took and put behind the text of these lines, and why it ended. Its trace is safe: each replicated file of it, in every clause.
 pub record IsReplay (room : Room) (source_before source_after sink_before sink_after : Option (List ℕ)) (s : Status) : Type 0 where
   pub lines : List Line
   pub few : length lines ≤ LINES
@@ -133,19 +125,19 @@ pub record IsReplay (room : Room) (source_before source_after sink_before sink_a
   pub taken : List ℕ
   pub put : List ℕ
   pub source : Takes source_before source_after (schedule_text lines ++ taken)
-  pub sink : Puts sink_before sink_after (trace_text (run_of lines).entries ++ put)
-  pub ending : EndsAt room (run_of lines) taken source_after more put s
-  pub shows : ShowsFiles ((run_of lines).entries ++ more)
+  pub sink : Puts sink_before sink_after (trace_text (run_of room lines).entries ++ put)
+  pub ending : EndsAt room (run_of room lines) taken source_after more put s
+  pub safe : IsSafe ((run_of room lines).entries ++ more)
 
 -- how a good schedule's replay may end
-abbrev pub IsWhole : List Line → Option (List ℕ) → Option (List ℕ) → Status → Type 0
-IsWhole lines sink_before sink_after status.Done = Puts sink_before sink_after (trace_text (run_of lines).entries)
-IsWhole lines sink_before sink_after status.OutOfMemory = Unit {0}
-IsWhole lines sink_before sink_after _ = ⊥
+abbrev pub IsWhole : Room → List Line → Option (List ℕ) → Option (List ℕ) → Status → Type 0
+IsWhole room lines sink_before sink_after status.Done = Puts sink_before sink_after (trace_text (run_of room lines).entries)
+IsWhole room lines sink_before sink_after status.OutOfMemory = Unit {0}
+IsWhole room lines sink_before sink_after _ = ⊥
 
 -- Where the source has a schedule whose lines are all well formed, legal and within the limits, the replay is done and its
 -- trace is whole, unless memory runs out.
 abbrev pub Completes : Room → Option (List ℕ) → Option (List ℕ) → Option (List ℕ) → Status → Type 0
 Completes room source_before sink_before sink_after s =
     (lines : List Line) → source_before ≡ Some (schedule_text lines) → AreRun room lines → length lines ≤ LINES
-    → IsWhole lines sink_before sink_after s
+    → IsWhole room lines sink_before sink_after s

@@ -5,22 +5,29 @@ use Rattle.xt_base.specs.declared.status.Status.TheVariants as status
 use Rattle.node_links.specs.Streams.{Takes, Puts}
 use Rattle.time_line.specs.declared.line.Line.{Line}
 use Rattle.time_line.specs.declared.entry.Entry.{Entry}
+use Rattle.time_line.specs.Verdicts.{IsSafe}
 use Rattle.schedule_text.specs.LineText.{line_text, IsLine}
 use Rattle.schedule_text.specs.EntryText.{trace_text}
+use Rattle.cluster_runs.specs.World.{World}
+use Rattle.cluster_runs.specs.NodeSteps.{Room}
+use Rattle.cluster_runs.specs.Runs.{run_of}
 use Rattle.world_hull.specs.declared.errors.WorldErr.{WorldErr}
 use Rattle.world_hull.specs.declared.errors.WorldErr.TheVariants as error
-use Rattle.world_core.specs.Standing.{Standing, IsDone}
-use Rattle.world_core.specs.Room.{Room, line_overflow}
+use Rattle.cluster_core.specs.Standing.{Standing, IsDone}
 use Rattle.schedule_lines.specs.NextLine.{ended}
 use Rattle.schedule_lines.specs.Causes.{HasCause}
-use Rattle.schedule_replay.specs.Replay.{EndsAt, ShowsFiles}
+use Rattle.schedule_replay.specs.Replay.{AreOfSchedule, EndsAt}
+
+-- The world is the run of its lines, which are those of a schedule.
+pub record IsScheduleRun (room : Room) (w : World) : Type 0 where
+  pub same : w ≡ run_of room w.lines
+  pub formed : AreOfSchedule 0 w.lines
 
 -- The line is done: it was taken and applied, and what it adds to the trace was put.
 pub record IsNext (room : Room) (source_before source_after sink_before sink_after : Option (List ℕ)) (old new : Standing) : Type 0 where
   pub line : Line
   pub formed : IsLine (length old.world.lines == 0) line
-  pub done : IsDone old line new
-  pub fits : line_overflow room old.world line ≡ None
+  pub done : IsDone room old line new
   pub source : Takes source_before source_after (ended (line_text line))
   pub more : List Entry
   pub added : new.world.entries ≡ old.world.entries ++ more
@@ -34,8 +41,8 @@ pub record IsEnd (room : Room) (source_before source_after sink_before sink_afte
   pub source : Takes source_before source_after taken
   pub sink : Puts sink_before sink_after put
   pub ending : EndsAt room old.world taken source_after more put s
-  -- a trace that has more shows its files
-  pub shows : (more ≡ []) ⊎ ShowsFiles (old.world.entries ++ more)
+  -- a trace that has more is safe
+  pub safe : (more ≡ []) ⊎ IsSafe (old.world.entries ++ more)
 
 -- one line of a replay: it goes on, or it ends with a status
 abbrev pub IsStep : Room → Option (List ℕ) → Option (List ℕ) → Option (List ℕ) → Option (List ℕ) → Standing → Standing → Option Status → Type 0

@@ -1,20 +1,20 @@
 ghost use Rattle.std.specs.Prelude.{◌≡◌, false, length};
 ghost use Rattle.xt_base.specs.Faults.{Rose};
-ghost use Rattle.world_runs.specs.World.{start_world};
-ghost use Rattle.world_core.specs.Standing.{Standing, standing};
+ghost use Rattle.cluster_runs.specs.World.{start_world};
+ghost use Rattle.cluster_runs.specs.NodeSteps.{Room};
+ghost use Rattle.cluster_core.specs.Standing.{Standing};
 ghost use Rattle.disk_hull.specs.Room.{journal_overflow};
-ghost use Rattle.world_core.specs.Room.{Room};
 ghost use Rattle.schedule_lines.specs.Causes.{HasCause};
 ghost use Rattle.schedule_replay.specs.Replay.{IsReplay, Completes};
 ghost use Rattle.schedule_replay.specs.Steps.{IsEnd};
 
 use crate::step::replay_line;
+use cluster_core::World;
 use disk_hull::DiskHull;
 use node_links::{Sink, Source};
 use schedule_lines::{finish, take_byte};
 use std::alloc::Global;
 use time_line::LINES;
-use world_core::World;
 use world_hull::Hull;
 use xt_base::{Failed, Limited, Status};
 
@@ -52,7 +52,7 @@ fn replay_over<H: Hull, S: Source, K: Sink>(
     src: &mut S,
     out: &mut K,
 ) -> Status
-    requires start { (standing H.kept world.old).world ≡ start_world }
+    requires start { world.old.world ≡ start_world }
     requires going { world.old.ended ≡ false }
     ensures replay { IsReplay H.overflow (S.left src.old) (S.left src.new) (K.held out.old)
         (K.held out.new) result }

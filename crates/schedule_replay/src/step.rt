@@ -1,15 +1,14 @@
-ghost use Rattle.std.specs.Prelude.{◌≡◌, ◌<◌, false, length, OnOk, IfErr};
-ghost use Rattle.time_line.specs.Bounds.{FitsLine};
-ghost use Rattle.world_core.specs.Room.{line_overflow, IsRoomTold};
-ghost use Rattle.world_core.specs.Standing.{standing, IsDone, IsRefused};
-ghost use Rattle.schedule_replay.specs.Replay.{ShowsFiles};
-ghost use Rattle.schedule_replay.specs.Steps.{IsStep, CausesStep, Grown, status_for};
+ghost use Rattle.std.specs.Prelude.{◌≡◌, ◌<◌, ◌==◌, false, length};
+ghost use Rattle.time_line.specs.Verdicts.{IsSafe};
+ghost use Rattle.schedule_text.specs.LineText.{IsLine};
+ghost use Rattle.cluster_core.specs.Standing.{IsApplied};
+ghost use Rattle.schedule_replay.specs.Steps.{IsScheduleRun, IsStep, CausesStep, Grown, status_for};
 
+use cluster_core::World;
 use node_links::{Sink, Source};
 use schedule_lines::{NextLine, finish, next_line, put_entries};
 use std::alloc::Global;
 use time_line::{LINES, Line};
-use world_core::World;
 use world_hull::{Hull, WorldErr};
 use xt_base::Status;
 
@@ -25,17 +24,14 @@ fn status_of(number: u64, error: WorldErr) -> Status
     }
 }
 
-/// Applies a line. Its entries stand behind those that were there.
+/// Applies a line to a world that is the run of its lines. Its entries stand behind those that were there, and the trace is safe.
 fn apply<H: Hull>(world: &mut World<H>, line: Line) -> Result<(), WorldErr>
     requires going { world.old.ended ≡ false }
-    requires values { FitsLine line }
-    ensures done { OnOk result (IsDone (standing H.kept world.old) line (standing H.kept world.new)) }
-    ensures refused { IfErr result
-        (IsRefused (standing H.kept world.old) line (standing H.kept world.new)) }
-    ensures room { IsRoomTold (line_overflow H.overflow (standing H.kept world.old).world line)
-        world.new.world.entries result }
+    requires run { IsScheduleRun H.overflow world.old.world }
+    requires formed { IsLine (length world.old.world.lines == 0) line }
+    ensures applied { IsApplied H.overflow world.old line world.new result }
     ensures grown { Grown world.old.world.entries world.new.world.entries }
-    ensures shows { ShowsFiles world.new.world.entries }
+    ensures safe { IsSafe world.new.world.entries }
 {
     world.apply(&line)
 }
@@ -50,9 +46,10 @@ pub fn replay_line<H: Hull, S: Source, K: Sink>(
     raw: &mut Vec<u8>,
 ) -> Option<Status>
     requires going { world.old.ended ≡ false }
+    requires run { IsScheduleRun H.overflow world.old.world }
     requires few { length world.old.world.lines < LINES }
     ensures step { IsStep H.overflow (S.left src.old) (S.left src.new) (K.held out.old)
-        (K.held out.new) (standing H.kept world.old) (standing H.kept world.new) result }
+        (K.held out.new) world.old world.new result }
     ensures cause { CausesStep (S.fault_count src.old) (S.fault_count src.new)
         (K.fault_count out.old) (K.fault_count out.new) result }
 {

@@ -2,13 +2,9 @@
 use Rattle.std.specs.Prelude.{ℕ, ◌≡◌, List, Option, Some, None, Result, Ok, Err}
 use Rattle.kept_bodies.specs.declared.errors.BodyErr.{BodyErr}
 use Rattle.kept_bodies.specs.declared.errors.BodyErr.TheVariants as body
+use Rattle.cluster_runs.specs.NodeSteps.{Overflow}
 use Rattle.world_hull.specs.declared.errors.WorldErr.{WorldErr}
 use Rattle.world_hull.specs.declared.errors.WorldErr.TheVariants as error
-
--- a record that has no room: how long its node's journal would have to be, and how long it may be, in bytes
-pub record Overflow : Type 0 where
-  pub need : ℕ
-  pub limit : ℕ
 
 -- an append found no room, or memory ran out
 abbrev pub IsFullOrMemory : WorldErr → Type 0

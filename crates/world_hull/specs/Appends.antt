@@ -1,9 +1,9 @@
 -- how an append ends, and what the nodes keep after it
-use Rattle.std.specs.Prelude.{ℕ, ◌≡◌, ◌==◌, ◌≤◌, false, List, Option, Some, None, if◌then◌else◌}
+use Rattle.std.specs.Prelude.{ℕ, ◌≡◌, ◌==◌, ◌≤◌, false, List, [], ◌∷◌, ◌++◌, Option, Some, None, if◌then◌else◌}
 use Rattle.disk_model.specs.declared.plan.Stop.{Stop}
 use Rattle.xt_base.specs.declared.ids.NodeId.{NodeId}
 use Rattle.xt_base.specs.declared.record.Record.{Record}
-use Rattle.world_runs.specs.Records.{with_record, keeps_record}
+use Rattle.cluster_runs.specs.NodeSteps.{keeps_record}
 use Rattle.world_hull.specs.declared.hull.Kept.{Kept}
 use Rattle.world_hull.specs.declared.hull.Kept.TheVariants.{Done, StoppedKept, StoppedLost}
 
@@ -16,6 +16,10 @@ IsInAppend (Some stop) = (1 ≤ stop.call) × (stop.call ≤ 4)
 abbrev pub kept_by : Option Stop → Kept
 kept_by None = Done
 kept_by (Some stop) = if keeps_record stop then StoppedKept else StoppedLost
+
+-- the records of each node, with one more of this node
+abbrev pub with_record : (ℕ → List Record) → NodeId → Record → ℕ → List Record
+with_record records node rec n = if n == node.0 then records n ++ rec ∷ [] else records n
 
 -- what each node keeps after an append that ended so
 abbrev pub records_after : (ℕ → List Record) → NodeId → Record → Kept → ℕ → List Record

@@ -1,8 +1,9 @@
-ghost use Rattle.std.specs.Prelude.{◌≡◌, ℕ, List, Option, IfOk, IfErr, OnErr};
+ghost use Rattle.std.specs.Prelude.{◌≡◌, ℕ, List, IfOk, IfErr, OnErr};
 ghost use Rattle.xt_base.specs.declared.record.Record.{Record};
 ghost use Rattle.xt_base.specs.Limits.{FitsMessage, FitsRecord};
 ghost use Rattle.xt_protocol.specs.Folds.{IsInPlace, fold_of, logged_of, body_kept};
-ghost use Rattle.world_hull.specs.Answers.{Overflow, IsFullOrMemory, IsFullExactly, GivesBody};
+ghost use Rattle.cluster_runs.specs.NodeSteps.{Room};
+ghost use Rattle.world_hull.specs.Answers.{IsFullOrMemory, IsFullExactly, GivesBody};
 ghost use Rattle.world_hull.specs.Appends.{IsInAppend, IsAppended, AreOthersSame, kept_by};
 
 use crate::errors::WorldErr;
@@ -46,7 +47,7 @@ pub trait Hull: Drop {
     ghost kept: { Self → ℕ → List Record };
 
     /// Whether a record has no room behind these of its node, and what it would need.
-    ghost overflow: { List Record → Record → Option Overflow };
+    ghost overflow: { Room };
 
     /// The very message, or `OutOfMemory`.
     fn carry(&mut self, alloc: Global, msg: &Msg) -> Result<Msg, WorldErr>

@@ -1,6 +1,6 @@
 //! A hull that keeps the records in memory.
 ghost use Rattle.std.specs.Prelude.{◌≡◌, [], None, OnOk, OnErr};
-ghost use Rattle.world_runs.specs.Records.{with_record};
+ghost use Rattle.world_hull.specs.Appends.{with_record};
 ghost use Rattle.world_hull.specs.Logs.{records_of};
 
 use crate::errors::WorldErr;

@@ -1,7 +1,6 @@
 use Rattle.std.proofs.Common.{◌≡◌, ◌∙◌, ◌∷◌, [], length, length-append, ap, sym, subst, refl, arith}
 use Rattle.time_line.specs.declared.TheConstants.{LINES}
-use Rattle.world_runs.specs.World.{World}
-use Rattle.world_core.specs.Standing.{standing}
+use Rattle.cluster_runs.specs.World.{World}
 use Rattle.schedule_replay.proofs.Whole.{begun, goes_on, ends_so, lines_after, still_going}
 use Rattle.schedule_replay.proofs.Causes.{moved_cause}
 use Rattle.schedule_replay.proofs.replaying.replay_over.Goals as goal
@@ -9,7 +8,7 @@ use Rattle.schedule_replay.proofs.replaying.replay_over.Goals as goal
 pub loop-line-init : goal.loop-line-init
 loop-line-init g c =
     record {
-      so_far = begun g.H.Hull.overflow _ _ (standing g.H.Hull.kept c.args.world.now).world c.requires.start;
+      so_far = begun g.H.Hull.overflow _ _ c.args.world.now.world c.requires.start;
       count = subst (λ (w : World). length w.lines ≡ 0) (sym c.requires.start) refl;
       going = c.requires.going;
       source = refl;
@@ -17,15 +16,15 @@ loop-line-init g c =
     }
 
 pub returns-in-Some-clause-replay : goal.returns-in-Some-clause-replay
-returns-in-Some-clause-replay g c = ends_so g.H.Hull.overflow _ _ _ _ _ _ (standing g.H.Hull.kept c.loop-line.world) c.in-Some.status c.loop-line.invariant.so_far (omega (arith, c.loop-line.invariant.count)) c.in-Some.ensures.step
+returns-in-Some-clause-replay g c = ends_so g.H.Hull.overflow _ _ _ _ _ _ c.loop-line.world c.in-Some.status c.loop-line.invariant.so_far (omega (arith, c.loop-line.invariant.count)) c.in-Some.ensures.step
 
 pub loop-line-preserved : goal.loop-line-preserved
 loop-line-preserved g c =
     let next = c.in-None.ensures.step in
     record {
-      so_far = goes_on g.H.Hull.overflow _ _ _ _ _ _ (standing g.H.Hull.kept c.loop-line.world) (standing g.H.Hull.kept c.replay_line.new.world) c.loop-line.invariant.so_far next;
-      count = ap length (lines_after (standing g.H.Hull.kept c.loop-line.world) (standing g.H.Hull.kept c.replay_line.new.world) next.line next.done) ∙ omega (arith, length-append c.loop-line.world.world.lines (next.line ∷ []), c.loop-line.invariant.count);
-      going = still_going (standing g.H.Hull.kept c.loop-line.world) (standing g.H.Hull.kept c.replay_line.new.world) next.line next.done ∙ c.loop-line.invariant.going;
+      so_far = goes_on g.H.Hull.overflow _ _ _ _ _ _ c.loop-line.world c.replay_line.new.world c.loop-line.invariant.so_far next;
+      count = ap length (lines_after g.H.Hull.overflow c.loop-line.world c.replay_line.new.world next.line next.done) ∙ omega (arith, length-append c.loop-line.world.world.lines (next.line ∷ []), c.loop-line.invariant.count);
+      going = still_going g.H.Hull.overflow c.loop-line.world c.replay_line.new.world next.line next.done;
       source = c.in-None.ensures.cause.0 ∙ c.loop-line.invariant.source;
       sink = c.in-None.ensures.cause.1 ∙ c.loop-line.invariant.sink;
     }
@@ -33,8 +32,11 @@ loop-line-preserved g c =
 pub returns-clause-replay : goal.returns-clause-replay
 returns-clause-replay g c =
     let full : length c.loop-line.world.world.lines ≡ LINES = omega (arith, c.loop-line.invariant.count) in
-    ends_so g.H.Hull.overflow _ _ _ _ _ _ (standing g.H.Hull.kept c.loop-line.world) c.past_last.result c.loop-line.invariant.so_far (omega (arith, full)) (c.past_last.ensures.end g.H.Hull.overflow (standing g.H.Hull.kept c.loop-line.world) full)
+    ends_so g.H.Hull.overflow _ _ _ _ _ _ c.loop-line.world c.past_last.result c.loop-line.invariant.so_far (omega (arith, full)) (c.past_last.ensures.end g.H.Hull.overflow c.loop-line.world full)
 
 pub returns-clause-cause : goal.returns-clause-cause
 returns-clause-cause g c =
     moved_cause _ _ _ _ _ _ c.past_last.result c.loop-line.invariant.source c.loop-line.invariant.sink c.past_last.ensures.cause
+
+pub replay_line-requires-run : goal.replay_line-requires-run
+replay_line-requires-run g c = record { same = c.loop-line.invariant.so_far.same; formed = c.loop-line.invariant.so_far.run.formed }

@@ -1,9 +1,12 @@
-use Rattle.world_core.specs.Standing.{standing}
 use Rattle.schedule_replay.proofs.Endings.{applied_grown}
+use Rattle.schedule_replay.proofs.Schedules.{one_more, lines_fit, applied_safe}
 use Rattle.schedule_replay.proofs.step.apply.Goals as goal
 
-pub returns-clause-grown : goal.returns-clause-grown
-returns-clause-grown g c = applied_grown (standing g.H.Hull.kept c.args.world.now) (standing g.H.Hull.kept c.apply.new.self) c.args.line c.apply.result c.apply.ensures.done c.apply.ensures.refused
+pub apply-requires-values : goal.apply-requires-values
+apply-requires-values g c = lines_fit _ (one_more _ c.args.line c.requires.run.formed c.requires.formed)
 
-pub returns-clause-shows : goal.returns-clause-shows
-returns-clause-shows g c = record { answers = c.apply.ensures.answers; acknowledgements = c.apply.ensures.acknowledgements }
+pub returns-clause-grown : goal.returns-clause-grown
+returns-clause-grown g c = applied_grown g.H.Hull.overflow c.args.world.now c.apply.new.self c.args.line c.apply.result c.apply.ensures
+
+pub returns-clause-safe : goal.returns-clause-safe
+returns-clause-safe g c = applied_safe g.H.Hull.overflow c.args.world.now c.apply.new.self c.args.line c.apply.result c.requires.run c.requires.formed c.apply.ensures
