@@ -1,0 +1,240 @@
+ghost use Rattle.std.specs.Prelude.{◌≡◌, ◌+◌, ◌<◌, ◌^◌, Option, Some, None, IfOk, IfSome, OnOk, OnErr, []};
+ghost use Rattle.std.specs.Option.{option_map};
+ghost use Rattle.cluster_runs.specs.World.{client, is_client, is_osd, osd};
+ghost use Rattle.cluster_runs.specs.Rules.{has_call};
+ghost use Rattle.cluster_runs.specs.Clients.{new_client};
+ghost use Rattle.cluster_runs.specs.Lines.{runs, first_boot, crashes, cuts, reads_clock, aims};
+ghost use Rattle.osd_rows.specs.OsdSteps.{osd_from};
+ghost use Rattle.osd_core.specs.Slots.{AreRows};
+ghost use Rattle.osd_core.specs.Events.{FitsEvent};
+ghost use Rattle.node_cores.specs.Hosts.{host_ticked, node_of};
+ghost use Rattle.node_cores.specs.Turns.{Handles, Calls, moment_of};
+
+use crate::running::{Core, Moment, Running};
+use client_core::Client;
+use cluster_runs::Role;
+use disk_model::Stop;
+use kept_bodies::Bodies;
+use osd_core::Osd;
+use std::alloc::Global;
+use std::marker::Model;
+use xt_base::{Boot, Call, Event, Folded, Location, NodeId, Op, OutOfMemory, Times};
+use xt_protocol::Turned;
+
+/// A declared node without its records. Contracts see its id, its role, its times and how it runs.
+#[derive(Drop)]
+pub struct Host {
+    id: NodeId,
+    role: Role,
+    times: Times,
+    up: Option<Running>,
+}
+
+impl Model for Host {
+    ghost use Rattle.node_cores.specs.Hosts.{HostView};
+
+    ghost Value = { HostView };
+
+    ghost use Rattle.node_cores.specs.Cores.{up_of, IsUpOf};
+
+    ghost view = { λ host. record { id = host.id; role = host.role; times = host.times; up = up_of host.up } };
+
+    ghost invariant = { λ host. IsUpOf host.id host.times host.up };
+}
+
+/// A running node with no plan to stop it.
+fn fresh(boot: Boot, clock: u64, core: Core) -> Running
+    ensures { result ≡ record { boot = boot; clock = clock; crash = None; cut = None; core = core } }
+{
+    Running {
+        boot,
+        clock,
+        crash: None,
+        cut: None,
+        core,
+    }
+}
+
+impl Host {
+    /// A new OSD, which doesn't run.
+    pub fn osd(id: NodeId, times: Times) -> Host
+        ensures { result ≡ record { id = id; role = Role.Osd; times = times; up = None } }
+    {
+        Host {
+            id,
+            role: Role::Osd,
+            times,
+            up: None,
+        }
+    }
+
+    /// A new client, which runs for good.
+    pub fn client(alloc: Global, id: NodeId, times: Times, clock: u64) -> Host
+        requires { clock < 2 ^ 62 }
+        ensures { result ≡ record { id = id; role = Role.Client; times = times; up = Some (runs first_boot clock (client (new_client clock))) } }
+    {
+        let core = Core::Client(Client::new(alloc, id, times, 1, clock));
+        Host {
+            id,
+            role: Role::Client,
+            times,
+            up: Some(fresh(Boot(1), clock, core)),
+        }
+    }
+
+    pub fn id(&self) -> NodeId
+        ensures { result ≡ self.now.id }
+    {
+        self.id
+    }
+
+    pub fn is_osd(&self) -> bool
+        ensures { result ≡ is_osd (Some (node_of [] self.now)) }
+    {
+        self.role == Role::Osd
+    }
+
+    pub fn is_client(&self) -> bool
+        ensures { result ≡ is_client (Some (node_of [] self.now)) }
+    {
+        self.role == Role::Client
+    }
+
+    /// What its clock reads and what is planned for it, where it runs.
+    pub fn moment(&self) -> Option<Moment>
+        ensures { result ≡ option_map moment_of self.now.up }
+    {
+        let running = self.up.as_ref()?;
+        Some(Moment {
+            clock: running.clock,
+            crash: running.crash,
+            cut: running.cut,
+        })
+    }
+
+    /// Whether a client's call runs.
+    pub fn has_call(&self) -> bool
+        ensures { result ≡ has_call self.now.up }
+    {
+        match &self.up {
+            None => false,
+            Some(running) => running.core.has_call(),
+        }
+    }
+
+    /// An OSD starts as this boot, from what its records say.
+    pub fn start(
+        &mut self,
+        alloc: Global,
+        folded: Folded,
+        boot: Boot,
+        clock: u64,
+    ) -> Result<(), OutOfMemory>
+        requires clock { clock < 2 ^ 62 }
+        requires rows { AreRows folded.files }
+        ensures ok { OnOk result (self.new ≡ record self.old { up = Some (runs boot clock (osd (osd_from (record { node = self.old.id; boot = boot; times = self.old.times; start = clock }) folded.files))) }) }
+        ensures err { OnErr result (self.new ≡ self.old) }
+    {
+        let state = Osd::start(alloc, self.id, self.times, None, folded, boot, clock)?;
+        self.up = Some(fresh(boot, clock, Core::Osd(state)));
+        Ok(())
+    }
+
+    /// It stops.
+    pub fn stop(&mut self)
+        ensures { self.new ≡ record self.old { up = None } }
+    {
+        self.up = None;
+    }
+
+    /// Its next append stops so, where it runs.
+    pub fn plan_crash(&mut self, stop: Stop)
+        ensures { self.new ≡ record self.old { up = option_map (crashes stop.call stop.fill) self.old.up } }
+    {
+        if let Some(running) = &mut self.up {
+            running.crash = Some(stop);
+        }
+    }
+
+    /// Its next step that sends stops behind so many messages, where it runs.
+    pub fn plan_cut(&mut self, count: u128)
+        ensures { self.new ≡ record self.old { up = option_map (cuts count) self.old.up } }
+    {
+        if let Some(running) = &mut self.up {
+            running.cut = Some(count);
+        }
+    }
+
+    /// Its clock is set, where it runs.
+    pub fn set_clock(&mut self, clock: u64)
+        ensures { self.new ≡ record self.old { up = option_map (reads_clock clock) self.old.up } }
+    {
+        if let Some(running) = &mut self.up {
+            running.clock = clock;
+        }
+    }
+
+    /// Its clock advances by so many milliseconds, where it runs.
+    pub fn tick(&mut self, count: u64)
+        requires { IfSome self.old.up (λ running. running.clock + count < 2 ^ 64) }
+        ensures { self.new ≡ host_ticked count self.old }
+    {
+        if let Some(running) = &mut self.up {
+            running.clock += count;
+        }
+    }
+
+    /// A client's first target for a declared file is this member. Where memory runs out it runs no more.
+    pub fn aim(&mut self, number: u64, node: NodeId) -> Result<(), OutOfMemory>
+        ensures ok { OnOk result (self.new ≡ record self.old { up = option_map (aims number node) self.old.up }) }
+        ensures err { OnErr result (self.new ≡ record self.old { up = None }) }
+    {
+        let Some(mut running) = self.up.take() else {
+            return Ok(());
+        };
+        running.core.aim(number, node)?;
+        self.up = Some(running);
+        Ok(())
+    }
+
+    /// An event comes to it. None where it doesn't run. Where memory runs out it runs no more.
+    pub fn handle<B: Bodies>(
+        &mut self,
+        bodies: &mut B,
+        ev: &Event,
+    ) -> Result<Option<Turned>, OutOfMemory>
+        requires clock { IfSome self.old.up (λ running. running.clock < 2 ^ 62) }
+        requires fits { FitsEvent ev.now }
+        ensures handled { IfOk result (λ turned. Handles (B.records bodies.old) ev.now self.old self.new turned) }
+        ensures err { OnErr result (self.new ≡ record self.old { up = None }) }
+    {
+        let Some(mut running) = self.up.take() else {
+            return Ok(None);
+        };
+        let turned = running.core.handle(bodies, running.clock, ev)?;
+        self.up = Some(running);
+        Ok(Some(turned))
+    }
+
+    /// A client makes a call on a declared file. None where no client runs. Where memory runs out it runs no more.
+    pub fn call(
+        &mut self,
+        call: &Call,
+        number: u64,
+        location: &Location,
+        op: Op,
+    ) -> Result<Option<Turned>, OutOfMemory>
+        requires { IfSome self.old.up (λ running. running.clock < 2 ^ 62) }
+        ensures called { IfOk result (λ turned. Calls call.now number location.now op self.old self.new turned) }
+        ensures err { OnErr result (self.new ≡ record self.old { up = None }) }
+    {
+        let Some(mut running) = self.up.take() else {
+            return Ok(None);
+        };
+        let turned = running
+            .core
+            .call(running.clock, call, number, location, op)?;
+        self.up = Some(running);
+        Ok(turned)
+    }
+}
