@@ -1,0 +1,58 @@
+-- tests of epochs and stamps, and two cases
+use Rattle.std.proofs.Common.{◌≡◌, ℕ, ◌≤◌, ◌+◌, Bool, true, false, refl, sym, ap, ◌∙◌, arith}
+use Rattle.std.specs.Prelude.{◌&&◌, ◌||◌, not, cond, max, nat_lt, nat_le, ◌==◌}
+use Rattle.std.proofs.lemmas.Bool.Decides.{nat_tests}
+use Rattle.xt_base.specs.declared.ids.Epoch.{Epoch}
+use Rattle.xt_base.specs.declared.ids.Stamp.{Stamp}
+use Rattle.xt_base.specs.declared.file.FileHead.{FileHead}
+use Rattle.xt_protocol.specs.Stamps.{is_epoch, is_earlier, is_below}
+use Rattle.osd_rows.specs.declared.Place.{Place}
+use Rattle.osd_rows.specs.PrimaryRows.{epoch_above}
+
+pub false_true : false ≡ true → ⊥
+false_true e = cc e
+
+pub not_both : {P : Type 0} (b : Bool) → b ≡ true → b ≡ false → P
+not_both b is_so isnt = absurd (false_true (sym isnt ∙ is_so))
+
+-- what is so before and after isn't new
+pub not_new : (b : Bool) → (b && not b) ≡ false
+not_new true = refl
+not_new false = refl
+
+pub not_ready : (a b : Bool) → a ≡ false → (a && not b) ≡ false
+not_ready a b is = ap (λ (x : Bool). x && not b) is
+
+-- ---- epochs
+
+more : (a b : ℕ) → nat_lt a (1 + max a b) ≡ true
+more a b = grind (arith, nat_tests)
+
+pub above_promised : (place : Place) (learnt : ℕ) (own : FileHead) → is_earlier own.promised (epoch_above place learnt own) ≡ true
+above_promised place learnt own = ap (λ (b : Bool). b || (own.promised.number == 1 + max own.promised.number learnt) && nat_lt own.promised.node.0 place.node.0) (more own.promised.number learnt)
+
+-- an epoch that is neither earlier nor later
+pub neither_same : (a b : Epoch) → is_earlier a b ≡ false → is_earlier b a ≡ false → is_epoch a b ≡ true
+neither_same a b p q = grind (arith, nat_tests)
+
+pub same_not_earlier : (a b : Epoch) → is_epoch a b ≡ true → is_earlier a b ≡ false
+same_not_earlier a b p = grind (arith, nat_tests)
+
+pub same_back : (a b : Epoch) → is_epoch a b ≡ true → is_epoch b a ≡ true
+same_back a b p = grind (arith, nat_tests)
+
+pub same_trans : (a b c : Epoch) → is_epoch a b ≡ true → is_epoch b c ≡ true → is_epoch a c ≡ true
+same_trans a b c p q = grind (arith, nat_tests)
+
+-- ---- stamps
+
+pub not_below_self : (s : Stamp) → is_below s s ≡ false
+not_below_self s = grind (arith, nat_tests)
+
+-- a stamp that isn't below one of this epoch, and isn't of a later one, is of the epoch
+pub of_its_epoch : (s t : Stamp) → is_below s t ≡ false → is_earlier t.epoch s.epoch ≡ false → is_epoch s.epoch t.epoch ≡ true
+of_its_epoch s t above within = grind (arith, nat_tests)
+
+-- a stamp below one of the same epoch has a smaller count
+pub fewer_below : (s t : Stamp) → is_below s t ≡ true → is_epoch s.epoch t.epoch ≡ true → s.count ≤ t.count
+fewer_below s t below same = grind (arith, nat_tests)

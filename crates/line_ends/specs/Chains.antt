@@ -1,0 +1,82 @@
+-- what holds of a file at an OSD, and of its messages to its own node
+use Rattle.std.specs.Prelude.{◌≡◌, ◌≤◌, ◌⊎◌, ℕ, true, false, ◌==◌, ◌+◌, Option, Some, None, List, [], ◌∷◌, ◌++◌, map}
+use Rattle.xt_base.specs.MemberList.{has_node, are_distinct}
+use Rattle.xt_base.specs.declared.ids.NodeId.{NodeId}
+use Rattle.xt_base.specs.declared.ids.Epoch.{Epoch}
+use Rattle.xt_base.specs.declared.file.FileHead.{FileHead}
+use Rattle.xt_base.specs.declared.message.Payload.{Payload}
+use Rattle.xt_base.specs.declared.message.Payload.TheVariants as payload
+use Rattle.xt_base.specs.declared.record.FileRow.{FileRow}
+use Rattle.xt_protocol.specs.Folds.{body_of}
+use Rattle.xt_protocol.specs.Stamps.{is_epoch, is_earlier, has_version}
+use Rattle.osd_rows.specs.declared.IssuedUpdate.{IssuedUpdate}
+use Rattle.osd_rows.specs.declared.PeerState.{PeerState}
+use Rattle.osd_rows.specs.declared.PeerState.TheVariants as peer
+use Rattle.osd_rows.specs.declared.Progress.{Progress}
+use Rattle.osd_rows.specs.declared.Progress.TheVariants as progress
+use Rattle.osd_rows.specs.declared.Tenure.{Tenure}
+use Rattle.osd_rows.specs.Primaries.{peer_in}
+
+-- ---- a file
+
+-- the own head isn't of a later epoch than the promised one
+abbrev pub HeadStands : FileHead → Type 0
+HeadStands own = is_earlier own.promised own.stamp.epoch ≡ false
+
+-- where no later epoch than this one is promised, the own head is of it
+abbrev pub IsOfEpoch : FileHead → Epoch → Type 0
+IsOfEpoch own epoch = is_earlier epoch own.promised ≡ false → is_epoch own.stamp.epoch epoch ≡ true
+
+-- and has no fewer writes than this head
+abbrev pub IsPast : FileHead → Epoch → FileHead → Type 0
+IsPast own epoch committed = is_earlier epoch own.promised ≡ false → (is_epoch own.stamp.epoch epoch ≡ true) × (committed.stamp.count ≤ own.stamp.count)
+
+-- a peer to which nothing was sent for it
+abbrev pub IsUnfed : Option PeerState → Type 0
+IsUnfed (Some (peer.Feeding known object version body)) = ⊥
+IsUnfed (Some (peer.Heading known head)) = ⊥
+IsUnfed _ = Unit {0}
+
+-- the issued update is the next one of the epoch
+abbrev pub IsNext : Epoch → FileHead → Option IssuedUpdate → Type 0
+IsNext epoch committed None = Unit {0}
+IsNext epoch committed (Some issued) = issued.update.stamp ≡ record { epoch = epoch; count = committed.stamp.count + 1 }
+
+-- how far a primary has come, at its own node: it isn't fed before a head is chosen, nothing is fetched from it, and where it has
+-- acknowledged the head it has it
+abbrev pub ProgressStands : NodeId → FileHead → Tenure → Progress → Type 0
+ProgressStands n own t progress.Gathering = IsUnfed (peer_in t.peers n)
+ProgressStands n own t (progress.Fetching chosen source asked later) = IsUnfed (peer_in t.peers n) × ((source.0 == n.0) ≡ false)
+ProgressStands n own t (progress.Installing chosen acked) = has_node acked n.0 ≡ true → IsOfEpoch own t.epoch
+ProgressStands n own t (progress.Active committed issued) = IsPast own t.epoch committed × IsNext t.epoch committed issued
+
+-- a tenure is of no later epoch than the promised one
+pub record TenureStands (n : NodeId) (own : FileHead) (t : Tenure) : Type 0 where
+  pub promised : is_earlier own.promised t.epoch ≡ false
+  pub progress : ProgressStands n own t t.progress
+
+abbrev pub IfTenure : NodeId → FileHead → Option Tenure → Type 0
+IfTenure n own None = Unit {0}
+IfTenure n own (Some t) = TenureStands n own t
+
+-- ---- a message of the primary to its own node, or back
+
+-- What is promised, held or taken there is so; an update is the next one at most.
+abbrev pub Stands : FileRow → Payload → Type 0
+Stands row (payload.Gather file epoch) = is_earlier row.head.promised epoch ≡ false
+Stands row (payload.Status file epoch head) = Unit {0}
+Stands row (payload.Head file epoch head) = is_earlier row.head.promised epoch ≡ false
+Stands row (payload.Stage file epoch object version bytes) = is_earlier row.head.promised epoch ≡ false
+Stands row (payload.Staged file epoch object version) = has_version row.held (body_of object version) ≡ true
+Stands row (payload.Missing file epoch object version) = has_version row.held (body_of object version) ≡ false
+Stands row (payload.Update file update) =
+    (is_earlier row.head.promised update.stamp.epoch ≡ false)
+    × (is_earlier update.stamp.epoch row.head.promised ≡ false
+        → (is_epoch row.head.stamp.epoch update.stamp.epoch ≡ true) × (update.stamp.count ≤ row.head.stamp.count + 1))
+Stands row (payload.Ack file stamp) = IsOfEpoch row.head stamp.epoch
+Stands row (payload.Refused file epoch promised) = is_earlier row.head.promised promised ≡ false
+Stands row _ = ⊥
+
+abbrev pub IfMessage : FileRow → Option Payload → Type 0
+IfMessage row None = Unit {0}
+IfMessage row (Some content) = Stands row content
