@@ -19,6 +19,9 @@ use Rattle.osd_rows.specs.declared.IssuedUpdate.{IssuedUpdate}
 use Rattle.osd_rows.specs.declared.PeerState.{PeerState}
 use Rattle.osd_rows.specs.declared.PeerState.TheVariants as peer
 use Rattle.osd_rows.specs.Primaries.{fed, fed_next, with_known, last_sent}
+use Rattle.xt_base.specs.declared.record.FileRow.{FileRow}
+use Rattle.xt_protocol.specs.Stamps.{is_earlier}
+use Rattle.line_ends.specs.Chains.{Stands}
 use Rattle.line_ends.specs.Weights.{Stand, is_lacked, bodies_to, bodies_left, is_wanted, are_named, unless, rank}
 use Rattle.line_ends.proofs.Tests.{false_true, not_both}
 
@@ -285,6 +288,7 @@ named_each (Some target) versions v h is = named_one target v ∙ at (has_versio
 pub record Feeds (file : FileId) (epoch : Epoch) (held : List ObjectVersion) (target : FileHead) (issued : Option IssuedUpdate) (known : List ObjectVersion) (state : PeerState) : Type 0 where
   pub content : Payload
   pub sent : last_sent file epoch state ≡ Some content
+  pub stands : (row : FileRow) → is_earlier row.head.promised epoch ≡ false → Stands row content
   pub rank_is : rank (record { held = held; target = Some target; state = Some state; issued = issued }) content ≤ 4 + bodies_to held known target
   -- a body, where a version isn't known
   pub body_rank : (v : ObjectVersion) → has_version target.versions v ≡ true → has_version known v ≡ false
@@ -303,6 +307,7 @@ fed_sends file epoch held body target issued known = at (fed body target known) 
         record {
           content = payload.Stage file epoch v.object v.version (body v.object v.version);
           sent = refl;
+          stands = λ row promised. promised;
           rank_is = omega (arith, none);
           body_rank = λ w there unknown. omega (arith, none);
         })
@@ -311,6 +316,7 @@ fed_sends file epoch held body target issued known = at (fed body target known) 
         record {
           content = payload.Head file epoch target;
           sent = refl;
+          stands = λ row promised. promised;
           rank_is = omega (arith, none);
           body_rank = λ w there unknown. not_both (has_version known w) (all w (among target.versions w there)) unknown;
         })

@@ -1,3 +1,4 @@
 pub mod Tests
 pub mod Mine
 pub mod Bodies
+pub mod Rows
