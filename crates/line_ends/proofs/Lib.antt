@@ -2,3 +2,4 @@ pub mod Tests
 pub mod Mine
 pub mod Bodies
 pub mod Rows
+pub mod Hearing

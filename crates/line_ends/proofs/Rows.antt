@@ -14,6 +14,7 @@ use Rattle.xt_base.specs.declared.message.Payload.{Payload}
 use Rattle.xt_base.specs.declared.message.Payload.TheVariants as payload
 use Rattle.xt_base.specs.declared.message.Msg.{Msg}
 use Rattle.xt_base.specs.declared.record.FileRow.{FileRow}
+use Rattle.xt_base.specs.declared.record.Record.{Record}
 use Rattle.xt_base.specs.declared.record.Record.TheVariants as kept
 use Rattle.xt_base.specs.declared.TheConstants.{COUNTS}
 use Rattle.xt_protocol.specs.declared.Turned.{Turned}
@@ -33,7 +34,7 @@ use Rattle.osd_rows.specs.Turns.{message, to_each}
 use Rattle.osd_rows.specs.ReplicaRows.{kept_after}
 use Rattle.osd_rows.specs.Choice.{chosen_of, difference}
 use Rattle.osd_rows.specs.Primaries.{Ground, Led, issued_by, issued_in, is_ready, is_ready_in, nodes_of, peer_in, with_peer, fed, known_of_own, last_sent, last_to_each, majority_among, reports_of, statuses_counted, target_of, unknown_peer}
-use Rattle.osd_rows.specs.PrimaryRows.{epoch_above, epoch_drawn, goes_on, unmoved, peer_fed, peers_fed, installs, fetches, head_chosen, chooses, status_counted, with_state, peer_sent, feeds, target_in}
+use Rattle.osd_rows.specs.PrimaryRows.{epoch_above, epoch_drawn, goes_on, unmoved, peer_fed, peers_fed, installs, fetches, head_chosen, chooses, status_counted, with_state, peer_sent, feeds, target_in, after_keeping}
 use Rattle.cluster_runs.specs.NodeSteps.{to_itself}
 use Rattle.line_ends.specs.Weights.{stand_of, Stand, rank, epoch_left, bodies_left, bodies_to, are_named, unless}
 use Rattle.line_ends.specs.Chains.{HeadStands, IfTenure, TenureStands, ProgressStands, IsUnfed, Stands, IfMessage}
@@ -229,19 +230,28 @@ own_one n content = mine-one n n content ∙ ap (λ (b : Bool). token n (cond b 
     itself : (k : ℕ) → (k == k) ≡ true
     itself k = grind (arith, nat_tests)
 
-pub installing : (place : Place) (row : FileRow) (body : Body) (learnt : ℕ) (t : Tenure) (chosen : FileHead) (before : Option Tenure) (from : NodeId) (limit : ℕ)
+-- A body that is kept leaves the head.
+abbrev pub KeepsHead : FileRow → Option Record → Type 0
+KeepsHead row rec = (kept_after row rec).head ≡ row.head
+
+-- what the own node's report makes of the limit
+abbrev pub Reports : Place → FileRow → Tenure → ℕ → Type 0
+Reports place row t limit = (head : FileHead) × (peer_in t.peers place.node ≡ Some (peer.Reported head)) × (epoch_left row (Some t) + 5 ≤ limit)
+
+-- the head goes to the own node; a body may be kept first, where the message isn't of the own node
+pub installing : (place : Place) (row : FileRow) (body : Body) (learnt : ℕ) (t : Tenure) (chosen : FileHead) (rec : Option Record) (before : Option Tenure) (from : NodeId) (limit : ℕ) → KeepsHead row rec
     → are_distinct (nodes_of t.peers) ≡ true → HeadStands row.head → is_earlier row.head.promised t.epoch ≡ false → IsUnfed (peer_in t.peers place.node)
-    → (from.0 ≡ place.node.0 → (head : FileHead) × (peer_in t.peers place.node ≡ Some (peer.Reported head)) × (epoch_left row (Some t) + 5 ≤ limit))
-    → Row place.node row before from limit (installs (ground place row body) learnt t chosen)
-installing place row body learnt t chosen before from limit apart head promised unfed room =
+    → (from.0 ≡ place.node.0 → (rec ≡ None) × Reports place row t limit)
+    → Row place.node row before from limit (after_keeping rec (installs (ground place row body) learnt t chosen))
+installing place row body learnt t chosen rec before from limit keeps apart head promised unfed room =
     let g = ground place row body in
     let n = place.node in
     let target = target_of row.head t.epoch chosen in
     let peers = peers_fed g target t.peers in
     let same = fed_same g target t.peers in
     record {
-      head = head;
-      tenure = record { promised = promised; progress = λ acked. absurd (false_true acked) };
+      head = subst HeadStands (sym keeps) head;
+      tenure = record { promised = ap (λ (h : FileHead). is_earlier h.promised t.epoch) keeps ∙ promised; progress = λ acked. absurd (false_true acked) };
       sent = Some (payload.Head place.file t.epoch target);
       outs =
           mine-append n (message n n (payload.Head place.file t.epoch target) ∷ []) (last_to_each place t.epoch peers)
@@ -249,52 +259,62 @@ installing place row body learnt t chosen before from limit apart head promised 
           ∙ ap (λ (xs : List Msg). token n (Some (payload.Head place.file t.epoch target)) ++ xs)
           (mine-peers n (λ (k : NodeId) (state : PeerState). last_sent place.file t.epoch state) peers (ap are_distinct (fed_nodes g target t.peers) ∙ apart)
           ∙ ap (token n) (unfed_silent place.file t.epoch n (peer_in peers n) (subst IsUnfed (sym same) unfed)));
-      stands = promised;
-      next = plain refl (λ mine. bound (room mine) same);
+      stands = ap (λ (h : FileHead). is_earlier h.promised t.epoch) keeps ∙ promised;
+      next = plain refl (λ mine. bound (room mine).1 same rec (room mine).0);
     }
   where
-    bound : (head : FileHead) × (peer_in t.peers place.node ≡ Some (peer.Reported head)) × (epoch_left row (Some t) + 5 ≤ limit)
+    bound : Reports place row t limit
         → peer_in (peers_fed (ground place row body) (target_of row.head t.epoch chosen) t.peers) place.node ≡ peer_in t.peers place.node
-        → left place.node (Some (payload.Head place.file t.epoch (target_of row.head t.epoch chosen))) row
+        → (rec : Option Record) → rec ≡ None
+        → left place.node (Some (payload.Head place.file t.epoch (target_of row.head t.epoch chosen))) (kept_after row rec)
         (Some (record { epoch = t.epoch; peers = peers_fed (ground place row body) (target_of row.head t.epoch chosen) t.peers; progress = progress.Installing chosen [] })) + 1 ≤ limit
-    bound r same =
+    bound r same (Some rec) is = absurd (cc)
+    bound r same None is =
         let target = target_of row.head t.epoch chosen in
         let named : unless (are_named (Some target) target.versions) ≡ 0 = ap unless (named_itself target) in
         let none : bodies_left row.held (Some target) (peer_in (peers_fed (ground place row body) target t.peers) place.node) ≡ 0 = ap (bodies_left row.held (Some target)) (same ∙ r.1) in
         let enough = r.2 in
         omega (arith, named, none, enough)
 
-pub fetching : (place : Place) (row : FileRow) (body : Body) (learnt : ℕ) (t : Tenure) (chosen : FileHead) (source : NodeId) (wanted : List ObjectVersion) (before : Option Tenure) (from : NodeId) (limit : ℕ)
+-- a body is asked for of another node, or the head goes to the own one
+pub fetching : (place : Place) (row : FileRow) (body : Body) (learnt : ℕ) (t : Tenure) (chosen : FileHead) (source : NodeId) (wanted : List ObjectVersion) (rec : Option Record) (before : Option Tenure) (from : NodeId) (limit : ℕ) → KeepsHead row rec
     → are_distinct (nodes_of t.peers) ≡ true → HeadStands row.head → is_earlier row.head.promised t.epoch ≡ false → IsUnfed (peer_in t.peers place.node) → (source.0 == place.node.0) ≡ false
-    → (from.0 ≡ place.node.0 → (head : FileHead) × (peer_in t.peers place.node ≡ Some (peer.Reported head)) × (epoch_left row (Some t) + 5 ≤ limit))
-    → Row place.node row before from limit (fetches (ground place row body) learnt t chosen source wanted)
-fetching place row body learnt t chosen source [] before from limit apart head promised unfed other room = installing place row body learnt t chosen before from limit apart head promised unfed room
-fetching place row body learnt t chosen source (v ∷ later) before from limit apart head promised unfed other room =
+    → (from.0 ≡ place.node.0 → (rec ≡ None) × Reports place row t limit)
+    → Row place.node row before from limit (after_keeping rec (fetches (ground place row body) learnt t chosen source wanted))
+fetching place row body learnt t chosen source [] rec before from limit keeps apart head promised unfed other room = installing place row body learnt t chosen rec before from limit keeps apart head promised unfed room
+fetching place row body learnt t chosen source (v ∷ later) rec before from limit keeps apart head promised unfed other room =
     record {
-      head = head;
-      tenure = record { promised = promised; progress = (unfed, other) };
+      head = subst HeadStands (sym keeps) head;
+      tenure = record { promised = ap (λ (h : FileHead). is_earlier h.promised t.epoch) keeps ∙ promised; progress = (unfed, other) };
       sent = None;
       outs = mine-one place.node source (payload.Fetch place.file t.epoch v.object v.version) ∙ ap (λ (b : Bool). token place.node (cond b (Some (payload.Fetch place.file t.epoch v.object v.version)) None)) other;
       stands = tt;
-      next = plain refl (λ mine. some (epoch_left row (Some t)) (room mine).2);
+      next = plain refl (λ mine. some (epoch_left row (Some t)) (room mine).1.2);
     }
   where
     some : (k : ℕ) → k + 5 ≤ limit → 1 ≤ limit
     some k enough = omega (arith, enough)
 
+-- nothing is kept first
+unkept : (n : NodeId) (row : FileRow) (before : Option Tenure) (from : NodeId) (limit : ℕ) (g : Ground) (learnt : ℕ) (t : Tenure) (chosen : FileHead) (source : NodeId) (wanted : List ObjectVersion)
+    → Row n row before from limit (after_keeping None (fetches g learnt t chosen source wanted)) → Row n row before from limit (fetches g learnt t chosen source wanted)
+unkept n row before from limit g learnt t chosen source [] is = is
+unkept n row before from limit g learnt t chosen source (v ∷ later) is = is
+
 module _ (place : Place) (row : FileRow) (body : Body) where
   pub choosing : (learnt : ℕ) (t : Tenure) (best : NodeId × FileHead) (before : Option Tenure) (from : NodeId) (limit : ℕ)
       → are_distinct (nodes_of t.peers) ≡ true → HeadStands row.head → is_earlier row.head.promised t.epoch ≡ false → IsUnfed (peer_in t.peers place.node)
-      → (from.0 ≡ place.node.0 → (head : FileHead) × (peer_in t.peers place.node ≡ Some (peer.Reported head)) × (epoch_left row (Some t) + 5 ≤ limit))
+      → (from.0 ≡ place.node.0 → Reports place row t limit)
       → Row place.node row before from limit (head_chosen (ground place row body) learnt t best)
   choosing learnt t best before from limit apart head promised unfed room =
-      either (best.0.0 == place.node.0) _ _ (λ is. installing place row body learnt t best.1 before from limit apart head promised unfed room)
-      (λ other. fetching place row body learnt t best.1 best.0 (difference (known_of_own row.held) best.1.versions) before from limit apart head promised unfed other room)
+      either (best.0.0 == place.node.0) _ _ (λ is. installing place row body learnt t best.1 None before from limit refl apart head promised unfed (λ mine. (refl, room mine)))
+      (λ other. unkept place.node row before from limit (ground place row body) learnt t best.1 best.0 (difference (known_of_own row.held) best.1.versions)
+      (fetching place row body learnt t best.1 best.0 (difference (known_of_own row.held) best.1.versions) None before from limit refl apart head promised unfed other (λ mine. (refl, room mine))))
 
   -- a status is counted: `t` is the tenure behind it
   pub counting : (learnt : ℕ) (t : Tenure) (before : Tenure) (from : NodeId) (limit : ℕ) → t.progress ≡ progress.Gathering → before.progress ≡ progress.Gathering
       → are_distinct (nodes_of t.peers) ≡ true → HeadStands row.head → TenureStands place.node row.head t → 1 ≤ limit
-      → (from.0 ≡ place.node.0 → (head : FileHead) × (peer_in t.peers place.node ≡ Some (peer.Reported head)) × (epoch_left row (Some t) + 5 ≤ limit))
+      → (from.0 ≡ place.node.0 → Reports place row t limit)
       → Row place.node row (Some before) from limit (status_counted (ground place row body) learnt t)
   counting learnt t before from limit gathers gathered apart head stands some room =
       either (nat_le (majority_among t.peers) (statuses_counted t.peers)) _ _ (λ is. at (reports_of t.peers)) (λ is. still)

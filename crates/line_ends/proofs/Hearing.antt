@@ -1,0 +1,260 @@
+-- what comes of each message to a primary: less is left behind one of its own node
+use Rattle.std.proofs.Common.{◌≡◌, ℕ, ◌≤◌, ◌+◌, ◌*◌, ◌⊎◌, inl, inr, Bool, true, false, List, [], ◌∷◌, ◌++◌, refl, sym, ap, subst, ◌∙◌, arith, Option, Some, None, is_some, le_refl}
+use Rattle.std.specs.Prelude.{◌&&◌, ◌||◌, not, cond, ◌==◌, max, nat_le}
+use Rattle.std.proofs.lemmas.Bool.{and_parts, eqb-true}
+use Rattle.std.proofs.lemmas.Bool.Decides.{nat_tests}
+use Rattle.xt_base.specs.MemberList.{has_node, are_distinct}
+use Rattle.xt_base.specs.declared.ids.NodeId.{NodeId}
+use Rattle.xt_base.specs.declared.ids.FileId.{FileId}
+use Rattle.xt_base.specs.declared.ids.Epoch.{Epoch}
+use Rattle.xt_base.specs.declared.ids.OpId.{OpId}
+use Rattle.xt_base.specs.declared.ids.Stamp.{Stamp}
+use Rattle.xt_base.specs.declared.file.FileHead.{FileHead}
+use Rattle.xt_base.specs.declared.file.ObjectVersion.{ObjectVersion}
+use Rattle.xt_base.specs.declared.file.Update.{Update}
+use Rattle.xt_base.specs.declared.message.Payload.{Payload}
+use Rattle.xt_base.specs.declared.message.Payload.TheVariants as payload
+use Rattle.xt_base.specs.declared.record.FileRow.{FileRow}
+use Rattle.xt_base.specs.declared.record.Record.TheVariants as kept
+use Rattle.xt_base.specs.declared.reply.Reply.TheVariants as reply
+use Rattle.xt_protocol.specs.Folds.{body_of}
+use Rattle.xt_protocol.specs.Stamps.{is_epoch, is_earlier, is_below, is_version, has_version, without_version}
+use Rattle.lease_runs.proofs.Tests.{same_node}
+use Rattle.replica_safety.proofs.Orders.{before_up_to, same_is}
+use Rattle.osd_rows.specs.declared.Place.{Place}
+use Rattle.osd_rows.specs.declared.IssuedUpdate.{IssuedUpdate}
+use Rattle.osd_rows.specs.declared.PeerState.{PeerState}
+use Rattle.osd_rows.specs.declared.PeerState.TheVariants as peer
+use Rattle.osd_rows.specs.declared.Progress.{Progress}
+use Rattle.osd_rows.specs.declared.Progress.TheVariants as progress
+use Rattle.osd_rows.specs.declared.Tenure.{Tenure}
+use Rattle.osd_rows.specs.Turns.{message, reply_to}
+use Rattle.osd_rows.specs.ReplicaRows.{kept_after, stage_record}
+use Rattle.osd_rows.specs.Primaries.{Led, carries, is_unknown, issued_in, is_ready_in, nodes_of, peer_in, target_of, with_known, with_node}
+use Rattle.osd_rows.specs.PrimaryRows.{unmoved, status_told, hears_status, with_state, body_beyond, body_fetched, hears_object, body_staged, body_missed, hears_missing, target_in, activated, head_acked, committed, update_acked, acked_below, hears_ack, makes_current, forgotten, peer_behind, outpromised, epoch_told, hears_peer, hears_member, hears_epoch}
+use Rattle.osd_invariants.proofs.Leads.{put_nodes}
+use Rattle.world_ends.proofs.PrimaryIds.{ProgressIs}
+use Rattle.cluster_runs.specs.NodeSteps.{to_itself}
+use Rattle.line_ends.specs.Weights.{Stand, stand_of, rank, epoch_left, bodies_left, bodies_to, is_wanted, are_named, unless, settles}
+use Rattle.line_ends.specs.Chains.{HeadStands, IsOfEpoch, IsPast, IsNext, TenureStands, ProgressStands, IsUnfed, Stands}
+use Rattle.line_ends.proofs.Tests.{false_true, not_both, not_new, not_below_self}
+use Rattle.line_ends.proofs.Mine.{token, mine-one, put_same}
+use Rattle.line_ends.proofs.Bodies.{staged_less, missed_less, unknown_now, named_one}
+use Rattle.line_ends.proofs.Rows.{Body, ground, Row, Next, plain, readied, one_if, either, stands_with, stands_other, stands_reported, rests, draws, fetching, counting, feeding}
+
+-- ---- each message counts
+
+abbrev three_if : Bool → ℕ
+three_if b = cond b 1 3
+
+abbrev four_if : Bool → ℕ
+four_if b = cond b 2 4
+
+three_some : (b : Bool) → 1 ≤ three_if b
+three_some true = omega arith
+three_some false = omega arith
+
+four_some : (b : Bool) → 1 ≤ four_if b
+four_some true = omega arith
+four_some false = omega arith
+
+pub rank_some : (a : Stand) (content : Payload) → 1 ≤ rank a content
+rank_some a (payload.Gather file epoch) = omega arith
+rank_some a (payload.Status file epoch head) = omega arith
+rank_some a (payload.Head file epoch head) = omega arith
+rank_some a (payload.Missing file epoch object version) = omega arith
+rank_some a (payload.Stage file epoch object version bytes) = omega arith
+rank_some a (payload.Staged file epoch object version) = omega arith
+rank_some a (payload.Update file update) = four_some (settles a.issued update.stamp)
+rank_some a (payload.Ack file stamp) = three_some (settles a.issued stamp)
+rank_some a _ = le_refl 1
+
+some_more : (a b : ℕ) → 1 ≤ b → 1 ≤ a + b
+some_more a b is = omega (arith, is)
+
+-- ---- who has acknowledged
+
+has_pushed : (nodes : List NodeId) (from n : NodeId) → has_node (nodes ++ from ∷ []) n.0 ≡ true → (from.0 ≡ n.0) ⊎ (has_node nodes n.0 ≡ true)
+has_pushed [] from n is = at (from.0 == n.0) refl is
+  where
+    at : (b : Bool) → (from.0 == n.0) ≡ b → (b || false) ≡ true → (from.0 ≡ n.0) ⊎ (has_node [] n.0 ≡ true)
+    at true same is = inl (eqb-true from.0 n.0 same)
+    at false differ is = absurd (false_true is)
+has_pushed (x ∷ xs) from n is = at (x.0 == n.0) (λ h. has_pushed xs from n h) is
+  where
+    at : (b : Bool) → (has_node (xs ++ from ∷ []) n.0 ≡ true → (from.0 ≡ n.0) ⊎ (has_node xs n.0 ≡ true)) → (b || has_node (xs ++ from ∷ []) n.0) ≡ true → (from.0 ≡ n.0) ⊎ ((b || has_node xs n.0) ≡ true)
+    at true rest is = inr refl
+    at false rest is = rest is
+
+acked_has : (nodes : List NodeId) (from n : NodeId) → has_node (with_node nodes from) n.0 ≡ true → (from.0 ≡ n.0) ⊎ (has_node nodes n.0 ≡ true)
+acked_has nodes from n is = at (has_node nodes from.0) is
+  where
+    at : (b : Bool) → has_node (cond b nodes (nodes ++ from ∷ [])) n.0 ≡ true → (from.0 ≡ n.0) ⊎ (has_node nodes n.0 ≡ true)
+    at true is = inr is
+    at false is = has_pushed nodes from n is
+
+unknown_is : (state : PeerState) → is_unknown state ≡ true → state ≡ peer.Unknown
+unknown_is peer.Unknown is = refl
+unknown_is (peer.Reported head) is = absurd (false_true is)
+unknown_is (peer.Feeding known object version body) is = absurd (false_true is)
+unknown_is (peer.Heading known head) is = absurd (false_true is)
+unknown_is peer.Current is = absurd (false_true is)
+
+same_number : (a b : NodeId) → a.0 ≡ b.0 → (a.0 == b.0) ≡ true
+same_number a b is = grind (arith, nat_tests)
+
+-- the client isn't the node
+abbrev pub IsApart : NodeId → OpId → Type 0
+IsApart n id = (id.client.0 == n.0) ≡ false
+
+-- a staged body leaves the head
+staged_head : (row : FileRow) (file : FileId) (object : ℕ) (version : Stamp) (bytes : List ℕ) → (kept_after row (stage_record file row.held object version bytes)).head ≡ row.head
+staged_head row file object version bytes = at (has_version row.held (body_of object version))
+  where
+    at : (b : Bool) → (kept_after row (cond b None (Some (kept.Stage file object version bytes)))).head ≡ row.head
+    at true = refl
+    at false = refl
+
+module _ (place : Place) (row : FileRow) (body : Body) (learnt : ℕ) (t : Tenure) (from : NodeId) (head_stands : HeadStands row.head) (stands : TenureStands place.node row.head t)
+    (apart : are_distinct (nodes_of t.peers) ≡ true) (others : ProgressIs (IsApart place.node) t.progress) where
+  -- how much may come of a message of the own node
+  abbrev pub limit : Payload → ℕ
+  limit content = epoch_left row (Some t) + rank (stand_of place.node row (Some t)) content
+
+  abbrev Owes : Payload → Led → Type 0
+  Owes content led = Row place.node row (Some t) from (limit content) led
+
+  -- a message of the own node stands
+  abbrev Heard : Payload → Type 0
+  Heard content = from.0 ≡ place.node.0 → Stands row content
+
+  some : (content : Payload) → 1 ≤ limit content
+  some content = some_more (epoch_left row (Some t)) (rank (stand_of place.node row (Some t)) content) (rank_some (stand_of place.node row (Some t)) content)
+
+  still : (content : Payload) → Owes content (unmoved learnt t)
+  still content = rests place.node row learnt t t from (limit content) refl head_stands stands (some content)
+
+  mine_in : (state : PeerState) → peer_in t.peers from ≡ Some state → from.0 ≡ place.node.0 → peer_in t.peers place.node ≡ Some state
+  mine_in state found mine = subst (λ (k : NodeId). peer_in t.peers k ≡ Some state) (same_node from place.node mine) found
+
+  targets : (p : Progress) (target : FileHead) → t.progress ≡ p → target_in row.head t.epoch p ≡ Some target → target_in row.head t.epoch t.progress ≡ Some target
+  targets p target is to = ap (target_in row.head t.epoch) is ∙ to
+
+  -- what is left of bodies
+  bodies_are : (target : FileHead) (state : PeerState) → target_in row.head t.epoch t.progress ≡ Some target → peer_in t.peers place.node ≡ Some state
+      → bodies_left row.held (target_in row.head t.epoch t.progress) (peer_in t.peers place.node) ≡ bodies_left row.held (Some target) (Some state)
+  bodies_are target state to found =
+      ap (λ (o : Option FileHead). bodies_left row.held o (peer_in t.peers place.node)) to ∙ ap (bodies_left row.held (Some target)) found
+
+  -- ---- statuses
+
+  status_fed : (file : FileId) (epoch : Epoch) (head target : FileHead) (state : PeerState) (p : Progress) → t.progress ≡ p → target_in row.head t.epoch p ≡ Some target → peer_in t.peers from ≡ Some state → is_unknown state ≡ true
+      → from.0 ≡ place.node.0 → (r : ℕ) → r ≤ 4 + bodies_to row.held [] target → epoch_left row (Some t) + r + 1 ≤ limit (payload.Status file epoch head)
+  status_fed file epoch head target state p is to found unknown mine r low =
+      let same : bodies_left row.held (target_in row.head t.epoch t.progress) (peer_in t.peers place.node) ≡ bodies_to row.held [] target
+      = bodies_are target state (targets p target is to) (mine_in state found mine) ∙ ap (λ (s : PeerState). bodies_left row.held (Some target) (Some s)) (unknown_is state unknown) in
+      omega (arith, same, low)
+
+  told : (file : FileId) (epoch : Epoch) (head : FileHead) (state : PeerState) (p : Progress) → t.progress ≡ p → peer_in t.peers from ≡ Some state → is_unknown state ≡ true → Owes (payload.Status file epoch head) (status_told (ground place row body) learnt t p from head)
+  told file epoch head state progress.Gathering is found unknown =
+      counting place row body learnt (with_state t from (peer.Reported head)) t from (limit (payload.Status file epoch head)) is is
+      (ap are_distinct (put_nodes t.peers from (peer.Reported head)) ∙ apart) head_stands (stands_reported place.node row.head t from head state found stands) (some (payload.Status file epoch head))
+      (λ mine. (head, put_same t.peers place.node from (peer.Reported head) state (same_number from place.node mine) (mine_in state found mine), omega arith))
+  told file epoch head state (progress.Fetching chosen source asked later) is found unknown =
+      rests place.node row learnt t (with_state t from (peer.Reported head)) from (limit (payload.Status file epoch head)) refl head_stands (stands_reported place.node row.head t from head state found stands) (some (payload.Status file epoch head))
+  told file epoch head state (progress.Installing chosen acked) is found unknown =
+      feeding place row body learnt t (progress.Installing chosen acked) (target_of row.head t.epoch chosen) from state [] (limit (payload.Status file epoch head)) is refl found head_stands stands (some (payload.Status file epoch head))
+      (λ mine r low more. status_fed file epoch head (target_of row.head t.epoch chosen) state (progress.Installing chosen acked) is refl found unknown mine r low)
+  told file epoch head state (progress.Active committed issued) is found unknown =
+      feeding place row body learnt t (progress.Active committed issued) row.head from state [] (limit (payload.Status file epoch head)) is refl found head_stands stands (some (payload.Status file epoch head))
+      (λ mine r low more. status_fed file epoch head row.head state (progress.Active committed issued) is refl found unknown mine r low)
+
+  status_heard : (file : FileId) (epoch : Epoch) (head : FileHead) (state : PeerState) → peer_in t.peers from ≡ Some state → Owes (payload.Status file epoch head) (hears_status (ground place row body) learnt t from state head)
+  status_heard file epoch head state found = either (is_unknown state) _ _ (λ unknown. told file epoch head state t.progress refl found unknown) (λ known. still (payload.Status file epoch head))
+
+  -- ---- bodies
+
+  object_heard : (file : FileId) (epoch : Epoch) (object : ℕ) (version : Stamp) (bytes : List ℕ) (p : Progress) → t.progress ≡ p → Heard (payload.Object file epoch object version bytes)
+      → Owes (payload.Object file epoch object version bytes) (hears_object (ground place row body) learnt t p from object version bytes)
+  object_heard file epoch object version bytes (progress.Fetching chosen source asked later) is heard =
+      either (from.0 == source.0 && is_version asked (body_of object version)) _ _
+      (λ asked_for. fetching place row (body_beyond place.file (stage_record place.file row.held object version bytes) body) learnt t chosen source later (stage_record place.file row.held object version bytes) (Some t) from
+      (limit (payload.Object file epoch object version bytes)) (staged_head row place.file object version bytes) apart head_stands stands.promised parts.0 parts.1 (λ mine. absurd (heard mine)))
+      (λ other. still (payload.Object file epoch object version bytes))
+    where
+      parts : IsUnfed (peer_in t.peers place.node) × ((source.0 == place.node.0) ≡ false)
+      parts = subst (ProgressStands place.node row.head t) is stands.progress
+  object_heard file epoch object version bytes _ is heard = still (payload.Object file epoch object version bytes)
+
+  -- a body that the own node holds, or lacks
+  staged_room : (file : FileId) (epoch : Epoch) (object : ℕ) (version : Stamp) (known : List ObjectVersion) (target : FileHead) (state : PeerState)
+      → (bodies_left row.held (target_in row.head t.epoch t.progress) (peer_in t.peers place.node) ≡ bodies_to row.held known target)
+      → (is_wanted (target_in row.head t.epoch t.progress) (peer_in t.peers place.node) (body_of object version) ≡ (has_version target.versions (body_of object version) && not (has_version known (body_of object version))))
+      → has_version row.held (body_of object version) ≡ true → (r : ℕ) → r ≤ 4 + bodies_to row.held (with_known known (body_of object version)) target
+      → epoch_left row (Some t) + r + 1 ≤ limit (payload.Staged file epoch object version)
+  staged_room file epoch object version known target state same want here r low =
+      let less = staged_less row.held known (body_of object version) target here in
+      let cost : unless (is_wanted (target_in row.head t.epoch t.progress) (peer_in t.peers place.node) (body_of object version)) ≡ unless (has_version target.versions (body_of object version) && not (has_version known (body_of object version))) = ap unless want in
+      omega (arith, less, cost, same, low)
+
+  wanted_is : (target : FileHead) (state : PeerState) (v : ObjectVersion) → target_in row.head t.epoch t.progress ≡ Some target → peer_in t.peers place.node ≡ Some state
+      → is_wanted (target_in row.head t.epoch t.progress) (peer_in t.peers place.node) v ≡ is_wanted (Some target) (Some state) v
+  wanted_is target state v to found = ap (λ (o : Option FileHead). is_wanted o (peer_in t.peers place.node) v) to ∙ ap (λ (o : Option PeerState). is_wanted (Some target) o v) found
+
+  staged_heard : (file : FileId) (epoch : Epoch) (object : ℕ) (version : Stamp) (o : Option FileHead) (state : PeerState) → target_in row.head t.epoch t.progress ≡ o → peer_in t.peers from ≡ Some state → Heard (payload.Staged file epoch object version)
+      → Owes (payload.Staged file epoch object version) (body_staged (ground place row body) learnt t o from state (body_of object version))
+  staged_heard file epoch object version (Some target) (peer.Feeding known o v b) to found heard =
+      feeding place row body learnt t t.progress target from (peer.Feeding known o v b) (with_known known (body_of object version)) (limit (payload.Staged file epoch object version)) refl to found head_stands stands (some (payload.Staged file epoch object version))
+      (λ mine r low more. staged_room file epoch object version known target (peer.Feeding known o v b) (bodies_are target (peer.Feeding known o v b) to (mine_in (peer.Feeding known o v b) found mine))
+      (wanted_is target (peer.Feeding known o v b) (body_of object version) to (mine_in (peer.Feeding known o v b) found mine)) (heard mine) r low)
+  staged_heard file epoch object version (Some target) (peer.Heading known head) to found heard =
+      feeding place row body learnt t t.progress target from (peer.Heading known head) (with_known known (body_of object version)) (limit (payload.Staged file epoch object version)) refl to found head_stands stands (some (payload.Staged file epoch object version))
+      (λ mine r low more. staged_room file epoch object version known target (peer.Heading known head) (bodies_are target (peer.Heading known head) to (mine_in (peer.Heading known head) found mine))
+      (wanted_is target (peer.Heading known head) (body_of object version) to (mine_in (peer.Heading known head) found mine)) (heard mine) r low)
+  staged_heard file epoch object version _ _ to found heard = still (payload.Staged file epoch object version)
+
+  missed_room : (file : FileId) (epoch : Epoch) (object : ℕ) (version : Stamp) (known : List ObjectVersion) (head target : FileHead) → target_in row.head t.epoch t.progress ≡ Some target → peer_in t.peers place.node ≡ Some (peer.Heading known head)
+      → has_version row.held (body_of object version) ≡ false → (r : ℕ) → r ≤ 4 + bodies_to row.held (without_version known (body_of object version)) target
+      → ((v : ObjectVersion) → has_version target.versions v ≡ true → has_version (without_version known (body_of object version)) v ≡ false → r ≤ 2 + bodies_to row.held (without_version known (body_of object version)) target)
+      → epoch_left row (Some t) + r + 1 ≤ limit (payload.Missing file epoch object version)
+  missed_room file epoch object version known head target to found lacks r low more = at (has_version target.versions (body_of object version)) refl
+    where
+      v : ObjectVersion
+      v = body_of object version
+
+      cost : are_named (target_in row.head t.epoch t.progress) (body_of object version ∷ []) ≡ has_version target.versions (body_of object version)
+      cost = ap (λ (o : Option FileHead). are_named o (body_of object version ∷ [])) to ∙ named_one target (body_of object version)
+
+      same : bodies_left row.held (target_in row.head t.epoch t.progress) (peer_in t.peers place.node) ≡ bodies_to row.held known target
+      same = bodies_are target (peer.Heading known head) to found
+
+      at : (b : Bool) → has_version target.versions (body_of object version) ≡ b → epoch_left row (Some t) + r + 1 ≤ limit (payload.Missing file epoch object version)
+      at true named =
+          let less = missed_less row.held known (body_of object version) target lacks in
+          let few = more (body_of object version) named (unknown_now known (body_of object version)) in
+          let left = same in
+          omega (arith, less, few, left)
+      at false unnamed =
+          let less = missed_less row.held known (body_of object version) target lacks in
+          let price : unless (are_named (target_in row.head t.epoch t.progress) (body_of object version ∷ [])) ≡ 4 = ap unless (cost ∙ unnamed) in
+          let left = same in
+          omega (arith, less, low, price, left)
+
+  missed_heard : (file : FileId) (epoch : Epoch) (object : ℕ) (version : Stamp) (o : Option FileHead) (state : PeerState) → target_in row.head t.epoch t.progress ≡ o → peer_in t.peers from ≡ Some state → Heard (payload.Missing file epoch object version)
+      → Owes (payload.Missing file epoch object version) (body_missed (ground place row body) learnt t o from state (body_of object version))
+  missed_heard file epoch object version (Some target) (peer.Heading known head) to found heard =
+      feeding place row body learnt t t.progress target from (peer.Heading known head) (without_version known (body_of object version)) (limit (payload.Missing file epoch object version)) refl to found head_stands stands (some (payload.Missing file epoch object version))
+      (λ mine r low more. missed_room file epoch object version known head target to (mine_in (peer.Heading known head) found mine) (heard mine) r low more)
+  missed_heard file epoch object version _ _ to found heard = still (payload.Missing file epoch object version)
+
+  missing_heard : (file : FileId) (epoch : Epoch) (object : ℕ) (version : Stamp) (p : Progress) (state : PeerState) → t.progress ≡ p → peer_in t.peers from ≡ Some state → Heard (payload.Missing file epoch object version)
+      → Owes (payload.Missing file epoch object version) (hears_missing (ground place row body) learnt t p from state (body_of object version))
+  missing_heard file epoch object version (progress.Fetching chosen source asked later) state is found heard =
+      either (from.0 == source.0) _ _
+      (λ same. draws place row learnt (nodes_of t.peers) (Some t) from (limit (payload.Missing file epoch object version)) apart head_stands
+      (λ mine. absurd (false_true (sym (subst (ProgressStands place.node row.head t) is stands.progress).1 ∙ same_number source place.node (sym (eqb-true from.0 source.0 same) ∙ mine)))))
+      (λ other. still (payload.Missing file epoch object version))
+  missing_heard file epoch object version progress.Gathering state is found heard = missed_heard file epoch object version None state (ap (target_in row.head t.epoch) is) found heard
+  missing_heard file epoch object version (progress.Installing chosen acked) state is found heard =
+      missed_heard file epoch object version (Some (target_of row.head t.epoch chosen)) state (ap (target_in row.head t.epoch) is) found heard
+  missing_heard file epoch object version (progress.Active committed issued) state is found heard = missed_heard file epoch object version (Some row.head) state (ap (target_in row.head t.epoch) is) found heard
