@@ -28,19 +28,19 @@ use Rattle.osd_rows.specs.declared.PeerState.TheVariants as peer
 use Rattle.osd_rows.specs.declared.Progress.{Progress}
 use Rattle.osd_rows.specs.declared.Progress.TheVariants as progress
 use Rattle.osd_rows.specs.declared.Tenure.{Tenure}
-use Rattle.osd_rows.specs.Turns.{message, reply_to}
+use Rattle.osd_rows.specs.Turns.{message, sends}
 use Rattle.osd_rows.specs.ReplicaRows.{kept_after, stage_record}
 use Rattle.osd_rows.specs.Primaries.{Led, carries, is_unknown, issued_in, is_ready_in, nodes_of, peer_in, target_of, with_known, with_node}
-use Rattle.osd_rows.specs.PrimaryRows.{unmoved, status_told, hears_status, with_state, body_beyond, body_fetched, hears_object, body_staged, body_missed, hears_missing, target_in, activated, head_acked, committed, update_acked, acked_below, hears_ack, makes_current, forgotten, peer_behind, outpromised, epoch_told, hears_peer, hears_member, hears_epoch}
+use Rattle.osd_rows.specs.PrimaryRows.{goes_on, unmoved, status_told, hears_status, with_state, body_beyond, body_fetched, hears_object, body_staged, body_missed, hears_missing, target_in, activated, head_acked, committed, update_acked, acked_below, hears_ack, makes_current, forgotten, peer_behind, outpromised, epoch_told, hears_peer, hears_member, hears_epoch}
 use Rattle.osd_invariants.proofs.Leads.{put_nodes}
 use Rattle.world_ends.proofs.PrimaryIds.{ProgressIs}
 use Rattle.cluster_runs.specs.NodeSteps.{to_itself}
 use Rattle.line_ends.specs.Weights.{Stand, stand_of, rank, epoch_left, bodies_left, bodies_to, is_wanted, are_named, unless, settles}
-use Rattle.line_ends.specs.Chains.{HeadStands, IsOfEpoch, IsPast, IsNext, TenureStands, ProgressStands, IsUnfed, Stands}
+use Rattle.line_ends.specs.Chains.{IfMessage, HeadStands, IsOfEpoch, IsPast, IsNext, TenureStands, ProgressStands, IsUnfed, Stands}
 use Rattle.line_ends.proofs.Tests.{false_true, not_both, not_new, not_below_self}
 use Rattle.line_ends.proofs.Mine.{token, mine-one, put_same}
 use Rattle.line_ends.proofs.Bodies.{staged_less, missed_less, unknown_now, named_one}
-use Rattle.line_ends.proofs.Rows.{Body, ground, Row, Next, plain, readied, one_if, either, stands_with, stands_other, stands_reported, rests, draws, fetching, counting, feeding}
+use Rattle.line_ends.proofs.Rows.{Body, ground, Row, Next, plain, readied, one_if, six_if, left, either, stands_with, stands_other, stands_reported, rests, draws, fetching, counting, feeding}
 
 -- ---- each message counts
 
@@ -258,3 +258,206 @@ module _ (place : Place) (row : FileRow) (body : Body) (learnt : ℕ) (t : Tenur
   missing_heard file epoch object version (progress.Installing chosen acked) state is found heard =
       missed_heard file epoch object version (Some (target_of row.head t.epoch chosen)) state (ap (target_in row.head t.epoch) is) found heard
   missing_heard file epoch object version (progress.Active committed issued) state is found heard = missed_heard file epoch object version (Some row.head) state (ap (target_in row.head t.epoch) is) found heard
+
+  -- ---- acknowledgements
+
+  -- the own node has the head that it acknowledges
+  at_head : (file : FileId) (stamp : Stamp) → stamp.epoch ≡ t.epoch → Heard (payload.Ack file stamp) → from.0 ≡ place.node.0 → IsOfEpoch row.head t.epoch
+  at_head file stamp same heard mine = subst (IsOfEpoch row.head) same (heard mine)
+
+  acked_at : (file : FileId) (stamp : Stamp) (chosen : FileHead) (acked : List NodeId) → t.progress ≡ progress.Installing chosen acked → stamp.epoch ≡ t.epoch → Heard (payload.Ack file stamp)
+      → has_node (with_node acked from) place.node.0 ≡ true → IsOfEpoch row.head t.epoch
+  acked_at file stamp chosen acked is same heard has = elim (acked_has acked from place.node has) [
+    | inl mine ↦ at_head file stamp same heard mine
+    | inr old ↦ (let installs : has_node acked place.node.0 ≡ true → IsOfEpoch row.head t.epoch = subst (ProgressStands place.node row.head t) is stands.progress in installs old)
+  ]
+
+  -- what an acknowledgement may bring about
+  ack_is : (file : FileId) (stamp : Stamp) (b : Bool) → settles (issued_in t.progress) stamp ≡ b → limit (payload.Ack file stamp) ≡ epoch_left row (Some t) + three_if b
+  ack_is file stamp b is = ap (λ (c : Bool). epoch_left row (Some t) + three_if c) is
+
+  head_heard : (file : FileId) (stamp : Stamp) (chosen : FileHead) (acked : List NodeId) → t.progress ≡ progress.Installing chosen acked → stamp.epoch ≡ t.epoch → Heard (payload.Ack file stamp)
+      → Owes (payload.Ack file stamp) (head_acked (ground place row body) learnt (with_state t from peer.Current) chosen (with_node acked from))
+  head_heard file stamp chosen acked is same heard = either (carries place (with_state t from peer.Current).peers (with_node acked from)) _ _ (λ carried. active (and_parts _ _ carried).1) (λ waits. waiting)
+    where
+      waiting : Owes (payload.Ack file stamp) (unmoved learnt (record (with_state t from peer.Current) { progress = progress.Installing chosen (with_node acked from) }))
+      waiting =
+          record {
+            head = head_stands;
+            tenure = record { promised = stands.promised; progress = acked_at file stamp chosen acked is same heard };
+            sent = None;
+            outs = refl;
+            stands = tt;
+            next = plain refl (λ mine. some (payload.Ack file stamp));
+          }
+
+      bound : epoch_left row (Some t) + 3 ≤ limit (payload.Ack file stamp) + 2 * one_if (is_some (issued_in t.progress))
+      bound = let all = ack_is file stamp false (ap (λ (p : Progress). settles (issued_in p) stamp) is) in omega (arith, all)
+
+      active : has_node (with_node acked from) place.node.0 ≡ true → Owes (payload.Ack file stamp) (activated (ground place row body) learnt (with_state t from peer.Current))
+      active has =
+          record {
+            head = head_stands;
+            tenure = record { promised = stands.promised; progress = (λ now. (acked_at file stamp chosen acked is same heard has now, le_refl row.head.stamp.count), tt) };
+            sent = None;
+            outs = refl;
+            stands = tt;
+            next = readied (ap (λ (p : Progress). not (is_ready_in p)) is) refl (λ mine. bound);
+          }
+
+  -- the update that is issued, as it stands
+  update_stands : (head : FileHead) (issued : IssuedUpdate) → t.progress ≡ progress.Active head (Some issued) → Stands row (payload.Update place.file issued.update)
+  update_stands head issued is =
+      let active : IsPast row.head t.epoch head × IsNext t.epoch head (Some issued) = subst (ProgressStands place.node row.head t) is stands.progress in
+      let next : Stamp = record { epoch = t.epoch; count = head.stamp.count + 1 } in
+      subst (λ (s : Stamp). (is_earlier row.head.promised s.epoch ≡ false) × (is_earlier s.epoch row.head.promised ≡ false → (is_epoch row.head.stamp.epoch s.epoch ≡ true) × (s.count ≤ row.head.stamp.count + 1)))
+      (sym active.1) (stands.promised, λ now. let past = active.0 now in (past.0, more (past.1)))
+    where
+      more : {a b : ℕ} → a ≤ b → a + 1 ≤ b + 1
+      more low = omega (arith, low)
+
+  below_heard : (file : FileId) (stamp : Stamp) (u : Tenure) (head : FileHead) (newly : Bool) (o : Option IssuedUpdate) → t.progress ≡ progress.Active head o → u.epoch ≡ t.epoch → u.progress ≡ t.progress → TenureStands place.node row.head u
+      → Owes (payload.Ack file stamp) (acked_below (ground place row body) learnt u head from stamp newly o)
+  below_heard file stamp u head newly None is epoch same now = rests place.node row learnt t u from (limit (payload.Ack file stamp)) (ap is_ready_in same) head_stands now (some (payload.Ack file stamp))
+  below_heard file stamp u head newly (Some issued) is epoch same now = either (not (is_below stamp issued.update.stamp)) _ _ settled (λ low. again newly low)
+    where
+      active : IsPast row.head t.epoch head × IsNext t.epoch head (Some issued)
+      active = subst (ProgressStands place.node row.head t) is stands.progress
+
+      epochs : epoch_left row (Some u) ≡ epoch_left row (Some t)
+      epochs = ap (λ (e : Epoch). six_if (is_earlier e row.head.promised)) epoch
+
+      promised : is_earlier row.head.promised u.epoch ≡ false
+      promised = ap (is_earlier row.head.promised) epoch ∙ stands.promised
+
+      settled : not (is_below stamp issued.update.stamp) ≡ true → Owes (payload.Ack file stamp) (update_acked (ground place row body) learnt u head issued.update (with_node issued.acked from))
+      settled full = either (carries place u.peers (with_node issued.acked from)) _ _ (λ carried. commits) (λ waits. counts)
+        where
+          counts : Owes (payload.Ack file stamp) (unmoved learnt (record u { progress = progress.Active head (Some (record { update = issued.update; acked = with_node issued.acked from })) }))
+          counts =
+              record {
+                head = head_stands;
+                tenure = record {
+                  promised = promised;
+                  progress = (subst (λ (e : Epoch). IsPast row.head e head) (sym epoch) active.0, subst (λ (e : Epoch). issued.update.stamp ≡ record { epoch = e; count = head.stamp.count + 1 }) (sym epoch) active.1);
+                };
+                sent = None;
+                outs = refl;
+                stands = tt;
+                next = plain refl (λ mine. some (payload.Ack file stamp));
+              }
+
+          bound : epoch_left row (Some u) + 3 ≤ limit (payload.Ack file stamp) + 2 * one_if (is_some (issued_in t.progress))
+          bound =
+              let all = ack_is file stamp true (ap (λ (p : Progress). settles (issued_in p) stamp) is ∙ full) in
+              let one : one_if (is_some (issued_in t.progress)) ≡ 1 = ap (λ (p : Progress). one_if (is_some (issued_in p))) is in
+              let here = epochs in
+              omega (arith, all, one, here)
+
+          client : IsApart place.node issued.update.id
+          client = subst (ProgressIs (IsApart place.node)) is others
+
+          commits : Owes (payload.Ack file stamp) (committed (ground place row body) learnt u issued.update)
+          commits =
+              record {
+                head = head_stands;
+                tenure = record { promised = promised; progress = (subst (λ (e : Epoch). IsPast row.head e row.head) (sym epoch) (λ when_so. ((active.0 when_so).0, le_refl row.head.stamp.count)), tt) };
+                sent = None;
+                outs =
+                    let content = payload.Reply issued.update.id.number place.file (reply.Ok issued.update.stamp.count issued.update.mark []) in
+                    mine-one place.node issued.update.id.client content ∙ ap (λ (b : Bool). token place.node (cond b (Some content) None)) client;
+                stands = tt;
+                next = readied (ap (λ (p : Progress). not (is_ready_in p)) is) refl (λ mine. bound);
+              }
+
+      again : (newly : Bool) → not (is_below stamp issued.update.stamp) ≡ false → Owes (payload.Ack file stamp) (cond newly (goes_on learnt u (sends (message place.node from (payload.Update place.file issued.update) ∷ []))) (unmoved learnt u))
+      again false low = rests place.node row learnt t u from (limit (payload.Ack file stamp)) (ap is_ready_in same) head_stands now (some (payload.Ack file stamp))
+      again true low = at (from.0 == place.node.0) refl
+        where
+          bound : (b : Bool) → left place.node (cond b (Some (payload.Update place.file issued.update)) None) row (Some u) + 1 ≤ limit (payload.Ack file stamp)
+          bound false = some (payload.Ack file stamp)
+          bound true =
+              let all = ack_is file stamp false (ap (λ (p : Progress). settles (issued_in p) stamp) is ∙ low) in
+              let two : four_if (settles (issued_in u.progress) issued.update.stamp) ≡ 2
+              = ap (λ (p : Progress). four_if (settles (issued_in p) issued.update.stamp)) (same ∙ is) ∙ ap (λ (b : Bool). four_if (not b)) (not_below_self issued.update.stamp) in
+              let here = epochs in
+              omega (arith, all, two, here)
+
+          stands_if : (b : Bool) → IfMessage row (cond b (Some (payload.Update place.file issued.update)) None)
+          stands_if true = update_stands head issued is
+          stands_if false = tt
+
+          at : (b : Bool) → (from.0 == place.node.0) ≡ b → Owes (payload.Ack file stamp) (goes_on learnt u (sends (message place.node from (payload.Update place.file issued.update) ∷ [])))
+          at b which =
+              record {
+                head = head_stands;
+                tenure = now;
+                sent = cond b (Some (payload.Update place.file issued.update)) None;
+                outs = mine-one place.node from (payload.Update place.file issued.update) ∙ ap (λ (c : Bool). token place.node (cond c (Some (payload.Update place.file issued.update)) None)) which;
+                stands = stands_if b;
+                next = plain (ap (λ (p : Progress). is_ready_in p && not (is_ready_in t.progress)) same ∙ not_new (is_ready_in t.progress)) (λ mine. bound b);
+              }
+
+  ack_heard : (file : FileId) (stamp : Stamp) (p : Progress) (newly : Bool) (state : PeerState) → t.progress ≡ p → peer_in t.peers from ≡ Some state → stamp.epoch ≡ t.epoch → Heard (payload.Ack file stamp)
+      → Owes (payload.Ack file stamp) (hears_ack (ground place row body) learnt t p from newly stamp)
+  ack_heard file stamp (progress.Installing chosen acked) newly state is found same heard = either newly _ _ (λ now. head_heard file stamp chosen acked is same heard) (λ not_so. still (payload.Ack file stamp))
+  ack_heard file stamp (progress.Active head issued) newly state is found same heard = at newly
+    where
+      at : (b : Bool) → Owes (payload.Ack file stamp) (acked_below (ground place row body) learnt (cond b (with_state t from peer.Current) t) head from stamp b issued)
+      at true = below_heard file stamp (with_state t from peer.Current) head true issued is refl refl (stands_with place.node row.head row.head t from peer.Current (progress.Active head issued) is refl stands)
+      at false = below_heard file stamp t head false issued is refl refl stands
+  ack_heard file stamp progress.Gathering newly state is found same heard = still (payload.Ack file stamp)
+  ack_heard file stamp (progress.Fetching chosen source asked later) newly state is found same heard = still (payload.Ack file stamp)
+
+  -- ---- behind and outpromised
+
+  behind_heard : (file : FileId) (epoch : Epoch) (stamp : Stamp) (state : PeerState) → Heard (payload.Behind file epoch stamp) → Owes (payload.Behind file epoch stamp) (peer_behind (ground place row body) learnt t from state)
+  behind_heard file epoch stamp state heard = at (from.0 == place.node.0) refl
+    where
+      at : (b : Bool) → (from.0 == place.node.0) ≡ b → Owes (payload.Behind file epoch stamp) (peer_behind (ground place row body) learnt t from state)
+      at true mine = absurd (heard (eqb-true from.0 place.node.0 mine))
+      at false apart_now =
+          record {
+            head = head_stands;
+            tenure = stands_other place.node row.head t from (forgotten state) apart_now stands;
+            sent = None;
+            outs = mine-one place.node from (payload.Gather place.file t.epoch) ∙ ap (λ (b : Bool). token place.node (cond b (Some (payload.Gather place.file t.epoch)) None)) apart_now;
+            stands = tt;
+            next = plain (not_new (is_ready_in t.progress)) (λ mine. some (payload.Behind file epoch stamp));
+          }
+
+  refused_heard : (file : FileId) (epoch promised : Epoch) → Heard (payload.Refused file epoch promised) → Owes (payload.Refused file epoch promised) (outpromised (ground place row body) learnt t promised)
+  refused_heard file epoch promised heard =
+      either (is_earlier t.epoch promised) _ _ (λ later. draws place row (max learnt promised.number) (nodes_of t.peers) (Some t) from (limit (payload.Refused file epoch promised)) apart head_stands (λ mine. enough (heard mine) later))
+      (λ other. still (payload.Refused file epoch promised))
+    where
+      enough : is_earlier row.head.promised promised ≡ false → is_earlier t.epoch promised ≡ true → 7 ≤ limit (payload.Refused file epoch promised)
+      enough within later =
+          let passed : epoch_left row (Some t) ≡ 6 = ap six_if (before_up_to t.epoch promised row.head.promised later within) in
+          omega (arith, passed)
+
+  -- ---- any message
+
+  same_epoch : (file : FileId) (stamp : Stamp) (e : Epoch) → epoch_told (payload.Ack file stamp) ≡ Some e → is_epoch e t.epoch ≡ true → stamp.epoch ≡ t.epoch
+  same_epoch file stamp e told is = (let its : stamp.epoch ≡ e = cc in its ∙ same_is e t.epoch is)
+
+  peer_heard : (content : Payload) (e : Epoch) (state : PeerState) → epoch_told content ≡ Some e → is_epoch e t.epoch ≡ true → peer_in t.peers from ≡ Some state → Heard content
+      → Owes content (hears_peer (ground place row body) learnt t from state content)
+  peer_heard (payload.Status file epoch head) e state told is found heard = status_heard file epoch head state found
+  peer_heard (payload.Object file epoch object version bytes) e state told is found heard = object_heard file epoch object version bytes t.progress refl heard
+  peer_heard (payload.Staged file epoch object version) e state told is found heard = staged_heard file epoch object version (target_in row.head t.epoch t.progress) state refl found heard
+  peer_heard (payload.Missing file epoch object version) e state told is found heard = missing_heard file epoch object version t.progress state refl found heard
+  peer_heard (payload.Ack file stamp) e state told is found heard = ack_heard file stamp t.progress (makes_current place from state stamp) state refl found (same_epoch file stamp e told is) heard
+  peer_heard (payload.Behind file epoch stamp) e state told is found heard = behind_heard file epoch stamp state heard
+  peer_heard (payload.Refused file epoch promised) e state told is found heard = refused_heard file epoch promised heard
+  peer_heard content e state told is found heard = still content
+
+  member_heard : (content : Payload) (e : Epoch) (o : Option PeerState) → epoch_told content ≡ Some e → is_epoch e t.epoch ≡ true → peer_in t.peers from ≡ o → Heard content
+      → Owes content (hears_member (ground place row body) learnt t from o content)
+  member_heard content e None told is found heard = still content
+  member_heard content e (Some state) told is found heard = peer_heard content e state told is found heard
+
+  -- Any message to a primary in a tenure.
+  pub epoch_heard : (content : Payload) (o : Option Epoch) → epoch_told content ≡ o → Heard content → Owes content (hears_epoch (ground place row body) learnt t from o content)
+  epoch_heard content None told heard = still content
+  epoch_heard content (Some e) told heard = either (is_epoch e t.epoch) _ _ (λ is. member_heard content e (peer_in t.peers from) told is refl heard) (λ other. still content)

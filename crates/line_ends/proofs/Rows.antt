@@ -141,7 +141,7 @@ rests n row learnt t u from limit same head stands some =
       next = plain (ap (λ (b : Bool). b && not (is_ready_in t.progress)) same ∙ not_new (is_ready_in t.progress)) (λ mine. some);
     }
 
-abbrev six_if : Bool → ℕ
+abbrev pub six_if : Bool → ℕ
 six_if b = cond b 6 0
 
 -- no epoch is earlier than itself
