@@ -40,7 +40,7 @@ use Rattle.line_ends.specs.Chains.{IfMessage, HeadStands, IsOfEpoch, IsPast, IsN
 use Rattle.line_ends.proofs.Tests.{false_true, not_both, not_new, not_below_self}
 use Rattle.line_ends.proofs.Mine.{token, mine-one, put_same}
 use Rattle.line_ends.proofs.Bodies.{staged_less, missed_less, unknown_now, named_one}
-use Rattle.line_ends.proofs.Rows.{Body, ground, Row, Next, plain, readied, one_if, six_if, left, either, stands_with, stands_other, stands_reported, rests, draws, fetching, counting, feeding}
+use Rattle.line_ends.proofs.Rows.{Body, ground, Row, Next, plain, readied, one_if, six_if, left, either, next_stands, stands_with, stands_other, stands_reported, rests, draws, fetching, counting, feeding}
 
 -- ---- each message counts
 
@@ -302,19 +302,8 @@ module _ (place : Place) (row : FileRow) (body : Body) (learnt : ℕ) (t : Tenur
             sent = None;
             outs = refl;
             stands = tt;
-            next = readied (ap (λ (p : Progress). not (is_ready_in p)) is) refl (λ mine. bound);
+            next = readied (ap (λ (p : Progress). not (is_ready_in p)) is) refl refl (λ mine. bound);
           }
-
-  -- the update that is issued, as it stands
-  update_stands : (head : FileHead) (issued : IssuedUpdate) → t.progress ≡ progress.Active head (Some issued) → Stands row (payload.Update place.file issued.update)
-  update_stands head issued is =
-      let active : IsPast row.head t.epoch head × IsNext t.epoch head (Some issued) = subst (ProgressStands place.node row.head t) is stands.progress in
-      let next : Stamp = record { epoch = t.epoch; count = head.stamp.count + 1 } in
-      subst (λ (s : Stamp). (is_earlier row.head.promised s.epoch ≡ false) × (is_earlier s.epoch row.head.promised ≡ false → (is_epoch row.head.stamp.epoch s.epoch ≡ true) × (s.count ≤ row.head.stamp.count + 1)))
-      (sym active.1) (stands.promised, λ now. let past = active.0 now in (past.0, more (past.1)))
-    where
-      more : {a b : ℕ} → a ≤ b → a + 1 ≤ b + 1
-      more low = omega (arith, low)
 
   below_heard : (file : FileId) (stamp : Stamp) (u : Tenure) (head : FileHead) (newly : Bool) (o : Option IssuedUpdate) → t.progress ≡ progress.Active head o → u.epoch ≡ t.epoch → u.progress ≡ t.progress → TenureStands place.node row.head u
       → Owes (payload.Ack file stamp) (acked_below (ground place row body) learnt u head from stamp newly o)
@@ -367,7 +356,7 @@ module _ (place : Place) (row : FileRow) (body : Body) (learnt : ℕ) (t : Tenur
                     let content = payload.Reply issued.update.id.number place.file (reply.Ok issued.update.stamp.count issued.update.mark []) in
                     mine-one place.node issued.update.id.client content ∙ ap (λ (b : Bool). token place.node (cond b (Some content) None)) client;
                 stands = tt;
-                next = readied (ap (λ (p : Progress). not (is_ready_in p)) is) refl (λ mine. bound);
+                next = readied (ap (λ (p : Progress). not (is_ready_in p)) is) refl refl (λ mine. bound);
               }
 
       again : (newly : Bool) → not (is_below stamp issued.update.stamp) ≡ false → Owes (payload.Ack file stamp) (cond newly (goes_on learnt u (sends (message place.node from (payload.Update place.file issued.update) ∷ []))) (unmoved learnt u))
@@ -384,7 +373,7 @@ module _ (place : Place) (row : FileRow) (body : Body) (learnt : ℕ) (t : Tenur
               omega (arith, all, two, here)
 
           stands_if : (b : Bool) → IfMessage row (cond b (Some (payload.Update place.file issued.update)) None)
-          stands_if true = update_stands head issued is
+          stands_if true = next_stands place.node row t place.file head issued is stands
           stands_if false = tt
 
           at : (b : Bool) → (from.0 == place.node.0) ≡ b → Owes (payload.Ack file stamp) (goes_on learnt u (sends (message place.node from (payload.Update place.file issued.update) ∷ [])))

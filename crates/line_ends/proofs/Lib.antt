@@ -3,3 +3,4 @@ pub mod Mine
 pub mod Bodies
 pub mod Rows
 pub mod Hearing
+pub mod Serving

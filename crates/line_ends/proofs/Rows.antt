@@ -37,7 +37,7 @@ use Rattle.osd_rows.specs.Primaries.{Ground, Led, issued_by, issued_in, is_ready
 use Rattle.osd_rows.specs.PrimaryRows.{epoch_above, epoch_drawn, goes_on, unmoved, peer_fed, peers_fed, installs, fetches, head_chosen, chooses, status_counted, with_state, peer_sent, feeds, target_in, after_keeping}
 use Rattle.cluster_runs.specs.NodeSteps.{to_itself}
 use Rattle.line_ends.specs.Weights.{stand_of, Stand, rank, epoch_left, bodies_left, bodies_to, are_named, unless}
-use Rattle.line_ends.specs.Chains.{HeadStands, IfTenure, TenureStands, ProgressStands, IsUnfed, Stands, IfMessage}
+use Rattle.line_ends.specs.Chains.{HeadStands, IsPast, IsNext, IfTenure, TenureStands, ProgressStands, IsUnfed, Stands, IfMessage}
 use Rattle.line_ends.proofs.Tests.{false_true, not_both, not_new, not_ready, above_promised}
 use Rattle.line_ends.proofs.Mine.{token, mine-append, mine-one, mine-if, mine-each, mine-peers, of_peer, to_peers_of, put_same, put_other, fresh_unfed}
 use Rattle.line_ends.proofs.Bodies.{named_itself, fed_sends, Feeds}
@@ -69,7 +69,7 @@ one_if b = cond b 1 0
 -- does nothing is sent to it, and an update may follow.
 pub data Next (n : NodeId) (row : FileRow) (before : Option Tenure) (from : NodeId) (limit : ℕ) (led : Led) (o : Option Payload) : Type 0 where
   plain : is_new before led ≡ false → (from.0 ≡ n.0 → left n o (row_then row led) led.primary.tenure + 1 ≤ limit) → Next n row before from limit led o
-  readied : is_new before led ≡ true → o ≡ None → (from.0 ≡ n.0 → epoch_left (row_then row led) led.primary.tenure + 3 ≤ limit + 2 * one_if (is_some (issued_by before)))
+  readied : is_new before led ≡ true → led.turned.rec ≡ None → o ≡ None → (from.0 ≡ n.0 → epoch_left (row_then row led) led.primary.tenure + 3 ≤ limit + 2 * one_if (is_some (issued_by before)))
       → Next n row before from limit led o
 
 -- what a row of the primary owes
@@ -84,6 +84,16 @@ pub record Row (n : NodeId) (row : FileRow) (before : Option Tenure) (from : Nod
 pub either : {n : NodeId} {row : FileRow} {before : Option Tenure} {from : NodeId} {limit : ℕ} (b : Bool) (x y : Led) → (b ≡ true → Row n row before from limit x) → (b ≡ false → Row n row before from limit y) → Row n row before from limit (cond b x y)
 either true x y p q = p refl
 either false x y p q = q refl
+
+-- the update that is issued, as it stands
+pub next_stands : (n : NodeId) (row : FileRow) (t : Tenure) (file : FileId) (head : FileHead) (issued : IssuedUpdate) → t.progress ≡ progress.Active head (Some issued) → TenureStands n row.head t → Stands row (payload.Update file issued.update)
+next_stands n row t file head issued is stands =
+    let active : IsPast row.head t.epoch head × IsNext t.epoch head (Some issued) = subst (ProgressStands n row.head t) is stands.progress in
+    subst (λ (s : Stamp). (is_earlier row.head.promised s.epoch ≡ false) × (is_earlier s.epoch row.head.promised ≡ false → (is_epoch row.head.stamp.epoch s.epoch ≡ true) × (s.count ≤ row.head.stamp.count + 1)))
+    (sym active.1) (stands.promised, λ now. let past = active.0 now in (past.0, more past.1))
+  where
+    more : {a b : ℕ} → a ≤ b → a + 1 ≤ b + 1
+    more low = omega (arith, low)
 
 -- ---- tenures with another state of a peer
 
@@ -224,7 +234,7 @@ unfed_silent file epoch n (Some (peer.Feeding known object version body)) unfed 
 unfed_silent file epoch n (Some (peer.Heading known head)) unfed = absurd unfed
 unfed_silent file epoch n (Some peer.Current) unfed = refl
 
-own_one : (n : NodeId) (content : Payload) → to_itself n (message n n content ∷ []) ≡ token n (Some content)
+pub own_one : (n : NodeId) (content : Payload) → to_itself n (message n n content ∷ []) ≡ token n (Some content)
 own_one n content = mine-one n n content ∙ ap (λ (b : Bool). token n (cond b (Some content) None)) (itself n.0)
   where
     itself : (k : ℕ) → (k == k) ≡ true
