@@ -44,10 +44,10 @@ use Rattle.line_ends.proofs.Rows.{Body, ground, Row, Next, plain, readied, one_i
 
 -- ---- each message counts
 
-abbrev three_if : Bool → ℕ
+abbrev pub three_if : Bool → ℕ
 three_if b = cond b 1 3
 
-abbrev four_if : Bool → ℕ
+abbrev pub four_if : Bool → ℕ
 four_if b = cond b 2 4
 
 three_some : (b : Bool) → 1 ≤ three_if b

@@ -4,3 +4,4 @@ pub mod Bodies
 pub mod Rows
 pub mod Hearing
 pub mod Serving
+pub mod Following
