@@ -5,3 +5,4 @@ pub mod Rows
 pub mod Hearing
 pub mod Serving
 pub mod Following
+pub mod Replicas
