@@ -31,8 +31,9 @@ use Rattle.xt_base.specs.declared.ids.Epoch.{Epoch}
 use Rattle.xt_base.specs.declared.file.FileHead.{FileHead}
 use Rattle.xt_protocol.specs.Stamps.{is_earlier}
 use Rattle.lease_runs.proofs.Tests.{when}
-use Rattle.line_ends.proofs.Rows.{six_if, Body, ground, Row, Next, plain, readied, is_new, left, one_if, next_stands}
-use Rattle.line_ends.proofs.Hearing.{IsApart, four_if}
+use Rattle.line_ends.proofs.Rows.{six_if, four_if, Body, ground, Row, Next, plain, readied, is_new, left, one_if, next_stands}
+use Rattle.line_ends.proofs.Moves.{Moves, moves_none}
+use Rattle.line_ends.proofs.Hearing.{IsApart}
 use Rattle.line_ends.proofs.Serving.{SentIs, Serves, all_serve}
 
 -- the weight of a message to the own node, or of none
@@ -42,14 +43,15 @@ burden n None row None asks = 6 + 2 * asks_left asks
 burden n None row (Some t) asks = 0
 
 -- what the primary and the asks owe
-pub record Followed (n : NodeId) (row : FileRow) (asks : Asks) (from : NodeId) (limit : ℕ) (s : Served) : Type 0 where
+pub record Followed (n : NodeId) (row : FileRow) (asks : Asks) (Own : Type 0) (limit : ℕ) (s : Served) : Type 0 where
   pub head : HeadStands (kept_after row s.turned.rec).head
+  pub moves : Moves row.head (kept_after row s.turned.rec).head
   pub tenure : IfTenure n (kept_after row s.turned.rec).head s.primary.tenure
   pub sent : Option Payload
   pub outs : to_itself n s.turned.outs ≡ token n sent
   pub stands : IfMessage (kept_after row s.turned.rec) sent
   pub few : asks_left s.asks ≤ asks_left asks
-  pub lighter : from.0 ≡ n.0 → burden n sent (kept_after row s.turned.rec) s.primary.tenure s.asks + 1 ≤ limit + 2 * asks_left asks
+  pub lighter : Own → burden n sent (kept_after row s.turned.rec) s.primary.tenure s.asks + 1 ≤ limit + 2 * asks_left asks
 
 -- asks that come back are no more
 back_left : (asks : Asks) (i : Option IssuedAsk) → asks.issued ≡ i → asks_left (elim i [ None ↦ asks | Some issued ↦ record { waiting = issued.ask ∷ asks.waiting; issued = None } ]) ≡ asks_left asks
@@ -93,21 +95,22 @@ with_asks n (Some content) row o asks limit more low few = omega (arith, low, fe
 with_asks n None row None asks limit more low few = omega (arith, low, few)
 with_asks n None row (Some t) asks limit more low few = omega (arith, low)
 
-module _ (place : Place) (row : FileRow) (body : Body) (before : Option Tenure) (asks : Asks) (from : NodeId) (limit : ℕ) (apart : (w : WaitingAsk) → Has w asks.waiting → IsApart place.node w.id)
+module _ (place : Place) (row : FileRow) (body : Body) (before : Option Tenure) (asks : Asks) (Own : Type 0) (limit : ℕ) (apart : (w : WaitingAsk) → Has w asks.waiting → IsApart place.node w.id)
     (one : AreOne (issued_by before) asks.issued) where
   -- the asks are served
   served : (led : Led) → is_new before led ≡ true → led.turned.rec ≡ None → to_itself place.node led.turned.outs ≡ [] → HeadStands row.head → IfTenure place.node row.head led.primary.tenure
-      → (from.0 ≡ place.node.0 → epoch_left row led.primary.tenure + 3 ≤ limit + 2 * one_if (is_some (issued_by before)))
-      → Followed place.node row asks from limit (let s = serves_all (ground place row body) led.primary asks.waiting in record s { turned = joined led.turned s.turned })
+      → (Own → epoch_left row led.primary.tenure + 3 ≤ limit + 2 * one_if (is_some (issued_by before)))
+      → Followed place.node row asks Own limit (let s = serves_all (ground place row body) led.primary asks.waiting in record s { turned = joined led.turned s.turned })
   served led new rec outs head tenure room = at (ready_is led.primary.tenure (and_parts (is_ready led.primary.tenure) (not (is_ready before)) new).0)
     where
-      at : IsReady led.primary.tenure → Followed place.node row asks from limit (let s = serves_all (ground place row body) led.primary asks.waiting in record s { turned = joined led.turned s.turned })
+      at : IsReady led.primary.tenure → Followed place.node row asks Own limit (let s = serves_all (ground place row body) led.primary asks.waiting in record s { turned = joined led.turned s.turned })
       at r =
           let q = all_serve place row body led.primary r.t r.head asks.waiting r.is r.active (subst (IfTenure place.node row.head) r.is tenure) apart in
           let s = serves_all (ground place row body) led.primary asks.waiting in
           let none : the_record led.turned.rec s.turned.rec ≡ None = ap (λ (x : Option Record). the_record x s.turned.rec) rec ∙ q.rec in
           record {
             head = subst (λ (x : Option Record). HeadStands (kept_after row x).head) (sym none) head;
+            moves = moves_none row.head (kept_after row (the_record led.turned.rec s.turned.rec)).head (ap (λ (x : Option Record). (kept_after row x).head) none);
             tenure = subst (λ (x : Option Record). IfTenure place.node (kept_after row x).head s.primary.tenure) (sym none) (subst (IfTenure place.node row.head) (sym q.is) q.stands);
             sent = q.sent;
             outs = mine-append place.node led.turned.outs s.turned.outs ∙ ap₂ (λ (a b : List Msg). a ++ b) outs q.outs;
@@ -120,9 +123,9 @@ module _ (place : Place) (row : FileRow) (body : Body) (before : Option Tenure) 
           sent_stands q o None is sent_is = tt
           sent_stands q None (Some content) is sent_is = absurd sent_is
           sent_stands q (Some i) (Some content) is sent_is =
-              subst (λ (c : Payload). Stands row c) (sym sent_is) (next_stands place.node row q.tenure place.file q.head i (q.active ∙ ap (λ (o : Option IssuedUpdate). progress.Active q.head o) is) q.stands)
+              subst (λ (c : Payload). IfMessage row (Some c)) (sym sent_is) (next_stands place.node row q.tenure place.file q.head i (q.active ∙ ap (λ (o : Option IssuedUpdate). progress.Active q.head o) is) q.stands, tt)
 
-          bound : (q : Serves place row r.t.epoch (length asks.waiting) (serves_all (ground place row body) led.primary asks.waiting)) (o : Option IssuedUpdate) (sent : Option Payload) → q.issued ≡ o → SentIs place o sent → from.0 ≡ place.node.0
+          bound : (q : Serves place row r.t.epoch (length asks.waiting) (serves_all (ground place row body) led.primary asks.waiting)) (o : Option IssuedUpdate) (sent : Option Payload) → q.issued ≡ o → SentIs place o sent → Own
               → burden place.node sent row (serves_all (ground place row body) led.primary asks.waiting).primary.tenure (serves_all (ground place row body) led.primary asks.waiting).asks + 1 ≤ limit + 2 * asks_left asks
           bound q o None is sent_is mine =
               let enough = room mine in
@@ -141,20 +144,21 @@ module _ (place : Place) (row : FileRow) (body : Body) (before : Option Tenure) 
               subst (λ (x : Option Tenure). burden place.node (Some content) row x (serves_all (ground place row body) led.primary asks.waiting).asks + 1 ≤ limit + 2 * asks_left asks) (sym q.is) (omega (arith, enough, fewer, same, epochs, two))
 
   -- What a row of the primary means for the asks.
-  pub follow : (led : Led) → Row place.node row before from limit led → Followed place.node row asks from limit (asks_follow (ground place row body) before asks led)
-  follow led q = when (Followed place.node row asks from limit) (is_ready led.primary.tenure && not (is_ready before)) _ _ (λ new. ready new q.next) (λ same. goes same q.next)
+  pub follow : (led : Led) → Row place.node row before Own limit led → Followed place.node row asks Own limit (asks_follow (ground place row body) before asks led)
+  follow led q = when (Followed place.node row asks Own limit) (is_ready led.primary.tenure && not (is_ready before)) _ _ (λ new. ready new q.next) (λ same. goes same q.next)
     where
-      ready : is_new before led ≡ true → Next place.node row before from limit led q.sent → Followed place.node row asks from limit (let s = serves_all (ground place row body) led.primary asks.waiting in record s { turned = joined led.turned s.turned })
+      ready : is_new before led ≡ true → Next place.node row before Own limit led q.sent → Followed place.node row asks Own limit (let s = serves_all (ground place row body) led.primary asks.waiting in record s { turned = joined led.turned s.turned })
       ready new (plain old room) = not_both (is_new before led) new old
       ready new (readied is rec none room) =
           served led new rec (q.outs ∙ ap (token place.node) none) (subst (λ (x : Option Record). HeadStands (kept_after row x).head) rec q.head) (subst (λ (x : Option Record). IfTenure place.node (kept_after row x).head led.primary.tenure) rec q.tenure)
           (λ mine. subst (λ (x : Option Record). epoch_left (kept_after row x) led.primary.tenure + 3 ≤ limit + 2 * one_if (is_some (issued_by before))) rec (room mine))
 
-      goes : is_new before led ≡ false → Next place.node row before from limit led q.sent → Followed place.node row asks from limit (record { primary = led.primary; asks = asks_behind led.primary.tenure asks; turned = led.turned })
+      goes : is_new before led ≡ false → Next place.node row before Own limit led q.sent → Followed place.node row asks Own limit (record { primary = led.primary; asks = asks_behind led.primary.tenure asks; turned = led.turned })
       goes old (readied is rec none room) = not_both (is_new before led) is old
       goes old (plain is room) =
           record {
             head = q.head;
+            moves = q.moves;
             tenure = q.tenure;
             sent = q.sent;
             outs = q.outs;

@@ -36,19 +36,14 @@ use Rattle.osd_invariants.proofs.Leads.{put_nodes}
 use Rattle.world_ends.proofs.PrimaryIds.{ProgressIs}
 use Rattle.cluster_runs.specs.NodeSteps.{to_itself}
 use Rattle.line_ends.specs.Weights.{Stand, stand_of, rank, epoch_left, bodies_left, bodies_to, is_wanted, are_named, unless, settles}
-use Rattle.line_ends.specs.Chains.{IfMessage, HeadStands, IsOfEpoch, IsPast, IsNext, TenureStands, ProgressStands, IsUnfed, Stands}
+use Rattle.line_ends.specs.Chains.{IfMessage, IsLacking, HeadStands, IsOfEpoch, IsPast, IsNext, TenureStands, ProgressStands, IsUnfed, Stands}
 use Rattle.line_ends.proofs.Tests.{false_true, not_both, not_new, not_below_self}
 use Rattle.line_ends.proofs.Mine.{token, mine-one, put_same}
 use Rattle.line_ends.proofs.Bodies.{staged_less, missed_less, unknown_now, named_one}
-use Rattle.line_ends.proofs.Rows.{Body, ground, Row, Next, plain, readied, one_if, six_if, left, either, next_stands, stands_with, stands_other, stands_reported, rests, draws, fetching, counting, feeding}
+use Rattle.line_ends.proofs.Moves.{moves_none}
+use Rattle.line_ends.proofs.Rows.{Body, ground, Row, Next, plain, readied, one_if, six_if, three_if, four_if, left, either, next_stands, stands_with, stands_other, stands_reported, rests, draws, fetching, counting, feeding}
 
 -- ---- each message counts
-
-abbrev pub three_if : Bool → ℕ
-three_if b = cond b 1 3
-
-abbrev pub four_if : Bool → ℕ
-four_if b = cond b 2 4
 
 three_some : (b : Bool) → 1 ≤ three_if b
 three_some true = omega arith
@@ -122,7 +117,7 @@ module _ (place : Place) (row : FileRow) (body : Body) (learnt : ℕ) (t : Tenur
   limit content = epoch_left row (Some t) + rank (stand_of place.node row (Some t)) content
 
   abbrev Owes : Payload → Led → Type 0
-  Owes content led = Row place.node row (Some t) from (limit content) led
+  Owes content led = Row place.node row (Some t) ((from.0 ≡ place.node.0) × IsLacking row content) (limit content) led
 
   -- a message of the own node stands
   abbrev Heard : Payload → Type 0
@@ -132,7 +127,7 @@ module _ (place : Place) (row : FileRow) (body : Body) (learnt : ℕ) (t : Tenur
   some content = some_more (epoch_left row (Some t)) (rank (stand_of place.node row (Some t)) content) (rank_some (stand_of place.node row (Some t)) content)
 
   still : (content : Payload) → Owes content (unmoved learnt t)
-  still content = rests place.node row learnt t t from (limit content) refl head_stands stands (some content)
+  still content = rests place.node row learnt t t _ (limit content) refl head_stands stands (some content)
 
   mine_in : (state : PeerState) → peer_in t.peers from ≡ Some state → from.0 ≡ place.node.0 → peer_in t.peers place.node ≡ Some state
   mine_in state found mine = subst (λ (k : NodeId). peer_in t.peers k ≡ Some state) (same_node from place.node mine) found
@@ -157,17 +152,17 @@ module _ (place : Place) (row : FileRow) (body : Body) (learnt : ℕ) (t : Tenur
 
   told : (file : FileId) (epoch : Epoch) (head : FileHead) (state : PeerState) (p : Progress) → t.progress ≡ p → peer_in t.peers from ≡ Some state → is_unknown state ≡ true → Owes (payload.Status file epoch head) (status_told (ground place row body) learnt t p from head)
   told file epoch head state progress.Gathering is found unknown =
-      counting place row body learnt (with_state t from (peer.Reported head)) t from (limit (payload.Status file epoch head)) is is
+      counting place row body learnt (with_state t from (peer.Reported head)) t _ (limit (payload.Status file epoch head)) is is
       (ap are_distinct (put_nodes t.peers from (peer.Reported head)) ∙ apart) head_stands (stands_reported place.node row.head t from head state found stands) (some (payload.Status file epoch head))
-      (λ mine. (head, put_same t.peers place.node from (peer.Reported head) state (same_number from place.node mine) (mine_in state found mine), omega arith))
+      (λ own. let mine = own.0 in (head, put_same t.peers place.node from (peer.Reported head) state (same_number from place.node mine) (mine_in state found mine), omega arith))
   told file epoch head state (progress.Fetching chosen source asked later) is found unknown =
-      rests place.node row learnt t (with_state t from (peer.Reported head)) from (limit (payload.Status file epoch head)) refl head_stands (stands_reported place.node row.head t from head state found stands) (some (payload.Status file epoch head))
+      rests place.node row learnt t (with_state t from (peer.Reported head)) _ (limit (payload.Status file epoch head)) refl head_stands (stands_reported place.node row.head t from head state found stands) (some (payload.Status file epoch head))
   told file epoch head state (progress.Installing chosen acked) is found unknown =
-      feeding place row body learnt t (progress.Installing chosen acked) (target_of row.head t.epoch chosen) from state [] (limit (payload.Status file epoch head)) is refl found head_stands stands (some (payload.Status file epoch head))
-      (λ mine r low more. status_fed file epoch head (target_of row.head t.epoch chosen) state (progress.Installing chosen acked) is refl found unknown mine r low)
+      feeding place row body learnt t (progress.Installing chosen acked) (target_of row.head t.epoch chosen) from state [] _ (limit (payload.Status file epoch head)) is refl found head_stands stands (some (payload.Status file epoch head))
+      (λ own r low more. let mine = own.0 in status_fed file epoch head (target_of row.head t.epoch chosen) state (progress.Installing chosen acked) is refl found unknown mine r low)
   told file epoch head state (progress.Active committed issued) is found unknown =
-      feeding place row body learnt t (progress.Active committed issued) row.head from state [] (limit (payload.Status file epoch head)) is refl found head_stands stands (some (payload.Status file epoch head))
-      (λ mine r low more. status_fed file epoch head row.head state (progress.Active committed issued) is refl found unknown mine r low)
+      feeding place row body learnt t (progress.Active committed issued) row.head from state [] _ (limit (payload.Status file epoch head)) is refl found head_stands stands (some (payload.Status file epoch head))
+      (λ own r low more. let mine = own.0 in status_fed file epoch head row.head state (progress.Active committed issued) is refl found unknown mine r low)
 
   status_heard : (file : FileId) (epoch : Epoch) (head : FileHead) (state : PeerState) → peer_in t.peers from ≡ Some state → Owes (payload.Status file epoch head) (hears_status (ground place row body) learnt t from state head)
   status_heard file epoch head state found = either (is_unknown state) _ _ (λ unknown. told file epoch head state t.progress refl found unknown) (λ known. still (payload.Status file epoch head))
@@ -178,8 +173,8 @@ module _ (place : Place) (row : FileRow) (body : Body) (learnt : ℕ) (t : Tenur
       → Owes (payload.Object file epoch object version bytes) (hears_object (ground place row body) learnt t p from object version bytes)
   object_heard file epoch object version bytes (progress.Fetching chosen source asked later) is heard =
       either (from.0 == source.0 && is_version asked (body_of object version)) _ _
-      (λ asked_for. fetching place row (body_beyond place.file (stage_record place.file row.held object version bytes) body) learnt t chosen source later (stage_record place.file row.held object version bytes) (Some t) from
-      (limit (payload.Object file epoch object version bytes)) (staged_head row place.file object version bytes) apart head_stands stands.promised parts.0 parts.1 (λ mine. absurd (heard mine)))
+      (λ asked_for. fetching place row (body_beyond place.file (stage_record place.file row.held object version bytes) body) learnt t chosen source later (stage_record place.file row.held object version bytes) (Some t) _
+      (limit (payload.Object file epoch object version bytes)) (staged_head row place.file object version bytes) apart head_stands stands.promised parts.0 parts.1 (λ own. absurd (heard own.0)))
       (λ other. still (payload.Object file epoch object version bytes))
     where
       parts : IsUnfed (peer_in t.peers place.node) × ((source.0 == place.node.0) ≡ false)
@@ -204,12 +199,12 @@ module _ (place : Place) (row : FileRow) (body : Body) (learnt : ℕ) (t : Tenur
   staged_heard : (file : FileId) (epoch : Epoch) (object : ℕ) (version : Stamp) (o : Option FileHead) (state : PeerState) → target_in row.head t.epoch t.progress ≡ o → peer_in t.peers from ≡ Some state → Heard (payload.Staged file epoch object version)
       → Owes (payload.Staged file epoch object version) (body_staged (ground place row body) learnt t o from state (body_of object version))
   staged_heard file epoch object version (Some target) (peer.Feeding known o v b) to found heard =
-      feeding place row body learnt t t.progress target from (peer.Feeding known o v b) (with_known known (body_of object version)) (limit (payload.Staged file epoch object version)) refl to found head_stands stands (some (payload.Staged file epoch object version))
-      (λ mine r low more. staged_room file epoch object version known target (peer.Feeding known o v b) (bodies_are target (peer.Feeding known o v b) to (mine_in (peer.Feeding known o v b) found mine))
+      feeding place row body learnt t t.progress target from (peer.Feeding known o v b) (with_known known (body_of object version)) _ (limit (payload.Staged file epoch object version)) refl to found head_stands stands (some (payload.Staged file epoch object version))
+      (λ own r low more. let mine = own.0 in staged_room file epoch object version known target (peer.Feeding known o v b) (bodies_are target (peer.Feeding known o v b) to (mine_in (peer.Feeding known o v b) found mine))
       (wanted_is target (peer.Feeding known o v b) (body_of object version) to (mine_in (peer.Feeding known o v b) found mine)) (heard mine) r low)
   staged_heard file epoch object version (Some target) (peer.Heading known head) to found heard =
-      feeding place row body learnt t t.progress target from (peer.Heading known head) (with_known known (body_of object version)) (limit (payload.Staged file epoch object version)) refl to found head_stands stands (some (payload.Staged file epoch object version))
-      (λ mine r low more. staged_room file epoch object version known target (peer.Heading known head) (bodies_are target (peer.Heading known head) to (mine_in (peer.Heading known head) found mine))
+      feeding place row body learnt t t.progress target from (peer.Heading known head) (with_known known (body_of object version)) _ (limit (payload.Staged file epoch object version)) refl to found head_stands stands (some (payload.Staged file epoch object version))
+      (λ own r low more. let mine = own.0 in staged_room file epoch object version known target (peer.Heading known head) (bodies_are target (peer.Heading known head) to (mine_in (peer.Heading known head) found mine))
       (wanted_is target (peer.Heading known head) (body_of object version) to (mine_in (peer.Heading known head) found mine)) (heard mine) r low)
   staged_heard file epoch object version _ _ to found heard = still (payload.Staged file epoch object version)
 
@@ -243,16 +238,16 @@ module _ (place : Place) (row : FileRow) (body : Body) (learnt : ℕ) (t : Tenur
   missed_heard : (file : FileId) (epoch : Epoch) (object : ℕ) (version : Stamp) (o : Option FileHead) (state : PeerState) → target_in row.head t.epoch t.progress ≡ o → peer_in t.peers from ≡ Some state → Heard (payload.Missing file epoch object version)
       → Owes (payload.Missing file epoch object version) (body_missed (ground place row body) learnt t o from state (body_of object version))
   missed_heard file epoch object version (Some target) (peer.Heading known head) to found heard =
-      feeding place row body learnt t t.progress target from (peer.Heading known head) (without_version known (body_of object version)) (limit (payload.Missing file epoch object version)) refl to found head_stands stands (some (payload.Missing file epoch object version))
-      (λ mine r low more. missed_room file epoch object version known head target to (mine_in (peer.Heading known head) found mine) (heard mine) r low more)
+      feeding place row body learnt t t.progress target from (peer.Heading known head) (without_version known (body_of object version)) _ (limit (payload.Missing file epoch object version)) refl to found head_stands stands (some (payload.Missing file epoch object version))
+      (λ own r low more. let mine = own.0 in missed_room file epoch object version known head target to (mine_in (peer.Heading known head) found mine) own.1 r low more)
   missed_heard file epoch object version _ _ to found heard = still (payload.Missing file epoch object version)
 
   missing_heard : (file : FileId) (epoch : Epoch) (object : ℕ) (version : Stamp) (p : Progress) (state : PeerState) → t.progress ≡ p → peer_in t.peers from ≡ Some state → Heard (payload.Missing file epoch object version)
       → Owes (payload.Missing file epoch object version) (hears_missing (ground place row body) learnt t p from state (body_of object version))
   missing_heard file epoch object version (progress.Fetching chosen source asked later) state is found heard =
       either (from.0 == source.0) _ _
-      (λ same. draws place row learnt (nodes_of t.peers) (Some t) from (limit (payload.Missing file epoch object version)) apart head_stands
-      (λ mine. absurd (false_true (sym (subst (ProgressStands place.node row.head t) is stands.progress).1 ∙ same_number source place.node (sym (eqb-true from.0 source.0 same) ∙ mine)))))
+      (λ same. draws place row learnt (nodes_of t.peers) (Some t) _ (limit (payload.Missing file epoch object version)) apart head_stands
+      (λ own. let mine = own.0 in absurd (false_true (sym (subst (ProgressStands place.node row.head t) is stands.progress).1 ∙ same_number source place.node (sym (eqb-true from.0 source.0 same) ∙ mine)))))
       (λ other. still (payload.Missing file epoch object version))
   missing_heard file epoch object version progress.Gathering state is found heard = missed_heard file epoch object version None state (ap (target_in row.head t.epoch) is) found heard
   missing_heard file epoch object version (progress.Installing chosen acked) state is found heard =
@@ -263,7 +258,7 @@ module _ (place : Place) (row : FileRow) (body : Body) (learnt : ℕ) (t : Tenur
 
   -- the own node has the head that it acknowledges
   at_head : (file : FileId) (stamp : Stamp) → stamp.epoch ≡ t.epoch → Heard (payload.Ack file stamp) → from.0 ≡ place.node.0 → IsOfEpoch row.head t.epoch
-  at_head file stamp same heard mine = subst (IsOfEpoch row.head) same (heard mine)
+  at_head file stamp same heard mine = subst (IsOfEpoch row.head) same (heard mine).1
 
   acked_at : (file : FileId) (stamp : Stamp) (chosen : FileHead) (acked : List NodeId) → t.progress ≡ progress.Installing chosen acked → stamp.epoch ≡ t.epoch → Heard (payload.Ack file stamp)
       → has_node (with_node acked from) place.node.0 ≡ true → IsOfEpoch row.head t.epoch
@@ -284,11 +279,12 @@ module _ (place : Place) (row : FileRow) (body : Body) (learnt : ℕ) (t : Tenur
       waiting =
           record {
             head = head_stands;
+            moves = moves_none row.head row.head refl;
             tenure = record { promised = stands.promised; progress = acked_at file stamp chosen acked is same heard };
             sent = None;
             outs = refl;
             stands = tt;
-            next = plain refl (λ mine. some (payload.Ack file stamp));
+            next = plain refl (λ own. let mine = own.0 in some (payload.Ack file stamp));
           }
 
       bound : epoch_left row (Some t) + 3 ≤ limit (payload.Ack file stamp) + 2 * one_if (is_some (issued_in t.progress))
@@ -298,16 +294,17 @@ module _ (place : Place) (row : FileRow) (body : Body) (learnt : ℕ) (t : Tenur
       active has =
           record {
             head = head_stands;
+            moves = moves_none row.head row.head refl;
             tenure = record { promised = stands.promised; progress = (λ now. (acked_at file stamp chosen acked is same heard has now, le_refl row.head.stamp.count), tt) };
             sent = None;
             outs = refl;
             stands = tt;
-            next = readied (ap (λ (p : Progress). not (is_ready_in p)) is) refl refl (λ mine. bound);
+            next = readied (ap (λ (p : Progress). not (is_ready_in p)) is) refl refl (λ own. let mine = own.0 in bound);
           }
 
   below_heard : (file : FileId) (stamp : Stamp) (u : Tenure) (head : FileHead) (newly : Bool) (o : Option IssuedUpdate) → t.progress ≡ progress.Active head o → u.epoch ≡ t.epoch → u.progress ≡ t.progress → TenureStands place.node row.head u
       → Owes (payload.Ack file stamp) (acked_below (ground place row body) learnt u head from stamp newly o)
-  below_heard file stamp u head newly None is epoch same now = rests place.node row learnt t u from (limit (payload.Ack file stamp)) (ap is_ready_in same) head_stands now (some (payload.Ack file stamp))
+  below_heard file stamp u head newly None is epoch same now = rests place.node row learnt t u _ (limit (payload.Ack file stamp)) (ap is_ready_in same) head_stands now (some (payload.Ack file stamp))
   below_heard file stamp u head newly (Some issued) is epoch same now = either (not (is_below stamp issued.update.stamp)) _ _ settled (λ low. again newly low)
     where
       active : IsPast row.head t.epoch head × IsNext t.epoch head (Some issued)
@@ -326,6 +323,7 @@ module _ (place : Place) (row : FileRow) (body : Body) (learnt : ℕ) (t : Tenur
           counts =
               record {
                 head = head_stands;
+                moves = moves_none row.head row.head refl;
                 tenure = record {
                   promised = promised;
                   progress = (subst (λ (e : Epoch). IsPast row.head e head) (sym epoch) active.0, subst (λ (e : Epoch). issued.update.stamp ≡ record { epoch = e; count = head.stamp.count + 1 }) (sym epoch) active.1);
@@ -333,7 +331,7 @@ module _ (place : Place) (row : FileRow) (body : Body) (learnt : ℕ) (t : Tenur
                 sent = None;
                 outs = refl;
                 stands = tt;
-                next = plain refl (λ mine. some (payload.Ack file stamp));
+                next = plain refl (λ own. let mine = own.0 in some (payload.Ack file stamp));
               }
 
           bound : epoch_left row (Some u) + 3 ≤ limit (payload.Ack file stamp) + 2 * one_if (is_some (issued_in t.progress))
@@ -350,17 +348,18 @@ module _ (place : Place) (row : FileRow) (body : Body) (learnt : ℕ) (t : Tenur
           commits =
               record {
                 head = head_stands;
+                moves = moves_none row.head row.head refl;
                 tenure = record { promised = promised; progress = (subst (λ (e : Epoch). IsPast row.head e row.head) (sym epoch) (λ when_so. ((active.0 when_so).0, le_refl row.head.stamp.count)), tt) };
                 sent = None;
                 outs =
                     let content = payload.Reply issued.update.id.number place.file (reply.Ok issued.update.stamp.count issued.update.mark []) in
                     mine-one place.node issued.update.id.client content ∙ ap (λ (b : Bool). token place.node (cond b (Some content) None)) client;
                 stands = tt;
-                next = readied (ap (λ (p : Progress). not (is_ready_in p)) is) refl refl (λ mine. bound);
+                next = readied (ap (λ (p : Progress). not (is_ready_in p)) is) refl refl (λ own. let mine = own.0 in bound);
               }
 
       again : (newly : Bool) → not (is_below stamp issued.update.stamp) ≡ false → Owes (payload.Ack file stamp) (cond newly (goes_on learnt u (sends (message place.node from (payload.Update place.file issued.update) ∷ []))) (unmoved learnt u))
-      again false low = rests place.node row learnt t u from (limit (payload.Ack file stamp)) (ap is_ready_in same) head_stands now (some (payload.Ack file stamp))
+      again false low = rests place.node row learnt t u _ (limit (payload.Ack file stamp)) (ap is_ready_in same) head_stands now (some (payload.Ack file stamp))
       again true low = at (from.0 == place.node.0) refl
         where
           bound : (b : Bool) → left place.node (cond b (Some (payload.Update place.file issued.update)) None) row (Some u) + 1 ≤ limit (payload.Ack file stamp)
@@ -373,18 +372,19 @@ module _ (place : Place) (row : FileRow) (body : Body) (learnt : ℕ) (t : Tenur
               omega (arith, all, two, here)
 
           stands_if : (b : Bool) → IfMessage row (cond b (Some (payload.Update place.file issued.update)) None)
-          stands_if true = next_stands place.node row t place.file head issued is stands
+          stands_if true = (next_stands place.node row t place.file head issued is stands, tt)
           stands_if false = tt
 
           at : (b : Bool) → (from.0 == place.node.0) ≡ b → Owes (payload.Ack file stamp) (goes_on learnt u (sends (message place.node from (payload.Update place.file issued.update) ∷ [])))
           at b which =
               record {
                 head = head_stands;
+                moves = moves_none row.head row.head refl;
                 tenure = now;
                 sent = cond b (Some (payload.Update place.file issued.update)) None;
                 outs = mine-one place.node from (payload.Update place.file issued.update) ∙ ap (λ (c : Bool). token place.node (cond c (Some (payload.Update place.file issued.update)) None)) which;
                 stands = stands_if b;
-                next = plain (ap (λ (p : Progress). is_ready_in p && not (is_ready_in t.progress)) same ∙ not_new (is_ready_in t.progress)) (λ mine. bound b);
+                next = plain (ap (λ (p : Progress). is_ready_in p && not (is_ready_in t.progress)) same ∙ not_new (is_ready_in t.progress)) (λ own. let mine = own.0 in bound b);
               }
 
   ack_heard : (file : FileId) (stamp : Stamp) (p : Progress) (newly : Bool) (state : PeerState) → t.progress ≡ p → peer_in t.peers from ≡ Some state → stamp.epoch ≡ t.epoch → Heard (payload.Ack file stamp)
@@ -408,16 +408,17 @@ module _ (place : Place) (row : FileRow) (body : Body) (learnt : ℕ) (t : Tenur
       at false apart_now =
           record {
             head = head_stands;
+            moves = moves_none row.head row.head refl;
             tenure = stands_other place.node row.head t from (forgotten state) apart_now stands;
             sent = None;
             outs = mine-one place.node from (payload.Gather place.file t.epoch) ∙ ap (λ (b : Bool). token place.node (cond b (Some (payload.Gather place.file t.epoch)) None)) apart_now;
             stands = tt;
-            next = plain (not_new (is_ready_in t.progress)) (λ mine. some (payload.Behind file epoch stamp));
+            next = plain (not_new (is_ready_in t.progress)) (λ own. let mine = own.0 in some (payload.Behind file epoch stamp));
           }
 
   refused_heard : (file : FileId) (epoch promised : Epoch) → Heard (payload.Refused file epoch promised) → Owes (payload.Refused file epoch promised) (outpromised (ground place row body) learnt t promised)
   refused_heard file epoch promised heard =
-      either (is_earlier t.epoch promised) _ _ (λ later. draws place row (max learnt promised.number) (nodes_of t.peers) (Some t) from (limit (payload.Refused file epoch promised)) apart head_stands (λ mine. enough (heard mine) later))
+      either (is_earlier t.epoch promised) _ _ (λ later. draws place row (max learnt promised.number) (nodes_of t.peers) (Some t) _ (limit (payload.Refused file epoch promised)) apart head_stands (λ own. let mine = own.0 in enough (heard mine) later))
       (λ other. still (payload.Refused file epoch promised))
     where
       enough : is_earlier row.head.promised promised ≡ false → is_earlier t.epoch promised ≡ true → 7 ≤ limit (payload.Refused file epoch promised)

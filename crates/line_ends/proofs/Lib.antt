@@ -1,8 +1,9 @@
 pub mod Tests
+pub mod Moves
 pub mod Mine
 pub mod Bodies
 pub mod Rows
+pub mod Replicas
 pub mod Hearing
 pub mod Serving
 pub mod Following
-pub mod Replicas

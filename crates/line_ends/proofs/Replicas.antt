@@ -35,71 +35,9 @@ use Rattle.line_ends.specs.Weights.{Stand, are_named, bodies_left, bodies_to, ep
 use Rattle.line_ends.specs.Chains.{HeadStands, IfMessage, IfTenure, IsOfEpoch, IsPast, ProgressStands, Stands, TenureStands}
 use Rattle.line_ends.proofs.Tests.{false_true, fewer_below, not_both, of_its_epoch}
 use Rattle.line_ends.proofs.Bodies.{first_lacked, held_lacks, lacks_less, named_each}
+use Rattle.line_ends.proofs.Moves.{Moves, moves_none, promise_moves, IsMore, more_moves, more_head}
 use Rattle.line_ends.proofs.Rows.{six_if}
-use Rattle.line_ends.proofs.Hearing.{three_if, four_if}
-
--- ---- how a head moves
-
--- a later promise, or more of the promised epoch
-pub record Moves (own next : FileHead) : Type 0 where
-  pub promised : (e : Epoch) → is_earlier own.promised e ≡ false → is_earlier next.promised e ≡ false
-  pub of_epoch : (e : Epoch) → is_earlier own.promised e ≡ false → IsOfEpoch own e → IsOfEpoch next e
-  pub past : (e : Epoch) (committed : FileHead) → is_earlier own.promised e ≡ false → IsPast own e committed → IsPast next e committed
-
-pub moves_none : (own next : FileHead) → next ≡ own → Moves own next
-moves_none own next same =
-    record {
-      promised = λ e is. ap (λ (h : FileHead). is_earlier h.promised e) same ∙ is;
-      of_epoch = λ e is now. subst (λ (h : FileHead). IsOfEpoch h e) (sym same) now;
-      past = λ e committed is now. subst (λ (h : FileHead). IsPast h e committed) (sym same) now;
-    }
-
--- what stood of a tenure stands
-pub tenure_moves : (n : NodeId) (own next : FileHead) (t : Tenure) → Moves own next → TenureStands n own t → TenureStands n next t
-tenure_moves n own next t moves stands = record { promised = moves.promised t.epoch stands.promised; progress = at t.progress stands.progress }
-  where
-    at : (p : Progress) → ProgressStands n own t p → ProgressStands n next t p
-    at progress.Gathering is = is
-    at (progress.Fetching chosen source asked later) is = is
-    at (progress.Installing chosen acked) is = λ has. moves.of_epoch t.epoch stands.promised (is has)
-    at (progress.Active committed issued) is = (moves.past t.epoch committed stands.promised is.0, is.1)
-
-pub if_moves : (n : NodeId) (own next : FileHead) (o : Option Tenure) → Moves own next → IfTenure n own o → IfTenure n next o
-if_moves n own next None moves stands = tt
-if_moves n own next (Some t) moves stands = tenure_moves n own next t moves stands
-
--- a later promise
-promise_moves : (own : FileHead) (epoch : Epoch) → is_earlier own.promised epoch ≡ true → Moves own (record own { promised = epoch })
-promise_moves own epoch later =
-    record {
-      promised = λ e is. up_to_trans e own.promised epoch is (not_after own.promised epoch later);
-      of_epoch = λ e is now here. not_both (is_earlier e epoch) (up_to_before e own.promised epoch is later) here;
-      past = λ e committed is now here. not_both (is_earlier e epoch) (up_to_before e own.promised epoch is later) here;
-    }
-
--- more of the promised epoch
-pub record IsMore (own next : FileHead) : Type 0 where
-  pub promised : next.promised ≡ own.promised
-  pub epoch : next.stamp.epoch ≡ own.promised
-  pub count : is_epoch own.stamp.epoch own.promised ≡ true → own.stamp.count ≤ next.stamp.count
-
-more_moves : (own next : FileHead) → IsMore own next → Moves own next
-more_moves own next m =
-    record {
-      promised = λ e is. ap (λ (p : Epoch). is_earlier p e) m.promised ∙ is;
-      of_epoch = λ e is now here. at e is (ap (is_earlier e) (sym m.promised) ∙ here);
-      past = λ e committed is now here.
-          let there : is_earlier e own.promised ≡ false = ap (is_earlier e) (sym m.promised) ∙ here in
-          let old = now there in
-          let same : e ≡ own.promised = is_one e own.promised there is in
-          (at e is there, le_trans old.1 (m.count (ap (is_epoch own.stamp.epoch) (sym same) ∙ old.0)));
-    }
-  where
-    at : (e : Epoch) → is_earlier own.promised e ≡ false → is_earlier e own.promised ≡ false → is_epoch next.stamp.epoch e ≡ true
-    at e is here = (let same : e ≡ own.promised = is_one e own.promised here is in ap (λ (d : Epoch). is_epoch d e) (m.epoch ∙ sym same) ∙ same_self e)
-
-more_head : (own next : FileHead) → IsMore own next → HeadStands next
-more_head own next m = ap (λ (p : Epoch). is_earlier p next.stamp.epoch) (m.promised ∙ sym m.epoch) ∙ not_before_self next.stamp.epoch
+use Rattle.line_ends.proofs.Rows.{three_if, four_if}
 
 -- ---- what a row of the replica owes
 
@@ -140,7 +78,7 @@ module _ (n : NodeId) (row : FileRow) (from : NodeId) (head_stands : HeadStands 
   Heard content = from.0 ≡ n.0 → Stands row content
 
   -- nothing is kept, and this is answered
-  answers : (content answer : Payload) → (from.0 ≡ n.0 → Stands row answer) → (from.0 ≡ n.0 → (o : Option Tenure) → rank (stand_of n row o) answer + 1 ≤ rank (stand_of n row o) content) → Acts n row from content (only answer)
+  answers : (content answer : Payload) → (from.0 ≡ n.0 → IfMessage row (Some answer)) → (from.0 ≡ n.0 → (o : Option Tenure) → rank (stand_of n row o) answer + 1 ≤ rank (stand_of n row o) content) → Acts n row from content (only answer)
   answers content answer stands low = record {
     head = head_stands;
     moves = moves_none row.head row.head refl;
@@ -153,7 +91,7 @@ module _ (n : NodeId) (row : FileRow) (from : NodeId) (head_stands : HeadStands 
 
   -- refused: the message has some weight left
   refuses : (file : FileId) (epoch : Epoch) (content : Payload) → ((o : Option Tenure) → 2 ≤ rank (stand_of n row o) content) → Acts n row from content (refused file row.head epoch)
-  refuses file epoch content two = answers content (payload.Refused file epoch row.head.promised) (λ mine. not_before_self row.head.promised) (λ mine o. two o)
+  refuses file epoch content two = answers content (payload.Refused file epoch row.head.promised) (λ mine. (not_before_self row.head.promised, tt)) (λ mine o. two o)
 
   -- the own node is never behind
   not_behind : (file : FileId) (epoch : Epoch) (content : Payload) → (from.0 ≡ n.0 → ⊥) → Acts n row from content (behind file row.head epoch)
@@ -172,7 +110,7 @@ module _ (n : NodeId) (row : FileRow) (from : NodeId) (head_stands : HeadStands 
   gather_acts file epoch heard =
       either (is_earlier epoch row.head.promised) _ _ (λ old. refuses row.file epoch (payload.Gather file epoch) (λ o. omega arith))
       (λ here. either (is_earlier row.head.promised epoch) _ _ promises
-      (λ there. answers (payload.Gather file epoch) (payload.Status row.file epoch row.head) (λ mine. tt) (λ mine o. omega arith)))
+      (λ there. answers (payload.Gather file epoch) (payload.Status row.file epoch row.head) (λ mine. (tt, tt)) (λ mine o. omega arith)))
     where
       promises : is_earlier row.head.promised epoch ≡ true
           → Acts n row from (payload.Gather file epoch) (after_record (kept.Promise row.file epoch) (payload.Status row.file epoch (record row.head { promised = epoch })))
@@ -180,7 +118,7 @@ module _ (n : NodeId) (row : FileRow) (from : NodeId) (head_stands : HeadStands 
           record {
             head = up_to_trans row.head.stamp.epoch row.head.promised epoch head_stands (not_after row.head.promised epoch later);
             moves = promise_moves row.head epoch later;
-            stands = λ mine. tt;
+            stands = λ mine. (tt, tt);
             less = λ mine. not_both (is_earlier row.head.promised epoch) later (heard mine);
           }
 
@@ -218,7 +156,7 @@ module _ (n : NodeId) (row : FileRow) (from : NodeId) (head_stands : HeadStands 
       (λ now. record {
         head = subst HeadStands (sym head_is) head_stands;
         moves = moves_none row.head (kept_after row (stage_record row.file row.held object version bytes)).head head_is;
-        stands = λ mine. here (has_version row.held (body_of object version)) refl;
+        stands = λ mine. (here (has_version row.held (body_of object version)) refl, tt);
         less = λ mine o. lower o;
       })
     where
@@ -297,19 +235,19 @@ module _ (n : NodeId) (row : FileRow) (from : NodeId) (head_stands : HeadStands 
               record {
                 head = more_head row.head head (more below);
                 moves = more_moves row.head head (more below);
-                stands = λ mine here. same_self head.stamp.epoch;
+                stands = λ mine. ((ap (λ (e : Epoch). is_earlier head.promised e) (stamp_is ∙ sym promised_is) ∙ not_before_self head.promised, λ here. same_self head.stamp.epoch), tt);
                 less = λ mine o. ack_less (record row { head = head }) promised_is o;
               }
           taken below (Some v) is =
               let lacks = first_lacked row.held head.versions v is in
-              answers (payload.Head file epoch head) (payload.Missing row.file epoch v.object v.version) (λ mine. lacks.1) (λ mine o. missing_less v lacks.0 o)
+              answers (payload.Head file epoch head) (payload.Missing row.file epoch v.object v.version) (λ mine. (tt, lacks.1)) (λ mine o. missing_less v lacks.0 o)
 
           acked : is_below row.head.stamp head.stamp ≡ false → Acts n row from (payload.Head file epoch head) (only (payload.Ack row.file head.stamp))
           acked above =
               record {
                 head = head_stands;
                 moves = moves_none row.head row.head refl;
-                stands = λ mine here. of_its_epoch row.head.stamp head.stamp above (ap (λ (e : Epoch). is_earlier e row.head.stamp.epoch) stamp_is ∙ head_stands);
+                stands = λ mine. ((ap (is_earlier row.head.promised) stamp_is ∙ not_before_self row.head.promised, λ here. of_its_epoch row.head.stamp head.stamp above (ap (λ (e : Epoch). is_earlier e row.head.stamp.epoch) stamp_is ∙ head_stands)), tt);
                 less = λ mine o. ack_less row refl o;
               }
 
@@ -364,7 +302,7 @@ module _ (n : NodeId) (row : FileRow) (from : NodeId) (head_stands : HeadStands 
 
           acked : is_epoch row.head.stamp.epoch update.stamp.epoch ≡ true → Acts n row from (payload.Update file update) (only (payload.Ack row.file update.stamp))
           acked same =
-              record { head = head_stands; moves = moves_none row.head row.head refl; stands = λ mine here. same; less = λ mine o. ack_less row refl o }
+              record { head = head_stands; moves = moves_none row.head row.head refl; stands = λ mine. ((ap (is_earlier row.head.promised) now ∙ not_before_self row.head.promised, λ here. same), tt); less = λ mine o. ack_less row refl o }
 
           taken : is_epoch row.head.stamp.epoch update.stamp.epoch ≡ true → (update.stamp.count == row.head.stamp.count + 1) ≡ true → Acts n row from (payload.Update file update) (next_update row.file row.head update)
           taken same its = either (head_fits (head_after row.head update)) _ _ (λ fits. keeps) (λ full. silent (payload.Update file update))
@@ -380,6 +318,6 @@ module _ (n : NodeId) (row : FileRow) (from : NodeId) (head_stands : HeadStands 
                   record {
                     head = more_head row.head (head_after row.head update) more;
                     moves = more_moves row.head (head_after row.head update) more;
-                    stands = λ mine here. same_self update.stamp.epoch;
+                    stands = λ mine. ((ap (is_earlier row.head.promised) now ∙ not_before_self row.head.promised, λ here. same_self update.stamp.epoch), tt);
                     less = λ mine o. ack_less (kept_after row (Some (kept.Update row.file update))) refl o;
                   }

@@ -40,6 +40,7 @@ use Rattle.line_ends.specs.Weights.{stand_of, Stand, rank, epoch_left, bodies_le
 use Rattle.line_ends.specs.Chains.{HeadStands, IsPast, IsNext, IfTenure, TenureStands, ProgressStands, IsUnfed, Stands, IfMessage}
 use Rattle.line_ends.proofs.Tests.{false_true, not_both, not_new, not_ready, above_promised}
 use Rattle.line_ends.proofs.Mine.{token, mine-append, mine-one, mine-if, mine-each, mine-peers, of_peer, to_peers_of, put_same, put_other, fresh_unfed}
+use Rattle.line_ends.proofs.Moves.{Moves, moves_none, promise_moves}
 use Rattle.line_ends.proofs.Bodies.{named_itself, fed_sends, Feeds}
 
 abbrev pub Body : Type 0
@@ -65,23 +66,30 @@ is_new before led = is_ready led.primary.tenure && not (is_ready before)
 abbrev pub one_if : Bool → ℕ
 one_if b = cond b 1 0
 
+abbrev pub three_if : Bool → ℕ
+three_if b = cond b 1 3
+
+abbrev pub four_if : Bool → ℕ
+four_if b = cond b 2 4
+
 -- Behind a row that doesn't make the primary ready less is left than this, where the message came from the own node. Behind one that
 -- does nothing is sent to it, and an update may follow.
-pub data Next (n : NodeId) (row : FileRow) (before : Option Tenure) (from : NodeId) (limit : ℕ) (led : Led) (o : Option Payload) : Type 0 where
-  plain : is_new before led ≡ false → (from.0 ≡ n.0 → left n o (row_then row led) led.primary.tenure + 1 ≤ limit) → Next n row before from limit led o
-  readied : is_new before led ≡ true → led.turned.rec ≡ None → o ≡ None → (from.0 ≡ n.0 → epoch_left (row_then row led) led.primary.tenure + 3 ≤ limit + 2 * one_if (is_some (issued_by before)))
-      → Next n row before from limit led o
+pub data Next (n : NodeId) (row : FileRow) (before : Option Tenure) (Own : Type 0) (limit : ℕ) (led : Led) (o : Option Payload) : Type 0 where
+  plain : is_new before led ≡ false → (Own → left n o (row_then row led) led.primary.tenure + 1 ≤ limit) → Next n row before Own limit led o
+  readied : is_new before led ≡ true → led.turned.rec ≡ None → o ≡ None → (Own → epoch_left (row_then row led) led.primary.tenure + 3 ≤ limit + 2 * one_if (is_some (issued_by before)))
+      → Next n row before Own limit led o
 
 -- what a row of the primary owes
-pub record Row (n : NodeId) (row : FileRow) (before : Option Tenure) (from : NodeId) (limit : ℕ) (led : Led) : Type 0 where
+pub record Row (n : NodeId) (row : FileRow) (before : Option Tenure) (Own : Type 0) (limit : ℕ) (led : Led) : Type 0 where
   pub head : HeadStands (row_then row led).head
+  pub moves : Moves row.head (row_then row led).head
   pub tenure : IfTenure n (row_then row led).head led.primary.tenure
   pub sent : Option Payload
   pub outs : to_itself n led.turned.outs ≡ token n sent
   pub stands : IfMessage (row_then row led) sent
-  pub next : Next n row before from limit led sent
+  pub next : Next n row before Own limit led sent
 
-pub either : {n : NodeId} {row : FileRow} {before : Option Tenure} {from : NodeId} {limit : ℕ} (b : Bool) (x y : Led) → (b ≡ true → Row n row before from limit x) → (b ≡ false → Row n row before from limit y) → Row n row before from limit (cond b x y)
+pub either : {n : NodeId} {row : FileRow} {before : Option Tenure} {Own : Type 0} {limit : ℕ} (b : Bool) (x y : Led) → (b ≡ true → Row n row before Own limit x) → (b ≡ false → Row n row before Own limit y) → Row n row before Own limit (cond b x y)
 either true x y p q = p refl
 either false x y p q = q refl
 
@@ -139,11 +147,12 @@ stands_reported n own t from head old found stands = which (from.0 == n.0) refl
 -- ---- rows
 
 -- a tenure goes on, and nothing is sent
-pub rests : (n : NodeId) (row : FileRow) (learnt : ℕ) (t u : Tenure) (from : NodeId) (limit : ℕ) → is_ready_in u.progress ≡ is_ready_in t.progress → HeadStands row.head → TenureStands n row.head u → 1 ≤ limit
-    → Row n row (Some t) from limit (unmoved learnt u)
-rests n row learnt t u from limit same head stands some =
+pub rests : (n : NodeId) (row : FileRow) (learnt : ℕ) (t u : Tenure) (Own : Type 0) (limit : ℕ) → is_ready_in u.progress ≡ is_ready_in t.progress → HeadStands row.head → TenureStands n row.head u → 1 ≤ limit
+    → Row n row (Some t) Own limit (unmoved learnt u)
+rests n row learnt t u Own limit same head stands some =
     record {
       head = head;
+      moves = moves_none row.head row.head refl;
       tenure = stands;
       sent = None;
       outs = refl;
@@ -159,10 +168,10 @@ fresh_epoch : (e : Epoch) → six_if (is_earlier e e) ≡ 0
 fresh_epoch e = ap six_if (not_before_self e)
 
 -- an epoch is drawn
-pub draws : (place : Place) (row : FileRow) (learnt : ℕ) (members : List NodeId) (before : Option Tenure) (from : NodeId) (limit : ℕ) → are_distinct members ≡ true → HeadStands row.head → (from.0 ≡ place.node.0 → 7 ≤ limit)
-    → Row place.node row before from limit (epoch_drawn place learnt row.head members)
+pub draws : (place : Place) (row : FileRow) (learnt : ℕ) (members : List NodeId) (before : Option Tenure) (Own : Type 0) (limit : ℕ) → are_distinct members ≡ true → HeadStands row.head → (Own → 7 ≤ limit)
+    → Row place.node row before Own limit (epoch_drawn place learnt row.head members)
 unfolding epoch_drawn
-draws place row learnt members before from limit apart head room = either (nat_lt (epoch_above place learnt row.head).number COUNTS) _ _ (λ is. drawn (has_node members place.node.0) refl) (λ is. none)
+draws place row learnt members before Own limit apart head room = either (nat_lt (epoch_above place learnt row.head).number COUNTS) _ _ (λ is. drawn (has_node members place.node.0) refl) (λ is. none)
   where
     epoch : Epoch
     epoch = epoch_above place learnt row.head
@@ -175,13 +184,14 @@ draws place row learnt members before from limit apart head room = either (nat_l
         (record { rec = Some (kept.Promise place.file (epoch_above place learnt row.head)); outs = to_each place.node members (payload.Gather place.file (epoch_above place learnt row.head)); marks = [] })
 
     drawn : (b : Bool) → has_node members place.node.0 ≡ b
-        → Row place.node row before from limit (goes_on learnt (record { epoch = epoch_above place learnt row.head; peers = map unknown_peer members; progress = progress.Gathering })
+        → Row place.node row before Own limit (goes_on learnt (record { epoch = epoch_above place learnt row.head; peers = map unknown_peer members; progress = progress.Gathering })
         (record { rec = Some (kept.Promise place.file (epoch_above place learnt row.head)); outs = to_each place.node members (payload.Gather place.file (epoch_above place learnt row.head)); marks = [] }))
     drawn b is =
         let e = epoch_above place learnt row.head in
         let zero = fresh_epoch (epoch_above place learnt row.head) in
         record {
           head = up_to_trans row.head.stamp.epoch row.head.promised e head (not_after row.head.promised e (above_promised place learnt row.head));
+          moves = promise_moves row.head e (above_promised place learnt row.head);
           tenure = record { promised = not_before_self e; progress = fresh_unfed members place.node };
           sent = cond b (Some (payload.Gather place.file e)) None;
           outs = mine-each place.node members (payload.Gather place.file e) apart ∙ ap (λ (c : Bool). token place.node (cond c (Some (payload.Gather place.file e)) None)) is;
@@ -190,7 +200,7 @@ draws place row learnt members before from limit apart head room = either (nat_l
         }
       where
         stands_if : (b : Bool) → IfMessage (kept_after row (Some (kept.Promise place.file (epoch_above place learnt row.head)))) (cond b (Some (payload.Gather place.file (epoch_above place learnt row.head))) None)
-        stands_if true = not_before_self (epoch_above place learnt row.head)
+        stands_if true = (not_before_self (epoch_above place learnt row.head), tt)
         stands_if false = tt
 
         bound : (b : Bool) → 7 ≤ limit → six_if (is_earlier (epoch_above place learnt row.head) (epoch_above place learnt row.head)) ≡ 0
@@ -199,8 +209,8 @@ draws place row learnt members before from limit apart head room = either (nat_l
         bound true enough zero = omega (arith, enough, zero)
         bound false enough zero = omega (arith, enough)
 
-    none : Row place.node row before from limit (record { primary = record { learnt = learnt; tenure = None }; turned = record { rec = None; outs = []; marks = [] } })
-    none = record { head = head; tenure = tt; sent = None; outs = refl; stands = tt; next = plain refl (λ mine. room mine) }
+    none : Row place.node row before Own limit (record { primary = record { learnt = learnt; tenure = None }; turned = record { rec = None; outs = []; marks = [] } })
+    none = record { head = head; moves = moves_none row.head row.head refl; tenure = tt; sent = None; outs = refl; stands = tt; next = plain refl (λ mine. room mine) }
 
 -- ---- a head is installed
 
@@ -249,11 +259,11 @@ abbrev pub Reports : Place → FileRow → Tenure → ℕ → Type 0
 Reports place row t limit = (head : FileHead) × (peer_in t.peers place.node ≡ Some (peer.Reported head)) × (epoch_left row (Some t) + 5 ≤ limit)
 
 -- the head goes to the own node; a body may be kept first, where the message isn't of the own node
-pub installing : (place : Place) (row : FileRow) (body : Body) (learnt : ℕ) (t : Tenure) (chosen : FileHead) (rec : Option Record) (before : Option Tenure) (from : NodeId) (limit : ℕ) → KeepsHead row rec
+pub installing : (place : Place) (row : FileRow) (body : Body) (learnt : ℕ) (t : Tenure) (chosen : FileHead) (rec : Option Record) (before : Option Tenure) (Own : Type 0) (limit : ℕ) → KeepsHead row rec
     → are_distinct (nodes_of t.peers) ≡ true → HeadStands row.head → is_earlier row.head.promised t.epoch ≡ false → IsUnfed (peer_in t.peers place.node)
-    → (from.0 ≡ place.node.0 → (rec ≡ None) × Reports place row t limit)
-    → Row place.node row before from limit (after_keeping rec (installs (ground place row body) learnt t chosen))
-installing place row body learnt t chosen rec before from limit keeps apart head promised unfed room =
+    → (Own → (rec ≡ None) × Reports place row t limit)
+    → Row place.node row before Own limit (after_keeping rec (installs (ground place row body) learnt t chosen))
+installing place row body learnt t chosen rec before Own limit keeps apart head promised unfed room =
     let g = ground place row body in
     let n = place.node in
     let target = target_of row.head t.epoch chosen in
@@ -261,6 +271,7 @@ installing place row body learnt t chosen rec before from limit keeps apart head
     let same = fed_same g target t.peers in
     record {
       head = subst HeadStands (sym keeps) head;
+      moves = moves_none row.head (kept_after row rec).head keeps;
       tenure = record { promised = ap (λ (h : FileHead). is_earlier h.promised t.epoch) keeps ∙ promised; progress = λ acked. absurd (false_true acked) };
       sent = Some (payload.Head place.file t.epoch target);
       outs =
@@ -269,7 +280,7 @@ installing place row body learnt t chosen rec before from limit keeps apart head
           ∙ ap (λ (xs : List Msg). token n (Some (payload.Head place.file t.epoch target)) ++ xs)
           (mine-peers n (λ (k : NodeId) (state : PeerState). last_sent place.file t.epoch state) peers (ap are_distinct (fed_nodes g target t.peers) ∙ apart)
           ∙ ap (token n) (unfed_silent place.file t.epoch n (peer_in peers n) (subst IsUnfed (sym same) unfed)));
-      stands = ap (λ (h : FileHead). is_earlier h.promised t.epoch) keeps ∙ promised;
+      stands = (ap (λ (h : FileHead). is_earlier h.promised t.epoch) keeps ∙ promised, tt);
       next = plain refl (λ mine. bound (room mine).1 same rec (room mine).0);
     }
   where
@@ -287,14 +298,15 @@ installing place row body learnt t chosen rec before from limit keeps apart head
         omega (arith, named, none, enough)
 
 -- a body is asked for of another node, or the head goes to the own one
-pub fetching : (place : Place) (row : FileRow) (body : Body) (learnt : ℕ) (t : Tenure) (chosen : FileHead) (source : NodeId) (wanted : List ObjectVersion) (rec : Option Record) (before : Option Tenure) (from : NodeId) (limit : ℕ) → KeepsHead row rec
+pub fetching : (place : Place) (row : FileRow) (body : Body) (learnt : ℕ) (t : Tenure) (chosen : FileHead) (source : NodeId) (wanted : List ObjectVersion) (rec : Option Record) (before : Option Tenure) (Own : Type 0) (limit : ℕ) → KeepsHead row rec
     → are_distinct (nodes_of t.peers) ≡ true → HeadStands row.head → is_earlier row.head.promised t.epoch ≡ false → IsUnfed (peer_in t.peers place.node) → (source.0 == place.node.0) ≡ false
-    → (from.0 ≡ place.node.0 → (rec ≡ None) × Reports place row t limit)
-    → Row place.node row before from limit (after_keeping rec (fetches (ground place row body) learnt t chosen source wanted))
-fetching place row body learnt t chosen source [] rec before from limit keeps apart head promised unfed other room = installing place row body learnt t chosen rec before from limit keeps apart head promised unfed room
-fetching place row body learnt t chosen source (v ∷ later) rec before from limit keeps apart head promised unfed other room =
+    → (Own → (rec ≡ None) × Reports place row t limit)
+    → Row place.node row before Own limit (after_keeping rec (fetches (ground place row body) learnt t chosen source wanted))
+fetching place row body learnt t chosen source [] rec before Own limit keeps apart head promised unfed other room = installing place row body learnt t chosen rec before Own limit keeps apart head promised unfed room
+fetching place row body learnt t chosen source (v ∷ later) rec before Own limit keeps apart head promised unfed other room =
     record {
       head = subst HeadStands (sym keeps) head;
+      moves = moves_none row.head (kept_after row rec).head keeps;
       tenure = record { promised = ap (λ (h : FileHead). is_earlier h.promised t.epoch) keeps ∙ promised; progress = (unfed, other) };
       sent = None;
       outs = mine-one place.node source (payload.Fetch place.file t.epoch v.object v.version) ∙ ap (λ (b : Bool). token place.node (cond b (Some (payload.Fetch place.file t.epoch v.object v.version)) None)) other;
@@ -306,46 +318,46 @@ fetching place row body learnt t chosen source (v ∷ later) rec before from lim
     some k enough = omega (arith, enough)
 
 -- nothing is kept first
-unkept : (n : NodeId) (row : FileRow) (before : Option Tenure) (from : NodeId) (limit : ℕ) (g : Ground) (learnt : ℕ) (t : Tenure) (chosen : FileHead) (source : NodeId) (wanted : List ObjectVersion)
-    → Row n row before from limit (after_keeping None (fetches g learnt t chosen source wanted)) → Row n row before from limit (fetches g learnt t chosen source wanted)
-unkept n row before from limit g learnt t chosen source [] is = is
-unkept n row before from limit g learnt t chosen source (v ∷ later) is = is
+unkept : (n : NodeId) (row : FileRow) (before : Option Tenure) (Own : Type 0) (limit : ℕ) (g : Ground) (learnt : ℕ) (t : Tenure) (chosen : FileHead) (source : NodeId) (wanted : List ObjectVersion)
+    → Row n row before Own limit (after_keeping None (fetches g learnt t chosen source wanted)) → Row n row before Own limit (fetches g learnt t chosen source wanted)
+unkept n row before Own limit g learnt t chosen source [] is = is
+unkept n row before Own limit g learnt t chosen source (v ∷ later) is = is
 
 module _ (place : Place) (row : FileRow) (body : Body) where
-  pub choosing : (learnt : ℕ) (t : Tenure) (best : NodeId × FileHead) (before : Option Tenure) (from : NodeId) (limit : ℕ)
+  pub choosing : (learnt : ℕ) (t : Tenure) (best : NodeId × FileHead) (before : Option Tenure) (Own : Type 0) (limit : ℕ)
       → are_distinct (nodes_of t.peers) ≡ true → HeadStands row.head → is_earlier row.head.promised t.epoch ≡ false → IsUnfed (peer_in t.peers place.node)
-      → (from.0 ≡ place.node.0 → Reports place row t limit)
-      → Row place.node row before from limit (head_chosen (ground place row body) learnt t best)
-  choosing learnt t best before from limit apart head promised unfed room =
-      either (best.0.0 == place.node.0) _ _ (λ is. installing place row body learnt t best.1 None before from limit refl apart head promised unfed (λ mine. (refl, room mine)))
-      (λ other. unkept place.node row before from limit (ground place row body) learnt t best.1 best.0 (difference (known_of_own row.held) best.1.versions)
-      (fetching place row body learnt t best.1 best.0 (difference (known_of_own row.held) best.1.versions) None before from limit refl apart head promised unfed other (λ mine. (refl, room mine))))
+      → (Own → Reports place row t limit)
+      → Row place.node row before Own limit (head_chosen (ground place row body) learnt t best)
+  choosing learnt t best before Own limit apart head promised unfed room =
+      either (best.0.0 == place.node.0) _ _ (λ is. installing place row body learnt t best.1 None before Own limit refl apart head promised unfed (λ mine. (refl, room mine)))
+      (λ other. unkept place.node row before Own limit (ground place row body) learnt t best.1 best.0 (difference (known_of_own row.held) best.1.versions)
+      (fetching place row body learnt t best.1 best.0 (difference (known_of_own row.held) best.1.versions) None before Own limit refl apart head promised unfed other (λ mine. (refl, room mine))))
 
   -- a status is counted: `t` is the tenure behind it
-  pub counting : (learnt : ℕ) (t : Tenure) (before : Tenure) (from : NodeId) (limit : ℕ) → t.progress ≡ progress.Gathering → before.progress ≡ progress.Gathering
+  pub counting : (learnt : ℕ) (t : Tenure) (before : Tenure) (Own : Type 0) (limit : ℕ) → t.progress ≡ progress.Gathering → before.progress ≡ progress.Gathering
       → are_distinct (nodes_of t.peers) ≡ true → HeadStands row.head → TenureStands place.node row.head t → 1 ≤ limit
-      → (from.0 ≡ place.node.0 → Reports place row t limit)
-      → Row place.node row (Some before) from limit (status_counted (ground place row body) learnt t)
-  counting learnt t before from limit gathers gathered apart head stands some room =
+      → (Own → Reports place row t limit)
+      → Row place.node row (Some before) Own limit (status_counted (ground place row body) learnt t)
+  counting learnt t before Own limit gathers gathered apart head stands some room =
       either (nat_le (majority_among t.peers) (statuses_counted t.peers)) _ _ (λ is. at (reports_of t.peers)) (λ is. still)
     where
       unfed : IsUnfed (peer_in t.peers place.node)
       unfed = subst (ProgressStands place.node row.head t) gathers stands.progress
 
-      still : Row place.node row (Some before) from limit (unmoved learnt t)
-      still = rests place.node row learnt before t from limit (ap is_ready_in (gathers ∙ sym gathered)) head stands some
+      still : Row place.node row (Some before) Own limit (unmoved learnt t)
+      still = rests place.node row learnt before t Own limit (ap is_ready_in (gathers ∙ sym gathered)) head stands some
 
-      at : (reports : List (NodeId × FileHead)) → Row place.node row (Some before) from limit (chooses (ground place row body) learnt t reports)
-      at [] = rests place.node row learnt before t from limit (ap is_ready_in (gathers ∙ sym gathered)) head stands some
-      at (first ∷ others) = choosing learnt t (chosen_of place.node first others) (Some before) from limit apart head stands.promised (subst (ProgressStands place.node row.head t) gathers stands.progress) room
+      at : (reports : List (NodeId × FileHead)) → Row place.node row (Some before) Own limit (chooses (ground place row body) learnt t reports)
+      at [] = rests place.node row learnt before t Own limit (ap is_ready_in (gathers ∙ sym gathered)) head stands some
+      at (first ∷ others) = choosing learnt t (chosen_of place.node first others) (Some before) Own limit apart head stands.promised (subst (ProgressStands place.node row.head t) gathers stands.progress) room
 
   -- a peer is fed
-  pub feeding : (learnt : ℕ) (t : Tenure) (p : Progress) (target : FileHead) (from : NodeId) (old : PeerState) (known : List ObjectVersion) (limit : ℕ) → t.progress ≡ p → target_in row.head t.epoch p ≡ Some target
+  pub feeding : (learnt : ℕ) (t : Tenure) (p : Progress) (target : FileHead) (from : NodeId) (old : PeerState) (known : List ObjectVersion) (Own : Type 0) (limit : ℕ) → t.progress ≡ p → target_in row.head t.epoch p ≡ Some target
       → peer_in t.peers from ≡ Some old → HeadStands row.head → TenureStands place.node row.head t → 1 ≤ limit
-      → (from.0 ≡ place.node.0 → (r : ℕ) → r ≤ 4 + bodies_to row.held known target
+      → (Own → (r : ℕ) → r ≤ 4 + bodies_to row.held known target
           → ((v : ObjectVersion) → has_version target.versions v ≡ true → has_version known v ≡ false → r ≤ 2 + bodies_to row.held known target) → epoch_left row (Some t) + r + 1 ≤ limit)
-      → Row place.node row (Some t) from limit (feeds (ground place row body) learnt t from target known)
-  feeding learnt t p target from old known limit is to found head stands some room = at (from.0 == place.node.0) refl
+      → Row place.node row (Some t) Own limit (feeds (ground place row body) learnt t from target known)
+  feeding learnt t p target from old known Own limit is to found head stands some room = at (from.0 == place.node.0) refl
     where
       state : PeerState
       state = fed body target known
@@ -362,15 +374,16 @@ module _ (place : Place) (row : FileRow) (body : Body) where
       now : (from.0 == place.node.0) ≡ true → stand_of place.node row (Some (with_state t from (fed body target known))) ≡ record { held = row.held; target = Some target; state = Some (fed body target known); issued = issued_in t.progress }
       now own = λ i. record { held = row.held; target = (ap (target_in row.head t.epoch) is ∙ to) i; state = here own i; issued = issued_in t.progress }
 
-      at : (b : Bool) → (from.0 == place.node.0) ≡ b → Row place.node row (Some t) from limit (feeds (ground place row body) learnt t from target known)
+      at : (b : Bool) → (from.0 == place.node.0) ≡ b → Row place.node row (Some t) Own limit (feeds (ground place row body) learnt t from target known)
       at true own =
           let sends = fed_sends place.file t.epoch row.held body target (issued_in t.progress) known in
           record {
             head = head;
+            moves = moves_none row.head row.head refl;
             tenure = stands_with place.node row.head target t from (fed body target known) p is to stands;
             sent = Some sends.content;
             outs = mine-if place.node from (last_sent place.file t.epoch (fed body target known)) ∙ ap (λ (b : Bool). token place.node (cond b (last_sent place.file t.epoch (fed body target known)) None)) own ∙ ap (token place.node) sends.sent;
-            stands = sends.stands row stands.promised;
+            stands = (sends.stands row stands.promised, sends.lacking row);
             next = plain (not_new (is_ready_in t.progress)) (λ mine.
                 let same : rank (stand_of place.node row (Some (with_state t from (fed body target known)))) sends.content ≡ rank (record { held = row.held; target = Some target; state = Some (fed body target known); issued = issued_in t.progress }) sends.content
                 = ap (λ (a : Stand). rank a sends.content) (now own) in
@@ -380,6 +393,7 @@ module _ (place : Place) (row : FileRow) (body : Body) where
       at false apart =
           record {
             head = head;
+            moves = moves_none row.head row.head refl;
             tenure = stands_other place.node row.head t from (fed body target known) apart stands;
             sent = None;
             outs = mine-if place.node from (last_sent place.file t.epoch (fed body target known)) ∙ ap (λ (b : Bool). token place.node (cond b (last_sent place.file t.epoch (fed body target known)) None)) apart;

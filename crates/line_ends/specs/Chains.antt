@@ -68,15 +68,20 @@ Stands row (payload.Status file epoch head) = Unit {0}
 Stands row (payload.Head file epoch head) = is_earlier row.head.promised epoch ≡ false
 Stands row (payload.Stage file epoch object version bytes) = is_earlier row.head.promised epoch ≡ false
 Stands row (payload.Staged file epoch object version) = has_version row.held (body_of object version) ≡ true
-Stands row (payload.Missing file epoch object version) = has_version row.held (body_of object version) ≡ false
+Stands row (payload.Missing file epoch object version) = Unit {0}
 Stands row (payload.Update file update) =
     (is_earlier row.head.promised update.stamp.epoch ≡ false)
     × (is_earlier update.stamp.epoch row.head.promised ≡ false
         → (is_epoch row.head.stamp.epoch update.stamp.epoch ≡ true) × (update.stamp.count ≤ row.head.stamp.count + 1))
-Stands row (payload.Ack file stamp) = IsOfEpoch row.head stamp.epoch
+Stands row (payload.Ack file stamp) = (is_earlier row.head.promised stamp.epoch ≡ false) × IsOfEpoch row.head stamp.epoch
 Stands row (payload.Refused file epoch promised) = is_earlier row.head.promised promised ≡ false
 Stands row _ = ⊥
 
+-- what is told to be missing isn't held, until that is handled
+abbrev pub IsLacking : FileRow → Payload → Type 0
+IsLacking row (payload.Missing file epoch object version) = has_version row.held (body_of object version) ≡ false
+IsLacking row _ = Unit {0}
+
 abbrev pub IfMessage : FileRow → Option Payload → Type 0
 IfMessage row None = Unit {0}
-IfMessage row (Some content) = Stands row content
+IfMessage row (Some content) = Stands row content × IsLacking row content
