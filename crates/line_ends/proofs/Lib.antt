@@ -7,3 +7,4 @@ pub mod Replicas
 pub mod Hearing
 pub mod Serving
 pub mod Following
+pub mod Leases
