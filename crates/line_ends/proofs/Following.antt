@@ -31,7 +31,7 @@ use Rattle.xt_base.specs.declared.ids.Epoch.{Epoch}
 use Rattle.xt_base.specs.declared.file.FileHead.{FileHead}
 use Rattle.xt_protocol.specs.Stamps.{is_earlier}
 use Rattle.lease_runs.proofs.Tests.{when}
-use Rattle.line_ends.proofs.Rows.{six_if, four_if, Body, ground, Row, Next, plain, readied, is_new, left, one_if, next_stands}
+use Rattle.line_ends.proofs.Rows.{six_if, four_if, Body, ground, IfLeads, Row, Next, plain, readied, is_new, left, one_if, next_stands}
 use Rattle.line_ends.proofs.Moves.{Moves, moves_none}
 use Rattle.line_ends.proofs.Hearing.{IsApart}
 use Rattle.line_ends.proofs.Serving.{SentIs, Serves, all_serve}
@@ -50,6 +50,7 @@ pub record Followed (n : NodeId) (row : FileRow) (asks : Asks) (Own : Type 0) (l
   pub sent : Option Payload
   pub outs : to_itself n s.turned.outs ≡ token n sent
   pub stands : IfMessage (kept_after row s.turned.rec) sent
+  pub leads : IfLeads sent s.primary.tenure
   pub few : asks_left s.asks ≤ asks_left asks
   pub lighter : Own → burden n sent (kept_after row s.turned.rec) s.primary.tenure s.asks + 1 ≤ limit + 2 * asks_left asks
 
@@ -115,10 +116,15 @@ module _ (place : Place) (row : FileRow) (body : Body) (before : Option Tenure) 
             sent = q.sent;
             outs = mine-append place.node led.turned.outs s.turned.outs ∙ ap₂ (λ (a b : List Msg). a ++ b) outs q.outs;
             stands = subst (λ (x : Option Record). IfMessage (kept_after row x) q.sent) (sym none) (sent_stands q q.issued q.sent refl q.sent_is);
+            leads = led_by q.sent (ap (λ (o : Option Tenure). is_some o) q.is);
             few = let fewer = q.few in omega (arith, fewer);
             lighter = λ mine. subst (λ (x : Option Record). burden place.node q.sent (kept_after row x) s.primary.tenure s.asks + 1 ≤ limit + 2 * asks_left asks) (sym none) (bound q q.issued q.sent refl q.sent_is mine);
           }
         where
+          led_by : (sent : Option Payload) → is_some (serves_all (ground place row body) led.primary asks.waiting).primary.tenure ≡ true → IfLeads sent (serves_all (ground place row body) led.primary asks.waiting).primary.tenure
+          led_by None is = tt
+          led_by (Some content) is = is
+
           sent_stands : (q : Serves place row r.t.epoch (length asks.waiting) (serves_all (ground place row body) led.primary asks.waiting)) (o : Option IssuedUpdate) (sent : Option Payload) → q.issued ≡ o → SentIs place o sent → IfMessage row sent
           sent_stands q o None is sent_is = tt
           sent_stands q None (Some content) is sent_is = absurd sent_is
@@ -163,6 +169,7 @@ module _ (place : Place) (row : FileRow) (body : Body) (before : Option Tenure) 
             sent = q.sent;
             outs = q.outs;
             stands = q.stands;
+            leads = q.leads;
             few = le_of_eq (behind_left led.primary.tenure asks);
             lighter = λ mine. with_asks place.node q.sent (kept_after row led.turned.rec) led.primary.tenure (asks_behind led.primary.tenure asks) limit (asks_left asks) (room mine) (le_of_eq (behind_left led.primary.tenure asks));
           }

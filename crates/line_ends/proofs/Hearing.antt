@@ -41,7 +41,7 @@ use Rattle.line_ends.proofs.Tests.{false_true, not_both, not_new, not_below_self
 use Rattle.line_ends.proofs.Mine.{token, mine-one, put_same}
 use Rattle.line_ends.proofs.Bodies.{staged_less, missed_less, unknown_now, named_one}
 use Rattle.line_ends.proofs.Moves.{moves_none}
-use Rattle.line_ends.proofs.Rows.{Body, ground, Row, Next, plain, readied, one_if, six_if, three_if, four_if, left, either, next_stands, stands_with, stands_other, stands_reported, rests, draws, fetching, counting, feeding}
+use Rattle.line_ends.proofs.Rows.{Body, ground, IfLeads, Row, Next, plain, readied, one_if, six_if, three_if, four_if, left, either, next_stands, stands_with, stands_other, stands_reported, rests, draws, fetching, counting, feeding}
 
 -- ---- each message counts
 
@@ -284,6 +284,7 @@ module _ (place : Place) (row : FileRow) (body : Body) (learnt : ℕ) (t : Tenur
             sent = None;
             outs = refl;
             stands = tt;
+            leads = tt;
             next = plain refl (λ own. let mine = own.0 in some (payload.Ack file stamp));
           }
 
@@ -299,6 +300,7 @@ module _ (place : Place) (row : FileRow) (body : Body) (learnt : ℕ) (t : Tenur
             sent = None;
             outs = refl;
             stands = tt;
+            leads = tt;
             next = readied (ap (λ (p : Progress). not (is_ready_in p)) is) refl refl (λ own. let mine = own.0 in bound);
           }
 
@@ -331,6 +333,7 @@ module _ (place : Place) (row : FileRow) (body : Body) (learnt : ℕ) (t : Tenur
                 sent = None;
                 outs = refl;
                 stands = tt;
+                leads = tt;
                 next = plain refl (λ own. let mine = own.0 in some (payload.Ack file stamp));
               }
 
@@ -355,6 +358,7 @@ module _ (place : Place) (row : FileRow) (body : Body) (learnt : ℕ) (t : Tenur
                     let content = payload.Reply issued.update.id.number place.file (reply.Ok issued.update.stamp.count issued.update.mark []) in
                     mine-one place.node issued.update.id.client content ∙ ap (λ (b : Bool). token place.node (cond b (Some content) None)) client;
                 stands = tt;
+                leads = tt;
                 next = readied (ap (λ (p : Progress). not (is_ready_in p)) is) refl refl (λ own. let mine = own.0 in bound);
               }
 
@@ -375,6 +379,10 @@ module _ (place : Place) (row : FileRow) (body : Body) (learnt : ℕ) (t : Tenur
           stands_if true = (next_stands place.node row t place.file head issued is stands, tt)
           stands_if false = tt
 
+          leads_if : (b : Bool) → IfLeads (cond b (Some (payload.Update place.file issued.update)) None) (Some u)
+          leads_if true = refl
+          leads_if false = tt
+
           at : (b : Bool) → (from.0 == place.node.0) ≡ b → Owes (payload.Ack file stamp) (goes_on learnt u (sends (message place.node from (payload.Update place.file issued.update) ∷ [])))
           at b which =
               record {
@@ -384,6 +392,7 @@ module _ (place : Place) (row : FileRow) (body : Body) (learnt : ℕ) (t : Tenur
                 sent = cond b (Some (payload.Update place.file issued.update)) None;
                 outs = mine-one place.node from (payload.Update place.file issued.update) ∙ ap (λ (c : Bool). token place.node (cond c (Some (payload.Update place.file issued.update)) None)) which;
                 stands = stands_if b;
+                leads = leads_if b;
                 next = plain (ap (λ (p : Progress). is_ready_in p && not (is_ready_in t.progress)) same ∙ not_new (is_ready_in t.progress)) (λ own. let mine = own.0 in bound b);
               }
 
@@ -413,6 +422,7 @@ module _ (place : Place) (row : FileRow) (body : Body) (learnt : ℕ) (t : Tenur
             sent = None;
             outs = mine-one place.node from (payload.Gather place.file t.epoch) ∙ ap (λ (b : Bool). token place.node (cond b (Some (payload.Gather place.file t.epoch)) None)) apart_now;
             stands = tt;
+            leads = tt;
             next = plain (not_new (is_ready_in t.progress)) (λ own. let mine = own.0 in some (payload.Behind file epoch stamp));
           }
 

@@ -79,6 +79,11 @@ pub data Next (n : NodeId) (row : FileRow) (before : Option Tenure) (Own : Type 
   readied : is_new before led ≡ true → led.turned.rec ≡ None → o ≡ None → (Own → epoch_left (row_then row led) led.primary.tenure + 3 ≤ limit + 2 * one_if (is_some (issued_by before)))
       → Next n row before Own limit led o
 
+-- what is sent to the own node is sent in a tenure
+abbrev pub IfLeads : Option Payload → Option Tenure → Type 0
+IfLeads None o = Unit {0}
+IfLeads (Some content) o = is_some o ≡ true
+
 -- what a row of the primary owes
 pub record Row (n : NodeId) (row : FileRow) (before : Option Tenure) (Own : Type 0) (limit : ℕ) (led : Led) : Type 0 where
   pub head : HeadStands (row_then row led).head
@@ -87,6 +92,7 @@ pub record Row (n : NodeId) (row : FileRow) (before : Option Tenure) (Own : Type
   pub sent : Option Payload
   pub outs : to_itself n led.turned.outs ≡ token n sent
   pub stands : IfMessage (row_then row led) sent
+  pub leads : IfLeads sent led.primary.tenure
   pub next : Next n row before Own limit led sent
 
 pub either : {n : NodeId} {row : FileRow} {before : Option Tenure} {Own : Type 0} {limit : ℕ} (b : Bool) (x y : Led) → (b ≡ true → Row n row before Own limit x) → (b ≡ false → Row n row before Own limit y) → Row n row before Own limit (cond b x y)
@@ -157,6 +163,7 @@ rests n row learnt t u Own limit same head stands some =
       sent = None;
       outs = refl;
       stands = tt;
+      leads = tt;
       next = plain (ap (λ (b : Bool). b && not (is_ready_in t.progress)) same ∙ not_new (is_ready_in t.progress)) (λ mine. some);
     }
 
@@ -196,12 +203,17 @@ draws place row learnt members before Own limit apart head room = either (nat_lt
           sent = cond b (Some (payload.Gather place.file e)) None;
           outs = mine-each place.node members (payload.Gather place.file e) apart ∙ ap (λ (c : Bool). token place.node (cond c (Some (payload.Gather place.file e)) None)) is;
           stands = stands_if b;
+          leads = leads_if b;
           next = plain refl (λ mine. bound b (room mine) zero);
         }
       where
         stands_if : (b : Bool) → IfMessage (kept_after row (Some (kept.Promise place.file (epoch_above place learnt row.head)))) (cond b (Some (payload.Gather place.file (epoch_above place learnt row.head))) None)
         stands_if true = (not_before_self (epoch_above place learnt row.head), tt)
         stands_if false = tt
+
+        leads_if : (b : Bool) → IfLeads (cond b (Some (payload.Gather place.file (epoch_above place learnt row.head))) None) (Some (record { epoch = epoch_above place learnt row.head; peers = map unknown_peer members; progress = progress.Gathering }))
+        leads_if true = refl
+        leads_if false = tt
 
         bound : (b : Bool) → 7 ≤ limit → six_if (is_earlier (epoch_above place learnt row.head) (epoch_above place learnt row.head)) ≡ 0
             → left place.node (cond b (Some (payload.Gather place.file (epoch_above place learnt row.head))) None) (kept_after row (Some (kept.Promise place.file (epoch_above place learnt row.head))))
@@ -210,7 +222,7 @@ draws place row learnt members before Own limit apart head room = either (nat_lt
         bound false enough zero = omega (arith, enough)
 
     none : Row place.node row before Own limit (record { primary = record { learnt = learnt; tenure = None }; turned = record { rec = None; outs = []; marks = [] } })
-    none = record { head = head; moves = moves_none row.head row.head refl; tenure = tt; sent = None; outs = refl; stands = tt; next = plain refl (λ mine. room mine) }
+    none = record { head = head; moves = moves_none row.head row.head refl; tenure = tt; sent = None; outs = refl; stands = tt; leads = tt; next = plain refl (λ mine. room mine) }
 
 -- ---- a head is installed
 
@@ -281,6 +293,7 @@ installing place row body learnt t chosen rec before Own limit keeps apart head 
           (mine-peers n (λ (k : NodeId) (state : PeerState). last_sent place.file t.epoch state) peers (ap are_distinct (fed_nodes g target t.peers) ∙ apart)
           ∙ ap (token n) (unfed_silent place.file t.epoch n (peer_in peers n) (subst IsUnfed (sym same) unfed)));
       stands = (ap (λ (h : FileHead). is_earlier h.promised t.epoch) keeps ∙ promised, tt);
+      leads = refl;
       next = plain refl (λ mine. bound (room mine).1 same rec (room mine).0);
     }
   where
@@ -311,6 +324,7 @@ fetching place row body learnt t chosen source (v ∷ later) rec before Own limi
       sent = None;
       outs = mine-one place.node source (payload.Fetch place.file t.epoch v.object v.version) ∙ ap (λ (b : Bool). token place.node (cond b (Some (payload.Fetch place.file t.epoch v.object v.version)) None)) other;
       stands = tt;
+      leads = tt;
       next = plain refl (λ mine. some (epoch_left row (Some t)) (room mine).1.2);
     }
   where
@@ -384,6 +398,7 @@ module _ (place : Place) (row : FileRow) (body : Body) where
             sent = Some sends.content;
             outs = mine-if place.node from (last_sent place.file t.epoch (fed body target known)) ∙ ap (λ (b : Bool). token place.node (cond b (last_sent place.file t.epoch (fed body target known)) None)) own ∙ ap (token place.node) sends.sent;
             stands = (sends.stands row stands.promised, sends.lacking row);
+            leads = refl;
             next = plain (not_new (is_ready_in t.progress)) (λ mine.
                 let same : rank (stand_of place.node row (Some (with_state t from (fed body target known)))) sends.content ≡ rank (record { held = row.held; target = Some target; state = Some (fed body target known); issued = issued_in t.progress }) sends.content
                 = ap (λ (a : Stand). rank a sends.content) (now own) in
@@ -398,5 +413,6 @@ module _ (place : Place) (row : FileRow) (body : Body) where
             sent = None;
             outs = mine-if place.node from (last_sent place.file t.epoch (fed body target known)) ∙ ap (λ (b : Bool). token place.node (cond b (last_sent place.file t.epoch (fed body target known)) None)) apart;
             stands = tt;
+            leads = tt;
             next = plain (not_new (is_ready_in t.progress)) (λ mine. some);
           }
