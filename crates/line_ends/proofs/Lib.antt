@@ -8,3 +8,4 @@ pub mod Hearing
 pub mod Serving
 pub mod Following
 pub mod Leases
+pub mod Files
