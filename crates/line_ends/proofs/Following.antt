@@ -91,7 +91,7 @@ ready_is (Some t) ready = at t.progress refl ready
     at (progress.Active head None) is ready = record { t = t; head = head; is = refl; active = is }
 
 -- the weight with the asks
-with_asks : (n : NodeId) (sent : Option Payload) (row : FileRow) (o : Option Tenure) (asks : Asks) (limit more : ℕ) → left n sent row o + 1 ≤ limit → asks_left asks ≤ more → burden n sent row o asks + 1 ≤ limit + 2 * more
+pub with_asks : (n : NodeId) (sent : Option Payload) (row : FileRow) (o : Option Tenure) (asks : Asks) (limit more : ℕ) → left n sent row o + 1 ≤ limit → asks_left asks ≤ more → burden n sent row o asks + 1 ≤ limit + 2 * more
 with_asks n (Some content) row o asks limit more low few = omega (arith, low, few)
 with_asks n None row None asks limit more low few = omega (arith, low, few)
 with_asks n None row (Some t) asks limit more low few = omega (arith, low)

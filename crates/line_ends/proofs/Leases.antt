@@ -1,5 +1,5 @@
 -- what the messages of a lease come to at its own node: one follows another, and where it is won an epoch is drawn
-use Rattle.std.proofs.Common.{◌≡◌, ℕ, ◌≤◌, ◌+◌, ◌*◌, Bool, true, false, List, [], ◌∷◌, ◌++◌, map, refl, sym, ap, ap₂, subst, ◌∙◌, arith, Option, Some, None, append-nil, filter_map, length, count_by}
+use Rattle.std.proofs.Common.{◌≡◌, ℕ, ◌≤◌, ◌+◌, ◌*◌, Bool, true, false, List, [], ◌∷◌, ◌++◌, map, refl, sym, ap, ap₂, subst, ◌∙◌, arith, Option, Some, None, append-nil, filter_map, length, count_by, le_refl}
 use Rattle.std.specs.Prelude.{◌&&◌, ◌||◌, not, cond, ◌==◌, nat_lt, nat_le, filter}
 use Rattle.std.specs.List.{cons_option, list_any}
 use Rattle.std.proofs.lemmas.Bool.{and_parts, eqb-true}
@@ -159,109 +159,116 @@ NewsFits l m (holds end) = IsWon l m
 NewsFits l m (finds x) = IsOver l m
 NewsFits l m ends = IsOver l m
 
-pub record StepFits (l : LeaseState) (step : LeaseStep) : Type 0 where
+-- only a promise makes a Write
+abbrev pub WritesBehind : Payload → LeaseNews → Type 0
+WritesBehind content (sends_write ballot x targets) = 3 ≤ lease_rank content
+WritesBehind content _ = Unit {0}
+
+pub record StepFits (l : LeaseState) (content : Payload) (step : LeaseStep) : Type 0 where
   pub seats : IfSeated (running_round step.state)
+  pub writes : WritesBehind content step.news
   pub news : NewsFits l step.state step.news
 
-either_step : {l : LeaseState} (b : Bool) (x y : LeaseStep) → StepFits l x → StepFits l y → StepFits l (cond b x y)
+either_step : {l : LeaseState} {content : Payload} (b : Bool) (x y : LeaseStep) → StepFits l content x → StepFits l content y → StepFits l content (cond b x y)
 either_step true x y p q = p
 either_step false x y p q = q
 
-asked_fits : (r : Round) (ballot : Ballot) (x : Lease) (p : Promised) → PromisedFits p → StepFits (asking r) (step_of_asking ballot x (asked_by p.took p.round))
-asked_fits r ballot x p fit = at p.took fit.took
+asked_fits : (r : Round) (ballot : Ballot) (x : Lease) (content : Payload) (p : Promised) → 3 ≤ lease_rank content → PromisedFits p → StepFits (asking r) content (step_of_asking ballot x (asked_by p.took p.round))
+asked_fits r ballot x content p three fit = at p.took fit.took
   where
-    at : (took : Took) → TookFits took → StepFits (asking r) (step_of_asking ballot x (asked_by took p.round))
-    at ignored is = record { seats = fit.round; news = record { still_free = λ i. i; still_held = λ i. absurd i } }
-    at counted is = record { seats = fit.round; news = record { still_free = λ i. i; still_held = λ i. absurd i } }
-    at (write_to targets) is = record { seats = fit.round; news = (record { still_free = λ i. absurd i; still_held = λ i. absurd i }, is) }
-    at (alive found) is = record { seats = tt; news = record { unheld = λ i. i; free_now = tt } }
+    at : (took : Took) → TookFits took → StepFits (asking r) content (step_of_asking ballot x (asked_by took p.round))
+    at ignored is = record { seats = fit.round; writes = tt; news = record { still_free = λ i. i; still_held = λ i. absurd i } }
+    at counted is = record { seats = fit.round; writes = tt; news = record { still_free = λ i. i; still_held = λ i. absurd i } }
+    at (write_to targets) is = record { seats = fit.round; writes = three; news = (record { still_free = λ i. absurd i; still_held = λ i. absurd i }, is) }
+    at (alive found) is = record { seats = tt; writes = tt; news = record { unheld = λ i. i; free_now = tt } }
 
-asking_fits : (r : Round) (now : ℕ) (from : NodeId) (content : Payload) → IsSeated r → StepFits (asking r) (asking_answered r now from content)
+asking_fits : (r : Round) (now : ℕ) (from : NodeId) (content : Payload) → IsSeated r → StepFits (asking r) content (asking_answered r now from content)
 asking_fits r now from (payload.Promise file ballot boot report) fit =
-    either_step (same_ballot ballot r.ballot) _ _ (asked_fits r r.ballot (lease_of r) (on_promise r now from boot report) (promise_fits r now from boot report fit))
-    (record { seats = fit; news = record { still_free = λ i. i; still_held = λ i. i } })
+    either_step (same_ballot ballot r.ballot) _ _ (asked_fits r r.ballot (lease_of r) (payload.Promise file ballot boot report) (on_promise r now from boot report) (le_refl 3) (promise_fits r now from boot report fit))
+    (record { seats = fit; writes = tt; news = record { still_free = λ i. i; still_held = λ i. i } })
 asking_fits r now from (payload.Outrun file ballot seen) fit =
-    either_step (same_ballot ballot r.ballot) _ _ (record { seats = tt; news = record { unheld = λ i. i; free_now = tt } })
-    (record { seats = fit; news = record { still_free = λ i. i; still_held = λ i. i } })
-asking_fits r now from _ fit = record { seats = fit; news = record { still_free = λ i. i; still_held = λ i. i } }
+    either_step (same_ballot ballot r.ballot) _ _ (record { seats = tt; writes = tt; news = record { unheld = λ i. i; free_now = tt } })
+    (record { seats = fit; writes = tt; news = record { still_free = λ i. i; still_held = λ i. i } })
+asking_fits r now from _ fit = record { seats = fit; writes = tt; news = record { still_free = λ i. i; still_held = λ i. i } }
 
-won_fits : (r q : Round) (now : ℕ) → StepFits (writing r) (step_of_written (round_won q now))
-won_fits r q now = at (is_inside (lease_of q).end q.times now)
+won_fits : (r q : Round) (now : ℕ) (content : Payload) → StepFits (writing r) content (step_of_written (round_won q now))
+won_fits r q now content = at (is_inside (lease_of q).end q.times now)
   where
-    at : (b : Bool) → StepFits (writing r) (step_of_written (cond b (written_won (lease.lease_won q)) (lease.won_too_late q)))
-    at true = record { seats = tt; news = record { not_free = λ i. i; held_now = tt } }
-    at false = record { seats = tt; news = record { unheld = λ i. i; free_now = tt } }
+    at : (b : Bool) → StepFits (writing r) content (step_of_written (cond b (written_won (lease.lease_won q)) (lease.won_too_late q)))
+    at true = record { seats = tt; writes = tt; news = record { not_free = λ i. i; held_now = tt } }
+    at false = record { seats = tt; writes = tt; news = record { unheld = λ i. i; free_now = tt } }
 
-accepted_fits : (r : Round) (now : ℕ) (from : NodeId) (boot : Boot) → IsSeated r → StepFits (writing r) (step_of_written (writing_accepted r now from boot))
-accepted_fits r now from boot fit = at (on_acceptance r from boot).wins
+accepted_fits : (r : Round) (now : ℕ) (from : NodeId) (boot : Boot) (content : Payload) → IsSeated r → StepFits (writing r) content (step_of_written (writing_accepted r now from boot))
+accepted_fits r now from boot content fit = at (on_acceptance r from boot).wins
   where
-    at : (b : Bool) → StepFits (writing r) (step_of_written (cond b (round_won (on_acceptance r from boot).round now) (written_still (on_acceptance r from boot).round)))
-    at true = won_fits r (on_acceptance r from boot).round now
-    at false = record { seats = accepting_fits r from boot fit; news = record { still_free = λ i. i; still_held = λ i. i } }
+    at : (b : Bool) → StepFits (writing r) content (step_of_written (cond b (round_won (on_acceptance r from boot).round now) (written_still (on_acceptance r from boot).round)))
+    at true = won_fits r (on_acceptance r from boot).round now content
+    at false = record { seats = accepting_fits r from boot fit; writes = tt; news = record { still_free = λ i. i; still_held = λ i. i } }
 
-more_fits : (r : Round) (p : Promised) → PromisedFits p → StepFits (writing r) (record { state = writing p.round; news = news_of_targets r.ballot (lease_of r) (lease.targets_of p.took) })
-more_fits r p fit = at p.took fit.took
+more_fits : (r : Round) (content : Payload) (p : Promised) → 3 ≤ lease_rank content → PromisedFits p → StepFits (writing r) content (record { state = writing p.round; news = news_of_targets r.ballot (lease_of r) (lease.targets_of p.took) })
+more_fits r content p three fit = at p.took fit.took
   where
-    at : (took : Took) → TookFits took → StepFits (writing r) (record { state = writing p.round; news = news_of_targets r.ballot (lease_of r) (lease.targets_of took) })
-    at ignored is = record { seats = fit.round; news = record { still_free = λ i. i; still_held = λ i. i } }
-    at counted is = record { seats = fit.round; news = record { still_free = λ i. i; still_held = λ i. i } }
-    at (write_to targets) is = record { seats = fit.round; news = (record { still_free = λ i. i; still_held = λ i. i }, is) }
-    at (alive found) is = record { seats = fit.round; news = record { still_free = λ i. i; still_held = λ i. i } }
+    at : (took : Took) → TookFits took → StepFits (writing r) content (record { state = writing p.round; news = news_of_targets r.ballot (lease_of r) (lease.targets_of took) })
+    at ignored is = record { seats = fit.round; writes = tt; news = record { still_free = λ i. i; still_held = λ i. i } }
+    at counted is = record { seats = fit.round; writes = tt; news = record { still_free = λ i. i; still_held = λ i. i } }
+    at (write_to targets) is = record { seats = fit.round; writes = three; news = (record { still_free = λ i. i; still_held = λ i. i }, is) }
+    at (alive found) is = record { seats = fit.round; writes = tt; news = record { still_free = λ i. i; still_held = λ i. i } }
 
-writing_fits : (r : Round) (now : ℕ) (from : NodeId) (content : Payload) → IsSeated r → StepFits (writing r) (writing_answered r now from content)
+writing_fits : (r : Round) (now : ℕ) (from : NodeId) (content : Payload) → IsSeated r → StepFits (writing r) content (writing_answered r now from content)
 writing_fits r now from (payload.Promise file ballot boot report) fit =
-    either_step (same_ballot ballot r.ballot) _ _ (more_fits r (on_promise r now from boot report) (promise_fits r now from boot report fit))
-    (record { seats = fit; news = record { still_free = λ i. i; still_held = λ i. i } })
+    either_step (same_ballot ballot r.ballot) _ _ (more_fits r (payload.Promise file ballot boot report) (on_promise r now from boot report) (le_refl 3) (promise_fits r now from boot report fit))
+    (record { seats = fit; writes = tt; news = record { still_free = λ i. i; still_held = λ i. i } })
 writing_fits r now from (payload.Accepted file ballot boot) fit =
-    either_step (same_ballot ballot r.ballot) _ _ (accepted_fits r now from boot fit) (record { seats = fit; news = record { still_free = λ i. i; still_held = λ i. i } })
+    either_step (same_ballot ballot r.ballot) _ _ (accepted_fits r now from boot (payload.Accepted file ballot boot) fit) (record { seats = fit; writes = tt; news = record { still_free = λ i. i; still_held = λ i. i } })
 writing_fits r now from (payload.Outrun file ballot seen) fit =
-    either_step (same_ballot ballot r.ballot) _ _ (record { seats = tt; news = record { unheld = λ i. i; free_now = tt } })
-    (record { seats = fit; news = record { still_free = λ i. i; still_held = λ i. i } })
-writing_fits r now from _ fit = record { seats = fit; news = record { still_free = λ i. i; still_held = λ i. i } }
+    either_step (same_ballot ballot r.ballot) _ _ (record { seats = tt; writes = tt; news = record { unheld = λ i. i; free_now = tt } })
+    (record { seats = fit; writes = tt; news = record { still_free = λ i. i; still_held = λ i. i } })
+writing_fits r now from _ fit = record { seats = fit; writes = tt; news = record { still_free = λ i. i; still_held = λ i. i } }
 
 -- a renewal
-pub record RenewingFits (h : Held) (r : Round) (x : Renewing) : Type 0 where
+pub record RenewingFits (h : Held) (r : Round) (content : Payload) (x : Renewing) : Type 0 where
   pub seats : IfSeated x.held.renewal
+  pub writes : WritesBehind content (news_of_renewal (Some r) x.renewal)
   pub news : NewsFits (held h) (held x.held) (news_of_renewal (Some r) x.renewal)
 
-either_renewing : {h : Held} {r : Round} (b : Bool) (x y : Renewing) → RenewingFits h r x → RenewingFits h r y → RenewingFits h r (cond b x y)
+either_renewing : {h : Held} {r : Round} {content : Payload} (b : Bool) (x y : Renewing) → RenewingFits h r content x → RenewingFits h r content y → RenewingFits h r content (cond b x y)
 either_renewing true x y p q = p
 either_renewing false x y p q = q
 
-renewed_fits : (h : Held) (r : Round) (p : Promised) → PromisedFits p → RenewingFits h r (renewal_promised p.took h p.round)
-renewed_fits h r p fit = at p.took fit.took
+renewed_fits : (h : Held) (r : Round) (content : Payload) (p : Promised) → 3 ≤ lease_rank content → PromisedFits p → RenewingFits h r content (renewal_promised p.took h p.round)
+renewed_fits h r content p three fit = at p.took fit.took
   where
-    at : (took : Took) → TookFits took → RenewingFits h r (renewal_promised took h p.round)
-    at ignored is = record { seats = fit.round; news = record { still_free = λ i. i; still_held = λ i. i } }
-    at counted is = record { seats = fit.round; news = record { still_free = λ i. i; still_held = λ i. i } }
-    at (write_to targets) is = record { seats = fit.round; news = (record { still_free = λ i. i; still_held = λ i. i }, is) }
-    at (alive found) is = record { seats = tt; news = record { still_free = λ i. i; still_held = λ i. i } }
+    at : (took : Took) → TookFits took → RenewingFits h r content (renewal_promised took h p.round)
+    at ignored is = record { seats = fit.round; writes = tt; news = record { still_free = λ i. i; still_held = λ i. i } }
+    at counted is = record { seats = fit.round; writes = tt; news = record { still_free = λ i. i; still_held = λ i. i } }
+    at (write_to targets) is = record { seats = fit.round; writes = three; news = (record { still_free = λ i. i; still_held = λ i. i }, is) }
+    at (alive found) is = record { seats = tt; writes = tt; news = record { still_free = λ i. i; still_held = λ i. i } }
 
-ignores_fits : (h : Held) (r : Round) → h.renewal ≡ Some r → IsSeated r → RenewingFits h r (lease.renewal_ignores h)
-ignores_fits h r is fit = record { seats = subst IfSeated (sym is) fit; news = record { still_free = λ i. i; still_held = λ i. i } }
+ignores_fits : (h : Held) (r : Round) (content : Payload) → h.renewal ≡ Some r → IsSeated r → RenewingFits h r content (lease.renewal_ignores h)
+ignores_fits h r content is fit = record { seats = subst IfSeated (sym is) fit; writes = tt; news = record { still_free = λ i. i; still_held = λ i. i } }
 
-extended_fits : (h : Held) (r q : Round) (now : ℕ) → RenewingFits h r (renewal_won h q now)
-extended_fits h r q now = either_renewing (is_inside (lease_of q).end q.times now) _ _ (record { seats = tt; news = record { not_free = λ i. i; held_now = tt } }) (record { seats = tt; news = record { still_free = λ i. i; still_held = λ i. i } })
+extended_fits : (h : Held) (r q : Round) (now : ℕ) (content : Payload) → RenewingFits h r content (renewal_won h q now)
+extended_fits h r q now content = either_renewing (is_inside (lease_of q).end q.times now) _ _ (record { seats = tt; writes = tt; news = record { not_free = λ i. i; held_now = tt } }) (record { seats = tt; writes = tt; news = record { still_free = λ i. i; still_held = λ i. i } })
 
-renewal_fits : (h : Held) (r : Round) (now : ℕ) (from : NodeId) (content : Payload) → h.renewal ≡ Some r → IsSeated r → RenewingFits h r (renewal_answered h r now from content)
+renewal_fits : (h : Held) (r : Round) (now : ℕ) (from : NodeId) (content : Payload) → h.renewal ≡ Some r → IsSeated r → RenewingFits h r content (renewal_answered h r now from content)
 renewal_fits h r now from (payload.Promise file ballot boot report) is fit =
-    either_renewing (same_ballot ballot r.ballot) _ _ (renewed_fits h r (on_promise r now from boot report) (promise_fits r now from boot report fit)) (ignores_fits h r is fit)
+    either_renewing (same_ballot ballot r.ballot) _ _ (renewed_fits h r (payload.Promise file ballot boot report) (on_promise r now from boot report) (le_refl 3) (promise_fits r now from boot report fit)) (ignores_fits h r (payload.Promise file ballot boot report) is fit)
 renewal_fits h r now from (payload.Accepted file ballot boot) is fit =
     either_renewing (same_ballot ballot r.ballot) _ _
-    (either_renewing (on_acceptance r from boot).wins _ _ (extended_fits h r (on_acceptance r from boot).round now) (record { seats = accepting_fits r from boot fit; news = record { still_free = λ i. i; still_held = λ i. i } }))
-    (ignores_fits h r is fit)
+    (either_renewing (on_acceptance r from boot).wins _ _ (extended_fits h r (on_acceptance r from boot).round now (payload.Accepted file ballot boot)) (record { seats = accepting_fits r from boot fit; writes = tt; news = record { still_free = λ i. i; still_held = λ i. i } }))
+    (ignores_fits h r (payload.Accepted file ballot boot) is fit)
 renewal_fits h r now from (payload.Outrun file ballot seen) is fit =
-    either_renewing (same_ballot ballot r.ballot) _ _ (record { seats = tt; news = record { still_free = λ i. i; still_held = λ i. i } }) (ignores_fits h r is fit)
-renewal_fits h r now from _ is fit = ignores_fits h r is fit
+    either_renewing (same_ballot ballot r.ballot) _ _ (record { seats = tt; writes = tt; news = record { still_free = λ i. i; still_held = λ i. i } }) (ignores_fits h r (payload.Outrun file ballot seen) is fit)
+renewal_fits h r now from content is fit = ignores_fits h r content is fit
 
 holder_fits : (h : Held) (o : Option Round) (now : ℕ) (from : NodeId) (content : Payload) → h.renewal ≡ o → IfSeated o
-    → StepFits (held h) (let x = renewal_under o h now from content in record { state = held x.held; news = news_of_renewal o x.renewal })
-holder_fits h None now from content is fit = record { seats = subst IfSeated (sym is) tt; news = record { still_free = λ i. i; still_held = λ i. i } }
-holder_fits h (Some r) now from content is fit = let x = renewal_fits h r now from content is fit in record { seats = x.seats; news = x.news }
+    → StepFits (held h) content (let x = renewal_under o h now from content in record { state = held x.held; news = news_of_renewal o x.renewal })
+holder_fits h None now from content is fit = record { seats = subst IfSeated (sym is) tt; writes = tt; news = record { still_free = λ i. i; still_held = λ i. i } }
+holder_fits h (Some r) now from content is fit = let x = renewal_fits h r now from content is fit in record { seats = x.seats; writes = x.writes; news = x.news }
 
 -- What an answer makes of the lease.
-pub answer_fits : (l : LeaseState) (now : ℕ) (from : NodeId) (content : Payload) → IfSeated (running_round l) → StepFits l (on_answer l now from content)
-answer_fits (free p) now from content fit = record { seats = tt; news = record { still_free = λ i. i; still_held = λ i. i } }
+pub answer_fits : (l : LeaseState) (now : ℕ) (from : NodeId) (content : Payload) → IfSeated (running_round l) → StepFits l content (on_answer l now from content)
+answer_fits (free p) now from content fit = record { seats = tt; writes = tt; news = record { still_free = λ i. i; still_held = λ i. i } }
 answer_fits (asking r) now from content fit = asking_fits r now from content fit
 answer_fits (writing r) now from content fit = writing_fits r now from content fit
 answer_fits (held h) now from content fit = holder_fits h h.renewal now from content refl fit
