@@ -154,7 +154,7 @@ pub record IsWon (l m : LeaseState) : Type 0 where
 
 abbrev pub NewsFits : LeaseState → LeaseState → LeaseNews → Type 0
 NewsFits l m lease.nothing = GoesOn l m
-NewsFits l m (sends_write ballot x targets) = GoesOn l m × (are_distinct (pair_nodes targets) ≡ true)
+NewsFits l m (sends_write ballot x targets) = GoesOn l m × (are_distinct (pair_nodes targets) ≡ true) × (IsFree m → ⊥)
 NewsFits l m (holds end) = IsWon l m
 NewsFits l m (finds x) = IsOver l m
 NewsFits l m ends = IsOver l m
@@ -179,7 +179,7 @@ asked_fits r ballot x content p three fit = at p.took fit.took
     at : (took : Took) → TookFits took → StepFits (asking r) content (step_of_asking ballot x (asked_by took p.round))
     at ignored is = record { seats = fit.round; writes = tt; news = record { still_free = λ i. i; still_held = λ i. absurd i } }
     at counted is = record { seats = fit.round; writes = tt; news = record { still_free = λ i. i; still_held = λ i. absurd i } }
-    at (write_to targets) is = record { seats = fit.round; writes = three; news = (record { still_free = λ i. absurd i; still_held = λ i. absurd i }, is) }
+    at (write_to targets) is = record { seats = fit.round; writes = three; news = (record { still_free = λ i. absurd i; still_held = λ i. absurd i }, is, λ f. f) }
     at (alive found) is = record { seats = tt; writes = tt; news = record { unheld = λ i. i; free_now = tt } }
 
 asking_fits : (r : Round) (now : ℕ) (from : NodeId) (content : Payload) → IsSeated r → StepFits (asking r) content (asking_answered r now from content)
@@ -211,7 +211,7 @@ more_fits r content p three fit = at p.took fit.took
     at : (took : Took) → TookFits took → StepFits (writing r) content (record { state = writing p.round; news = news_of_targets r.ballot (lease_of r) (lease.targets_of took) })
     at ignored is = record { seats = fit.round; writes = tt; news = record { still_free = λ i. i; still_held = λ i. i } }
     at counted is = record { seats = fit.round; writes = tt; news = record { still_free = λ i. i; still_held = λ i. i } }
-    at (write_to targets) is = record { seats = fit.round; writes = three; news = (record { still_free = λ i. i; still_held = λ i. i }, is) }
+    at (write_to targets) is = record { seats = fit.round; writes = three; news = (record { still_free = λ i. i; still_held = λ i. i }, is, λ f. f) }
     at (alive found) is = record { seats = fit.round; writes = tt; news = record { still_free = λ i. i; still_held = λ i. i } }
 
 writing_fits : (r : Round) (now : ℕ) (from : NodeId) (content : Payload) → IsSeated r → StepFits (writing r) content (writing_answered r now from content)
@@ -241,7 +241,7 @@ renewed_fits h r content p three fit = at p.took fit.took
     at : (took : Took) → TookFits took → RenewingFits h r content (renewal_promised took h p.round)
     at ignored is = record { seats = fit.round; writes = tt; news = record { still_free = λ i. i; still_held = λ i. i } }
     at counted is = record { seats = fit.round; writes = tt; news = record { still_free = λ i. i; still_held = λ i. i } }
-    at (write_to targets) is = record { seats = fit.round; writes = three; news = (record { still_free = λ i. i; still_held = λ i. i }, is) }
+    at (write_to targets) is = record { seats = fit.round; writes = three; news = (record { still_free = λ i. i; still_held = λ i. i }, is, λ f. f) }
     at (alive found) is = record { seats = tt; writes = tt; news = record { still_free = λ i. i; still_held = λ i. i } }
 
 ignores_fits : (h : Held) (r : Round) (content : Payload) → h.renewal ≡ Some r → IsSeated r → RenewingFits h r content (lease.renewal_ignores h)

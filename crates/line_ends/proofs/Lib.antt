@@ -9,3 +9,4 @@ pub mod Serving
 pub mod Following
 pub mod Leases
 pub mod Files
+pub mod Messages

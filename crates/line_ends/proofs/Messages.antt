@@ -1,0 +1,355 @@
+-- what a message that concerns a file comes to at its node, and how much less is left where it was the node's own
+use Rattle.std.proofs.Common.{◌≡◌, ℕ, ◌≤◌, ◌+◌, ◌*◌, ◌⊎◌, inl, inr, Bool, true, false, List, [], ◌∷◌, ◌++◌, map, length, refl, sym, ap, ap₂, subst, ◌∙◌, arith, Option, Some, None, is_some, le_refl, le_trans, append-nil}
+use Rattle.std.specs.Prelude.{◌&&◌, ◌||◌, not, cond, ◌==◌}
+use Rattle.std.proofs.lemmas.Bool.{and_parts, eqb-true}
+use Rattle.xt_base.specs.MemberList.{has_node, are_distinct}
+use Rattle.xt_base.specs.declared.ids.NodeId.{NodeId}
+use Rattle.xt_base.specs.declared.ids.Boot.{Boot}
+use Rattle.xt_base.specs.declared.ids.Ballot.{Ballot}
+use Rattle.xt_base.specs.declared.ids.Lease.{Lease}
+use Rattle.xt_base.specs.declared.file.ObjectVersion.{ObjectVersion}
+use Rattle.xt_base.specs.declared.message.Msg.{Msg}
+use Rattle.xt_base.specs.declared.message.Payload.{Payload}
+use Rattle.xt_base.specs.declared.message.Payload.TheVariants as payload
+use Rattle.xt_base.specs.declared.record.FileRow.{FileRow}
+use Rattle.xt_base.specs.declared.record.Record.{Record}
+use Rattle.xt_base.specs.declared.reply.Reply.{Reply}
+use Rattle.xt_base.specs.declared.reply.Reply.TheVariants as reply
+use Rattle.xt_base.specs.declared.event.Mark.TheVariants as mark
+use Rattle.xt_protocol.specs.declared.Turned.{Turned}
+use Rattle.xt_protocol.specs.Register.{ReadAnswer, promise, read_refused, WriteAnswer, accepted, write_refused, other_boot, on_read, on_write}
+use Rattle.xt_protocol.specs.LeaseRows.{LeaseState, free, asking, writing, held, LeaseNews, LeaseStep, sends_write, holds, finds, ends, on_answer}
+use Rattle.xt_protocol.specs.LeaseRows as lease
+use Rattle.lease_runs.proofs.Tests.{when}
+use Rattle.osd_rows.specs.declared.Acted.{Acted}
+use Rattle.osd_rows.specs.declared.Asks.{Asks}
+use Rattle.osd_rows.specs.declared.Place.{Place}
+use Rattle.osd_rows.specs.declared.Tenure.{Tenure}
+use Rattle.osd_rows.specs.Turns.{quiet, sends, shows, message, joined, the_record}
+use Rattle.osd_rows.specs.ReplicaRows.{kept_after, gathered, fetched_from, staged, headed, updated}
+use Rattle.osd_rows.specs.Primaries.{Led, if_any, is_ready, issued_by, nodes_of}
+use Rattle.osd_rows.specs.PrimaryRows.{epoch_drawn, epoch_told, hears, hears_in}
+use Rattle.osd_rows.specs.Asks.{Served, asks_follow, asks_behind, WAITING}
+use Rattle.osd_rows.specs.FileStates.{FileState, Site, FileStep, nothing, steps_to, and_then, serves_to, members_of, ground_of}
+use Rattle.osd_rows.specs.FileLeases.{read_comes, write_comes, answer_comes, answer_to_read, answers_to_write, end_after_write, end_after_answer, lease_news, waiting_told, live_lease, lease_held, led_on, leads_to, running_round}
+use Rattle.osd_rows.specs.FileSteps.{replica_acts, primary_hears, message_comes}
+use Rattle.osd_invariants.specs.Sound.{IsHeld, IsSound, PeersAre}
+use Rattle.cluster_runs.specs.NodeSteps.{to_itself}
+use Rattle.world_ends.proofs.PrimaryIds.{ProgressIs}
+use Rattle.line_ends.specs.Weights.{asks_left, epoch_left, is_lease, lease_rank, rank, stand_of, tenure_left}
+use Rattle.line_ends.specs.Chains.{HeadStands, IfMessage, IfTenure, IsLacking, Stands}
+use Rattle.line_ends.proofs.Tests.{false_true, not_both}
+use Rattle.line_ends.proofs.Moves.{Moves, moves_none, if_moves}
+use Rattle.line_ends.proofs.Mine.{token, mine-append, mine-if, mine-one}
+use Rattle.line_ends.proofs.Rows.{Body, ground, IfLeads, Row, Next, plain, readied, left, one_if, draws}
+use Rattle.line_ends.proofs.Replicas.{Acts, IfLess, gather_acts, stage_acts, head_acts, update_acts}
+use Rattle.line_ends.proofs.Hearing.{IsApart, limit, rank_some, epoch_heard}
+use Rattle.line_ends.proofs.Following.{burden, Followed, follow, with_asks, behind_left}
+use Rattle.line_ends.proofs.Leases.{GoesOn, IfSeated, IsFree, IsLeaseOf, IsOver, IsWon, NewsFits, WritesBehind, StepFits, answer_fits, one_write, OneWrite, write_for}
+use Rattle.line_ends.proofs.Files.{FileStands, chain_weight, IsLed, IfLed, none_left, Settles, leaves, tells_mine}
+
+-- ---- what a step owes
+
+abbrev pub lease_of : Option Payload → ℕ
+lease_of None = 0
+lease_of (Some content) = lease_rank content
+
+-- The file stands, and at most one message of the lease and one of the primary go to the own node.
+pub record Gives (n : NodeId) (from : NodeId) (s : FileState) (step : FileStep) : Type 0 where
+  pub head : HeadStands step.state.kept.head
+  pub moves : Moves s.kept.head step.state.kept.head
+  pub tenure : IfTenure n step.state.kept.head step.state.primary.tenure
+  pub seats : IfSeated (running_round step.state.lease)
+  pub few : asks_left step.state.asks ≤ WAITING + 1
+  pub told : Option Payload
+  pub sent : Option Payload
+  pub outs : to_itself n step.turned.outs ≡ token n sent ++ token n told
+  pub told_is : IsLeaseOf 4 told
+  pub stands : IfMessage step.state.kept sent
+  pub led : (from.0 ≡ n.0 → IsLed s) → IfLed sent step.state
+  -- without a lease and a round none goes there, unless one came from there
+  pub idle : (from.0 == n.0) ≡ false → IsFree step.state.lease → (told ≡ None) × (sent ≡ None)
+
+-- less is left behind a message of the lease: alone, and beside one of the primary, which stays as it is
+pub record LeaseLess (n : NodeId) (s : FileState) (content : Payload) (step : FileStep) (told sent : Option Payload) : Type 0 where
+  pub alone : chain_weight n step.state sent + lease_of told + 1 ≤ chain_weight n s None + lease_rank content
+  pub sent_none : IsLed s → sent ≡ None
+  pub still_led : IsLed s → IsLed step.state
+  pub kept : IsLed s → step.state.kept ≡ s.kept
+  pub beside : (c : Payload) → IsLed s → chain_weight n step.state (Some c) + lease_of told + 1 ≤ chain_weight n s (Some c) + lease_rank content
+
+-- less is left behind a message of the primary
+pub record PrimaryLess (n : NodeId) (s : FileState) (content : Payload) (step : FileStep) (told sent : Option Payload) : Type 0 where
+  pub told_none : told ≡ None
+  pub less : chain_weight n step.state sent + 1 ≤ chain_weight n s (Some content)
+
+abbrev pub Less : Bool → NodeId → FileState → Payload → FileStep → Option Payload → Option Payload → Type 0
+Less true n s content step told sent = LeaseLess n s content step told sent
+Less false n s content step told sent = IsLacking s.kept content → IsLed s → PrimaryLess n s content step told sent
+
+pub record Comes (n : NodeId) (from : NodeId) (content : Payload) (s : FileState) (step : FileStep) : Type 0 where
+  pub gives : Gives n from s step
+  pub less : from.0 ≡ n.0 → Less (is_lease content) n s content step gives.told gives.sent
+
+-- ---- steps that leave the primary as it is
+
+weaker : (k : ℕ) (o : Option Payload) → k ≤ 4 → IsLeaseOf k o → IsLeaseOf 4 o
+weaker k None low is = tt
+weaker k (Some content) low is = (is.0, le_trans is.1 low)
+
+lease_low : (k : ℕ) (o : Option Payload) → IsLeaseOf k o → lease_of o ≤ k
+lease_low k None is = omega arith
+lease_low k (Some content) is = is.1
+
+-- one that sends at most this message of the lease
+settled_gives : (n from : NodeId) (s : FileState) (step : FileStep) (told : Option Payload) (k : ℕ) → FileStands n s → Settles n s step → to_itself n step.turned.outs ≡ token n told → IsLeaseOf k told → k ≤ 4
+    → ((from.0 == n.0) ≡ false → IsFree step.state.lease → told ≡ None) → Gives n from s step
+settled_gives n from s step told k stands q outs told_is low idle =
+    record {
+      head = subst (λ (r : FileRow). HeadStands r.head) (sym q.kept) stands.head;
+      moves = moves_none s.kept.head step.state.kept.head (ap (λ (r : FileRow). r.head) q.kept);
+      tenure = subst (λ (r : FileRow). IfTenure n r.head step.state.primary.tenure) (sym q.kept) q.tenure;
+      seats = q.seats;
+      few = le_trans q.few stands.few;
+      told = told;
+      sent = None;
+      outs = outs;
+      told_is = weaker k told low told_is;
+      stands = tt;
+      led = λ mine. tt;
+      idle = λ other is. (idle other is, refl);
+    }
+
+settled_less : (n : NodeId) (s : FileState) (content : Payload) (step : FileStep) (told : Option Payload) (k : ℕ) → Settles n s step → IsLeaseOf k told → k + 1 ≤ lease_rank content → LeaseLess n s content step told None
+settled_less n s content step told k q told_is low =
+    let few = lease_low k told told_is in
+    record {
+      alone = let less = q.lighter None tt in omega (arith, less, few, low);
+      sent_none = λ led. refl;
+      still_led = λ led. q.led (Some content) led;
+      kept = λ led. q.kept;
+      beside = λ c led. let less = q.lighter (Some c) led in omega (arith, less, few, low);
+    }
+
+-- ---- the register
+
+module _ (site : Site) (s : FileState) (from : NodeId) (stands : FileStands site.node s) where
+  same_leaves : (step : FileStep) → step.state.kept ≡ s.kept → step.state.primary.tenure ≡ s.primary.tenure → step.state.lease ≡ s.lease → step.state.asks ≡ s.asks → Settles site.node s step
+  same_leaves step kept tenure same asks =
+      leaves site.node s step stands.tenure kept tenure (subst (λ (l : LeaseState). IfSeated (running_round l)) (sym same) stands.seats) (few (ap asks_left asks)) (λ f. subst IsFree (sym same) f) (λ h. subst IsHeld (sym same) h)
+    where
+      few : {a b : ℕ} → a ≡ b → a ≤ b
+      few is = omega (arith, is)
+
+  no_own : (answer : Option Payload) → (from.0 == site.node.0) ≡ false → cond (from.0 == site.node.0) answer None ≡ None
+  no_own answer other = ap (λ (b : Bool). cond b answer None) other
+
+  if_own : (b : Bool) (k : ℕ) (o : Option Payload) → IsLeaseOf k o → IsLeaseOf k (cond b o None)
+  if_own true k o is = is
+  if_own false k o is = tt
+
+  pub read_given : (content : Payload) (ballot : Ballot) → is_lease content ≡ true → 4 ≤ lease_rank content → Comes site.node from content s (read_comes site s from ballot)
+  unfolding read_comes settled_gives
+  read_given content ballot is_one four =
+      let answer = answer_to_read s.kept.file s.acceptor.boot ballot (on_read s.acceptor ballot).answer in
+      let told = cond (from.0 == site.node.0) (Some answer) None in
+      let step = read_comes site s from ballot in
+      let q = same_leaves (read_comes site s from ballot) refl refl refl refl in
+      let low = if_own (from.0 == site.node.0) 3 (Some answer) (three (on_read s.acceptor ballot).answer) in
+      record {
+        gives = settled_gives site.node from s (read_comes site s from ballot) told 3 stands q (mine-one site.node from answer) low (omega arith) (λ other free_now. no_own (Some answer) other);
+        less = λ mine. subst (λ (b : Bool). Less b site.node s content (read_comes site s from ballot) told None) (sym is_one) (settled_less site.node s content (read_comes site s from ballot) told 3 q low four);
+      }
+    where
+      three : (a : ReadAnswer) → IsLeaseOf 3 (Some (answer_to_read s.kept.file s.acceptor.boot ballot a))
+      three (promise report) = (refl, le_refl 3)
+      three (read_refused seen) = (refl, omega arith)
+
+  -- what answers a Write of the own node
+  abbrev written_to : Ballot → Boot → WriteAnswer → Option Payload
+  written_to ballot boot accepted = cond (from.0 == site.node.0) (Some (payload.Accepted s.kept.file ballot boot)) None
+  written_to ballot boot (write_refused seen) = cond (from.0 == site.node.0) (Some (payload.Outrun s.kept.file ballot seen)) None
+  written_to ballot boot other_boot = None
+
+  written_outs : (ballot : Ballot) (boot : Boot) (a : WriteAnswer) → to_itself site.node (answers_to_write site s from ballot boot a) ≡ token site.node (written_to ballot boot a)
+  written_outs ballot boot accepted = mine-one site.node from (payload.Accepted s.kept.file ballot boot)
+  written_outs ballot boot (write_refused seen) = mine-one site.node from (payload.Outrun s.kept.file ballot seen)
+  written_outs ballot boot other_boot = refl
+
+  written_low : (ballot : Ballot) (boot : Boot) (a : WriteAnswer) → IsLeaseOf 1 (written_to ballot boot a)
+  written_low ballot boot accepted = if_own (from.0 == site.node.0) 1 (Some (payload.Accepted s.kept.file ballot boot)) (refl, le_refl 1)
+  written_low ballot boot (write_refused seen) = if_own (from.0 == site.node.0) 1 (Some (payload.Outrun s.kept.file ballot seen)) (refl, le_refl 1)
+  written_low ballot boot other_boot = tt
+
+  written_none : (ballot : Ballot) (boot : Boot) (a : WriteAnswer) → (from.0 == site.node.0) ≡ false → written_to ballot boot a ≡ None
+  written_none ballot boot accepted other = no_own (Some (payload.Accepted s.kept.file ballot boot)) other
+  written_none ballot boot (write_refused seen) other = no_own (Some (payload.Outrun s.kept.file ballot seen)) other
+  written_none ballot boot other_boot other = refl
+
+  pub write_given : (content : Payload) (ballot : Ballot) (boot : Boot) (x : Lease) → is_lease content ≡ true → 2 ≤ lease_rank content → Comes site.node from content s (write_comes site s from ballot boot x)
+  unfolding write_comes settled_gives
+  write_given content ballot boot x is_one two =
+      let answer = (on_write s.acceptor ballot boot x).answer in
+      let q = same_leaves (write_comes site s from ballot boot x) refl refl refl refl in
+      let told = written_to ballot boot answer in
+      let low = written_low ballot boot answer in
+      record {
+        gives = settled_gives site.node from s (write_comes site s from ballot boot x) told 1 stands q (written_outs ballot boot answer) low (omega arith) (λ other free_now. written_none ballot boot answer other);
+        less = λ mine. subst (λ (b : Bool). Less b site.node s content (write_comes site s from ballot boot x) told None) (sym is_one) (settled_less site.node s content (write_comes site s from ballot boot x) told 1 q low two);
+      }
+
+  -- ---- answers to the round
+
+  -- nothing is told to the own node
+  quiet_comes : (content : Payload) (step : FileStep) → is_lease content ≡ true → 1 ≤ lease_rank content → Settles site.node s step → to_itself site.node step.turned.outs ≡ [] → Comes site.node from content s step
+  unfolding settled_gives
+  quiet_comes content step is_one one q outs =
+      record {
+        gives = settled_gives site.node from s step None 0 stands q outs tt (omega arith) (λ other free_now. refl);
+        less = λ mine. subst (λ (b : Bool). Less b site.node s content step None None) (sym is_one) (settled_less site.node s content step None 0 q tt one);
+      }
+
+  told_off : (content : Payload) (l : LeaseState) (end : ℕ) (answer : Reply) → is_lease content ≡ true → 1 ≤ lease_rank content → IsOver s.lease l → Comes site.node from content s (waiting_told site (record s { lease = l; last_end = end }) answer)
+  told_off content l end answer is_one one over =
+      quiet_comes content (waiting_told site (record s { lease = l; last_end = end }) answer) is_one one
+      (leaves site.node s (waiting_told site (record s { lease = l; last_end = end }) answer) stands.tenure refl refl (seated l over.free_now) fewer (λ f. over.free_now) (λ h. absurd (over.unheld h)))
+      (tells_mine site.node s.kept.file s.asks.waiting answer stands.ids.asks.waiting)
+    where
+      seated : (l : LeaseState) → IsFree l → IfSeated (running_round l)
+      seated (free p) is = tt
+      seated (asking r) is = absurd is
+      seated (writing r) is = absurd is
+      seated (held h) is = absurd is
+
+      fewer : asks_left (record s.asks { waiting = [] }) ≤ asks_left s.asks
+      fewer = omega arith
+
+  not_free_left : (l : LeaseState) (asks : Asks) → (IsFree l → ⊥) → tenure_left l None asks ≡ 6 + 2 * asks_left asks
+  not_free_left (free p) asks never = absurd (never tt)
+  not_free_left (asking r) asks never = refl
+  not_free_left (writing r) asks never = refl
+  not_free_left (held h) asks never = refl
+
+  held_left : (l : LeaseState) (o : Option Tenure) (kept : FileRow) (asks : Asks) (sent : Option Payload) (t : FileState) → IsHeld l → t.lease ≡ l → t.primary.tenure ≡ o → t.kept ≡ kept → t.asks ≡ asks → chain_weight site.node t sent ≡ burden site.node sent kept o asks
+  held_left l o kept asks None t is lease_is tenure_is kept_is asks_is =
+      ap (λ (l : LeaseState). tenure_left l t.primary.tenure t.asks) lease_is ∙ ap (λ (o : Option Tenure). tenure_left l o t.asks) tenure_is ∙ ap (λ (a : Asks). tenure_left l o a) asks_is ∙ at l o is
+    where
+      at : (l : LeaseState) (o : Option Tenure) → IsHeld l → tenure_left l o asks ≡ burden site.node None kept o asks
+      at (held h) None is = refl
+      at (held h) (Some t) is = refl
+      at (free p) o is = absurd is
+      at (asking r) o is = absurd is
+      at (writing r) o is = absurd is
+  held_left l o kept asks (Some content) t is lease_is tenure_is kept_is asks_is =
+      ap (λ (k : FileRow). epoch_left k t.primary.tenure + 2 * asks_left t.asks + rank (stand_of site.node k t.primary.tenure) content) kept_is
+      ∙ ap (λ (o : Option Tenure). epoch_left kept o + 2 * asks_left t.asks + rank (stand_of site.node kept o) content) tenure_is
+      ∙ ap (λ (a : Asks). epoch_left kept o + 2 * asks_left a + rank (stand_of site.node kept o) content) asks_is
+
+  -- an idle primary draws its epoch
+  won_idle : (content : Payload) (l : LeaseState) (end : ℕ) → is_lease content ≡ true → 1 ≤ lease_rank content → s.primary.tenure ≡ None → IsWon s.lease l → IfSeated (running_round l) → are_distinct (members_of s.kept.location) ≡ true
+      → Comes site.node from content s (and_then (steps_to (record s { lease = l; last_end = end }) (shows (mark.Held s.kept.file.number end))) (λ state. led_on site state None))
+  won_idle content l end is_one one none won seats apart =
+      record {
+        gives = record {
+          head = q.head;
+          moves = q.moves;
+          tenure = q.tenure;
+          seats = seats;
+          few = stands.few;
+          told = None;
+          sent = q.sent;
+          outs = q.outs ∙ sym (append-nil (token site.node q.sent));
+          told_is = tt;
+          stands = q.stands;
+          led = λ mine. led_by q.sent q.leads;
+          idle = λ other is. absurd (not_both_ways l is won.held_now);
+        };
+        less = λ mine. subst (λ (b : Bool). Less b site.node s content (and_then (steps_to (record s { lease = l; last_end = end }) (shows (mark.Held s.kept.file.number end))) (λ state. led_on site state None)) None q.sent) (sym is_one) less;
+      }
+    where
+      place : Place
+      place = (ground_of site s).place
+
+      led : Led
+      led = epoch_drawn (ground_of site s).place s.primary.learnt s.kept.head (members_of s.kept.location)
+
+      q : Row site.node s.kept None (Unit {0}) 7 (epoch_drawn (ground_of site s).place s.primary.learnt s.kept.head (members_of s.kept.location))
+      q = draws (ground_of site s).place s.kept s.primary.learnt (members_of s.kept.location) None (Unit {0}) 7 apart stands.head (λ own. le_refl 7)
+
+      not_both_ways : (l : LeaseState) → IsFree l → IsHeld l → ⊥
+      not_both_ways (free p) f h = h
+      not_both_ways (asking r) f h = f
+      not_both_ways (writing r) f h = f
+      not_both_ways (held p) f h = f
+
+      led_by : (sent : Option Payload) → IfLeads sent (epoch_drawn (ground_of site s).place s.primary.learnt s.kept.head (members_of s.kept.location)).primary.tenure
+          → IfLed sent (and_then (steps_to (record s { lease = l; last_end = end }) (shows (mark.Held s.kept.file.number end))) (λ state. led_on site state None)).state
+      led_by None is = tt
+      led_by (Some c) is = inr (won.held_now, is)
+
+      unled : IsLed s → ⊥
+      unled (inl f) = won.not_free f
+      unled (inr h) = false_true (ap (λ (o : Option Tenure). is_some o) (sym none) ∙ h.1)
+
+      low : burden site.node q.sent (kept_after s.kept led.turned.rec) led.primary.tenure s.asks + 1 ≤ 7 + 2 * asks_left s.asks
+      low = at q.next
+        where
+          ready_some : (o : Option Tenure) → is_ready o ≡ true → burden site.node None (kept_after s.kept led.turned.rec) o s.asks ≡ 0
+          ready_some None is = absurd (false_true is)
+          ready_some (Some t) is = refl
+
+          at : Next site.node s.kept None (Unit {0}) 7 led q.sent → burden site.node q.sent (kept_after s.kept led.turned.rec) led.primary.tenure s.asks + 1 ≤ 7 + 2 * asks_left s.asks
+          at (plain is room) = with_asks site.node q.sent (kept_after s.kept led.turned.rec) led.primary.tenure s.asks 7 (asks_left s.asks) (room tt) (le_refl (asks_left s.asks))
+          at (readied is rec nothing_sent room) =
+              let zero = ap (λ (o : Option Payload). burden site.node o (kept_after s.kept led.turned.rec) led.primary.tenure s.asks) nothing_sent ∙ ready_some led.primary.tenure (and_parts (is_ready led.primary.tenure) true is).0 in
+              omega (arith, zero)
+
+      less : LeaseLess site.node s content (and_then (steps_to (record s { lease = l; last_end = end }) (shows (mark.Held s.kept.file.number end))) (λ state. led_on site state None)) None q.sent
+      less =
+          let step = and_then (steps_to (record s { lease = l; last_end = end }) (shows (mark.Held s.kept.file.number end))) (λ state. led_on site state None) in
+          let before : tenure_left s.lease s.primary.tenure s.asks ≡ 6 + 2 * asks_left s.asks = ap (λ (o : Option Tenure). tenure_left s.lease o s.asks) none ∙ not_free_left s.lease s.asks won.not_free in
+          let now = held_left l led.primary.tenure (kept_after s.kept led.turned.rec) s.asks q.sent (and_then (steps_to (record s { lease = l; last_end = end }) (shows (mark.Held s.kept.file.number end))) (λ state. led_on site state None)).state won.held_now refl refl refl refl in
+          let fewer = low in
+          record {
+            alone = omega (arith, before, now, fewer, one);
+            sent_none = λ is. absurd (unled is);
+            still_led = λ is. absurd (unled is);
+            kept = λ is. absurd (unled is);
+            beside = λ c is. absurd (unled is);
+          }
+
+  won : (content : Payload) (l : LeaseState) (end : ℕ) (o : Option Tenure) → is_lease content ≡ true → 1 ≤ lease_rank content → s.primary.tenure ≡ o → IsWon s.lease l → IfSeated (running_round l) → are_distinct (members_of s.kept.location) ≡ true
+      → Comes site.node from content s (and_then (steps_to (record s { lease = l; last_end = end }) (shows (mark.Held s.kept.file.number end))) (λ state. led_on site state o))
+  won content l end None is_one one is wins seats apart = won_idle content l end is_one one is wins seats apart
+  won content l end (Some t) is_one one is wins seats apart =
+      quiet_comes content (and_then (steps_to (record s { lease = l; last_end = end }) (shows (mark.Held s.kept.file.number end))) (λ state. led_on site state (Some t))) is_one one
+      (leaves site.node s (and_then (steps_to (record s { lease = l; last_end = end }) (shows (mark.Held s.kept.file.number end))) (λ state. led_on site state (Some t))) stands.tenure refl refl seats (le_refl (asks_left s.asks)) (λ f. absurd (wins.not_free f)) (λ h. wins.held_now))
+      refl
+
+  news_comes : (content : Payload) (l : LeaseState) (end : ℕ) (news : LeaseNews) → is_lease content ≡ true → 1 ≤ lease_rank content → NewsFits s.lease l news → WritesBehind content news → IfSeated (running_round l) → are_distinct (members_of s.kept.location) ≡ true
+      → Comes site.node from content s (lease_news site (record s { lease = l; last_end = end }) news)
+  unfolding settled_gives
+  news_comes content l end lease.nothing is_one one fits writes seats apart =
+      quiet_comes content (nothing (record s { lease = l; last_end = end })) is_one one
+      (leaves site.node s (nothing (record s { lease = l; last_end = end })) stands.tenure refl refl seats (le_refl (asks_left s.asks)) fits.still_free fits.still_held) refl
+  news_comes content l end (sends_write ballot x targets) is_one one fits writes seats apart =
+      let q = leaves site.node s (lease_news site (record s { lease = l; last_end = end }) (sends_write ballot x targets)) stands.tenure refl refl seats (le_refl (asks_left s.asks)) fits.0.still_free fits.0.still_held in
+      let w = one_write site.node s.kept.file ballot x targets fits.1 in
+      record {
+        gives = settled_gives site.node from s (lease_news site (record s { lease = l; last_end = end }) (sends_write ballot x targets)) w.content 2 stands q w.is w.low (omega arith) (λ other free_now. absurd (fits.2 free_now));
+        less = λ mine. subst (λ (b : Bool). Less b site.node s content (lease_news site (record s { lease = l; last_end = end }) (sends_write ballot x targets)) w.content None) (sym is_one) (settled_less site.node s content (lease_news site (record s { lease = l; last_end = end }) (sends_write ballot x targets)) w.content 2 q w.low writes);
+      }
+  news_comes content l end (holds e) is_one one fits writes seats apart = won content l e s.primary.tenure is_one one refl fits seats apart
+  news_comes content l end (finds x) is_one one fits writes seats apart =
+      either_comes (x.node.0 == site.node.0) _ _ (told_off content l end (reply.NoLease end) is_one one fits) (told_off content l end (reply.Elsewhere x.node x.end) is_one one fits)
+    where
+      either_comes : (b : Bool) (p q : FileStep) → Comes site.node from content s p → Comes site.node from content s q → Comes site.node from content s (cond b p q)
+      either_comes true p q x y = x
+      either_comes false p q x y = y
+  news_comes content l end ends is_one one fits writes seats apart = told_off content l end (reply.NoLease end) is_one one fits
+
+  pub answer_given : (content : Payload) → is_lease content ≡ true → 1 ≤ lease_rank content → are_distinct (members_of s.kept.location) ≡ true → Comes site.node from content s (answer_comes site s from content)
+  unfolding answer_comes
+  answer_given content is_one one apart =
+      let fits = answer_fits s.lease site.now from content stands.seats in
+      news_comes content (on_answer s.lease site.now from content).state (end_after_answer site s from content) (on_answer s.lease site.now from content).news is_one one fits.news fits.writes fits.seats apart
