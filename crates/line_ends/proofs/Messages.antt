@@ -2,6 +2,7 @@
 use Rattle.std.proofs.Common.{◌≡◌, ℕ, ◌≤◌, ◌+◌, ◌*◌, ◌⊎◌, inl, inr, Bool, true, false, List, [], ◌∷◌, ◌++◌, map, length, refl, sym, ap, ap₂, subst, ◌∙◌, arith, Option, Some, None, is_some, le_refl, le_trans, append-nil}
 use Rattle.std.specs.Prelude.{◌&&◌, ◌||◌, not, cond, ◌==◌}
 use Rattle.std.proofs.lemmas.Bool.{and_parts, eqb-true}
+use Rattle.std.proofs.lemmas.Bool.Decides.{nat_tests}
 use Rattle.xt_base.specs.MemberList.{has_node, are_distinct}
 use Rattle.xt_base.specs.declared.ids.NodeId.{NodeId}
 use Rattle.xt_base.specs.declared.ids.Boot.{Boot}
@@ -33,9 +34,9 @@ use Rattle.osd_rows.specs.Asks.{Served, asks_follow, asks_behind, WAITING}
 use Rattle.osd_rows.specs.FileStates.{FileState, Site, FileStep, nothing, steps_to, and_then, serves_to, members_of, ground_of}
 use Rattle.osd_rows.specs.FileLeases.{read_comes, write_comes, answer_comes, answer_to_read, answers_to_write, end_after_write, end_after_answer, lease_news, waiting_told, live_lease, lease_held, led_on, leads_to, running_round}
 use Rattle.osd_rows.specs.FileSteps.{replica_acts, primary_hears, message_comes}
-use Rattle.osd_invariants.specs.Sound.{IsHeld, IsSound, PeersAre}
+use Rattle.osd_invariants.specs.Sound.{AreOne, IsHeld, IsSound, PeersAre}
 use Rattle.cluster_runs.specs.NodeSteps.{to_itself}
-use Rattle.world_ends.proofs.PrimaryIds.{ProgressIs}
+use Rattle.world_ends.proofs.PrimaryIds.{ProgressIs, TenureIs}
 use Rattle.line_ends.specs.Weights.{asks_left, epoch_left, is_lease, lease_rank, rank, stand_of, tenure_left}
 use Rattle.line_ends.specs.Chains.{HeadStands, IfMessage, IfTenure, IsLacking, Stands}
 use Rattle.line_ends.proofs.Tests.{false_true, not_both}
@@ -353,3 +354,252 @@ module _ (site : Site) (s : FileState) (from : NodeId) (stands : FileStands site
   answer_given content is_one one apart =
       let fits = answer_fits s.lease site.now from content stands.seats in
       news_comes content (on_answer s.lease site.now from content).state (end_after_answer site s from content) (on_answer s.lease site.now from content).news is_one one fits.news fits.writes fits.seats apart
+
+  -- ---- the replica
+
+  -- a message of the primary weighs something
+  weighs : (content : Payload) → 1 ≤ chain_weight site.node s (Some content)
+  weighs content = let one = rank_some (stand_of site.node s.kept s.primary.tenure) content in omega (arith, one)
+
+  not_own : (from.0 == site.node.0) ≡ false → from.0 ≡ site.node.0 → ⊥
+  not_own other mine = false_true (sym other ∙ itself from.0 site.node.0 mine)
+    where
+      itself : (a b : ℕ) → a ≡ b → (a == b) ≡ true
+      itself a b is = grind (arith, nat_tests)
+
+  acted_given : (content : Payload) (acted : Acted) → is_lease content ≡ false → Acts site.node s.kept from content acted → Comes site.node from content s (replica_acts site s from acted)
+  acted_given content acted is_primary acts = at (from.0 == site.node.0) refl
+    where
+      step : FileStep
+      step = replica_acts site s from acted
+
+      outs_are : (b : Bool) → (from.0 == site.node.0) ≡ b → to_itself site.node (if_any site.node from acted.answer) ≡ token site.node (cond b acted.answer None) ++ []
+      outs_are b is = mine-if site.node from acted.answer ∙ ap (λ (c : Bool). token site.node (cond c acted.answer None)) is ∙ sym (append-nil (token site.node (cond b acted.answer None)))
+
+      tenure : IfTenure site.node (kept_after s.kept acted.rec).head s.primary.tenure
+      tenure = if_moves site.node s.kept.head (kept_after s.kept acted.rec).head s.primary.tenure acts.moves stands.tenure
+
+      led_by : (o : Option Payload) → IsLed s → IfLed o (replica_acts site s from acted).state
+      led_by None is = tt
+      led_by (Some c) is = is
+
+      lower : (o : Option Payload) → IfLess site.node s.kept (kept_after s.kept acted.rec) content o → IsLed s → chain_weight site.node (replica_acts site s from acted).state o + 1 ≤ chain_weight site.node s (Some content)
+      lower None less led = (let zero = none_left s led in let one = weighs content in omega (arith, zero, one))
+      lower (Some c) less led = (let low = less s.primary.tenure in omega (arith, low))
+
+      at : (b : Bool) → (from.0 == site.node.0) ≡ b → Comes site.node from content s (replica_acts site s from acted)
+      at true is =
+          let mine = eqb-true from.0 site.node.0 is in
+          record {
+            gives = record {
+              head = acts.head;
+              moves = acts.moves;
+              tenure = tenure;
+              seats = stands.seats;
+              few = stands.few;
+              told = None;
+              sent = acted.answer;
+              outs = outs_are true is;
+              told_is = tt;
+              stands = acts.stands mine;
+              led = λ led. led_by acted.answer (led mine);
+              idle = λ other free_now. not_both (from.0 == site.node.0) is other;
+            };
+            less = λ own. subst (λ (b : Bool). Less b site.node s content (replica_acts site s from acted) None acted.answer) (sym is_primary) (λ lacking led. record { told_none = refl; less = lower acted.answer (acts.less mine) led });
+          }
+      at false other =
+          record {
+            gives = record {
+              head = acts.head;
+              moves = acts.moves;
+              tenure = tenure;
+              seats = stands.seats;
+              few = stands.few;
+              told = None;
+              sent = None;
+              outs = outs_are false other;
+              told_is = tt;
+              stands = tt;
+              led = λ led. tt;
+              idle = λ o free_now. (refl, refl);
+            };
+            less = λ own. absurd (not_own other own);
+          }
+
+  -- a step of which nothing comes
+  nothing_gives : Gives site.node from s (nothing s)
+  nothing_gives =
+      record {
+        head = stands.head;
+        moves = moves_none s.kept.head s.kept.head refl;
+        tenure = stands.tenure;
+        seats = stands.seats;
+        few = stands.few;
+        told = None;
+        sent = None;
+        outs = refl;
+        told_is = tt;
+        stands = tt;
+        led = λ led. tt;
+        idle = λ other free_now. (refl, refl);
+      }
+
+  nothing_comes : (content : Payload) → is_lease content ≡ false → Comes site.node from content s (nothing s)
+  unfolding nothing_gives
+  nothing_comes content is_primary =
+      record {
+        gives = nothing_gives;
+        less = λ own. subst (λ (b : Bool). Less b site.node s content (nothing s) None None) (sym is_primary)
+            (λ lacking led. record { told_none = refl; less = let zero = none_left s led in let one = weighs content in omega (arith, zero, one) });
+      }
+
+  -- a body is asked for by another node
+  fetch_given : (content answer : Payload) → is_lease content ≡ false → (from.0 ≡ site.node.0 → ⊥) → Comes site.node from content s (steps_to s (sends (message site.node from answer ∷ [])))
+  fetch_given content answer is_primary never = at (from.0 == site.node.0) refl
+    where
+      at : (b : Bool) → (from.0 == site.node.0) ≡ b → Comes site.node from content s (steps_to s (sends (message site.node from answer ∷ [])))
+      at true is = absurd (never (eqb-true from.0 site.node.0 is))
+      at false other =
+          record {
+            gives = record {
+              head = stands.head;
+              moves = moves_none s.kept.head s.kept.head refl;
+              tenure = stands.tenure;
+              seats = stands.seats;
+              few = stands.few;
+              told = None;
+              sent = None;
+              outs = mine-one site.node from answer ∙ ap (λ (b : Bool). token site.node (cond b (Some answer) None)) other;
+              told_is = tt;
+              stands = tt;
+              led = λ led. tt;
+              idle = λ o free_now. (refl, refl);
+            };
+            less = λ own. absurd (never own);
+          }
+
+  -- ---- the primary
+
+  module _ (sound : IsSound s) (apart : are_distinct (members_of s.kept.location) ≡ true) where
+    heard_at : (content : Payload) (l : LeaseState) (o : Option Tenure) → is_lease content ≡ false → (from.0 ≡ site.node.0 → Stands s.kept content) → s.lease ≡ l → IsHeld l → s.primary.tenure ≡ o
+        → Comes site.node from content s (serves_to s (asks_follow (ground_of site s) o s.asks (hears_in (ground_of site s) s.primary.learnt o from content)))
+    heard_at content l None is_primary heard lease_is is_held is =
+        record {
+          gives = record {
+            head = stands.head;
+            moves = moves_none s.kept.head s.kept.head refl;
+            tenure = tt;
+            seats = stands.seats;
+            few = few (behind_left None s.asks);
+            told = None;
+            sent = None;
+            outs = refl;
+            told_is = tt;
+            stands = tt;
+            led = λ led. tt;
+            idle = λ other free_now. (refl, refl);
+          };
+          less = λ own. subst (λ (b : Bool). Less b site.node s content (serves_to s (asks_follow (ground_of site s) None s.asks (hears_in (ground_of site s) s.primary.learnt None from content))) None None) (sym is_primary) (λ lacking led. absurd (unled led));
+        }
+      where
+        few : asks_left (asks_behind None s.asks) ≡ asks_left s.asks → asks_left (asks_behind None s.asks) ≤ WAITING + 1
+        few same = let low = stands.few in omega (arith, low, same)
+
+        free_held : (l : LeaseState) → IsFree l → IsHeld l → ⊥
+        free_held (free p) f h = h
+        free_held (asking r) f h = f
+        free_held (writing r) f h = f
+        free_held (held p) f h = f
+
+        unled : IsLed s → ⊥
+        unled (inl f) = free_held l (subst IsFree lease_is f) is_held
+        unled (inr h) = false_true (ap (λ (o : Option Tenure). is_some o) (sym is) ∙ h.1)
+    heard_at content l (Some t) is_primary heard lease_is is_held is =
+        record {
+          gives = record {
+            head = f.head;
+            moves = f.moves;
+            tenure = f.tenure;
+            seats = stands.seats;
+            few = le_trans f.few stands.few;
+            told = None;
+            sent = f.sent;
+            outs = f.outs ∙ sym (append-nil (token site.node f.sent));
+            told_is = tt;
+            stands = f.stands;
+            led = λ led. led_by f.sent f.leads;
+            idle = λ other free_now. absurd (free_held l (subst IsFree lease_is free_now) is_held);
+          };
+          less = λ own. subst (λ (b : Bool). Less b site.node s content (serves_to s (asks_follow (ground_of site s) (Some t) s.asks (hears_in (ground_of site s) s.primary.learnt (Some t) from content))) None f.sent) (sym is_primary)
+              (λ lacking led. record { told_none = refl; less = lower own lacking });
+        }
+      where
+        free_held : (l : LeaseState) → IsFree l → IsHeld l → ⊥
+        free_held (free p) f h = h
+        free_held (asking r) f h = f
+        free_held (writing r) f h = f
+        free_held (held p) f h = f
+
+        place : Place
+        place = (ground_of site s).place
+
+        served : Served
+        served = asks_follow (ground_of site s) (Some t) s.asks (hears_in (ground_of site s) s.primary.learnt (Some t) from content)
+
+        peers_apart : are_distinct (nodes_of t.peers) ≡ true
+        peers_apart = ap are_distinct (subst (λ (o : Option Tenure). PeersAre (members_of s.kept.location) o) is sound.peers) ∙ apart
+
+        f : Followed site.node s.kept s.asks ((from.0 ≡ site.node.0) × IsLacking s.kept content) (epoch_left s.kept (Some t) + rank (stand_of site.node s.kept (Some t)) content)
+            (asks_follow (ground_of site s) (Some t) s.asks (hears_in (ground_of site s) s.primary.learnt (Some t) from content))
+        f =
+            follow (ground_of site s).place s.kept (site.body s.kept.file) (Some t) s.asks ((from.0 ≡ site.node.0) × IsLacking s.kept content) (epoch_left s.kept (Some t) + rank (stand_of site.node s.kept (Some t)) content)
+            stands.ids.asks.waiting (subst (λ (o : Option Tenure). AreOne (issued_by o) s.asks.issued) is sound.issued) (hears_in (ground_of site s) s.primary.learnt (Some t) from content)
+            (epoch_heard (ground_of site s).place s.kept (site.body s.kept.file) s.primary.learnt t from stands.head (subst (IfTenure site.node s.kept.head) is stands.tenure) peers_apart
+            (subst (TenureIs (IsApart site.node)) is stands.ids.tenure) content (epoch_told content) refl heard)
+
+        led_by : (sent : Option Payload) → IfLeads sent (asks_follow (ground_of site s) (Some t) s.asks (hears_in (ground_of site s) s.primary.learnt (Some t) from content)).primary.tenure
+            → IfLed sent (serves_to s (asks_follow (ground_of site s) (Some t) s.asks (hears_in (ground_of site s) s.primary.learnt (Some t) from content))).state
+        led_by None is = tt
+        led_by (Some c) is = inr (subst IsHeld (sym lease_is) is_held, is)
+
+        lower : from.0 ≡ site.node.0 → IsLacking s.kept content
+            → chain_weight site.node (serves_to s (asks_follow (ground_of site s) (Some t) s.asks (hears_in (ground_of site s) s.primary.learnt (Some t) from content))).state f.sent + 1 ≤ chain_weight site.node s (Some content)
+        lower own lacking =
+            let low = f.lighter (own, lacking) in
+            let now = held_left s.lease served.primary.tenure (kept_after s.kept served.turned.rec) served.asks f.sent (serves_to s (asks_follow (ground_of site s) (Some t) s.asks (hears_in (ground_of site s) s.primary.learnt (Some t) from content))).state (subst IsHeld (sym lease_is) is_held) refl refl refl refl in
+            let before : epoch_left s.kept s.primary.tenure + rank (stand_of site.node s.kept s.primary.tenure) content ≡ epoch_left s.kept (Some t) + rank (stand_of site.node s.kept (Some t)) content
+            = ap (λ (o : Option Tenure). epoch_left s.kept o + rank (stand_of site.node s.kept o) content) is in
+            omega (arith, low, now, before)
+
+    primary_given : (content : Payload) (l : LeaseState) → is_lease content ≡ false → (from.0 ≡ site.node.0 → Stands s.kept content) → s.lease ≡ l → Comes site.node from content s (primary_hears site s l from content)
+    unfolding hears
+    primary_given content (held h) is_primary heard is = heard_at content (held h) s.primary.tenure is_primary heard is tt refl
+    primary_given content (free p) is_primary heard is = nothing_comes content is_primary
+    primary_given content (asking r) is_primary heard is = nothing_comes content is_primary
+    primary_given content (writing r) is_primary heard is = nothing_comes content is_primary
+
+    -- ---- any message but an ask
+
+    abbrev pub IsAsk : Payload → Bool
+    IsAsk (payload.Ask number capability asked) = true
+    IsAsk _ = false
+
+    -- Any message but an ask; one of the primary stands, where it came from the own node.
+    pub message_given : (content : Payload) → IsAsk content ≡ false → (from.0 ≡ site.node.0 → is_lease content ≡ false → Stands s.kept content) → Comes site.node from content s (message_comes site s from content)
+    message_given (payload.Ask number capability asked) no_ask heard = absurd (false_true (sym no_ask))
+    message_given (payload.Read file ballot) no_ask heard = read_given (payload.Read file ballot) ballot refl (le_refl 4)
+    message_given (payload.Write file ballot boot x) no_ask heard = write_given (payload.Write file ballot boot x) ballot boot x refl (le_refl 2)
+    message_given (payload.Promise file ballot boot report) no_ask heard = answer_given (payload.Promise file ballot boot report) refl (omega arith) apart
+    message_given (payload.Accepted file ballot boot) no_ask heard = answer_given (payload.Accepted file ballot boot) refl (omega arith) apart
+    message_given (payload.Outrun file ballot seen) no_ask heard = answer_given (payload.Outrun file ballot seen) refl (omega arith) apart
+    message_given (payload.Gather file epoch) no_ask heard =
+        acted_given (payload.Gather file epoch) (gathered s.kept.file s.kept.head epoch) refl (gather_acts site.node s.kept from stands.head file epoch (λ mine. heard mine refl))
+    message_given (payload.Fetch file epoch object version) no_ask heard =
+        fetch_given (payload.Fetch file epoch object version) (fetched_from s.kept.file s.kept.held (site.body s.kept.file) epoch object version) refl (λ mine. heard mine refl)
+    message_given (payload.Stage file epoch object version bytes) no_ask heard =
+        acted_given (payload.Stage file epoch object version bytes) (staged s.kept.file s.kept.head s.kept.held epoch object version bytes) refl (stage_acts site.node s.kept from stands.head file epoch object version bytes (λ mine. heard mine refl))
+    message_given (payload.Head file epoch head) no_ask heard =
+        acted_given (payload.Head file epoch head) (headed s.kept.file s.kept.head s.kept.held epoch head) refl (head_acts site.node s.kept from stands.head file epoch head (λ mine. heard mine refl))
+    message_given (payload.Update file update) no_ask heard =
+        acted_given (payload.Update file update) (updated s.kept.file s.kept.head update) refl (update_acts site.node s.kept from stands.head file update (λ mine. heard mine refl))
+    message_given content no_ask heard = primary_given content s.lease refl (λ mine. heard mine refl) refl
