@@ -10,3 +10,4 @@ pub mod Following
 pub mod Leases
 pub mod Files
 pub mod Messages
+pub mod Asking
