@@ -103,6 +103,14 @@ active_is (Some t) is = at t.progress refl is
     at (progress.Installing chosen acked) e is = absurd (false_true is)
     at (progress.Active head issued) e is = record { t = t; is = refl; head = head; issued = issued; active = e }
 
+-- the issued ask is that of the issued update, and nothing waits for a primary that is ready
+pub record AsksAgree (s : FileState) : Type 0 where
+  pub issued : AreOne (issued_by s.primary.tenure) s.asks.issued
+  pub ready : is_ready s.primary.tenure ≡ true → s.asks.waiting ≡ []
+
+pub agree_of : (s : FileState) → IsSound s → AsksAgree s
+agree_of s sound = record { issued = sound.issued; ready = sound.ready }
+
 module _ (site : Site) (from : NodeId) (other : (from.0 == site.node.0) ≡ false) where
   -- what an ask leaves, from this head
   abbrev Asked : FileState → FileStep → Type 0
@@ -112,7 +120,7 @@ module _ (site : Site) (from : NodeId) (other : (from.0 == site.node.0) ≡ fals
   either_asked s true x y p q = p refl
   either_asked s false x y p q = q refl
 
-  module _ (s : FileState) (stands : FileStands site.node s) (sound : IsSound s) (apart : are_distinct (members_of s.kept.location) ≡ true) where
+  module _ (s : FileState) (stands : FileStands site.node s) (sound : AsksAgree s) (apart : are_distinct (members_of s.kept.location) ≡ true) where
     -- other asks, and perhaps a reply
     asks_only : (step : FileStep) → step.state.kept ≡ s.kept → step.state.primary ≡ s.primary → step.state.lease ≡ s.lease → asks_left step.state.asks ≤ WAITING + 1 → to_itself site.node step.turned.outs ≡ [] → Asked s step
     asks_only step kept primary same few outs =
@@ -285,3 +293,43 @@ module _ (site : Site) (from : NodeId) (other : (from.0 == site.node.0) ≡ fals
 
     rows_asked : (ask : WaitingAsk) → IsApart site.node ask.id → Asked s (ask_rows site s ask)
     rows_asked ask client = either_asked s (asked_already s.asks ask.id) _ _ (λ already. asks_only (nothing s) refl refl refl stands.few refl) (λ new. under_asked s.lease ask refl client)
+
+  -- ---- an ask that comes
+
+  pub let_in_asked : (s : FileState) (id : OpId) (capability : Capability) (asked : Op) (refusal : Option Reply) → FileStands site.node s → AsksAgree s → are_distinct (members_of s.kept.location) ≡ true → are_distinct capability.location.members ≡ true
+      → IsApart site.node id → Asked s (ask_let_in site s id capability asked refusal)
+  let_in_asked s id capability asked (Some answer) stands sound apart listed client = off_asked s stands sound apart id answer client
+  let_in_asked s id capability asked None stands sound apart listed client = stored s.kept.location refl
+    where
+      seen : FileStands site.node (record s { used = site.now })
+      seen = record { head = stands.head; tenure = stands.tenure; ids = record { asks = stands.ids.asks; tenure = stands.ids.tenure }; seats = stands.seats; few = stands.few }
+
+      stored : (was : Option Location) → s.kept.location ≡ was
+          → Asked s (and_then (steps_to (record s { used = site.now }) (keeps (view_record s capability.location was))) (λ (state : FileState). ask_rows site state (waiting_ask site id capability.epoch asked)))
+      stored (Some location) is =
+          let t : FileState = record s { used = site.now } in
+          let q = rows_asked (record s { used = site.now }) seen (record { issued = sound.issued; ready = sound.ready }) apart (waiting_ask site id capability.epoch asked) client in
+          record { head = q.head; moves = q.moves; tenure = q.tenure; seats = q.seats; few = q.few; told = q.told; sent = q.sent; outs = q.outs; told_is = q.told_is; stands = q.stands; led = λ led. q.led (λ mine. absurd (never mine)); idle = q.idle }
+        where
+          never : from.0 ≡ site.node.0 → ⊥
+          never mine = false_true (sym other ∙ same from.0 site.node.0 mine)
+            where
+              same : (a b : ℕ) → a ≡ b → (a == b) ≡ true
+              same a b is = grind (arith, nat_tests)
+      stored None is =
+          let q = rows_asked (record s { used = site.now; kept = record s.kept { location = Some capability.location } })
+              (record { head = stands.head; tenure = stands.tenure; ids = record { asks = stands.ids.asks; tenure = stands.ids.tenure }; seats = stands.seats; few = stands.few }) (record { issued = sound.issued; ready = sound.ready }) listed
+              (waiting_ask site id capability.epoch asked) client in
+          record { head = q.head; moves = q.moves; tenure = q.tenure; seats = q.seats; few = q.few; told = q.told; sent = q.sent; outs = q.outs; told_is = q.told_is; stands = q.stands; led = λ led. q.led (λ mine. absurd (never mine)); idle = q.idle }
+        where
+          never : from.0 ≡ site.node.0 → ⊥
+          never mine = false_true (sym other ∙ same from.0 site.node.0 mine)
+            where
+              same : (a b : ℕ) → a ≡ b → (a == b) ≡ true
+              same a b is = grind (arith, nat_tests)
+
+  pub ask_given : (s : FileState) (k : Kind) (id : OpId) (capability : Capability) (asked : Op) → FileStands site.node s → AsksAgree s → are_distinct (members_of s.kept.location) ≡ true → are_distinct capability.location.members ≡ true
+      → IsApart site.node id → Asked s (ask_comes site s k id capability asked)
+  unfolding ask_handled
+  ask_given s kind.Replicated id capability asked stands sound apart listed client = let_in_asked s id capability asked (refusal_of site s.kept.location capability asked) stands sound apart listed client
+  ask_given s kind.Striped id capability asked stands sound apart listed client = asks_only s stands sound apart (nothing s) refl refl refl stands.few refl

@@ -11,3 +11,4 @@ pub mod Leases
 pub mod Files
 pub mod Messages
 pub mod Asking
+pub mod Waking
