@@ -12,3 +12,4 @@ pub mod Files
 pub mod Messages
 pub mod Asking
 pub mod Waking
+pub mod FileSteps

@@ -49,6 +49,11 @@ use Rattle.line_ends.proofs.Following.{burden, Followed, follow, with_asks, behi
 use Rattle.line_ends.proofs.Leases.{GoesOn, IfSeated, IsFree, IsLeaseOf, IsOver, IsWon, NewsFits, WritesBehind, StepFits, answer_fits, one_write, OneWrite, write_for}
 use Rattle.line_ends.proofs.Files.{FileStands, chain_weight, IsLed, IfLed, none_left, Settles, leaves, tells_mine}
 
+-- whether a message is an ask
+abbrev pub is_ask : Payload → Bool
+is_ask (payload.Ask number capability asked) = true
+is_ask _ = false
+
 -- ---- what a step owes
 
 abbrev pub lease_of : Option Payload → ℕ
@@ -580,12 +585,8 @@ module _ (site : Site) (s : FileState) (from : NodeId) (stands : FileStands site
 
     -- ---- any message but an ask
 
-    abbrev pub IsAsk : Payload → Bool
-    IsAsk (payload.Ask number capability asked) = true
-    IsAsk _ = false
-
     -- Any message but an ask; one of the primary stands, where it came from the own node.
-    pub message_given : (content : Payload) → IsAsk content ≡ false → (from.0 ≡ site.node.0 → is_lease content ≡ false → Stands s.kept content) → Comes site.node from content s (message_comes site s from content)
+    pub message_given : (content : Payload) → is_ask content ≡ false → (from.0 ≡ site.node.0 → is_lease content ≡ false → Stands s.kept content) → Comes site.node from content s (message_comes site s from content)
     message_given (payload.Ask number capability asked) no_ask heard = absurd (false_true (sym no_ask))
     message_given (payload.Read file ballot) no_ask heard = read_given (payload.Read file ballot) ballot refl (le_refl 4)
     message_given (payload.Write file ballot boot x) no_ask heard = write_given (payload.Write file ballot boot x) ballot boot x refl (le_refl 2)
