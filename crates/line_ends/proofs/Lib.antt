@@ -13,3 +13,4 @@ pub mod Messages
 pub mod Asking
 pub mod Waking
 pub mod FileSteps
+pub mod Sizes
