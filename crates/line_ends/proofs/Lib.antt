@@ -14,3 +14,4 @@ pub mod Asking
 pub mod Waking
 pub mod FileSteps
 pub mod Sizes
+pub mod FileSizes
