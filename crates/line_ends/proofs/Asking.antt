@@ -31,6 +31,7 @@ use Rattle.osd_rows.specs.FileStates.{FileState, Site, FileStep, nothing, steps_
 use Rattle.osd_rows.specs.FileLeases.{running_round}
 use Rattle.osd_rows.specs.AskRows.{turned_off, refusal_of, waiting_ask, ask_waits, ask_served, reads_of, round_for, elsewhere, ask_without_lease, ask_under, ask_rows, view_record, ask_let_in, ask_handled}
 use Rattle.osd_rows.specs.FileSteps.{ask_comes}
+use Rattle.osd_rows.specs.OsdSteps.{file_concerned}
 use Rattle.osd_invariants.specs.Sound.{AreOne, IsHeld, IsSound}
 use Rattle.cluster_runs.specs.NodeSteps.{to_itself}
 use Rattle.xt_base.specs.declared.file.FileHead.{FileHead}
@@ -44,7 +45,7 @@ use Rattle.osd_rows.specs.Asks.{newly_issued, read_answer}
 use Rattle.xt_protocol.specs.Register.{Round}
 use Rattle.line_ends.proofs.Leases.{IsLeaseOf}
 use Rattle.line_ends.specs.Weights.{asks_left}
-use Rattle.line_ends.specs.Chains.{HeadStands, IfMessage, IfTenure, TenureStands}
+use Rattle.line_ends.specs.Chains.{IfAbout, HeadStands, IfMessage, IfTenure, TenureStands}
 use Rattle.line_ends.proofs.Tests.{false_true, not_both}
 use Rattle.line_ends.proofs.Moves.{Moves, moves_none}
 use Rattle.line_ends.proofs.Mine.{token, mine-each}
@@ -134,6 +135,8 @@ module _ (site : Site) (from : NodeId) (other : (from.0 == site.node.0) ≡ fals
           sent = None;
           outs = outs;
           told_is = tt;
+          about_sent = tt;
+          about_told = tt;
           stands = tt;
           led = λ led. tt;
           idle = λ o free_now. (refl, refl);
@@ -159,6 +162,10 @@ module _ (site : Site) (from : NodeId) (other : (from.0 == site.node.0) ≡ fals
         four true = (refl, le_refl 4)
         four false = tt
 
+        its : (b : Bool) → IfAbout s.kept.file (cond b (Some (payload.Read s.kept.file (round_starts p site.now (members_of s.kept.location)).ballot)) None)
+        its true = refl
+        its false = tt
+
         starts : Asked s (steps_to (record s { asks = waits s.asks ask; lease = asking (round_starts p site.now (members_of s.kept.location)) }) (reads_of site s (members_of s.kept.location) (round_starts p site.now (members_of s.kept.location))))
         starts =
             record {
@@ -171,6 +178,8 @@ module _ (site : Site) (from : NodeId) (other : (from.0 == site.node.0) ≡ fals
               sent = None;
               outs = mine-each site.node (members_of s.kept.location) content apart;
               told_is = four (has_node (members_of s.kept.location) site.node.0);
+              about_sent = tt;
+              about_told = its (has_node (members_of s.kept.location) site.node.0);
               stands = tt;
               led = λ led. tt;
               idle = λ o free_now. absurd free_now;
@@ -235,11 +244,18 @@ module _ (site : Site) (from : NodeId) (other : (from.0 == site.node.0) ≡ fals
                   sent = q.sent;
                   outs = q.outs ∙ sym (append-nil (token site.node q.sent));
                   told_is = tt;
+                  about_sent = about_by q.issued q.sent q.sent_is;
+                  about_told = tt;
                   stands = subst (λ (x : Option Record). IfMessage (kept_after s.kept x) q.sent) (sym q.rec) (sent_stands q.issued q.sent refl q.sent_is);
                   led = λ led. led_by q.sent;
                   idle = λ o free_now. absurd (free_held s.lease free_now is_held);
                 }
               where
+                about_by : (o : Option IssuedUpdate) (sent : Option Payload) → SentIs (ground_of site s).place o sent → IfAbout s.kept.file sent
+                about_by o None is = tt
+                about_by None (Some content) is = absurd is
+                about_by (Some i) (Some content) is = ap file_concerned is
+
                 sent_stands : (o : Option IssuedUpdate) (sent : Option Payload) → q.issued ≡ o → SentIs (ground_of site s).place o sent → IfMessage s.kept sent
                 sent_stands o None is sent_is = tt
                 sent_stands None (Some content) is sent_is = absurd sent_is
@@ -309,7 +325,7 @@ module _ (site : Site) (from : NodeId) (other : (from.0 == site.node.0) ≡ fals
       stored (Some location) is =
           let t : FileState = record s { used = site.now } in
           let q = rows_asked (record s { used = site.now }) seen (record { issued = sound.issued; ready = sound.ready }) apart (waiting_ask site id capability.epoch asked) client in
-          record { head = q.head; moves = q.moves; tenure = q.tenure; seats = q.seats; few = q.few; told = q.told; sent = q.sent; outs = q.outs; told_is = q.told_is; stands = q.stands; led = λ led. q.led (λ mine. absurd (never mine)); idle = q.idle }
+          record { head = q.head; moves = q.moves; tenure = q.tenure; seats = q.seats; few = q.few; told = q.told; sent = q.sent; outs = q.outs; told_is = q.told_is; about_sent = q.about_sent; about_told = q.about_told; stands = q.stands; led = λ led. q.led (λ mine. absurd (never mine)); idle = q.idle }
         where
           never : from.0 ≡ site.node.0 → ⊥
           never mine = false_true (sym other ∙ same from.0 site.node.0 mine)
@@ -320,7 +336,7 @@ module _ (site : Site) (from : NodeId) (other : (from.0 == site.node.0) ≡ fals
           let q = rows_asked (record s { used = site.now; kept = record s.kept { location = Some capability.location } })
               (record { head = stands.head; tenure = stands.tenure; ids = record { asks = stands.ids.asks; tenure = stands.ids.tenure }; seats = stands.seats; few = stands.few }) (record { issued = sound.issued; ready = sound.ready }) listed
               (waiting_ask site id capability.epoch asked) client in
-          record { head = q.head; moves = q.moves; tenure = q.tenure; seats = q.seats; few = q.few; told = q.told; sent = q.sent; outs = q.outs; told_is = q.told_is; stands = q.stands; led = λ led. q.led (λ mine. absurd (never mine)); idle = q.idle }
+          record { head = q.head; moves = q.moves; tenure = q.tenure; seats = q.seats; few = q.few; told = q.told; sent = q.sent; outs = q.outs; told_is = q.told_is; about_sent = q.about_sent; about_told = q.about_told; stands = q.stands; led = λ led. q.led (λ mine. absurd (never mine)); idle = q.idle }
         where
           never : from.0 ≡ site.node.0 → ⊥
           never mine = false_true (sym other ∙ same from.0 site.node.0 mine)

@@ -21,6 +21,7 @@ use Rattle.osd_rows.specs.declared.PeerState.TheVariants as peer
 use Rattle.osd_rows.specs.Primaries.{fed, fed_next, with_known, last_sent}
 use Rattle.xt_base.specs.declared.record.FileRow.{FileRow}
 use Rattle.xt_protocol.specs.Stamps.{is_earlier}
+use Rattle.osd_rows.specs.OsdSteps.{file_concerned}
 use Rattle.line_ends.specs.Chains.{IsLacking, Stands}
 use Rattle.line_ends.specs.Weights.{Stand, is_lacked, bodies_to, bodies_left, is_wanted, are_named, unless, rank}
 use Rattle.line_ends.proofs.Tests.{false_true, not_both}
@@ -290,6 +291,7 @@ pub record Feeds (file : FileId) (epoch : Epoch) (held : List ObjectVersion) (ta
   pub sent : last_sent file epoch state ≡ Some content
   pub stands : (row : FileRow) → is_earlier row.head.promised epoch ≡ false → Stands row content
   pub lacking : (row : FileRow) → IsLacking row content
+  pub about : file_concerned content ≡ Some file
   pub rank_is : rank (record { held = held; target = Some target; state = Some state; issued = issued }) content ≤ 4 + bodies_to held known target
   -- a body, where a version isn't known
   pub body_rank : (v : ObjectVersion) → has_version target.versions v ≡ true → has_version known v ≡ false
@@ -310,6 +312,7 @@ fed_sends file epoch held body target issued known = at (fed body target known) 
           sent = refl;
           stands = λ row promised. promised;
           lacking = λ row. tt;
+          about = refl;
           rank_is = omega (arith, none);
           body_rank = λ w there unknown. omega (arith, none);
         })
@@ -320,6 +323,7 @@ fed_sends file epoch held body target issued known = at (fed body target known) 
           sent = refl;
           stands = λ row promised. promised;
           lacking = λ row. tt;
+          about = refl;
           rank_is = omega (arith, none);
           body_rank = λ w there unknown. not_both (has_version known w) (all w (among target.versions w there)) unknown;
         })

@@ -18,7 +18,7 @@ use Rattle.osd_invariants.proofs.SoundSteps.{expired_so}
 use Rattle.cluster_runs.specs.NodeSteps.{to_itself}
 use Rattle.world_ends.proofs.FileIds.{FileIs}
 use Rattle.line_ends.specs.Weights.{is_lease}
-use Rattle.line_ends.specs.Chains.{IsLacking, Stands}
+use Rattle.line_ends.specs.Chains.{IfAbout, IsLacking, Stands}
 use Rattle.line_ends.proofs.Tests.{false_true}
 use Rattle.line_ends.proofs.Moves.{Moves}
 use Rattle.line_ends.proofs.Mine.{token, mine-append}
@@ -62,6 +62,8 @@ module _ (site : Site) (from : NodeId) (s : FileState) (stands : FileStands site
         sent = q.sent;
         outs = mine-append site.node (expired site s).turned.outs (rows (expired site s).state).turned.outs ∙ ap₂ (λ (a b : List Msg). a ++ b) due.outs q.outs;
         told_is = q.told_is;
+        about_sent = subst (λ (k : FileRow). IfAbout k.file q.sent) due.settles.kept q.about_sent;
+        about_told = subst (λ (k : FileRow). IfAbout k.file q.told) due.settles.kept q.about_told;
         stands = q.stands;
         led = λ led. q.led (λ mine. due.settles.led (Some content) (led mine));
         idle = q.idle;

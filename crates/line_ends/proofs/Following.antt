@@ -21,10 +21,12 @@ use Rattle.osd_rows.specs.Turns.{joined, the_record}
 use Rattle.osd_rows.specs.ReplicaRows.{kept_after}
 use Rattle.osd_rows.specs.Primaries.{Led, is_active, is_ready, is_ready_in, issued_by, issued_in}
 use Rattle.osd_rows.specs.Asks.{Served, asks_behind, asks_follow, comes_back, serves_all}
+use Rattle.xt_base.specs.declared.ids.FileId.{FileId}
+use Rattle.osd_rows.specs.OsdSteps.{file_concerned}
 use Rattle.osd_invariants.specs.Sound.{AreOne}
 use Rattle.cluster_runs.specs.NodeSteps.{to_itself}
 use Rattle.line_ends.specs.Weights.{asks_left, epoch_left, rank, settles, stand_of}
-use Rattle.line_ends.specs.Chains.{HeadStands, IfMessage, IfTenure, Stands, TenureStands}
+use Rattle.line_ends.specs.Chains.{IfAbout, HeadStands, IfMessage, IfTenure, Stands, TenureStands}
 use Rattle.line_ends.proofs.Tests.{false_true, not_both, not_below_self}
 use Rattle.line_ends.proofs.Mine.{token, mine-append}
 use Rattle.xt_base.specs.declared.ids.Epoch.{Epoch}
@@ -51,6 +53,7 @@ pub record Followed (n : NodeId) (row : FileRow) (asks : Asks) (Own : Type 0) (l
   pub outs : to_itself n s.turned.outs ≡ token n sent
   pub stands : IfMessage (kept_after row s.turned.rec) sent
   pub leads : IfLeads sent s.primary.tenure
+  pub about : IfAbout row.file sent
   pub few : asks_left s.asks ≤ asks_left asks
   pub lighter : Own → burden n sent (kept_after row s.turned.rec) s.primary.tenure s.asks + 1 ≤ limit + 2 * asks_left asks
 
@@ -96,7 +99,7 @@ with_asks n (Some content) row o asks limit more low few = omega (arith, low, fe
 with_asks n None row None asks limit more low few = omega (arith, low, few)
 with_asks n None row (Some t) asks limit more low few = omega (arith, low)
 
-module _ (place : Place) (row : FileRow) (body : Body) (before : Option Tenure) (asks : Asks) (Own : Type 0) (limit : ℕ) (apart : (w : WaitingAsk) → Has w asks.waiting → IsApart place.node w.id)
+module _ (place : Place) (row : FileRow) (its : place.file ≡ row.file) (body : Body) (before : Option Tenure) (asks : Asks) (Own : Type 0) (limit : ℕ) (apart : (w : WaitingAsk) → Has w asks.waiting → IsApart place.node w.id)
     (one : AreOne (issued_by before) asks.issued) where
   -- the asks are served
   served : (led : Led) → is_new before led ≡ true → led.turned.rec ≡ None → to_itself place.node led.turned.outs ≡ [] → HeadStands row.head → IfTenure place.node row.head led.primary.tenure
@@ -117,6 +120,7 @@ module _ (place : Place) (row : FileRow) (body : Body) (before : Option Tenure) 
             outs = mine-append place.node led.turned.outs s.turned.outs ∙ ap₂ (λ (a b : List Msg). a ++ b) outs q.outs;
             stands = subst (λ (x : Option Record). IfMessage (kept_after row x) q.sent) (sym none) (sent_stands q q.issued q.sent refl q.sent_is);
             leads = led_by q.sent (ap (λ (o : Option Tenure). is_some o) q.is);
+            about = about_by q.issued q.sent q.sent_is;
             few = let fewer = q.few in omega (arith, fewer);
             lighter = λ mine. subst (λ (x : Option Record). burden place.node q.sent (kept_after row x) s.primary.tenure s.asks + 1 ≤ limit + 2 * asks_left asks) (sym none) (bound q q.issued q.sent refl q.sent_is mine);
           }
@@ -124,6 +128,11 @@ module _ (place : Place) (row : FileRow) (body : Body) (before : Option Tenure) 
           led_by : (sent : Option Payload) → is_some (serves_all (ground place row body) led.primary asks.waiting).primary.tenure ≡ true → IfLeads sent (serves_all (ground place row body) led.primary asks.waiting).primary.tenure
           led_by None is = tt
           led_by (Some content) is = is
+
+          about_by : (o : Option IssuedUpdate) (sent : Option Payload) → SentIs place o sent → IfAbout row.file sent
+          about_by o None is = tt
+          about_by None (Some content) is = absurd is
+          about_by (Some i) (Some content) is = ap file_concerned is ∙ ap (λ (f : FileId). Some f) its
 
           sent_stands : (q : Serves place row r.t.epoch (length asks.waiting) (serves_all (ground place row body) led.primary asks.waiting)) (o : Option IssuedUpdate) (sent : Option Payload) → q.issued ≡ o → SentIs place o sent → IfMessage row sent
           sent_stands q o None is sent_is = tt
@@ -170,6 +179,7 @@ module _ (place : Place) (row : FileRow) (body : Body) (before : Option Tenure) 
             outs = q.outs;
             stands = q.stands;
             leads = q.leads;
+            about = q.about;
             few = le_of_eq (behind_left led.primary.tenure asks);
             lighter = λ mine. with_asks place.node q.sent (kept_after row led.turned.rec) led.primary.tenure (asks_behind led.primary.tenure asks) limit (asks_left asks) (room mine) (le_of_eq (behind_left led.primary.tenure asks));
           }

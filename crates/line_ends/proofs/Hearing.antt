@@ -36,7 +36,7 @@ use Rattle.osd_invariants.proofs.Leads.{put_nodes}
 use Rattle.world_ends.proofs.PrimaryIds.{ProgressIs}
 use Rattle.cluster_runs.specs.NodeSteps.{to_itself}
 use Rattle.line_ends.specs.Weights.{Stand, stand_of, rank, epoch_left, bodies_left, bodies_to, is_wanted, are_named, unless, settles}
-use Rattle.line_ends.specs.Chains.{IfMessage, IsLacking, HeadStands, IsOfEpoch, IsPast, IsNext, TenureStands, ProgressStands, IsUnfed, Stands}
+use Rattle.line_ends.specs.Chains.{IfAbout, IfMessage, IsLacking, HeadStands, IsOfEpoch, IsPast, IsNext, TenureStands, ProgressStands, IsUnfed, Stands}
 use Rattle.line_ends.proofs.Tests.{false_true, not_both, not_new, not_below_self}
 use Rattle.line_ends.proofs.Mine.{token, mine-one, put_same}
 use Rattle.line_ends.proofs.Bodies.{staged_less, missed_less, unknown_now, named_one}
@@ -110,7 +110,7 @@ staged_head row file object version bytes = at (has_version row.held (body_of ob
     at true = refl
     at false = refl
 
-module _ (place : Place) (row : FileRow) (body : Body) (learnt : ℕ) (t : Tenure) (from : NodeId) (head_stands : HeadStands row.head) (stands : TenureStands place.node row.head t)
+module _ (place : Place) (row : FileRow) (its : place.file ≡ row.file) (body : Body) (learnt : ℕ) (t : Tenure) (from : NodeId) (head_stands : HeadStands row.head) (stands : TenureStands place.node row.head t)
     (apart : are_distinct (nodes_of t.peers) ≡ true) (others : ProgressIs (IsApart place.node) t.progress) where
   -- how much may come of a message of the own node
   abbrev pub limit : Payload → ℕ
@@ -152,16 +152,16 @@ module _ (place : Place) (row : FileRow) (body : Body) (learnt : ℕ) (t : Tenur
 
   told : (file : FileId) (epoch : Epoch) (head : FileHead) (state : PeerState) (p : Progress) → t.progress ≡ p → peer_in t.peers from ≡ Some state → is_unknown state ≡ true → Owes (payload.Status file epoch head) (status_told (ground place row body) learnt t p from head)
   told file epoch head state progress.Gathering is found unknown =
-      counting place row body learnt (with_state t from (peer.Reported head)) t _ (limit (payload.Status file epoch head)) is is
+      counting place row its body learnt (with_state t from (peer.Reported head)) t _ (limit (payload.Status file epoch head)) is is
       (ap are_distinct (put_nodes t.peers from (peer.Reported head)) ∙ apart) head_stands (stands_reported place.node row.head t from head state found stands) (some (payload.Status file epoch head))
       (λ own. let mine = own.0 in (head, put_same t.peers place.node from (peer.Reported head) state (same_number from place.node mine) (mine_in state found mine), omega arith))
   told file epoch head state (progress.Fetching chosen source asked later) is found unknown =
       rests place.node row learnt t (with_state t from (peer.Reported head)) _ (limit (payload.Status file epoch head)) refl head_stands (stands_reported place.node row.head t from head state found stands) (some (payload.Status file epoch head))
   told file epoch head state (progress.Installing chosen acked) is found unknown =
-      feeding place row body learnt t (progress.Installing chosen acked) (target_of row.head t.epoch chosen) from state [] _ (limit (payload.Status file epoch head)) is refl found head_stands stands (some (payload.Status file epoch head))
+      feeding place row its body learnt t (progress.Installing chosen acked) (target_of row.head t.epoch chosen) from state [] _ (limit (payload.Status file epoch head)) is refl found head_stands stands (some (payload.Status file epoch head))
       (λ own r low more. let mine = own.0 in status_fed file epoch head (target_of row.head t.epoch chosen) state (progress.Installing chosen acked) is refl found unknown mine r low)
   told file epoch head state (progress.Active committed issued) is found unknown =
-      feeding place row body learnt t (progress.Active committed issued) row.head from state [] _ (limit (payload.Status file epoch head)) is refl found head_stands stands (some (payload.Status file epoch head))
+      feeding place row its body learnt t (progress.Active committed issued) row.head from state [] _ (limit (payload.Status file epoch head)) is refl found head_stands stands (some (payload.Status file epoch head))
       (λ own r low more. let mine = own.0 in status_fed file epoch head row.head state (progress.Active committed issued) is refl found unknown mine r low)
 
   status_heard : (file : FileId) (epoch : Epoch) (head : FileHead) (state : PeerState) → peer_in t.peers from ≡ Some state → Owes (payload.Status file epoch head) (hears_status (ground place row body) learnt t from state head)
@@ -173,7 +173,7 @@ module _ (place : Place) (row : FileRow) (body : Body) (learnt : ℕ) (t : Tenur
       → Owes (payload.Object file epoch object version bytes) (hears_object (ground place row body) learnt t p from object version bytes)
   object_heard file epoch object version bytes (progress.Fetching chosen source asked later) is heard =
       either (from.0 == source.0 && is_version asked (body_of object version)) _ _
-      (λ asked_for. fetching place row (body_beyond place.file (stage_record place.file row.held object version bytes) body) learnt t chosen source later (stage_record place.file row.held object version bytes) (Some t) _
+      (λ asked_for. fetching place row its (body_beyond place.file (stage_record place.file row.held object version bytes) body) learnt t chosen source later (stage_record place.file row.held object version bytes) (Some t) _
       (limit (payload.Object file epoch object version bytes)) (staged_head row place.file object version bytes) apart head_stands stands.promised parts.0 parts.1 (λ own. absurd (heard own.0)))
       (λ other. still (payload.Object file epoch object version bytes))
     where
@@ -199,11 +199,11 @@ module _ (place : Place) (row : FileRow) (body : Body) (learnt : ℕ) (t : Tenur
   staged_heard : (file : FileId) (epoch : Epoch) (object : ℕ) (version : Stamp) (o : Option FileHead) (state : PeerState) → target_in row.head t.epoch t.progress ≡ o → peer_in t.peers from ≡ Some state → Heard (payload.Staged file epoch object version)
       → Owes (payload.Staged file epoch object version) (body_staged (ground place row body) learnt t o from state (body_of object version))
   staged_heard file epoch object version (Some target) (peer.Feeding known o v b) to found heard =
-      feeding place row body learnt t t.progress target from (peer.Feeding known o v b) (with_known known (body_of object version)) _ (limit (payload.Staged file epoch object version)) refl to found head_stands stands (some (payload.Staged file epoch object version))
+      feeding place row its body learnt t t.progress target from (peer.Feeding known o v b) (with_known known (body_of object version)) _ (limit (payload.Staged file epoch object version)) refl to found head_stands stands (some (payload.Staged file epoch object version))
       (λ own r low more. let mine = own.0 in staged_room file epoch object version known target (peer.Feeding known o v b) (bodies_are target (peer.Feeding known o v b) to (mine_in (peer.Feeding known o v b) found mine))
       (wanted_is target (peer.Feeding known o v b) (body_of object version) to (mine_in (peer.Feeding known o v b) found mine)) (heard mine) r low)
   staged_heard file epoch object version (Some target) (peer.Heading known head) to found heard =
-      feeding place row body learnt t t.progress target from (peer.Heading known head) (with_known known (body_of object version)) _ (limit (payload.Staged file epoch object version)) refl to found head_stands stands (some (payload.Staged file epoch object version))
+      feeding place row its body learnt t t.progress target from (peer.Heading known head) (with_known known (body_of object version)) _ (limit (payload.Staged file epoch object version)) refl to found head_stands stands (some (payload.Staged file epoch object version))
       (λ own r low more. let mine = own.0 in staged_room file epoch object version known target (peer.Heading known head) (bodies_are target (peer.Heading known head) to (mine_in (peer.Heading known head) found mine))
       (wanted_is target (peer.Heading known head) (body_of object version) to (mine_in (peer.Heading known head) found mine)) (heard mine) r low)
   staged_heard file epoch object version _ _ to found heard = still (payload.Staged file epoch object version)
@@ -238,7 +238,7 @@ module _ (place : Place) (row : FileRow) (body : Body) (learnt : ℕ) (t : Tenur
   missed_heard : (file : FileId) (epoch : Epoch) (object : ℕ) (version : Stamp) (o : Option FileHead) (state : PeerState) → target_in row.head t.epoch t.progress ≡ o → peer_in t.peers from ≡ Some state → Heard (payload.Missing file epoch object version)
       → Owes (payload.Missing file epoch object version) (body_missed (ground place row body) learnt t o from state (body_of object version))
   missed_heard file epoch object version (Some target) (peer.Heading known head) to found heard =
-      feeding place row body learnt t t.progress target from (peer.Heading known head) (without_version known (body_of object version)) _ (limit (payload.Missing file epoch object version)) refl to found head_stands stands (some (payload.Missing file epoch object version))
+      feeding place row its body learnt t t.progress target from (peer.Heading known head) (without_version known (body_of object version)) _ (limit (payload.Missing file epoch object version)) refl to found head_stands stands (some (payload.Missing file epoch object version))
       (λ own r low more. let mine = own.0 in missed_room file epoch object version known head target to (mine_in (peer.Heading known head) found mine) own.1 r low more)
   missed_heard file epoch object version _ _ to found heard = still (payload.Missing file epoch object version)
 
@@ -246,7 +246,7 @@ module _ (place : Place) (row : FileRow) (body : Body) (learnt : ℕ) (t : Tenur
       → Owes (payload.Missing file epoch object version) (hears_missing (ground place row body) learnt t p from state (body_of object version))
   missing_heard file epoch object version (progress.Fetching chosen source asked later) state is found heard =
       either (from.0 == source.0) _ _
-      (λ same. draws place row learnt (nodes_of t.peers) (Some t) _ (limit (payload.Missing file epoch object version)) apart head_stands
+      (λ same. draws place row its learnt (nodes_of t.peers) (Some t) _ (limit (payload.Missing file epoch object version)) apart head_stands
       (λ own. let mine = own.0 in absurd (false_true (sym (subst (ProgressStands place.node row.head t) is stands.progress).1 ∙ same_number source place.node (sym (eqb-true from.0 source.0 same) ∙ mine)))))
       (λ other. still (payload.Missing file epoch object version))
   missing_heard file epoch object version progress.Gathering state is found heard = missed_heard file epoch object version None state (ap (target_in row.head t.epoch) is) found heard
@@ -285,6 +285,7 @@ module _ (place : Place) (row : FileRow) (body : Body) (learnt : ℕ) (t : Tenur
             outs = refl;
             stands = tt;
             leads = tt;
+            about = tt;
             next = plain refl (λ own. let mine = own.0 in some (payload.Ack file stamp));
           }
 
@@ -301,6 +302,7 @@ module _ (place : Place) (row : FileRow) (body : Body) (learnt : ℕ) (t : Tenur
             outs = refl;
             stands = tt;
             leads = tt;
+            about = tt;
             next = readied (ap (λ (p : Progress). not (is_ready_in p)) is) refl refl (λ own. let mine = own.0 in bound);
           }
 
@@ -334,6 +336,7 @@ module _ (place : Place) (row : FileRow) (body : Body) (learnt : ℕ) (t : Tenur
                 outs = refl;
                 stands = tt;
                 leads = tt;
+                about = tt;
                 next = plain refl (λ own. let mine = own.0 in some (payload.Ack file stamp));
               }
 
@@ -359,6 +362,7 @@ module _ (place : Place) (row : FileRow) (body : Body) (learnt : ℕ) (t : Tenur
                     mine-one place.node issued.update.id.client content ∙ ap (λ (b : Bool). token place.node (cond b (Some content) None)) client;
                 stands = tt;
                 leads = tt;
+                about = tt;
                 next = readied (ap (λ (p : Progress). not (is_ready_in p)) is) refl refl (λ own. let mine = own.0 in bound);
               }
 
@@ -383,6 +387,10 @@ module _ (place : Place) (row : FileRow) (body : Body) (learnt : ℕ) (t : Tenur
           leads_if true = refl
           leads_if false = tt
 
+          about_if : (b : Bool) → IfAbout row.file (cond b (Some (payload.Update place.file issued.update)) None)
+          about_if true = ap (λ (f : FileId). Some f) its
+          about_if false = tt
+
           at : (b : Bool) → (from.0 == place.node.0) ≡ b → Owes (payload.Ack file stamp) (goes_on learnt u (sends (message place.node from (payload.Update place.file issued.update) ∷ [])))
           at b which =
               record {
@@ -393,6 +401,7 @@ module _ (place : Place) (row : FileRow) (body : Body) (learnt : ℕ) (t : Tenur
                 outs = mine-one place.node from (payload.Update place.file issued.update) ∙ ap (λ (c : Bool). token place.node (cond c (Some (payload.Update place.file issued.update)) None)) which;
                 stands = stands_if b;
                 leads = leads_if b;
+                about = about_if b;
                 next = plain (ap (λ (p : Progress). is_ready_in p && not (is_ready_in t.progress)) same ∙ not_new (is_ready_in t.progress)) (λ own. let mine = own.0 in bound b);
               }
 
@@ -423,12 +432,13 @@ module _ (place : Place) (row : FileRow) (body : Body) (learnt : ℕ) (t : Tenur
             outs = mine-one place.node from (payload.Gather place.file t.epoch) ∙ ap (λ (b : Bool). token place.node (cond b (Some (payload.Gather place.file t.epoch)) None)) apart_now;
             stands = tt;
             leads = tt;
+            about = tt;
             next = plain (not_new (is_ready_in t.progress)) (λ own. let mine = own.0 in some (payload.Behind file epoch stamp));
           }
 
   refused_heard : (file : FileId) (epoch promised : Epoch) → Heard (payload.Refused file epoch promised) → Owes (payload.Refused file epoch promised) (outpromised (ground place row body) learnt t promised)
   refused_heard file epoch promised heard =
-      either (is_earlier t.epoch promised) _ _ (λ later. draws place row (max learnt promised.number) (nodes_of t.peers) (Some t) _ (limit (payload.Refused file epoch promised)) apart head_stands (λ own. let mine = own.0 in enough (heard mine) later))
+      either (is_earlier t.epoch promised) _ _ (λ later. draws place row its (max learnt promised.number) (nodes_of t.peers) (Some t) _ (limit (payload.Refused file epoch promised)) apart head_stands (λ own. let mine = own.0 in enough (heard mine) later))
       (λ other. still (payload.Refused file epoch promised))
     where
       enough : is_earlier row.head.promised promised ≡ false → is_earlier t.epoch promised ≡ true → 7 ≤ limit (payload.Refused file epoch promised)

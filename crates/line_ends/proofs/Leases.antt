@@ -25,6 +25,7 @@ use Rattle.cluster_runs.specs.NodeSteps.{to_itself}
 use Rattle.osd_invariants.specs.Sound.{IsHeld}
 use Rattle.lease_runs.proofs.Tests.{same_node}
 use Rattle.line_ends.specs.Weights.{is_lease, lease_rank}
+use Rattle.line_ends.specs.Chains.{IfAbout}
 use Rattle.line_ends.proofs.Tests.{false_true}
 use Rattle.line_ends.proofs.Mine.{token}
 
@@ -280,10 +281,11 @@ abbrev pub IsLeaseOf : ℕ → Option Payload → Type 0
 IsLeaseOf k None = Unit {0}
 IsLeaseOf k (Some content) = (is_lease content ≡ true) × (lease_rank content ≤ k)
 
-pub record OneWrite (n : NodeId) (ms : List Msg) : Type 0 where
+pub record OneWrite (n : NodeId) (file : FileId) (ms : List Msg) : Type 0 where
   pub content : Option Payload
   pub is : ms ≡ token n content
   pub low : IsLeaseOf 2 content
+  pub about : IfAbout file content
 
 abbrev pub write_for : NodeId → FileId → Ballot → Lease → NodeId × Boot → Msg
 write_for n file ballot x target = message n target.0 (payload.Write file ballot target.1 x)
@@ -297,8 +299,8 @@ no_write n file ballot x (t ∷ ts) none = at (t.0.0 == n.0) (λ d. no_write n f
     at true rest none = absurd (false_true (sym none))
     at false rest none = rest none
 
-pub one_write : (n : NodeId) (file : FileId) (ballot : Ballot) (x : Lease) (targets : List (NodeId × Boot)) → are_distinct (pair_nodes targets) ≡ true → OneWrite n (to_itself n (map (write_for n file ballot x) targets))
-one_write n file ballot x [] apart = record { content = None; is = refl; low = tt }
+pub one_write : (n : NodeId) (file : FileId) (ballot : Ballot) (x : Lease) (targets : List (NodeId × Boot)) → are_distinct (pair_nodes targets) ≡ true → OneWrite n file (to_itself n (map (write_for n file ballot x) targets))
+one_write n file ballot x [] apart = record { content = None; is = refl; low = tt; about = tt }
 one_write n file ballot x (t ∷ ts) apart = at (t.0.0 == n.0) refl (λ d. one_write n file ballot x ts d)
   where
     parts : (not (has_node (pair_nodes ts) t.0.0) ≡ true) × (are_distinct (pair_nodes ts) ≡ true)
@@ -311,8 +313,8 @@ one_write n file ballot x (t ∷ ts) apart = at (t.0.0 == n.0) refl (λ d. one_w
     two : 2 ≤ 2
     two = omega arith
 
-    at : (b : Bool) → (t.0.0 == n.0) ≡ b → (are_distinct (pair_nodes ts) ≡ true → OneWrite n (to_itself n (map (write_for n file ballot x) ts)))
-        → OneWrite n (cond b (write_for n file ballot x t ∷ to_itself n (map (write_for n file ballot x) ts)) (to_itself n (map (write_for n file ballot x) ts)))
+    at : (b : Bool) → (t.0.0 == n.0) ≡ b → (are_distinct (pair_nodes ts) ≡ true → OneWrite n file (to_itself n (map (write_for n file ballot x) ts)))
+        → OneWrite n file (cond b (write_for n file ballot x t ∷ to_itself n (map (write_for n file ballot x) ts)) (to_itself n (map (write_for n file ballot x) ts)))
     at true is rest =
         let same = same_node t.0 n (eqb-true t.0.0 n.0 is) in
         let none : has_node (pair_nodes ts) n.0 ≡ false = ap (λ (k : NodeId). has_node (pair_nodes ts) k.0) (sym same) ∙ untrue (has_node (pair_nodes ts) t.0.0) parts.0 in
@@ -320,5 +322,6 @@ one_write n file ballot x (t ∷ ts) apart = at (t.0.0 == n.0) refl (λ d. one_w
           content = Some (payload.Write file ballot t.1 x);
           is = ap₂ (λ (k : NodeId) (rest : List Msg). message n k (payload.Write file ballot t.1 x) ∷ rest) same (no_write n file ballot x ts none);
           low = (refl, two);
+          about = refl;
         }
     at false is rest = rest parts.1

@@ -38,7 +38,7 @@ use Rattle.osd_invariants.specs.Sound.{AreOne, IsHeld, IsSound, PeersAre}
 use Rattle.cluster_runs.specs.NodeSteps.{to_itself}
 use Rattle.world_ends.proofs.PrimaryIds.{ProgressIs, TenureIs}
 use Rattle.line_ends.specs.Weights.{asks_left, epoch_left, is_lease, lease_rank, rank, stand_of, tenure_left}
-use Rattle.line_ends.specs.Chains.{HeadStands, IfMessage, IfTenure, IsLacking, Stands}
+use Rattle.line_ends.specs.Chains.{IfAbout, HeadStands, IfMessage, IfTenure, IsLacking, Stands}
 use Rattle.line_ends.proofs.Tests.{false_true, not_both}
 use Rattle.line_ends.proofs.Moves.{Moves, moves_none, if_moves}
 use Rattle.line_ends.proofs.Mine.{token, mine-append, mine-if, mine-one}
@@ -71,6 +71,8 @@ pub record Gives (n : NodeId) (from : NodeId) (s : FileState) (step : FileStep) 
   pub sent : Option Payload
   pub outs : to_itself n step.turned.outs ≡ token n sent ++ token n told
   pub told_is : IsLeaseOf 4 told
+  pub about_sent : IfAbout s.kept.file sent
+  pub about_told : IfAbout s.kept.file told
   pub stands : IfMessage step.state.kept sent
   pub led : (from.0 ≡ n.0 → IsLed s) → IfLed sent step.state
   -- without a lease and a round none goes there, unless one came from there
@@ -108,9 +110,9 @@ lease_low k None is = omega arith
 lease_low k (Some content) is = is.1
 
 -- one that sends at most this message of the lease
-settled_gives : (n from : NodeId) (s : FileState) (step : FileStep) (told : Option Payload) (k : ℕ) → FileStands n s → Settles n s step → to_itself n step.turned.outs ≡ token n told → IsLeaseOf k told → k ≤ 4
+settled_gives : (n from : NodeId) (s : FileState) (step : FileStep) (told : Option Payload) (k : ℕ) → FileStands n s → Settles n s step → to_itself n step.turned.outs ≡ token n told → IsLeaseOf k told → k ≤ 4 → IfAbout s.kept.file told
     → ((from.0 == n.0) ≡ false → IsFree step.state.lease → told ≡ None) → Gives n from s step
-settled_gives n from s step told k stands q outs told_is low idle =
+settled_gives n from s step told k stands q outs told_is low about idle =
     record {
       head = subst (λ (r : FileRow). HeadStands r.head) (sym q.kept) stands.head;
       moves = moves_none s.kept.head step.state.kept.head (ap (λ (r : FileRow). r.head) q.kept);
@@ -121,6 +123,8 @@ settled_gives n from s step told k stands q outs told_is low idle =
       sent = None;
       outs = outs;
       told_is = weaker k told low told_is;
+      about_sent = tt;
+      about_told = about;
       stands = tt;
       led = λ mine. tt;
       idle = λ other is. (idle other is, refl);
@@ -154,6 +158,10 @@ module _ (site : Site) (s : FileState) (from : NodeId) (stands : FileStands site
   if_own true k o is = is
   if_own false k o is = tt
 
+  if_about : (b : Bool) (o : Option Payload) → IfAbout s.kept.file o → IfAbout s.kept.file (cond b o None)
+  if_about true o is = is
+  if_about false o is = tt
+
   pub read_given : (content : Payload) (ballot : Ballot) → is_lease content ≡ true → 4 ≤ lease_rank content → Comes site.node from content s (read_comes site s from ballot)
   unfolding read_comes settled_gives
   read_given content ballot is_one four =
@@ -163,13 +171,17 @@ module _ (site : Site) (s : FileState) (from : NodeId) (stands : FileStands site
       let q = same_leaves (read_comes site s from ballot) refl refl refl refl in
       let low = if_own (from.0 == site.node.0) 3 (Some answer) (three (on_read s.acceptor ballot).answer) in
       record {
-        gives = settled_gives site.node from s (read_comes site s from ballot) told 3 stands q (mine-one site.node from answer) low (omega arith) (λ other free_now. no_own (Some answer) other);
+        gives = settled_gives site.node from s (read_comes site s from ballot) told 3 stands q (mine-one site.node from answer) low (omega arith) (if_about (from.0 == site.node.0) (Some answer) (its (on_read s.acceptor ballot).answer)) (λ other free_now. no_own (Some answer) other);
         less = λ mine. subst (λ (b : Bool). Less b site.node s content (read_comes site s from ballot) told None) (sym is_one) (settled_less site.node s content (read_comes site s from ballot) told 3 q low four);
       }
     where
       three : (a : ReadAnswer) → IsLeaseOf 3 (Some (answer_to_read s.kept.file s.acceptor.boot ballot a))
       three (promise report) = (refl, le_refl 3)
       three (read_refused seen) = (refl, omega arith)
+
+      its : (a : ReadAnswer) → IfAbout s.kept.file (Some (answer_to_read s.kept.file s.acceptor.boot ballot a))
+      its (promise report) = refl
+      its (read_refused seen) = refl
 
   -- what answers a Write of the own node
   abbrev written_to : Ballot → Boot → WriteAnswer → Option Payload
@@ -187,6 +199,11 @@ module _ (site : Site) (s : FileState) (from : NodeId) (stands : FileStands site
   written_low ballot boot (write_refused seen) = if_own (from.0 == site.node.0) 1 (Some (payload.Outrun s.kept.file ballot seen)) (refl, le_refl 1)
   written_low ballot boot other_boot = tt
 
+  written_about : (ballot : Ballot) (boot : Boot) (a : WriteAnswer) → IfAbout s.kept.file (written_to ballot boot a)
+  written_about ballot boot accepted = if_about (from.0 == site.node.0) (Some (payload.Accepted s.kept.file ballot boot)) refl
+  written_about ballot boot (write_refused seen) = if_about (from.0 == site.node.0) (Some (payload.Outrun s.kept.file ballot seen)) refl
+  written_about ballot boot other_boot = tt
+
   written_none : (ballot : Ballot) (boot : Boot) (a : WriteAnswer) → (from.0 == site.node.0) ≡ false → written_to ballot boot a ≡ None
   written_none ballot boot accepted other = no_own (Some (payload.Accepted s.kept.file ballot boot)) other
   written_none ballot boot (write_refused seen) other = no_own (Some (payload.Outrun s.kept.file ballot seen)) other
@@ -200,7 +217,7 @@ module _ (site : Site) (s : FileState) (from : NodeId) (stands : FileStands site
       let told = written_to ballot boot answer in
       let low = written_low ballot boot answer in
       record {
-        gives = settled_gives site.node from s (write_comes site s from ballot boot x) told 1 stands q (written_outs ballot boot answer) low (omega arith) (λ other free_now. written_none ballot boot answer other);
+        gives = settled_gives site.node from s (write_comes site s from ballot boot x) told 1 stands q (written_outs ballot boot answer) low (omega arith) (written_about ballot boot answer) (λ other free_now. written_none ballot boot answer other);
         less = λ mine. subst (λ (b : Bool). Less b site.node s content (write_comes site s from ballot boot x) told None) (sym is_one) (settled_less site.node s content (write_comes site s from ballot boot x) told 1 q low two);
       }
 
@@ -211,7 +228,7 @@ module _ (site : Site) (s : FileState) (from : NodeId) (stands : FileStands site
   unfolding settled_gives
   quiet_comes content step is_one one q outs =
       record {
-        gives = settled_gives site.node from s step None 0 stands q outs tt (omega arith) (λ other free_now. refl);
+        gives = settled_gives site.node from s step None 0 stands q outs tt (omega arith) tt (λ other free_now. refl);
         less = λ mine. subst (λ (b : Bool). Less b site.node s content step None None) (sym is_one) (settled_less site.node s content step None 0 q tt one);
       }
 
@@ -266,6 +283,8 @@ module _ (site : Site) (s : FileState) (from : NodeId) (stands : FileStands site
           sent = q.sent;
           outs = q.outs ∙ sym (append-nil (token site.node q.sent));
           told_is = tt;
+          about_sent = q.about;
+          about_told = tt;
           stands = q.stands;
           led = λ mine. led_by q.sent q.leads;
           idle = λ other is. absurd (not_both_ways l is won.held_now);
@@ -280,7 +299,7 @@ module _ (site : Site) (s : FileState) (from : NodeId) (stands : FileStands site
       led = epoch_drawn (ground_of site s).place s.primary.learnt s.kept.head (members_of s.kept.location)
 
       q : Row site.node s.kept None (Unit {0}) 7 (epoch_drawn (ground_of site s).place s.primary.learnt s.kept.head (members_of s.kept.location))
-      q = draws (ground_of site s).place s.kept s.primary.learnt (members_of s.kept.location) None (Unit {0}) 7 apart stands.head (λ own. le_refl 7)
+      q = draws (ground_of site s).place s.kept refl s.primary.learnt (members_of s.kept.location) None (Unit {0}) 7 apart stands.head (λ own. le_refl 7)
 
       not_both_ways : (l : LeaseState) → IsFree l → IsHeld l → ⊥
       not_both_ways (free p) f h = h
@@ -342,7 +361,7 @@ module _ (site : Site) (s : FileState) (from : NodeId) (stands : FileStands site
       let q = leaves site.node s (lease_news site (record s { lease = l; last_end = end }) (sends_write ballot x targets)) stands.tenure refl refl seats (le_refl (asks_left s.asks)) fits.0.still_free fits.0.still_held in
       let w = one_write site.node s.kept.file ballot x targets fits.1 in
       record {
-        gives = settled_gives site.node from s (lease_news site (record s { lease = l; last_end = end }) (sends_write ballot x targets)) w.content 2 stands q w.is w.low (omega arith) (λ other free_now. absurd (fits.2 free_now));
+        gives = settled_gives site.node from s (lease_news site (record s { lease = l; last_end = end }) (sends_write ballot x targets)) w.content 2 stands q w.is w.low (omega arith) w.about (λ other free_now. absurd (fits.2 free_now));
         less = λ mine. subst (λ (b : Bool). Less b site.node s content (lease_news site (record s { lease = l; last_end = end }) (sends_write ballot x targets)) w.content None) (sym is_one) (settled_less site.node s content (lease_news site (record s { lease = l; last_end = end }) (sends_write ballot x targets)) w.content 2 q w.low writes);
       }
   news_comes content l end (holds e) is_one one fits writes seats apart = won content l e s.primary.tenure is_one one refl fits seats apart
@@ -406,6 +425,8 @@ module _ (site : Site) (s : FileState) (from : NodeId) (stands : FileStands site
               sent = acted.answer;
               outs = outs_are true is;
               told_is = tt;
+              about_sent = acts.about;
+              about_told = tt;
               stands = acts.stands mine;
               led = λ led. led_by acted.answer (led mine);
               idle = λ other free_now. not_both (from.0 == site.node.0) is other;
@@ -424,6 +445,8 @@ module _ (site : Site) (s : FileState) (from : NodeId) (stands : FileStands site
               sent = None;
               outs = outs_are false other;
               told_is = tt;
+              about_sent = tt;
+              about_told = tt;
               stands = tt;
               led = λ led. tt;
               idle = λ o free_now. (refl, refl);
@@ -444,6 +467,8 @@ module _ (site : Site) (s : FileState) (from : NodeId) (stands : FileStands site
         sent = None;
         outs = refl;
         told_is = tt;
+        about_sent = tt;
+        about_told = tt;
         stands = tt;
         led = λ led. tt;
         idle = λ other free_now. (refl, refl);
@@ -476,6 +501,8 @@ module _ (site : Site) (s : FileState) (from : NodeId) (stands : FileStands site
               sent = None;
               outs = mine-one site.node from answer ∙ ap (λ (b : Bool). token site.node (cond b (Some answer) None)) other;
               told_is = tt;
+              about_sent = tt;
+              about_told = tt;
               stands = tt;
               led = λ led. tt;
               idle = λ o free_now. (refl, refl);
@@ -500,6 +527,8 @@ module _ (site : Site) (s : FileState) (from : NodeId) (stands : FileStands site
             sent = None;
             outs = refl;
             told_is = tt;
+            about_sent = tt;
+            about_told = tt;
             stands = tt;
             led = λ led. tt;
             idle = λ other free_now. (refl, refl);
@@ -531,6 +560,8 @@ module _ (site : Site) (s : FileState) (from : NodeId) (stands : FileStands site
             sent = f.sent;
             outs = f.outs ∙ sym (append-nil (token site.node f.sent));
             told_is = tt;
+            about_sent = f.about;
+            about_told = tt;
             stands = f.stands;
             led = λ led. led_by f.sent f.leads;
             idle = λ other free_now. absurd (free_held l (subst IsFree lease_is free_now) is_held);
@@ -557,9 +588,9 @@ module _ (site : Site) (s : FileState) (from : NodeId) (stands : FileStands site
         f : Followed site.node s.kept s.asks ((from.0 ≡ site.node.0) × IsLacking s.kept content) (epoch_left s.kept (Some t) + rank (stand_of site.node s.kept (Some t)) content)
             (asks_follow (ground_of site s) (Some t) s.asks (hears_in (ground_of site s) s.primary.learnt (Some t) from content))
         f =
-            follow (ground_of site s).place s.kept (site.body s.kept.file) (Some t) s.asks ((from.0 ≡ site.node.0) × IsLacking s.kept content) (epoch_left s.kept (Some t) + rank (stand_of site.node s.kept (Some t)) content)
+            follow (ground_of site s).place s.kept refl (site.body s.kept.file) (Some t) s.asks ((from.0 ≡ site.node.0) × IsLacking s.kept content) (epoch_left s.kept (Some t) + rank (stand_of site.node s.kept (Some t)) content)
             stands.ids.asks.waiting (subst (λ (o : Option Tenure). AreOne (issued_by o) s.asks.issued) is sound.issued) (hears_in (ground_of site s) s.primary.learnt (Some t) from content)
-            (epoch_heard (ground_of site s).place s.kept (site.body s.kept.file) s.primary.learnt t from stands.head (subst (IfTenure site.node s.kept.head) is stands.tenure) peers_apart
+            (epoch_heard (ground_of site s).place s.kept refl (site.body s.kept.file) s.primary.learnt t from stands.head (subst (IfTenure site.node s.kept.head) is stands.tenure) peers_apart
             (subst (TenureIs (IsApart site.node)) is stands.ids.tenure) content (epoch_told content) refl heard)
 
         led_by : (sent : Option Payload) → IfLeads sent (asks_follow (ground_of site s) (Some t) s.asks (hears_in (ground_of site s) s.primary.learnt (Some t) from content)).primary.tenure

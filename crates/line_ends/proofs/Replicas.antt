@@ -28,11 +28,12 @@ use Rattle.osd_rows.specs.declared.PeerState.TheVariants as peer
 use Rattle.osd_rows.specs.declared.Progress.{Progress}
 use Rattle.osd_rows.specs.declared.Progress.TheVariants as progress
 use Rattle.osd_rows.specs.declared.Tenure.{Tenure}
+use Rattle.osd_rows.specs.OsdSteps.{file_concerned}
 use Rattle.osd_rows.specs.Primaries.{issued_in, peer_in}
 use Rattle.osd_rows.specs.PrimaryRows.{target_in}
 use Rattle.osd_rows.specs.ReplicaRows.{kept_after, unanswered, only, after_record, refused, behind, as_promised, gathered, staged, stage_record, head_taken, first_missing, head_offered, headed, head_fits, next_update, update_offered, updated}
 use Rattle.line_ends.specs.Weights.{Stand, are_named, bodies_left, bodies_to, epoch_left, is_wanted, rank, settles, stand_of, unless}
-use Rattle.line_ends.specs.Chains.{HeadStands, IfMessage, IfTenure, IsOfEpoch, IsPast, ProgressStands, Stands, TenureStands}
+use Rattle.line_ends.specs.Chains.{IfAbout, HeadStands, IfMessage, IfTenure, IsOfEpoch, IsPast, ProgressStands, Stands, TenureStands}
 use Rattle.line_ends.proofs.Tests.{false_true, fewer_below, not_both, of_its_epoch}
 use Rattle.line_ends.proofs.Bodies.{first_lacked, held_lacks, lacks_less, named_each}
 use Rattle.line_ends.proofs.Moves.{Moves, moves_none, promise_moves, IsMore, more_moves, more_head}
@@ -51,6 +52,7 @@ pub record Acts (n : NodeId) (row : FileRow) (from : NodeId) (content : Payload)
   pub moves : Moves row.head (kept_after row acted.rec).head
   pub stands : from.0 ≡ n.0 → IfMessage (kept_after row acted.rec) acted.answer
   pub less : from.0 ≡ n.0 → IfLess n row (kept_after row acted.rec) content acted.answer
+  pub about : IfAbout row.file acted.answer
 
 either : {n : NodeId} {row : FileRow} {from : NodeId} {content : Payload} (b : Bool) (x y : Acted) → (b ≡ true → Acts n row from content x) → (b ≡ false → Acts n row from content y) → Acts n row from content (cond b x y)
 either true x y p q = p refl
@@ -78,8 +80,9 @@ module _ (n : NodeId) (row : FileRow) (from : NodeId) (head_stands : HeadStands 
   Heard content = from.0 ≡ n.0 → Stands row content
 
   -- nothing is kept, and this is answered
-  answers : (content answer : Payload) → (from.0 ≡ n.0 → IfMessage row (Some answer)) → (from.0 ≡ n.0 → (o : Option Tenure) → rank (stand_of n row o) answer + 1 ≤ rank (stand_of n row o) content) → Acts n row from content (only answer)
-  answers content answer stands low = record {
+  answers : (content answer : Payload) → (from.0 ≡ n.0 → IfMessage row (Some answer)) → (from.0 ≡ n.0 → (o : Option Tenure) → rank (stand_of n row o) answer + 1 ≤ rank (stand_of n row o) content) → file_concerned answer ≡ Some row.file → Acts n row from content (only answer)
+  answers content answer stands low about = record {
+    about = about;
     head = head_stands;
     moves = moves_none row.head row.head refl;
     stands = stands;
@@ -87,30 +90,30 @@ module _ (n : NodeId) (row : FileRow) (from : NodeId) (head_stands : HeadStands 
   }
 
   silent : (content : Payload) → Acts n row from content unanswered
-  silent content = record { head = head_stands; moves = moves_none row.head row.head refl; stands = λ mine. tt; less = λ mine. tt }
+  silent content = record { head = head_stands; moves = moves_none row.head row.head refl; stands = λ mine. tt; less = λ mine. tt; about = tt }
 
   -- refused: the message has some weight left
-  refuses : (file : FileId) (epoch : Epoch) (content : Payload) → ((o : Option Tenure) → 2 ≤ rank (stand_of n row o) content) → Acts n row from content (refused file row.head epoch)
-  refuses file epoch content two = answers content (payload.Refused file epoch row.head.promised) (λ mine. (not_before_self row.head.promised, tt)) (λ mine o. two o)
+  refuses : (file : FileId) (its : Some file ≡ Some row.file) (epoch : Epoch) (content : Payload) → ((o : Option Tenure) → 2 ≤ rank (stand_of n row o) content) → Acts n row from content (refused file row.head epoch)
+  refuses file its epoch content two = answers content (payload.Refused file epoch row.head.promised) (λ mine. (not_before_self row.head.promised, tt)) (λ mine o. two o) its
 
   -- the own node is never behind
-  not_behind : (file : FileId) (epoch : Epoch) (content : Payload) → (from.0 ≡ n.0 → ⊥) → Acts n row from content (behind file row.head epoch)
-  not_behind file epoch content never = answers content (payload.Behind file epoch row.head.stamp) (λ mine. absurd (never mine)) (λ mine o. absurd (never mine))
+  not_behind : (file : FileId) (its : Some file ≡ Some row.file) (epoch : Epoch) (content : Payload) → (from.0 ≡ n.0 → ⊥) → Acts n row from content (behind file row.head epoch)
+  not_behind file its epoch content never = answers content (payload.Behind file epoch row.head.stamp) (λ mine. absurd (never mine)) (λ mine o. absurd (never mine)) its
 
   -- a message of the promised epoch
-  promised_acts : (file : FileId) (epoch : Epoch) (content : Payload) (acted : Acted) → (from.0 ≡ n.0 → is_earlier row.head.promised epoch ≡ false) → ((o : Option Tenure) → 2 ≤ rank (stand_of n row o) content)
+  promised_acts : (file : FileId) (its : Some file ≡ Some row.file) (epoch : Epoch) (content : Payload) (acted : Acted) → (from.0 ≡ n.0 → is_earlier row.head.promised epoch ≡ false) → ((o : Option Tenure) → 2 ≤ rank (stand_of n row o) content)
       → (epoch ≡ row.head.promised → Acts n row from content acted) → Acts n row from content (as_promised file row.head epoch acted)
-  promised_acts file epoch content acted within two acts =
-      either (is_earlier epoch row.head.promised) _ _ (λ old. refuses file epoch content two)
-      (λ here. either (is_earlier row.head.promised epoch) _ _ (λ later. not_behind file epoch content (λ mine. not_both (is_earlier row.head.promised epoch) later (within mine)))
+  promised_acts file its epoch content acted within two acts =
+      either (is_earlier epoch row.head.promised) _ _ (λ old. refuses file its epoch content two)
+      (λ here. either (is_earlier row.head.promised epoch) _ _ (λ later. not_behind file its epoch content (λ mine. not_both (is_earlier row.head.promised epoch) later (within mine)))
       (λ there. acts (is_one epoch row.head.promised here there)))
 
   pub gather_acts : (file : FileId) (epoch : Epoch) → Heard (payload.Gather file epoch) → Acts n row from (payload.Gather file epoch) (gathered row.file row.head epoch)
   unfolding gathered
   gather_acts file epoch heard =
-      either (is_earlier epoch row.head.promised) _ _ (λ old. refuses row.file epoch (payload.Gather file epoch) (λ o. omega arith))
+      either (is_earlier epoch row.head.promised) _ _ (λ old. refuses row.file refl epoch (payload.Gather file epoch) (λ o. omega arith))
       (λ here. either (is_earlier row.head.promised epoch) _ _ promises
-      (λ there. answers (payload.Gather file epoch) (payload.Status row.file epoch row.head) (λ mine. (tt, tt)) (λ mine o. omega arith)))
+      (λ there. answers (payload.Gather file epoch) (payload.Status row.file epoch row.head) (λ mine. (tt, tt)) (λ mine o. omega arith) refl))
     where
       promises : is_earlier row.head.promised epoch ≡ true
           → Acts n row from (payload.Gather file epoch) (after_record (kept.Promise row.file epoch) (payload.Status row.file epoch (record row.head { promised = epoch })))
@@ -118,6 +121,7 @@ module _ (n : NodeId) (row : FileRow) (from : NodeId) (head_stands : HeadStands 
           record {
             head = up_to_trans row.head.stamp.epoch row.head.promised epoch head_stands (not_after row.head.promised epoch later);
             moves = promise_moves row.head epoch later;
+            about = refl;
             stands = λ mine. (tt, tt);
             less = λ mine. not_both (is_earlier row.head.promised epoch) later (heard mine);
           }
@@ -152,10 +156,11 @@ module _ (n : NodeId) (row : FileRow) (from : NodeId) (head_stands : HeadStands 
       → Acts n row from (payload.Stage file epoch object version bytes) (staged row.file row.head row.held epoch object version bytes)
   unfolding staged
   stage_acts file epoch object version bytes heard =
-      promised_acts row.file epoch (payload.Stage file epoch object version bytes) (record { rec = stage_record row.file row.held object version bytes; answer = Some (payload.Staged row.file epoch object version) }) heard (λ o. omega arith)
+      promised_acts row.file refl epoch (payload.Stage file epoch object version bytes) (record { rec = stage_record row.file row.held object version bytes; answer = Some (payload.Staged row.file epoch object version) }) heard (λ o. omega arith)
       (λ now. record {
         head = subst HeadStands (sym head_is) head_stands;
         moves = moves_none row.head (kept_after row (stage_record row.file row.held object version bytes)).head head_is;
+        about = refl;
         stands = λ mine. (here (has_version row.held (body_of object version)) refl, tt);
         less = λ mine o. lower o;
       })
@@ -194,7 +199,7 @@ module _ (n : NodeId) (row : FileRow) (from : NodeId) (head_stands : HeadStands 
   unfolding headed
   head_acts file epoch head heard =
       either (is_epoch head.promised epoch && is_epoch head.stamp.epoch epoch) _ _
-      (λ its. promised_acts row.file epoch (payload.Head file epoch head) (head_offered row.file row.head row.held epoch head) heard (λ o. omega arith) (λ now. offered (and_parts (is_epoch head.promised epoch) (is_epoch head.stamp.epoch epoch) its) now))
+      (λ its. promised_acts row.file refl epoch (payload.Head file epoch head) (head_offered row.file row.head row.held epoch head) heard (λ o. omega arith) (λ now. offered (and_parts (is_epoch head.promised epoch) (is_epoch head.stamp.epoch epoch) its) now))
       (λ other. silent (payload.Head file epoch head))
     where
       ack_less : (next : FileRow) → next.head.promised ≡ row.head.promised → (o : Option Tenure) → epoch_left next o + rank (stand_of n next o) (payload.Ack row.file head.stamp) + 1 ≤ epoch_left row o + rank (stand_of n row o) (payload.Head file epoch head)
@@ -237,10 +242,11 @@ module _ (n : NodeId) (row : FileRow) (from : NodeId) (head_stands : HeadStands 
                 moves = more_moves row.head head (more below);
                 stands = λ mine. ((ap (λ (e : Epoch). is_earlier head.promised e) (stamp_is ∙ sym promised_is) ∙ not_before_self head.promised, λ here. same_self head.stamp.epoch), tt);
                 less = λ mine o. ack_less (record row { head = head }) promised_is o;
+                about = refl;
               }
           taken below (Some v) is =
               let lacks = first_lacked row.held head.versions v is in
-              answers (payload.Head file epoch head) (payload.Missing row.file epoch v.object v.version) (λ mine. (tt, lacks.1)) (λ mine o. missing_less v lacks.0 o)
+              answers (payload.Head file epoch head) (payload.Missing row.file epoch v.object v.version) (λ mine. (tt, lacks.1)) (λ mine o. missing_less v lacks.0 o) refl
 
           acked : is_below row.head.stamp head.stamp ≡ false → Acts n row from (payload.Head file epoch head) (only (payload.Ack row.file head.stamp))
           acked above =
@@ -249,6 +255,7 @@ module _ (n : NodeId) (row : FileRow) (from : NodeId) (head_stands : HeadStands 
                 moves = moves_none row.head row.head refl;
                 stands = λ mine. ((ap (is_earlier row.head.promised) stamp_is ∙ not_before_self row.head.promised, λ here. of_its_epoch row.head.stamp head.stamp above (ap (λ (e : Epoch). is_earlier e row.head.stamp.epoch) stamp_is ∙ head_stands)), tt);
                 less = λ mine o. ack_less row refl o;
+                about = refl;
               }
 
   -- ---- updates
@@ -256,7 +263,7 @@ module _ (n : NodeId) (row : FileRow) (from : NodeId) (head_stands : HeadStands 
   pub update_acts : (file : FileId) (update : Update) → Heard (payload.Update file update) → Acts n row from (payload.Update file update) (updated row.file row.head update)
   unfolding updated
   update_acts file update heard =
-      promised_acts row.file update.stamp.epoch (payload.Update file update) (update_offered row.file row.head update) (λ mine. (heard mine).0) two offered
+      promised_acts row.file refl update.stamp.epoch (payload.Update file update) (update_offered row.file row.head update) (λ mine. (heard mine).0) two offered
     where
       two : (o : Option Tenure) → 2 ≤ rank (stand_of n row o) (payload.Update file update)
       two o = at (settles (stand_of n row o).issued update.stamp)
@@ -278,10 +285,10 @@ module _ (n : NodeId) (row : FileRow) (from : NodeId) (head_stands : HeadStands 
 
       offered : update.stamp.epoch ≡ row.head.promised → Acts n row from (payload.Update file update) (update_offered row.file row.head update)
       offered now =
-          either (not (is_epoch row.head.stamp.epoch update.stamp.epoch)) _ _ (λ other. not_behind row.file update.stamp.epoch (payload.Update file update) (λ mine. never (is_epoch row.head.stamp.epoch update.stamp.epoch) (next mine).0 other))
+          either (not (is_epoch row.head.stamp.epoch update.stamp.epoch)) _ _ (λ other. not_behind row.file refl update.stamp.epoch (payload.Update file update) (λ mine. never (is_epoch row.head.stamp.epoch update.stamp.epoch) (next mine).0 other))
           (λ same. either (nat_le update.stamp.count row.head.stamp.count) _ _ (λ old. acked (is_true (is_epoch row.head.stamp.epoch update.stamp.epoch) same))
           (λ new. either (update.stamp.count == row.head.stamp.count + 1) _ _ (λ its. taken (is_true (is_epoch row.head.stamp.epoch update.stamp.epoch) same) its)
-          (λ far. not_behind row.file update.stamp.epoch (payload.Update file update) (λ mine. too_far update.stamp.count row.head.stamp.count (next mine).1 new far))))
+          (λ far. not_behind row.file refl update.stamp.epoch (payload.Update file update) (λ mine. too_far update.stamp.count row.head.stamp.count (next mine).1 new far))))
         where
           current : is_earlier update.stamp.epoch row.head.promised ≡ false
           current = ap (λ (e : Epoch). is_earlier e row.head.promised) now ∙ not_before_self row.head.promised
@@ -302,7 +309,7 @@ module _ (n : NodeId) (row : FileRow) (from : NodeId) (head_stands : HeadStands 
 
           acked : is_epoch row.head.stamp.epoch update.stamp.epoch ≡ true → Acts n row from (payload.Update file update) (only (payload.Ack row.file update.stamp))
           acked same =
-              record { head = head_stands; moves = moves_none row.head row.head refl; stands = λ mine. ((ap (is_earlier row.head.promised) now ∙ not_before_self row.head.promised, λ here. same), tt); less = λ mine o. ack_less row refl o }
+              record { head = head_stands; moves = moves_none row.head row.head refl; stands = λ mine. ((ap (is_earlier row.head.promised) now ∙ not_before_self row.head.promised, λ here. same), tt); less = λ mine o. ack_less row refl o; about = refl }
 
           taken : is_epoch row.head.stamp.epoch update.stamp.epoch ≡ true → (update.stamp.count == row.head.stamp.count + 1) ≡ true → Acts n row from (payload.Update file update) (next_update row.file row.head update)
           taken same its = either (head_fits (head_after row.head update)) _ _ (λ fits. keeps) (λ full. silent (payload.Update file update))
@@ -320,4 +327,5 @@ module _ (n : NodeId) (row : FileRow) (from : NodeId) (head_stands : HeadStands 
                     moves = more_moves row.head (head_after row.head update) more;
                     stands = λ mine. ((ap (is_earlier row.head.promised) now ∙ not_before_self row.head.promised, λ here. same_self update.stamp.epoch), tt);
                     less = λ mine o. ack_less (kept_after row (Some (kept.Update row.file update))) refl o;
+                    about = refl;
                   }

@@ -37,7 +37,7 @@ use Rattle.osd_rows.specs.Primaries.{Ground, Led, issued_by, issued_in, is_ready
 use Rattle.osd_rows.specs.PrimaryRows.{epoch_above, epoch_drawn, goes_on, unmoved, peer_fed, peers_fed, installs, fetches, head_chosen, chooses, status_counted, with_state, peer_sent, feeds, target_in, after_keeping}
 use Rattle.cluster_runs.specs.NodeSteps.{to_itself}
 use Rattle.line_ends.specs.Weights.{stand_of, Stand, rank, epoch_left, bodies_left, bodies_to, are_named, unless}
-use Rattle.line_ends.specs.Chains.{HeadStands, IsPast, IsNext, IfTenure, TenureStands, ProgressStands, IsUnfed, Stands, IfMessage}
+use Rattle.line_ends.specs.Chains.{IfAbout, HeadStands, IsPast, IsNext, IfTenure, TenureStands, ProgressStands, IsUnfed, Stands, IfMessage}
 use Rattle.line_ends.proofs.Tests.{false_true, not_both, not_new, not_ready, above_promised}
 use Rattle.line_ends.proofs.Mine.{token, mine-append, mine-one, mine-if, mine-each, mine-peers, of_peer, to_peers_of, put_same, put_other, fresh_unfed}
 use Rattle.line_ends.proofs.Moves.{Moves, moves_none, promise_moves}
@@ -93,6 +93,7 @@ pub record Row (n : NodeId) (row : FileRow) (before : Option Tenure) (Own : Type
   pub outs : to_itself n led.turned.outs ≡ token n sent
   pub stands : IfMessage (row_then row led) sent
   pub leads : IfLeads sent led.primary.tenure
+  pub about : IfAbout row.file sent
   pub next : Next n row before Own limit led sent
 
 pub either : {n : NodeId} {row : FileRow} {before : Option Tenure} {Own : Type 0} {limit : ℕ} (b : Bool) (x y : Led) → (b ≡ true → Row n row before Own limit x) → (b ≡ false → Row n row before Own limit y) → Row n row before Own limit (cond b x y)
@@ -164,6 +165,7 @@ rests n row learnt t u Own limit same head stands some =
       outs = refl;
       stands = tt;
       leads = tt;
+      about = tt;
       next = plain (ap (λ (b : Bool). b && not (is_ready_in t.progress)) same ∙ not_new (is_ready_in t.progress)) (λ mine. some);
     }
 
@@ -175,10 +177,10 @@ fresh_epoch : (e : Epoch) → six_if (is_earlier e e) ≡ 0
 fresh_epoch e = ap six_if (not_before_self e)
 
 -- an epoch is drawn
-pub draws : (place : Place) (row : FileRow) (learnt : ℕ) (members : List NodeId) (before : Option Tenure) (Own : Type 0) (limit : ℕ) → are_distinct members ≡ true → HeadStands row.head → (Own → 7 ≤ limit)
+pub draws : (place : Place) (row : FileRow) (its : place.file ≡ row.file) (learnt : ℕ) (members : List NodeId) (before : Option Tenure) (Own : Type 0) (limit : ℕ) → are_distinct members ≡ true → HeadStands row.head → (Own → 7 ≤ limit)
     → Row place.node row before Own limit (epoch_drawn place learnt row.head members)
 unfolding epoch_drawn
-draws place row learnt members before Own limit apart head room = either (nat_lt (epoch_above place learnt row.head).number COUNTS) _ _ (λ is. drawn (has_node members place.node.0) refl) (λ is. none)
+draws place row its learnt members before Own limit apart head room = either (nat_lt (epoch_above place learnt row.head).number COUNTS) _ _ (λ is. drawn (has_node members place.node.0) refl) (λ is. none)
   where
     epoch : Epoch
     epoch = epoch_above place learnt row.head
@@ -204,6 +206,7 @@ draws place row learnt members before Own limit apart head room = either (nat_lt
           outs = mine-each place.node members (payload.Gather place.file e) apart ∙ ap (λ (c : Bool). token place.node (cond c (Some (payload.Gather place.file e)) None)) is;
           stands = stands_if b;
           leads = leads_if b;
+          about = about_if b;
           next = plain refl (λ mine. bound b (room mine) zero);
         }
       where
@@ -215,6 +218,10 @@ draws place row learnt members before Own limit apart head room = either (nat_lt
         leads_if true = refl
         leads_if false = tt
 
+        about_if : (b : Bool) → IfAbout row.file (cond b (Some (payload.Gather place.file (epoch_above place learnt row.head))) None)
+        about_if true = ap (λ (f : FileId). Some f) its
+        about_if false = tt
+
         bound : (b : Bool) → 7 ≤ limit → six_if (is_earlier (epoch_above place learnt row.head) (epoch_above place learnt row.head)) ≡ 0
             → left place.node (cond b (Some (payload.Gather place.file (epoch_above place learnt row.head))) None) (kept_after row (Some (kept.Promise place.file (epoch_above place learnt row.head))))
             (Some (record { epoch = epoch_above place learnt row.head; peers = map unknown_peer members; progress = progress.Gathering })) + 1 ≤ limit
@@ -222,7 +229,7 @@ draws place row learnt members before Own limit apart head room = either (nat_lt
         bound false enough zero = omega (arith, enough)
 
     none : Row place.node row before Own limit (record { primary = record { learnt = learnt; tenure = None }; turned = record { rec = None; outs = []; marks = [] } })
-    none = record { head = head; moves = moves_none row.head row.head refl; tenure = tt; sent = None; outs = refl; stands = tt; leads = tt; next = plain refl (λ mine. room mine) }
+    none = record { head = head; moves = moves_none row.head row.head refl; tenure = tt; sent = None; outs = refl; stands = tt; leads = tt; about = tt; next = plain refl (λ mine. room mine) }
 
 -- ---- a head is installed
 
@@ -271,11 +278,11 @@ abbrev pub Reports : Place → FileRow → Tenure → ℕ → Type 0
 Reports place row t limit = (head : FileHead) × (peer_in t.peers place.node ≡ Some (peer.Reported head)) × (epoch_left row (Some t) + 5 ≤ limit)
 
 -- the head goes to the own node; a body may be kept first, where the message isn't of the own node
-pub installing : (place : Place) (row : FileRow) (body : Body) (learnt : ℕ) (t : Tenure) (chosen : FileHead) (rec : Option Record) (before : Option Tenure) (Own : Type 0) (limit : ℕ) → KeepsHead row rec
+pub installing : (place : Place) (row : FileRow) (its : place.file ≡ row.file) (body : Body) (learnt : ℕ) (t : Tenure) (chosen : FileHead) (rec : Option Record) (before : Option Tenure) (Own : Type 0) (limit : ℕ) → KeepsHead row rec
     → are_distinct (nodes_of t.peers) ≡ true → HeadStands row.head → is_earlier row.head.promised t.epoch ≡ false → IsUnfed (peer_in t.peers place.node)
     → (Own → (rec ≡ None) × Reports place row t limit)
     → Row place.node row before Own limit (after_keeping rec (installs (ground place row body) learnt t chosen))
-installing place row body learnt t chosen rec before Own limit keeps apart head promised unfed room =
+installing place row its body learnt t chosen rec before Own limit keeps apart head promised unfed room =
     let g = ground place row body in
     let n = place.node in
     let target = target_of row.head t.epoch chosen in
@@ -294,6 +301,7 @@ installing place row body learnt t chosen rec before Own limit keeps apart head 
           ∙ ap (token n) (unfed_silent place.file t.epoch n (peer_in peers n) (subst IsUnfed (sym same) unfed)));
       stands = (ap (λ (h : FileHead). is_earlier h.promised t.epoch) keeps ∙ promised, tt);
       leads = refl;
+      about = ap (λ (f : FileId). Some f) its;
       next = plain refl (λ mine. bound (room mine).1 same rec (room mine).0);
     }
   where
@@ -311,12 +319,12 @@ installing place row body learnt t chosen rec before Own limit keeps apart head 
         omega (arith, named, none, enough)
 
 -- a body is asked for of another node, or the head goes to the own one
-pub fetching : (place : Place) (row : FileRow) (body : Body) (learnt : ℕ) (t : Tenure) (chosen : FileHead) (source : NodeId) (wanted : List ObjectVersion) (rec : Option Record) (before : Option Tenure) (Own : Type 0) (limit : ℕ) → KeepsHead row rec
+pub fetching : (place : Place) (row : FileRow) (its : place.file ≡ row.file) (body : Body) (learnt : ℕ) (t : Tenure) (chosen : FileHead) (source : NodeId) (wanted : List ObjectVersion) (rec : Option Record) (before : Option Tenure) (Own : Type 0) (limit : ℕ) → KeepsHead row rec
     → are_distinct (nodes_of t.peers) ≡ true → HeadStands row.head → is_earlier row.head.promised t.epoch ≡ false → IsUnfed (peer_in t.peers place.node) → (source.0 == place.node.0) ≡ false
     → (Own → (rec ≡ None) × Reports place row t limit)
     → Row place.node row before Own limit (after_keeping rec (fetches (ground place row body) learnt t chosen source wanted))
-fetching place row body learnt t chosen source [] rec before Own limit keeps apart head promised unfed other room = installing place row body learnt t chosen rec before Own limit keeps apart head promised unfed room
-fetching place row body learnt t chosen source (v ∷ later) rec before Own limit keeps apart head promised unfed other room =
+fetching place row its body learnt t chosen source [] rec before Own limit keeps apart head promised unfed other room = installing place row its body learnt t chosen rec before Own limit keeps apart head promised unfed room
+fetching place row its body learnt t chosen source (v ∷ later) rec before Own limit keeps apart head promised unfed other room =
     record {
       head = subst HeadStands (sym keeps) head;
       moves = moves_none row.head (kept_after row rec).head keeps;
@@ -325,6 +333,7 @@ fetching place row body learnt t chosen source (v ∷ later) rec before Own limi
       outs = mine-one place.node source (payload.Fetch place.file t.epoch v.object v.version) ∙ ap (λ (b : Bool). token place.node (cond b (Some (payload.Fetch place.file t.epoch v.object v.version)) None)) other;
       stands = tt;
       leads = tt;
+      about = tt;
       next = plain refl (λ mine. some (epoch_left row (Some t)) (room mine).1.2);
     }
   where
@@ -337,15 +346,15 @@ unkept : (n : NodeId) (row : FileRow) (before : Option Tenure) (Own : Type 0) (l
 unkept n row before Own limit g learnt t chosen source [] is = is
 unkept n row before Own limit g learnt t chosen source (v ∷ later) is = is
 
-module _ (place : Place) (row : FileRow) (body : Body) where
+module _ (place : Place) (row : FileRow) (its : place.file ≡ row.file) (body : Body) where
   pub choosing : (learnt : ℕ) (t : Tenure) (best : NodeId × FileHead) (before : Option Tenure) (Own : Type 0) (limit : ℕ)
       → are_distinct (nodes_of t.peers) ≡ true → HeadStands row.head → is_earlier row.head.promised t.epoch ≡ false → IsUnfed (peer_in t.peers place.node)
       → (Own → Reports place row t limit)
       → Row place.node row before Own limit (head_chosen (ground place row body) learnt t best)
   choosing learnt t best before Own limit apart head promised unfed room =
-      either (best.0.0 == place.node.0) _ _ (λ is. installing place row body learnt t best.1 None before Own limit refl apart head promised unfed (λ mine. (refl, room mine)))
+      either (best.0.0 == place.node.0) _ _ (λ is. installing place row its body learnt t best.1 None before Own limit refl apart head promised unfed (λ mine. (refl, room mine)))
       (λ other. unkept place.node row before Own limit (ground place row body) learnt t best.1 best.0 (difference (known_of_own row.held) best.1.versions)
-      (fetching place row body learnt t best.1 best.0 (difference (known_of_own row.held) best.1.versions) None before Own limit refl apart head promised unfed other (λ mine. (refl, room mine))))
+      (fetching place row its body learnt t best.1 best.0 (difference (known_of_own row.held) best.1.versions) None before Own limit refl apart head promised unfed other (λ mine. (refl, room mine))))
 
   -- a status is counted: `t` is the tenure behind it
   pub counting : (learnt : ℕ) (t : Tenure) (before : Tenure) (Own : Type 0) (limit : ℕ) → t.progress ≡ progress.Gathering → before.progress ≡ progress.Gathering
@@ -399,6 +408,7 @@ module _ (place : Place) (row : FileRow) (body : Body) where
             outs = mine-if place.node from (last_sent place.file t.epoch (fed body target known)) ∙ ap (λ (b : Bool). token place.node (cond b (last_sent place.file t.epoch (fed body target known)) None)) own ∙ ap (token place.node) sends.sent;
             stands = (sends.stands row stands.promised, sends.lacking row);
             leads = refl;
+            about = sends.about ∙ ap (λ (f : FileId). Some f) its;
             next = plain (not_new (is_ready_in t.progress)) (λ mine.
                 let same : rank (stand_of place.node row (Some (with_state t from (fed body target known)))) sends.content ≡ rank (record { held = row.held; target = Some target; state = Some (fed body target known); issued = issued_in t.progress }) sends.content
                 = ap (λ (a : Stand). rank a sends.content) (now own) in
@@ -414,5 +424,6 @@ module _ (place : Place) (row : FileRow) (body : Body) where
             outs = mine-if place.node from (last_sent place.file t.epoch (fed body target known)) ∙ ap (λ (b : Bool). token place.node (cond b (last_sent place.file t.epoch (fed body target known)) None)) apart;
             stands = tt;
             leads = tt;
+            about = tt;
             next = plain (not_new (is_ready_in t.progress)) (λ mine. some);
           }

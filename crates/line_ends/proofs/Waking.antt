@@ -3,6 +3,7 @@ use Rattle.std.proofs.Common.{◌≡◌, ℕ, ◌≤◌, ◌+◌, inl, inr, Bool
 use Rattle.std.specs.Prelude.{◌&&◌, not, cond, ◌==◌}
 use Rattle.xt_base.specs.MemberList.{has_node, are_distinct}
 use Rattle.xt_base.specs.declared.ids.NodeId.{NodeId}
+use Rattle.xt_base.specs.declared.ids.FileId.{FileId}
 use Rattle.xt_base.specs.declared.file.FileHead.{FileHead}
 use Rattle.xt_base.specs.declared.message.Msg.{Msg}
 use Rattle.xt_base.specs.declared.message.Payload.{Payload}
@@ -30,7 +31,7 @@ use Rattle.osd_invariants.specs.Sound.{IsHeld, IsSound, PeersAre}
 use Rattle.osd_invariants.proofs.Kept.{wake_keeps}
 use Rattle.cluster_runs.specs.NodeSteps.{to_itself}
 use Rattle.line_ends.specs.Weights.{asks_left}
-use Rattle.line_ends.specs.Chains.{HeadStands, IfMessage, IfTenure, ProgressStands, TenureStands}
+use Rattle.line_ends.specs.Chains.{IfAbout, HeadStands, IfMessage, IfTenure, ProgressStands, TenureStands}
 use Rattle.line_ends.proofs.Tests.{false_true}
 use Rattle.line_ends.proofs.Moves.{Moves, moves_none}
 use Rattle.line_ends.proofs.Mine.{token, mine-append, mine-each, mine-one, mine-peers, of_peer}
@@ -46,8 +47,9 @@ record Again (n : NodeId) (row : FileRow) (o : Option Tenure) (outs : List Msg) 
   pub is : to_itself n outs ≡ token n sent
   pub stands : IfMessage row sent
   pub leads : IfLeads sent o
+  pub about : IfAbout row.file sent
 
-module _ (place : Place) (row : FileRow) (t : Tenure) (stands : TenureStands place.node row.head t) (apart : are_distinct (nodes_of t.peers) ≡ true) where
+module _ (place : Place) (row : FileRow) (its : place.file ≡ row.file) (t : Tenure) (stands : TenureStands place.node row.head t) (apart : are_distinct (nodes_of t.peers) ≡ true) where
   last_again : (o : Option PeerState) → IfMessage row (of_peer (λ (k : NodeId) (state : PeerState). last_sent place.file t.epoch state) place.node o)
   last_again None = tt
   last_again (Some peer.Unknown) = tt
@@ -80,34 +82,56 @@ module _ (place : Place) (row : FileRow) (t : Tenure) (stands : TenureStands pla
   sent_stands issued is (Some (peer.Feeding known object version body)) = (stands.promised, tt)
   sent_stands issued is (Some (peer.Heading known head)) = (stands.promised, tt)
 
+  unknown_about : (o : Option PeerState) → IfAbout row.file (of_peer (gather_unknown place t.epoch) place.node o)
+  unknown_about None = tt
+  unknown_about (Some peer.Unknown) = ap (λ (f : FileId). Some f) its
+  unknown_about (Some (peer.Reported head)) = tt
+  unknown_about (Some (peer.Feeding known object version body)) = tt
+  unknown_about (Some (peer.Heading known head)) = tt
+  unknown_about (Some peer.Current) = tt
+
+  again_about : (issued : Option IssuedUpdate) (o : Option PeerState) → IfAbout row.file (of_peer (sent_again place t.epoch issued) place.node o)
+  again_about issued None = tt
+  again_about issued (Some peer.Unknown) = ap (λ (f : FileId). Some f) its
+  again_about issued (Some (peer.Reported head)) = tt
+  again_about issued (Some (peer.Feeding known object version body)) = ap (λ (f : FileId). Some f) its
+  again_about issued (Some (peer.Heading known head)) = ap (λ (f : FileId). Some f) its
+  again_about None (Some peer.Current) = tt
+  again_about (Some i) (Some peer.Current) = at (has_node i.acked place.node.0)
+    where
+      at : (b : Bool) → IfAbout row.file (cond b None (Some (payload.Update place.file i.update)))
+      at true = tt
+      at false = ap (λ (f : FileId). Some f) its
+
   leads_any : (sent : Option Payload) → IfLeads sent (Some t)
   leads_any None = tt
   leads_any (Some content) = refl
 
   woken_again : (p : Progress) → t.progress ≡ p → Again place.node row (Some t) (wakes_in place t p).outs
   woken_again progress.Gathering is =
-      record { sent = of_peer (gather_unknown place t.epoch) place.node (peer_in t.peers place.node); is = mine-peers place.node (gather_unknown place t.epoch) t.peers apart; stands = unknown_again (peer_in t.peers place.node); leads = leads_any (of_peer (gather_unknown place t.epoch) place.node (peer_in t.peers place.node)) }
+      record { sent = of_peer (gather_unknown place t.epoch) place.node (peer_in t.peers place.node); is = mine-peers place.node (gather_unknown place t.epoch) t.peers apart; stands = unknown_again (peer_in t.peers place.node); leads = leads_any (of_peer (gather_unknown place t.epoch) place.node (peer_in t.peers place.node)); about = unknown_about (peer_in t.peers place.node) }
   woken_again (progress.Fetching chosen source asked later) is =
       let parts = subst (ProgressStands place.node row.head t) is stands.progress in
       let content = payload.Fetch place.file t.epoch asked.object asked.version in
-      record { sent = None; is = mine-one place.node source content ∙ ap (λ (b : Bool). token place.node (cond b (Some content) None)) (other parts); stands = tt; leads = tt }
+      record { sent = None; is = mine-one place.node source content ∙ ap (λ (b : Bool). token place.node (cond b (Some content) None)) (other parts); stands = tt; leads = tt; about = tt }
     where
       other : ProgressStands place.node row.head t (progress.Fetching chosen source asked later) → (source.0 == place.node.0) ≡ false
       other parts = parts.1
   woken_again (progress.Installing chosen acked) is =
-      record { sent = of_peer (sent_again place t.epoch None) place.node (peer_in t.peers place.node); is = mine-peers place.node (sent_again place t.epoch None) t.peers apart; stands = sent_stands None tt (peer_in t.peers place.node); leads = leads_any (of_peer (sent_again place t.epoch None) place.node (peer_in t.peers place.node)) }
+      record { sent = of_peer (sent_again place t.epoch None) place.node (peer_in t.peers place.node); is = mine-peers place.node (sent_again place t.epoch None) t.peers apart; stands = sent_stands None tt (peer_in t.peers place.node); leads = leads_any (of_peer (sent_again place t.epoch None) place.node (peer_in t.peers place.node)); about = again_about None (peer_in t.peers place.node) }
   woken_again (progress.Active head issued) is =
-      record { sent = of_peer (sent_again place t.epoch issued) place.node (peer_in t.peers place.node); is = mine-peers place.node (sent_again place t.epoch issued) t.peers apart; stands = sent_stands issued (unacked_again head issued is) (peer_in t.peers place.node); leads = leads_any (of_peer (sent_again place t.epoch issued) place.node (peer_in t.peers place.node)) }
+      record { sent = of_peer (sent_again place t.epoch issued) place.node (peer_in t.peers place.node); is = mine-peers place.node (sent_again place t.epoch issued) t.peers apart; stands = sent_stands issued (unacked_again head issued is) (peer_in t.peers place.node); leads = leads_any (of_peer (sent_again place t.epoch issued) place.node (peer_in t.peers place.node)); about = again_about issued (peer_in t.peers place.node) }
 
-under_again : (place : Place) (row : FileRow) (o : Option Tenure) → IfTenure place.node row.head o → ((t : Tenure) → o ≡ Some t → are_distinct (nodes_of t.peers) ≡ true) → Again place.node row o (wakes_under place o).outs
-under_again place row None stands apart = record { sent = None; is = refl; stands = tt; leads = tt }
-under_again place row (Some t) stands apart = woken_again place row t stands (apart t refl) t.progress refl
+under_again : (place : Place) (row : FileRow) (its : place.file ≡ row.file) (o : Option Tenure) → IfTenure place.node row.head o → ((t : Tenure) → o ≡ Some t → are_distinct (nodes_of t.peers) ≡ true) → Again place.node row o (wakes_under place o).outs
+under_again place row its None stands apart = record { sent = None; is = refl; stands = tt; leads = tt; about = tt }
+under_again place row its (Some t) stands apart = woken_again place row its t stands (apart t refl) t.progress refl
 
 -- what a renewal sends to the own node
 record Renews (n : NodeId) (s : FileState) (step : FileStep) : Type 0 where
   pub told : Option Payload
   pub is : to_itself n step.turned.outs ≡ token n told
   pub low : IsLeaseOf 4 told
+  pub about : IfAbout s.kept.file told
   pub kept : step.state.kept ≡ s.kept
   pub primary : step.state.primary ≡ s.primary
   pub asks : step.state.asks ≡ s.asks
@@ -124,19 +148,24 @@ renewing site s h apart seats is = at (is_renewal_due h site.now s.used)
     four true = (refl, le_refl 4)
     four false = tt
 
+    its : (b : Bool) → IfAbout s.kept.file (cond b (Some (payload.Read s.kept.file (round_starts h.proposer site.now (members_of s.kept.location)).ballot)) None)
+    its true = refl
+    its false = tt
+
     at : (b : Bool) → Renews site.node s (cond b (steps_to (record s { lease = held (renewal_starts h site.now (members_of s.kept.location)) }) (reads_of site s (members_of s.kept.location) (round_starts h.proposer site.now (members_of s.kept.location)))) (nothing s))
     at true =
         record {
           told = cond (has_node (members_of s.kept.location) site.node.0) (Some content) None;
           is = mine-each site.node (members_of s.kept.location) content apart;
           low = four (has_node (members_of s.kept.location) site.node.0);
+          about = its (has_node (members_of s.kept.location) site.node.0);
           kept = refl;
           primary = refl;
           asks = refl;
           holds = tt;
           seats = ap are_distinct (fresh_seats (members_of s.kept.location)) ∙ apart;
         }
-    at false = record { told = None; is = refl; low = tt; kept = refl; primary = refl; asks = refl; holds = subst IsHeld (sym is) tt; seats = subst (λ (l : LeaseState). IfSeated (running_round l)) (sym is) seats }
+    at false = record { told = None; is = refl; low = tt; about = tt; kept = refl; primary = refl; asks = refl; holds = subst IsHeld (sym is) tt; seats = subst (λ (l : LeaseState). IfSeated (running_round l)) (sym is) seats }
 
 -- A Wake of a file.
 module _ (site : Site) (from : NodeId) (s : FileState) (stands : FileStands site.node s) (sound : IsSound s) (apart : are_distinct (members_of s.kept.location) ≡ true) where
@@ -145,9 +174,9 @@ module _ (site : Site) (from : NodeId) (s : FileState) (stands : FileStands site
   under_woken (free p) is = nothing_woken
     where
       nothing_woken : Gives site.node from s (nothing s)
-      nothing_woken = record { head = stands.head; moves = moves_none s.kept.head s.kept.head refl; tenure = stands.tenure; seats = stands.seats; few = stands.few; told = None; sent = None; outs = refl; told_is = tt; stands = tt; led = λ led. tt; idle = λ o f. (refl, refl) }
-  under_woken (asking r) is = record { head = stands.head; moves = moves_none s.kept.head s.kept.head refl; tenure = stands.tenure; seats = stands.seats; few = stands.few; told = None; sent = None; outs = refl; told_is = tt; stands = tt; led = λ led. tt; idle = λ o f. (refl, refl) }
-  under_woken (writing r) is = record { head = stands.head; moves = moves_none s.kept.head s.kept.head refl; tenure = stands.tenure; seats = stands.seats; few = stands.few; told = None; sent = None; outs = refl; told_is = tt; stands = tt; led = λ led. tt; idle = λ o f. (refl, refl) }
+      nothing_woken = record { head = stands.head; moves = moves_none s.kept.head s.kept.head refl; tenure = stands.tenure; seats = stands.seats; few = stands.few; told = None; sent = None; outs = refl; told_is = tt; about_sent = tt; about_told = tt; stands = tt; led = λ led. tt; idle = λ o f. (refl, refl) }
+  under_woken (asking r) is = record { head = stands.head; moves = moves_none s.kept.head s.kept.head refl; tenure = stands.tenure; seats = stands.seats; few = stands.few; told = None; sent = None; outs = refl; told_is = tt; about_sent = tt; about_told = tt; stands = tt; led = λ led. tt; idle = λ o f. (refl, refl) }
+  under_woken (writing r) is = record { head = stands.head; moves = moves_none s.kept.head s.kept.head refl; tenure = stands.tenure; seats = stands.seats; few = stands.few; told = None; sent = None; outs = refl; told_is = tt; about_sent = tt; about_told = tt; stands = tt; led = λ led. tt; idle = λ o f. (refl, refl) }
   under_woken (held h) is =
       let place = (ground_of site s).place in
       let woke = wakes place s.primary in
@@ -163,6 +192,8 @@ module _ (site : Site) (from : NodeId) (s : FileState) (stands : FileStands site
         sent = again.sent;
         outs = mine-append site.node (wakes (ground_of site s).place s.primary).outs (renews site (steps_to s (wakes (ground_of site s).place s.primary)).state h).turned.outs ∙ ap₂ (λ (a b : List Msg). a ++ b) again.is q.is;
         told_is = q.low;
+        about_sent = again.about;
+        about_told = subst (λ (k : FileRow). IfAbout k.file q.told) quiet_wake q.about;
         stands = subst (λ (k : FileRow). IfMessage k again.sent) (sym kept_is) again.stands;
         led = λ led. led_by again.sent again.leads;
         idle = λ o f. absurd (free_held (renews site (steps_to s (wakes (ground_of site s).place s.primary)).state h).state.lease f q.holds);
@@ -178,7 +209,7 @@ module _ (site : Site) (from : NodeId) (s : FileState) (stands : FileStands site
       kept_is = q.kept ∙ quiet_wake
 
       again : Again site.node s.kept s.primary.tenure (wakes_under (ground_of site s).place s.primary.tenure).outs
-      again = under_again (ground_of site s).place s.kept s.primary.tenure stands.tenure (λ t e. ap are_distinct (subst (λ (o : Option Tenure). PeersAre (members_of s.kept.location) o) e sound.peers) ∙ apart)
+      again = under_again (ground_of site s).place s.kept refl s.primary.tenure stands.tenure (λ t e. ap are_distinct (subst (λ (o : Option Tenure). PeersAre (members_of s.kept.location) o) e sound.peers) ∙ apart)
 
       free_held : (l : LeaseState) → IsFree l → IsHeld l → ⊥
       free_held (free p) f h = h

@@ -15,7 +15,9 @@ use Rattle.osd_rows.specs.declared.PeerState.TheVariants as peer
 use Rattle.osd_rows.specs.declared.Progress.{Progress}
 use Rattle.osd_rows.specs.declared.Progress.TheVariants as progress
 use Rattle.osd_rows.specs.declared.Tenure.{Tenure}
+use Rattle.xt_base.specs.declared.ids.FileId.{FileId}
 use Rattle.osd_rows.specs.Primaries.{peer_in}
+use Rattle.osd_rows.specs.OsdSteps.{file_concerned}
 
 -- ---- a file
 
@@ -85,3 +87,8 @@ IsLacking row _ = Unit {0}
 abbrev pub IfMessage : FileRow → Option Payload → Type 0
 IfMessage row None = Unit {0}
 IfMessage row (Some content) = Stands row content × IsLacking row content
+
+-- and it concerns this file
+abbrev pub IfAbout : FileId → Option Payload → Type 0
+IfAbout file None = Unit {0}
+IfAbout file (Some content) = file_concerned content ≡ Some file
