@@ -15,3 +15,4 @@ pub mod Waking
 pub mod FileSteps
 pub mod Sizes
 pub mod FileSizes
+pub mod Bounds
