@@ -16,3 +16,4 @@ pub mod FileSteps
 pub mod Sizes
 pub mod FileSizes
 pub mod Bounds
+pub mod Osds
