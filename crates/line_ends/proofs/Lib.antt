@@ -17,3 +17,4 @@ pub mod Sizes
 pub mod FileSizes
 pub mod Bounds
 pub mod Osds
+pub mod OsdEvents

@@ -1,0 +1,157 @@
+-- an event at an OSD: its files stand behind it, and what goes to the OSD itself stands there
+use Rattle.std.proofs.Common.{◌≡◌, ℕ, ◌≤◌, ◌+◌, ◌⊎◌, inl, inr, Bool, true, false, List, [], ◌∷◌, ◌++◌, map, refl, sym, ap, ap₂, subst, ◌∙◌, arith, Option, Some, None}
+use Rattle.std.specs.Prelude.{◌&&◌, ◌||◌, not, cond, ◌==◌, max, filter}
+use Rattle.xt_base.specs.MemberList.{are_distinct}
+use Rattle.xt_base.specs.declared.ids.NodeId.{NodeId}
+use Rattle.xt_base.specs.declared.ids.FileId.{FileId}
+use Rattle.xt_base.specs.declared.file.Location.{Location}
+use Rattle.xt_base.specs.declared.event.Event.{Event}
+use Rattle.xt_base.specs.declared.event.Event.TheVariants as event
+use Rattle.xt_base.specs.declared.message.Msg.{Msg}
+use Rattle.xt_base.specs.declared.message.Payload.{Payload}
+use Rattle.xt_base.specs.declared.record.FileRow.{FileRow}
+use Rattle.xt_protocol.specs.FileIds.{is_file, is_before}
+use Rattle.xt_protocol.specs.LeaseRows.{Awake, is_silent}
+use Rattle.xt_protocol.proofs.Folds.{file-equal, file-itself}
+use Rattle.lease_safety.specs.State.{Has}
+use Rattle.osd_rows.specs.Turns.{quiet}
+use Rattle.osd_rows.specs.FileStates.{FileState, Site, FileStep}
+use Rattle.osd_rows.specs.FileSteps.{step_of_file, wake_of_file}
+use Rattle.osd_rows.specs.Overdue.{expired}
+use Rattle.osd_rows.specs.OsdSteps.{Outside, OsdState, OsdStep, FilesStep, file_at, with_file, each_file, file_concerned, message_handled, asks_dir, woken, event_handled, handled_awake, step_of_osd}
+use Rattle.osd_lease_views.specs.OsdView.{site_of, wake_step}
+use Rattle.osd_lease_views.proofs.OsdLeases.{file_at-with_file, at_file, step_keeps, put_here}
+use Rattle.cluster_runs.specs.declared.DeclaredFile.{DeclaredFile}
+use Rattle.cluster_runs.specs.World.{file_in}
+use Rattle.cluster_runs.specs.NodeSteps.{to_itself}
+use Rattle.world_leases.specs.View.{awake_as}
+use Rattle.world_leases.specs.Worlds.{AreBehind, AskFits, FileFits, Rises, files_of}
+use Rattle.world_leases.proofs.Files.{at_fits, file_after}
+use Rattle.world_leases.proofs.Lists.{has_in, has_map}
+use Rattle.world_leases.proofs.Rising.{before_itself, with_file_has}
+use Rattle.osd_invariants.proofs.Kept.{expired_quiet, wake_follows}
+use Rattle.line_ends.specs.Weights.{is_lease}
+use Rattle.line_ends.specs.Chains.{IfAbout, IfMessage, Stands}
+use Rattle.line_ends.proofs.Tests.{false_true}
+use Rattle.line_ends.proofs.Mine.{token, mine-append, mine-one}
+use Rattle.line_ends.proofs.Leases.{IsFree, IsLeaseOf}
+use Rattle.line_ends.proofs.Files.{FileStands, IfLed, overdue}
+use Rattle.line_ends.proofs.Messages.{Gives, is_ask}
+use Rattle.line_ends.proofs.Sizes.{ContentSmall, AreSmall, both_small}
+use Rattle.line_ends.proofs.FileSizes.{FileSmall, StepSmall, step_small, expired_small, wake_small}
+use Rattle.line_ends.proofs.Osds.{KeptMoves, kept_same, OwnFits, at_stands, step_any, step_stands, step_moves, wake_any, wake_stands, wake_moves, wake_step_small, own_fits, sound_of}
+
+-- what an event at an OSD owes
+pub record OsdAfter (s : OsdState) (step : OsdStep) : Type 0 where
+  pub started : step.osd.started ≡ s.started
+  pub stands : (f : FileState) → Has f step.osd.files → FileStands s.started.node f × FileSmall f
+  pub moves : (file : FileId) → KeptMoves (file_at (awake_as s.started) s.files file).kept (file_at (awake_as s.started) step.osd.files file).kept
+  pub outs : AreSmall s.started.node step.turned.outs
+  pub own : (m : Msg) → Has m (to_itself s.started.node step.turned.outs) → OwnFits (awake_as s.started) step.osd.files m.payload
+
+-- what is heard at an OSD: an ask is on a declared file, and what came from the OSD itself stands there
+abbrev pub Arrives : List DeclaredFile → OsdState → Event → Type 0
+Arrives declared s (event.Deliver msg) = AskFits declared msg.payload × ContentSmall msg.payload × (msg.from.0 ≡ s.started.node.0 → OwnFits (awake_as s.started) s.files msg.payload)
+Arrives declared s event.Wake = Unit {0}
+Arrives declared s (event.Call call) = Unit {0}
+
+-- the state of a file in a list that rises
+pub found_in : (awake : Awake) (files : List FileState) (f : FileState) (st : FileState → FileState) → ((x : FileState) → (st x).kept.file ≡ x.kept.file) → Rises (files_of files) → Has f files → file_at awake (map st files) f.kept.file ≡ st f
+unfolding file_at
+found_in awake [] f st same rises h = absurd h
+found_in awake (x ∷ xs) f st same rises (inl e) =
+    ap (λ (b : Bool). cond b (st x) (file_at awake (map st xs) f.kept.file)) (ap (λ (k : FileId). is_file k f.kept.file) (same x ∙ ap (λ (y : FileState). y.kept.file) (sym e)) ∙ file-itself f.kept.file) ∙ ap st (sym e)
+found_in awake (x ∷ xs) f st same rises (inr h) = at (is_file (st x).kept.file f.kept.file) refl (found_in awake xs f st same rises.1 h)
+  where
+    of_files : (fs : List FileState) → Has f fs → Has f.kept.file (files_of fs)
+    of_files [] h = absurd h
+    of_files (y ∷ ys) (inl e) = inl (ap (λ (z : FileState). z.kept.file) e)
+    of_files (y ∷ ys) (inr h) = inr (of_files ys h)
+
+    at : (b : Bool) → is_file (st x).kept.file f.kept.file ≡ b → file_at awake (map st xs) f.kept.file ≡ st f → cond b (st x) (file_at awake (map st xs) f.kept.file) ≡ st f
+    at true is rest = absurd (before_itself x.kept.file f.kept.file (ap (λ (k : FileId). is_file k f.kept.file) (sym (same x)) ∙ is) (rises.0 f.kept.file (of_files xs h)))
+    at false is rest = rest
+
+module _ (declared : List DeclaredFile) (lists : (number : ℕ) (location : Location) → file_in declared number ≡ Some location → are_distinct location.members ≡ true) (outside : Outside) (s : OsdState) (now : ℕ)
+    (fits : (f : FileState) → Has f s.files → FileFits declared f) (stands : (f : FileState) → Has f s.files → FileStands s.started.node f × FileSmall f) (rises : Rises (files_of s.files)) where
+
+  abbrev pub here : Awake
+  here = awake_as s.started
+
+  abbrev pub place : Site
+  place = site_of outside (awake_as s.started) now
+
+  -- nothing comes of it
+  rests : OsdAfter s (record { osd = record { started = s.started; last = now; files = s.files }; turned = quiet })
+  rests = record { started = refl; stands = stands; moves = λ file. kept_same (file_at (awake_as s.started) s.files file).kept (file_at (awake_as s.started) s.files file).kept refl; outs = tt; own = λ m h. absurd h }
+
+  -- ---- a message
+
+  pub fit_at : (file : FileId) → FileFits declared (file_at (awake_as s.started) s.files file)
+  fit_at file = at_fits declared (awake_as s.started) s.files file fits
+
+  pub stands_at : (file : FileId) → FileStands s.started.node (file_at (awake_as s.started) s.files file) × FileSmall (file_at (awake_as s.started) s.files file)
+  stands_at file = at_stands place here declared lists s.files fits stands file
+
+  abbrev pub heard_of : (msg : Msg) (file : FileId) → Type 0
+  heard_of msg file = msg.from.0 ≡ s.started.node.0 → (is_ask msg.payload ≡ false) × (is_lease msg.payload ≡ false → Stands (file_at (awake_as s.started) s.files file).kept msg.payload)
+
+  pub heard_by : (msg : Msg) (file : FileId) → file_concerned msg.payload ≡ Some file → Arrives declared s (event.Deliver msg) → heard_of msg file
+  heard_by msg file concerns arrives mine = let own = arrives.2 mine in (own.no_ask, λ primary. own.stands file concerns primary)
+
+  abbrev pub step_at : Msg → FileId → FileStep
+  step_at msg file = step_of_file place (file_at (awake_as s.started) s.files file) msg.from msg.payload
+
+  pub gives_at : (msg : Msg) (file : FileId) → file_concerned msg.payload ≡ Some file → Arrives declared s (event.Deliver msg) → Gives s.started.node msg.from (file_at (awake_as s.started) s.files file) (step_at msg file)
+  gives_at msg file concerns arrives = step_any place here declared lists s.files fits stands (file_at (awake_as s.started) s.files file) msg.from msg.payload (stands_at file).0 (fit_at file) arrives.0 (heard_by msg file concerns arrives)
+
+  pub same_file : (msg : Msg) (file : FileId) → (step_at msg file).state.kept.file ≡ file
+  same_file msg file = step_keeps place (file_at (awake_as s.started) s.files file) msg.from msg.payload ∙ at_file (awake_as s.started) s.files file
+
+  pub there_now : (msg : Msg) (file : FileId) → file_at (awake_as s.started) (with_file s.files (step_at msg file).state) file ≡ (step_at msg file).state
+  there_now msg file = file_at-with_file (awake_as s.started) s.files (step_at msg file).state file ∙ put_here (step_at msg file).state (file_at (awake_as s.started) s.files file) file (same_file msg file)
+
+  pub stands_now : (msg : Msg) (file : FileId) → file_concerned msg.payload ≡ Some file → Arrives declared s (event.Deliver msg) → FileStands s.started.node (step_at msg file).state × FileSmall (step_at msg file).state
+  stands_now msg file concerns arrives =
+      (step_stands place here declared lists s.files fits stands (file_at (awake_as s.started) s.files file) msg.from msg.payload (stands_at file).0 (fit_at file) arrives.0 (heard_by msg file concerns arrives),
+      (step_small place (file_at (awake_as s.started) s.files file) msg.from msg.payload (stands_at file).1 arrives.1).state)
+
+  concerned : (msg : Msg) (file : FileId) → file_concerned msg.payload ≡ Some file → Arrives declared s (event.Deliver msg)
+      → OsdAfter s (record { osd = record { started = s.started; last = now; files = with_file s.files (step_at msg file).state }; turned = (step_at msg file).turned })
+  concerned msg file concerns arrives =
+      record {
+        started = refl;
+        stands = λ f h. elim (with_file_has s.files (step_at msg file).state f h) [
+          | inl e ↦ subst (λ (x : FileState). FileStands s.started.node x × FileSmall x) (sym e) (stands_now msg file concerns arrives)
+          | inr old ↦ stands f old
+        ];
+        moves = λ g. subst (λ (x : FileState). KeptMoves (file_at (awake_as s.started) s.files g).kept x.kept) (sym (file_at-with_file (awake_as s.started) s.files (step_at msg file).state g)) (moved g (is_file (step_at msg file).state.kept.file g) refl);
+        outs = (step_small place (file_at (awake_as s.started) s.files file) msg.from msg.payload (stands_at file).1 arrives.1).outs;
+        own = λ m h. own_fits place here declared lists s.files fits stands msg.from (file_at (awake_as s.started) s.files file) (step_at msg file) (with_file s.files (step_at msg file).state) (gives_at msg file concerns arrives)
+            (step_keeps place (file_at (awake_as s.started) s.files file) msg.from msg.payload)
+            (ap (file_at (awake_as s.started) (with_file s.files (step_at msg file).state)) (at_file (awake_as s.started) s.files file) ∙ there_now msg file) m h;
+      }
+    where
+      moved : (g : FileId) (b : Bool) → is_file (step_at msg file).state.kept.file g ≡ b → KeptMoves (file_at (awake_as s.started) s.files g).kept (cond b (step_at msg file).state (file_at (awake_as s.started) s.files g)).kept
+      moved g false is = kept_same (file_at (awake_as s.started) s.files g).kept (file_at (awake_as s.started) s.files g).kept refl
+      moved g true is =
+          let same : file ≡ g = sym (same_file msg file) ∙ file-equal (step_at msg file).state.kept.file g is in
+          subst (λ (k : FileId). KeptMoves (file_at (awake_as s.started) s.files k).kept (step_at msg file).state.kept) same
+          (step_moves place here declared lists s.files fits stands (file_at (awake_as s.started) s.files file) msg.from msg.payload (stands_at file).0 (fit_at file) arrives.0 (heard_by msg file concerns arrives))
+
+  -- ---- a Wake
+
+  abbrev pub woke : FileState → FileState
+  woke f = (wake_step place f).state
+
+  pub woke_file : (f : FileState) → (wake_step place f).state.kept.file ≡ f.kept.file
+  woke_file f = ap (λ (r : FileRow). r.file) (wake_follows place (expired place f).state) ∙ file_after (expired place f).state.kept (wake_of_file place (expired place f).state).turned.rec ∙ ap (λ (r : FileRow). r.file) (expired_quiet place f).1
+
+  -- what each file sends to the OSD itself, one after the other
+  pub record WakeSends (f : FileState) (ms rest : List Msg) : Type 0 where
+    pub gives : Gives s.started.node (record { 0 = s.started.node.0 + 1 }) f (wake_step place f)
+    pub is : ms ≡ (token s.started.node gives.sent ++ token s.started.node gives.told) ++ rest
+
+  pub data WokenTo : List FileState → List Msg → Type 0 where
+    none_woken : WokenTo [] []
+    one_woken : (f : FileState) (fs : List FileState) (ms rest : List Msg) → WakeSends f ms rest → WokenTo fs rest → WokenTo (f ∷ fs) ms
