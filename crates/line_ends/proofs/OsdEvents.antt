@@ -27,7 +27,7 @@ use Rattle.cluster_runs.specs.NodeSteps.{to_itself}
 use Rattle.world_leases.specs.View.{awake_as}
 use Rattle.world_leases.specs.Worlds.{AreBehind, AskFits, FileFits, Rises, files_of}
 use Rattle.world_leases.proofs.Files.{at_fits, file_after}
-use Rattle.world_leases.proofs.Lists.{has_in, has_map}
+use Rattle.world_leases.proofs.Lists.{has_in, has_map, has_filter}
 use Rattle.world_leases.proofs.Rising.{before_itself, with_file_has}
 use Rattle.osd_invariants.proofs.Kept.{expired_quiet, wake_follows}
 use Rattle.line_ends.specs.Weights.{is_lease}
@@ -155,3 +155,137 @@ module _ (declared : List DeclaredFile) (lists : (number : ℕ) (location : Loca
   pub data WokenTo : List FileState → List Msg → Type 0 where
     none_woken : WokenTo [] []
     one_woken : (f : FileState) (fs : List FileState) (ms rest : List Msg) → WakeSends f ms rest → WokenTo fs rest → WokenTo (f ∷ fs) ms
+
+  its_stands : (fs : List FileState) → ((f : FileState) → Has f fs → Has f s.files) → (f : FileState) → Has f fs → FileStands s.started.node f × FileSmall f
+  its_stands fs within f h = stands f (within f h)
+
+  gives_woken : (f : FileState) → Has f s.files → Gives s.started.node (record { 0 = s.started.node.0 + 1 }) f (wake_step place f)
+  gives_woken f h = wake_any place here declared lists s.files fits stands f (stands f h).0 (fits f h)
+
+  due_none : (f : FileState) → Has f s.files → to_itself s.started.node (expired place f).turned.outs ≡ []
+  due_none f h = (overdue place f (stands f h).0 (sound_of place here declared lists s.files fits stands f (fits f h)).issued).outs
+
+  settled_none : (fs : List FileState) → ((f : FileState) → Has f fs → Has f s.files) → to_itself s.started.node (each_file (expired place) fs).turned.outs ≡ []
+  unfolding each_file
+  settled_none [] within = refl
+  settled_none (f ∷ fs) within =
+      mine-append s.started.node (expired place f).turned.outs (each_file (expired place) fs).turned.outs ∙ ap₂ (λ (a b : List Msg). a ++ b) (due_none f (within f (inl refl))) (settled_none fs (λ x h. within x (inr h)))
+
+  pub wakes_to : (fs : List FileState) → ((f : FileState) → Has f fs → Has f s.files) → WokenTo fs (to_itself s.started.node (each_file (wake_of_file place) (each_file (expired place) fs).files).turned.outs)
+  unfolding each_file
+  wakes_to [] within = none_woken
+  wakes_to (f ∷ fs) within =
+      let q = gives_woken f (within f (inl refl)) in
+      let wake = wake_of_file place (expired place f).state in
+      let others = (each_file (wake_of_file place) (each_file (expired place) fs).files).turned.outs in
+      one_woken f fs _ (to_itself s.started.node (each_file (wake_of_file place) (each_file (expired place) fs).files).turned.outs)
+      (record {
+        gives = q;
+        is =
+            mine-append s.started.node (wake_of_file place (expired place f).state).turned.outs (each_file (wake_of_file place) (each_file (expired place) fs).files).turned.outs
+            ∙ ap (λ (xs : List Msg). xs ++ to_itself s.started.node (each_file (wake_of_file place) (each_file (expired place) fs).files).turned.outs)
+            (sym (mine-append s.started.node (expired place f).turned.outs (wake_of_file place (expired place f).state).turned.outs
+            ∙ ap (λ (xs : List Msg). xs ++ to_itself s.started.node (wake_of_file place (expired place f).state).turned.outs) (due_none f (within f (inl refl)))) ∙ q.outs);
+      })
+      (wakes_to fs (λ x h. within x (inr h)))
+
+  -- of whose file a message is
+  pub record WokenOf (fs : List FileState) (m : Msg) : Type 0 where
+    pub file : FileState
+    pub has : Has file fs
+    pub out : Has m (to_itself s.started.node (wake_step place file).turned.outs)
+
+  woken_of : (fs : List FileState) (ms : List Msg) (m : Msg) → WokenTo fs ms → Has m ms → WokenOf fs m
+  woken_of [] ms m none_woken h = absurd h
+  woken_of (f ∷ fs) ms m (one_woken _ _ _ rest sends others) h =
+      elim (has_in m (token s.started.node sends.gives.sent ++ token s.started.node sends.gives.told) rest (subst (Has m) sends.is h)) [
+        | inl mine ↦ record { file = f; has = inl refl; out = subst (Has m) (sym sends.gives.outs) mine }
+        | inr later ↦ (let r = woken_of fs rest m others later in record { file = r.file; has = inr r.has; out = r.out })
+      ]
+
+  pub woken_files : (fs : List FileState) → (each_file (wake_of_file place) (each_file (expired place) fs).files).files ≡ map (λ (f : FileState). (wake_step place f).state) fs
+  unfolding each_file
+  woken_files [] = refl
+  woken_files (f ∷ fs) = ap (λ (others : List FileState). (wake_step place f).state ∷ others) (woken_files fs)
+
+  settled_small : (fs : List FileState) → ((f : FileState) → Has f fs → Has f s.files) → AreSmall s.started.node (each_file (expired place) fs).turned.outs
+  unfolding each_file
+  settled_small [] within = tt
+  settled_small (f ∷ fs) within =
+      both_small s.started.node (expired place f).turned.outs (each_file (expired place) fs).turned.outs (expired_small place f (stands f (within f (inl refl))).1).outs (settled_small fs (λ x h. within x (inr h)))
+
+  wakes_small : (fs : List FileState) → ((f : FileState) → Has f fs → Has f s.files) → AreSmall s.started.node (each_file (wake_of_file place) (each_file (expired place) fs).files).turned.outs
+  unfolding each_file
+  wakes_small [] within = tt
+  wakes_small (f ∷ fs) within =
+      both_small s.started.node (wake_of_file place (expired place f).state).turned.outs (each_file (wake_of_file place) (each_file (expired place) fs).files).turned.outs
+      (wake_small place (expired place f).state (expired_small place f (stands f (within f (inl refl))).1).state).outs (wakes_small fs (λ x h. within x (inr h)))
+
+  woken_moves : (fs : List FileState) (g : FileId) → ((f : FileState) → Has f fs → Has f s.files) → KeptMoves (file_at (awake_as s.started) fs g).kept (file_at (awake_as s.started) (map (λ (f : FileState). (wake_step place f).state) fs) g).kept
+  unfolding file_at
+  woken_moves [] g within = kept_same (file_at (awake_as s.started) [] g).kept (file_at (awake_as s.started) [] g).kept refl
+  woken_moves (f ∷ fs) g within = subst (λ (b : Bool). KeptMoves (cond (is_file f.kept.file g) f (file_at (awake_as s.started) fs g)).kept (cond b (wake_step place f).state (file_at (awake_as s.started) (map (λ (f : FileState). (wake_step place f).state) fs) g)).kept)
+      (sym (ap (λ (k : FileId). is_file k g) (woke_file f))) (at (is_file f.kept.file g) (woken_moves fs g (λ x h. within x (inr h))))
+    where
+      at : (b : Bool) → KeptMoves (file_at (awake_as s.started) fs g).kept (file_at (awake_as s.started) (map (λ (f : FileState). (wake_step place f).state) fs) g).kept
+          → KeptMoves (cond b f (file_at (awake_as s.started) fs g)).kept (cond b (wake_step place f).state (file_at (awake_as s.started) (map (λ (f : FileState). (wake_step place f).state) fs) g)).kept
+      at true rest = wake_moves place here declared lists s.files fits stands f (stands f (within f (inl refl))).0 (fits f (within f (inl refl)))
+      at false rest = rest
+
+  woken_after : OsdAfter s (record { osd = record { started = s.started; last = now; files = (woken place s.files).files }; turned = (woken place s.files).turned })
+  woken_after =
+      let step = woken place s.files in
+      record {
+        started = refl;
+        stands = λ f h. let x = has_map (λ (f : FileState). (wake_step place f).state) s.files f (subst (λ (fs : List FileState). Has f fs) (woken_files s.files) h) in
+            subst (λ (y : FileState). FileStands s.started.node y × FileSmall y) (sym x.2)
+            (wake_stands place here declared lists s.files fits stands x.0 (stands x.0 x.1).0 (fits x.0 x.1), (wake_step_small place here declared lists s.files fits stands x.0 (stands x.0 x.1).1).state);
+        moves = λ g. subst (λ (fs : List FileState). KeptMoves (file_at (awake_as s.started) s.files g).kept (file_at (awake_as s.started) fs g).kept) (sym (woken_files s.files)) (woken_moves s.files g (λ f h. h));
+        outs = ((refl, tt), both_small s.started.node (each_file (expired place) s.files).turned.outs (each_file (wake_of_file place) (each_file (expired place) s.files).files).turned.outs (settled_small s.files (λ f h. h)) (wakes_small s.files (λ f h. h)));
+        own = λ m h. own m (has_in m (to_itself s.started.node (asks_dir s.started.node ∷ [])) (to_itself s.started.node (each_file (wake_of_file place) (each_file (expired place) s.files).files).turned.outs) (subst (Has m) woken_own h));
+      }
+    where
+      woken_own : to_itself s.started.node (woken place s.files).turned.outs ≡ to_itself s.started.node (asks_dir s.started.node ∷ []) ++ to_itself s.started.node (each_file (wake_of_file place) (each_file (expired place) s.files).files).turned.outs
+      woken_own =
+          mine-append s.started.node (asks_dir s.started.node ∷ []) ((each_file (expired place) s.files).turned.outs ++ (each_file (wake_of_file place) (each_file (expired place) s.files).files).turned.outs)
+          ∙ ap (λ (xs : List Msg). to_itself s.started.node (asks_dir s.started.node ∷ []) ++ xs)
+          (mine-append s.started.node (each_file (expired place) s.files).turned.outs (each_file (wake_of_file place) (each_file (expired place) s.files).files).turned.outs
+          ∙ ap (λ (xs : List Msg). xs ++ to_itself s.started.node (each_file (wake_of_file place) (each_file (expired place) s.files).files).turned.outs) (settled_none s.files (λ f h. h)))
+
+      dir_fits : (after : List FileState) (m : Msg) → Has m (to_itself s.started.node (asks_dir s.started.node ∷ [])) → OwnFits (awake_as s.started) after m.payload
+      dir_fits after m h =
+          let at : Has m (asks_dir s.started.node ∷ []) = (has_filter (λ (k : Msg). k.to.0 == s.started.node.0) m (asks_dir s.started.node ∷ []) h).0 in
+          is_dir at
+        where
+          is_dir : Has m (asks_dir s.started.node ∷ []) → OwnFits (awake_as s.started) after m.payload
+          is_dir (inl e) = subst (λ (k : Msg). OwnFits (awake_as s.started) after k.payload) (sym e) (record { no_ask = refl; stands = λ file concerns primary. absurd (cc) })
+          is_dir (inr h) = absurd h
+
+      own : (m : Msg) → Has m (to_itself s.started.node (asks_dir s.started.node ∷ [])) ⊎ Has m (to_itself s.started.node (each_file (wake_of_file place) (each_file (expired place) s.files).files).turned.outs)
+          → OwnFits (awake_as s.started) (woken place s.files).files m.payload
+      own m (inl dir) = dir_fits (woken place s.files).files m dir
+      own m (inr one) =
+          let w = woken_of s.files (to_itself s.started.node (each_file (wake_of_file place) (each_file (expired place) s.files).files).turned.outs) m (wakes_to s.files (λ f h. h)) one in
+          own_fits place here declared lists s.files fits stands (record { 0 = s.started.node.0 + 1 }) w.file (wake_step place w.file) (woken place s.files).files (gives_woken w.file w.has) (woke_file w.file)
+          (ap (λ (fs : List FileState). file_at (awake_as s.started) fs w.file.kept.file) (woken_files s.files) ∙ found_in (awake_as s.started) s.files w.file (λ (f : FileState). (wake_step place f).state) woke_file rises w.has) m w.out
+
+  pub woken_to : to_itself s.started.node (woken place s.files).turned.outs ≡ to_itself s.started.node (asks_dir s.started.node ∷ []) ++ to_itself s.started.node (each_file (wake_of_file place) (each_file (expired place) s.files).files).turned.outs
+  woken_to =
+      mine-append s.started.node (asks_dir s.started.node ∷ []) ((each_file (expired place) s.files).turned.outs ++ (each_file (wake_of_file place) (each_file (expired place) s.files).files).turned.outs)
+      ∙ ap (λ (xs : List Msg). to_itself s.started.node (asks_dir s.started.node ∷ []) ++ xs)
+      (mine-append s.started.node (each_file (expired place) s.files).turned.outs (each_file (wake_of_file place) (each_file (expired place) s.files).files).turned.outs
+      ∙ ap (λ (xs : List Msg). xs ++ to_itself s.started.node (each_file (wake_of_file place) (each_file (expired place) s.files).files).turned.outs) (settled_none s.files (λ f h. h)))
+
+  -- ---- any event
+
+  message_after : (msg : Msg) (o : Option FileId) → file_concerned msg.payload ≡ o → Arrives declared s (event.Deliver msg)
+      → OsdAfter s (let step = message_handled place here s.files msg o in record { osd = record { started = s.started; last = now; files = step.files }; turned = step.turned })
+  message_after msg None concerns arrives = rests
+  message_after msg (Some file) concerns arrives = concerned msg file concerns arrives
+
+  -- a silent OSD, or one that is awake
+  pub event_after : (happens : Event) (silent : Bool) → Arrives declared s happens → OsdAfter s (handled_awake outside s now happens (cond silent None (Some (awake_as s.started))))
+  event_after happens true arrives = record { started = refl; stands = stands; moves = λ file. kept_same (file_at (awake_as s.started) s.files file).kept (file_at (awake_as s.started) s.files file).kept refl; outs = tt; own = λ m h. absurd h }
+  event_after (event.Deliver msg) false arrives = message_after msg (file_concerned msg.payload) refl arrives
+  event_after event.Wake false arrives = woken_after
+  event_after (event.Call call) false arrives = rests
