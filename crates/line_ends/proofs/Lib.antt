@@ -18,3 +18,4 @@ pub mod FileSizes
 pub mod Bounds
 pub mod Osds
 pub mod OsdEvents
+pub mod Clients
