@@ -19,3 +19,4 @@ pub mod Bounds
 pub mod Osds
 pub mod OsdEvents
 pub mod Clients
+pub mod Keeping
