@@ -73,6 +73,7 @@ module _ (site : Site) (from : NodeId) (s : FileState) (stands : FileStands site
   less_due content true rows told sent q =
       record {
         alone = let low = due.settles.lighter None tt in let less = q.alone in omega (arith, low, less);
+        led_alone = q.led_alone;
         sent_none = λ led. q.sent_none (due.settles.led (Some content) led);
         still_led = λ led. q.still_led (due.settles.led (Some content) led);
         kept = λ led. q.kept (due.settles.led (Some content) led) ∙ due.settles.kept;

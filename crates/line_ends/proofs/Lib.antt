@@ -20,3 +20,5 @@ pub mod Osds
 pub mod OsdEvents
 pub mod Clients
 pub mod Keeping
+pub mod Chains
+pub mod ChainSteps

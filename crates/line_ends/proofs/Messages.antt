@@ -81,6 +81,7 @@ pub record Gives (n : NodeId) (from : NodeId) (s : FileState) (step : FileStep) 
 -- less is left behind a message of the lease: alone, and beside one of the primary, which stays as it is
 pub record LeaseLess (n : NodeId) (s : FileState) (content : Payload) (step : FileStep) (told sent : Option Payload) : Type 0 where
   pub alone : chain_weight n step.state sent + lease_of told + 1 ≤ chain_weight n s None + lease_rank content
+  pub led_alone : IfLed sent step.state
   pub sent_none : IsLed s → sent ≡ None
   pub still_led : IsLed s → IsLed step.state
   pub kept : IsLed s → step.state.kept ≡ s.kept
@@ -135,6 +136,7 @@ settled_less n s content step told k q told_is low =
     let few = lease_low k told told_is in
     record {
       alone = let less = q.lighter None tt in omega (arith, less, few, low);
+      led_alone = tt;
       sent_none = λ led. refl;
       still_led = λ led. q.led (Some content) led;
       kept = λ led. q.kept;
@@ -337,6 +339,7 @@ module _ (site : Site) (s : FileState) (from : NodeId) (stands : FileStands site
           let fewer = low in
           record {
             alone = omega (arith, before, now, fewer, one);
+            led_alone = led_by q.sent q.leads;
             sent_none = λ is. absurd (unled is);
             still_led = λ is. absurd (unled is);
             kept = λ is. absurd (unled is);
