@@ -22,3 +22,4 @@ pub mod Clients
 pub mod Keeping
 pub mod Chains
 pub mod ChainSteps
+pub mod Starts

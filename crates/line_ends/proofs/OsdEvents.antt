@@ -159,7 +159,7 @@ module _ (declared : List DeclaredFile) (lists : (number : ℕ) (location : Loca
   its_stands : (fs : List FileState) → ((f : FileState) → Has f fs → Has f s.files) → (f : FileState) → Has f fs → FileStands s.started.node f × FileSmall f
   its_stands fs within f h = stands f (within f h)
 
-  gives_woken : (f : FileState) → Has f s.files → Gives s.started.node (record { 0 = s.started.node.0 + 1 }) f (wake_step place f)
+  pub gives_woken : (f : FileState) → Has f s.files → Gives s.started.node (record { 0 = s.started.node.0 + 1 }) f (wake_step place f)
   gives_woken f h = wake_any place here declared lists s.files fits stands f (stands f h).0 (fits f h)
 
   due_none : (f : FileState) → Has f s.files → to_itself s.started.node (expired place f).turned.outs ≡ []
