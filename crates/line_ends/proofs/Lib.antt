@@ -23,3 +23,5 @@ pub mod Keeping
 pub mod Chains
 pub mod ChainSteps
 pub mod Starts
+pub mod Running
+pub mod Ends

@@ -263,6 +263,22 @@ only : (b : Bool) (o : Option Payload) → cond b (list_of o) [] ≡ list_of (co
 only true o = refl
 only false o = refl
 
+-- a Wake may ask the DIR, which may be the OSD itself
+abbrev pub room_of : Event → ℕ
+room_of event.Wake = 1
+room_of _ = 0
+
+-- not from the node itself
+abbrev pub IsOutside : NodeId → Event → Type 0
+IsOutside n (event.Deliver m) = (m.from.0 == n.0) ≡ false
+IsOutside n _ = Unit {0}
+
+-- what holds of the files behind an event
+pub record Behind (declared : List DeclaredFile) (n : NodeId) (files : List FileState) : Type 0 where
+  pub all_fit : (f : FileState) → Has f files → FileFits declared f
+  pub all_stand : (f : FileState) → Has f files → FileStands n f × FileSmall f
+  pub all_rise : Rises (files_of files)
+
 module _ (declared : List DeclaredFile) (lists : (number : ℕ) (location : Location) → file_in declared number ≡ Some location → are_distinct location.members ≡ true) (outside : Outside) (s : OsdState) (now : ℕ)
     (fits : (f : FileState) → Has f s.files → FileFits declared f) (stands : (f : FileState) → Has f s.files → FileStands s.started.node f × FileSmall f) (rises : Rises (files_of s.files)) where
 
@@ -517,43 +533,28 @@ module _ (declared : List DeclaredFile) (lists : (number : ℕ) (location : Loca
 
   -- ---- any of them
 
-  abbrev pub room_of : Event → ℕ
-  room_of event.Wake = 1
-  room_of _ = 0
-
-  -- not from the OSD itself
-  abbrev pub IsOutside : Event → Type 0
-  IsOutside (event.Deliver m) = (m.from.0 == s.started.node.0) ≡ false
-  IsOutside _ = Unit {0}
-
   abbrev pub handled : Event → FilesStep
   handled happens = event_handled (site_of outside (awake_as s.started) now) (awake_as s.started) s.files happens
 
   abbrev pub Starts : FilesStep → ℕ → Type 0
   Starts step k = Chain (awake_as s.started) s.started.node step.files (to_itself s.started.node step.turned.outs) k
 
-  -- what holds of the files behind it
-  pub record Behind (files : List FileState) : Type 0 where
-    pub all_fit : (f : FileState) → Has f files → FileFits declared f
-    pub all_stand : (f : FileState) → Has f files → FileStands s.started.node f × FileSmall f
-    pub all_rise : Rises (files_of files)
-
   loosen : (files : List FileState) (own : List Msg) (k j : ℕ) → k ≤ j → Chain (awake_as s.started) s.started.node files own k → Chain (awake_as s.started) s.started.node files own j
   loosen files own k j less c = record { sent = c.sent; is = c.is; stands = c.stands; led = c.led; known = c.known; low = let low = c.low in omega (arith, low, less) }
 
-  message_starts : (m : Msg) (o : Option FileId) → file_concerned m.payload ≡ o → Arrives declared s (event.Deliver m) → IsOutside (event.Deliver m)
-      → Behind (message_handled (site_of outside (awake_as s.started) now) (awake_as s.started) s.files m o).files → Starts (message_handled (site_of outside (awake_as s.started) now) (awake_as s.started) s.files m o) (OWN * length declared)
+  message_starts : (m : Msg) (o : Option FileId) → file_concerned m.payload ≡ o → Arrives declared s (event.Deliver m) → IsOutside s.started.node (event.Deliver m)
+      → Behind declared s.started.node (message_handled (site_of outside (awake_as s.started) now) (awake_as s.started) s.files m o).files → Starts (message_handled (site_of outside (awake_as s.started) now) (awake_as s.started) s.files m o) (OWN * length declared)
   message_starts m None concerns arrives other behind = none_starts
   message_starts m (Some file) concerns arrives other behind = heard_starts m file concerns arrives other behind.all_fit behind.all_stand behind.all_rise
 
   -- Behind an event from outside.
-  pub event_starts : (happens : Event) → Arrives declared s happens → IsOutside happens → Behind (handled happens).files → Starts (handled happens) (room_of happens + OWN * length declared)
+  pub event_starts : (happens : Event) → Arrives declared s happens → IsOutside s.started.node happens → Behind declared s.started.node (handled happens).files → Starts (handled happens) (room_of happens + OWN * length declared)
   event_starts (event.Deliver m) arrives other behind =
       loosen (handled (event.Deliver m)).files (to_itself s.started.node (handled (event.Deliver m)).turned.outs) (OWN * length declared) (0 + OWN * length declared) (omega arith) (message_starts m (file_concerned m.payload) refl arrives other behind)
   event_starts (event.Call call) arrives other behind =
       loosen (handled (event.Call call)).files (to_itself s.started.node (handled (event.Call call)).turned.outs) (OWN * length declared) (0 + OWN * length declared) (omega arith) none_starts
   event_starts event.Wake arrives other behind =
       let same = woken_files declared lists outside s now fits stands rises s.files in
-      let b = subst Behind same behind in
+      let b = subst (Behind declared s.started.node) same behind in
       subst (λ (fs : List FileState). Chain (awake_as s.started) s.started.node fs (to_itself s.started.node (woken (site_of outside (awake_as s.started) now) s.files).turned.outs) (1 + OWN * length declared)) (sym same)
       (woken_chain b.all_fit b.all_stand b.all_rise)
