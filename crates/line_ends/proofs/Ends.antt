@@ -97,7 +97,8 @@ use Rattle.cluster_runs.specs.Runs.{IsOver, IsEnough, run_of}
 use Rattle.cluster_runs.specs.Bounds.{AreLines}
 use Rattle.world_leases.proofs.Walk.{NextIs, steps_kept, steps_into}
 use Rattle.line_ends.proofs.Running.{InChain, no_own, of_an_osd, of_a_client, ClientChain, OsdChain, Ran, HasRan, end_ran, comes_at, awake_step, awake_is, silent_is, osd_chain, own_ran}
-use Rattle.line_ends.proofs.Clients.{asks_none, asks_this}
+use Rattle.xt_base.specs.declared.TheConstants.{COUNTS}
+use Rattle.cluster_runs.specs.declared.Entry.{Entry}
 
 -- ---- an event from outside
 
@@ -229,3 +230,256 @@ module _ (room : Room) where
 
       at : (found : Option Node) → node_in d.world.nodes id.0 ≡ found → HasRan d 0 (room_of happens + OWN * length d.world.files) (event_comes room d id happens)
       at found is = subst (HasRan d 0 (room_of happens + OWN * length d.world.files)) (sym (comes_is room d id happens found is)) (event_at_ran found is)
+
+  -- ---- deliveries
+
+  kept_there : (xs : List Sent) (k : ℕ) (s : Sent) → slice_get xs k ≡ Some s → Has s.message (map (λ (s : Sent). s.message) (slice_set xs k (record s { pending = false })))
+  kept_there [] k s is = absurd (cc)
+  kept_there (x ∷ xs) zero s is = inl refl
+  kept_there (x ∷ xs) (suc k) s is = inr (kept_there xs k s is)
+
+  delivers_ran : (d : Doing) (number : ℕ) → d.own ≡ [] → Stood d.world [] → HasRan d 0 (OWN * length d.world.files) (delivers room d number)
+  delivers_ran d number idle stood = at (slice_get d.world.sent (number - 1)) refl
+    where
+      here : Stood (record d.world { sent = no_longer_pending d.world.sent number }) []
+      here = stood_kept.less_pending d.world [] number stood
+
+      back : (result : Result Doing Cause) → HasRan (record d { world = record d.world { sent = no_longer_pending d.world.sent number } }) 0 (0 + OWN * length d.world.files) result → HasRan d 0 (OWN * length d.world.files) result
+      back (Ok a) ran = record { files = ran.files; left = ran.left; j = ran.j; less = (let less = ran.less in omega (arith, less)); chain = ran.chain }
+      back (Err cause) ran = tt
+
+      at : (o : Option Sent) → slice_get d.world.sent (number - 1) ≡ o
+          → HasRan d 0 (OWN * length d.world.files) (elim o [
+            | None ↦ Ok (record d { world = record d.world { sent = no_longer_pending d.world.sent number } })
+            | Some s ↦ event_comes room (record d { world = record d.world { sent = no_longer_pending d.world.sent number } }) s.message.to (event.Deliver s.message)
+          ])
+      at None is = record { files = refl; left = refl; j = 0; less = omega arith; chain = no_own idle }
+      at (Some s) is =
+          back (event_comes room (record d { world = record d.world { sent = no_longer_pending d.world.sent number } }) s.message.to (event.Deliver s.message))
+          (event_ran (record d { world = record d.world { sent = no_longer_pending d.world.sent number } }) s.message.to (event.Deliver s.message) idle here
+          (refl, subst (λ (o : Option Sent). Has s.message (map (λ (s : Sent). s.message) (elim o [ None ↦ d.world.sent | Some s ↦ slice_set d.world.sent (number - 1) (record s { pending = false }) ]))) (sym is) (kept_there d.world.sent (number - 1) s is)))
+
+  -- ---- to the end
+
+  abbrev pub Fits : Next → Type 0
+  Fits next = NextIs Stood stood_kept next
+
+  next_fits : (next : Next) → Fits next → Fits (next_step room next)
+  unfolding steps next_step
+  next_fits (finished w) fit = fit
+  next_fits (ends cause w) fit = fit
+  next_fits (opens l w) fit = steps_kept Stood stood_kept 1 room (opens l w) fit
+  next_fits (goes_on d) fit = steps_kept Stood stood_kept 1 room (goes_on d) fit
+
+  works_fit : (d : Doing) (own : List Msg) → d.own ≡ own → Fits (goes_on d) → Fits (works_on room d own)
+  unfolding next_step
+  works_fit d own is fit = subst (λ (own : List Msg). Fits (works_on room d own)) is (next_fits (goes_on d) fit)
+
+  first_fits : (l : Line) (w : World) → Fits (opens l w) → Fits (went w (first_step room (record { world = w; own = []; left = 0 }) l))
+  unfolding next_step
+  first_fits l w fit = next_fits (opens l w) fit
+
+  stays_finished : (k : ℕ) (w : World) → IsOver (steps k room (finished w))
+  unfolding steps
+  stays_finished zero w = tt
+  stays_finished (suc k) w = tt
+
+  stays_ended : (k : ℕ) (cause : Cause) (w : World) → IsOver (steps k room (ends cause w))
+  unfolding steps
+  stays_ended zero cause w = tt
+  stays_ended (suc k) cause w = tt
+
+  -- how many steps are left at most
+  abbrev pub Within : ℕ → Doing → ℕ → Type 0
+  Within k d c = 1 + c + d.left * (1 + OWN * length d.world.files) ≤ k
+
+  abbrev pub Rest : ℕ → Type 0
+  Rest k = (d : Doing) (c : ℕ) → Fits (goes_on d) → InChain d.world d.own c → Within k d c → IsOver (steps k room (goes_on d))
+
+  after_ran : (k : ℕ) (w : World) (d : Doing) (e c : ℕ) (result : Result Doing Cause) → Rest k → Fits (went w result) → HasRan d e c result → (c - e) + d.left * (1 + OWN * length d.world.files) + 1 ≤ k → e ≤ c → IsOver (steps k room (went w result))
+  after_ran k w d e c (Err cause) rest fit ran low some = stays_ended k cause w
+  after_ran k w d e c (Ok a) rest fit ran low some =
+      let left = ap₂ (λ (l : ℕ) (fs : List DeclaredFile). l * (1 + OWN * length fs)) ran.left ran.files in
+      let less = ran.less in
+      rest a ran.j fit ran.chain (omega (arith, left, less, low, some))
+
+  settles_over : (k : ℕ) (d : Doing) (left : ℕ) → Rest k → d.own ≡ [] → Stood d.world [] → Fits (settles room d left) → 1 + left * (1 + OWN * length d.world.files) ≤ suc k → IsOver (steps k room (settles room d left))
+  settles_over k d zero rest idle stood fit low = stays_finished k d.world
+  settles_over k d (suc left) rest idle stood fit low = at (least_pending 1 d.world.sent) fit
+    where
+      at : (o : Option ℕ) → Fits (elim o [
+        | None ↦ finished d.world
+        | Some number ↦ went d.world (delivers room (record d { left = left }) number)
+      ]) → IsOver (steps k room (elim o [
+        | None ↦ finished d.world
+        | Some number ↦ went d.world (delivers room (record d { left = left }) number)
+      ]))
+      at None fit = stays_finished k d.world
+      at (Some number) fit =
+          after_ran k d.world (record d { left = left }) 0 (OWN * length d.world.files) (delivers room (record d { left = left }) number) rest fit (delivers_ran (record d { left = left }) number idle stood)
+          (fewer left (OWN * length d.world.files) k low) (omega arith)
+        where
+          fewer : (left x k : ℕ) → 1 + suc left * (1 + x) ≤ suc k → (x - 0) + left * (1 + x) + 1 ≤ k
+          fewer left x k low = grind (arith, low)
+
+  works_over : (k : ℕ) (d : Doing) (own : List Msg) (c : ℕ) → Rest k → d.own ≡ own → Stood d.world own → Fits (works_on room d own) → InChain d.world own c → Within (suc k) d c → IsOver (steps k room (works_on room d own))
+  works_over k d [] c rest idle stood fit chain low = settles_over k d d.left rest idle stood fit (omega (arith, low))
+  works_over k d (m ∷ own) c rest is stood fit chain low = at (event_comes room (record d { own = own }) m.to (event.Deliver m)) fit (own_ran room d m own c stood chain)
+    where
+      at : (result : Result Doing Cause) → Fits (went d.world result) → HasRan (record d { own = own }) 1 c result → IsOver (steps k room (went d.world result))
+      at (Err cause) fit ran = stays_ended k cause d.world
+      at (Ok a) fit ran =
+          let left = ap₂ (λ (l : ℕ) (fs : List DeclaredFile). l * (1 + OWN * length fs)) ran.left ran.files in
+          let less = ran.less in
+          rest a ran.j fit ran.chain (omega (arith, left, less, low))
+
+  over : (k : ℕ) → Rest k
+  unfolding steps next_step
+  over zero d c fit chain low = absurd (omega (arith, low))
+  over (suc k) d c fit chain low = works_over k d d.own c (over k) refl fit (works_fit d d.own refl fit) chain low
+
+  -- ---- the first step
+
+  -- what the first step leaves, with no deliveries after it
+  pub record Opened (x : ℕ) (after : Doing) : Type 0 where
+    pub none_left : after.left ≡ 0
+    pub c : ℕ
+    pub low : c ≤ 1 + x
+    pub chain : InChain after.world after.own c
+
+  abbrev pub HasOpened : ℕ → Result Doing Cause → Type 0
+  HasOpened x (Ok after) = Opened x after
+  HasOpened x (Err cause) = Unit {0}
+
+  calm : (x : ℕ) (w : World) → Opened x (record { world = w; own = []; left = 0 })
+  calm x w = record { none_left = refl; c = 0; low = omega arith; chain = no_own refl }
+
+  opened : (x c : ℕ) (d : Doing) (result : Result Doing Cause) → d.left ≡ 0 → c ≤ 1 + x → HasRan d 0 c result → HasOpened x result
+  opened x c d (Err cause) none low ran = tt
+  opened x c d (Ok a) none low ran = record { none_left = ran.left ∙ none; c = ran.j; low = (let less = ran.less in omega (arith, less, low)); chain = ran.chain }
+
+  abbrev pub new_line : World → Doing
+  new_line w = record { world = w; own = []; left = 0 }
+
+  calls_opened : (w : World) (id : NodeId) (k : Call) → HasOpened (OWN * length w.files) (calls room (new_line w) (node_in w.nodes id.0) k)
+  calls_opened w id k = at (node_in w.nodes id.0) refl
+    where
+      x : ℕ
+      x = OWN * length w.files
+
+      by_core : (node : Node) (r : Running) (core : Core) (number : Option ℕ) (location : Option Location) (asked : Option Op) → node_in w.nodes node.id.0 ≡ Some node → location_of w number ≡ location
+          → HasOpened (OWN * length w.files) (core_calls room (new_line w) node r core k number location asked)
+      by_core node r (osd s) number location asked found there = calm (OWN * length w.files) w
+      by_core node r (client c) None location asked found there = calm (OWN * length w.files) w
+      by_core node r (client c) (Some number) None asked found there = calm (OWN * length w.files) w
+      by_core node r (client c) (Some number) (Some location) None found there = calm (OWN * length w.files) w
+      by_core node r (client c) (Some number) (Some location) (Some asked) found there =
+          let step = call_step w node r c k number location asked in
+          let capability = declared_capability number location (epoch_of c (declared_file number) k) in
+          let g = call_gives node.id w.times (uses c capability) r.clock capability k asked in
+          opened (OWN * length w.files) (OWN * length w.files) (new_line w) (client_calls room (new_line w) node r c k number location asked) refl (omega arith)
+          (end_ran room (new_line w) 0 (OWN * length w.files) (OWN * length w.files) node r (client_steps (call_step w node r c k number location asked)) (omega arith)
+          (client_chain (new_line w) node r (call_step w node r c k number location asked).state (call_step w node r c k number location asked).turned refl found g.outs (λ m e. some_file w.files number location there)))
+
+      by_up : (node : Node) → node_in w.nodes node.id.0 ≡ Some node → (up : Option Running)
+          → HasOpened (OWN * length w.files) (elim up [
+            | None ↦ Ok (new_line w)
+            | Some running ↦ core_calls room (new_line w) node running running.core k (called_file k) (location_of w (called_file k)) (operation_of k)
+          ])
+      by_up node found None = calm (OWN * length w.files) w
+      by_up node found (Some r) = by_core node r r.core (called_file k) (location_of w (called_file k)) (operation_of k) found refl
+
+      at : (found : Option Node) → node_in w.nodes id.0 ≡ found → HasOpened (OWN * length w.files) (calls room (new_line w) found k)
+      at None is = calm (OWN * length w.files) w
+      at (Some node) is = by_up node (ap (node_in w.nodes) (node_in-id w.nodes id.0 node is) ∙ is) node.up
+
+  starts_opened : (w : World) (id : NodeId) (clock : ℕ) → HasOpened (OWN * length w.files) (starts room (new_line w) clock (node_in w.nodes id.0))
+  starts_opened w id clock = at (node_in w.nodes id.0)
+    where
+      by_room : (node : Node) (o : Option Overflow) → HasOpened (OWN * length w.files) (elim o [ Some overflow ↦ Err (has_no_room overflow) | None ↦ does (new_line w) (starts_as w node (next_boot node.kept) clock) ])
+      by_room node (Some overflow) = tt
+      by_room node None = calm (OWN * length w.files) (starts_as w node (next_boot node.kept) clock)
+
+      by_boot : (node : Node) (b : Bool)
+          → HasOpened (OWN * length w.files) (cond b (elim (room node.kept (kept.Boot (next_boot node.kept))) [ Some overflow ↦ Err (has_no_room overflow) | None ↦ does (new_line w) (starts_as w node (next_boot node.kept) clock) ]) (Err (came_to limited.Boots)))
+      by_boot node true = by_room node (room node.kept (kept.Boot (next_boot node.kept)))
+      by_boot node false = tt
+
+      at : (found : Option Node) → HasOpened (OWN * length w.files) (starts room (new_line w) clock found)
+      at None = calm (OWN * length w.files) w
+      at (Some node) = by_boot node (nat_lt (next_boot node.kept).0 COUNTS)
+
+  declares_opened : (w : World) (node : Node) (es : List Entry) → HasOpened (OWN * length w.files) (declares (new_line w) node es)
+  declares_opened w node es = at (nat_lt (length w.nodes) NODES)
+    where
+      at : (b : Bool) → HasOpened (OWN * length w.files) (cond b (does (new_line w) (tells (record w { nodes = w.nodes ++ node ∷ [] }) es)) (Err (came_to limited.Nodes)))
+      at true = calm (OWN * length w.files) (tells (record w { nodes = w.nodes ++ node ∷ [] }) es)
+      at false = tt
+
+  first_opened : (w : World) (l : Line) → Stood w [] → HasOpened (OWN * length w.files) (first_step room (new_line w) l)
+  unfolding first_step
+  first_opened w (line.Times lease drift) stood = calm (OWN * length w.files) _
+  first_opened w (line.Osd node) stood = declares_opened w _ _
+  first_opened w (line.Client node clock) stood = declares_opened w _ _
+  first_opened w (line.File number location) stood = calm (OWN * length w.files) _
+  first_opened w (line.Start node clock) stood = starts_opened w node clock
+  first_opened w (line.Stop node) stood = calm (OWN * length w.files) _
+  first_opened w (line.Crash node k fill) stood = calm (OWN * length w.files) _
+  first_opened w (line.Cut node count) stood = calm (OWN * length w.files) _
+  first_opened w (line.Clock node clock) stood = calm (OWN * length w.files) _
+  first_opened w (line.Tick count) stood = calm (OWN * length w.files) _
+  first_opened w (line.Wake node) stood = opened (OWN * length w.files) (1 + OWN * length w.files) (new_line w) (event_comes room (new_line w) node event.Wake) refl (omega arith) (event_ran (new_line w) node event.Wake refl stood tt)
+  first_opened w (line.Call id c) stood = calls_opened w id c
+  first_opened w (line.Aim id file node) stood = calm (OWN * length w.files) _
+  first_opened w (line.Deliver number) stood = opened (OWN * length w.files) (OWN * length w.files) (new_line w) (delivers room (new_line w) number) refl (omega arith) (delivers_ran (new_line w) number refl stood)
+  first_opened w (line.Drop number) stood = calm (OWN * length w.files) _
+  first_opened w (line.Settle count) stood = calm (OWN * length w.files) _
+
+  opens_over : (k : ℕ) (l : Line) (w : World) → Fits (opens l w) → 3 + OWN * length w.files ≤ suc k → IsOver (steps (suc k) room (opens l w))
+  unfolding steps next_step
+  opens_over k l w fit low = at (first_step room (new_line w) l) (first_fits l w fit) (first_opened w l fit.0)
+    where
+      at : (result : Result Doing Cause) → Fits (went w result) → HasOpened (OWN * length w.files) result → IsOver (steps k room (went w result))
+      at (Err cause) fit is = stays_ended k cause w
+      at (Ok a) fit is =
+          let less = is.low in
+          let none = ap (λ (l : ℕ). l * (1 + OWN * length a.world.files)) is.none_left in
+          over k a is.c fit is.chain (omega (arith, low, less, none))
+
+  -- ---- lines
+
+  abbrev pub Begun : World → Line → Type 0
+  Begun w l = Fits (begins w l) → IsOver (steps (enough w l) room (begins w l))
+
+  opening : (w : World) (l : Line) → events_of l ≡ 1 → Fits (opens l w) → IsOver (steps (enough w l) room (opens l w))
+  opening w l one fit = subst (λ (k : ℕ). IsOver (steps k room (opens l w))) (sym same) (opens_over (2 + OWN * length w.files) l w fit (omega arith))
+    where
+      same : enough w l ≡ suc (2 + OWN * length w.files)
+      same = (let single = ap (λ (n : ℕ). n * (1 + OWN * length w.files)) one in omega (arith, single))
+
+  line_over : (w : World) (l : Line) → Begun w l
+  line_over w (line.Settle count) fit = over (enough w (line.Settle count)) (record { world = w; own = []; left = count }) 0 fit (no_own refl) (omega arith)
+  line_over w (line.Times lease drift) fit = opening w (line.Times lease drift) refl fit
+  line_over w (line.Osd node) fit = opening w (line.Osd node) refl fit
+  line_over w (line.Client node clock) fit = opening w (line.Client node clock) refl fit
+  line_over w (line.File number location) fit = opening w (line.File number location) refl fit
+  line_over w (line.Start node clock) fit = opening w (line.Start node clock) refl fit
+  line_over w (line.Stop node) fit = opening w (line.Stop node) refl fit
+  line_over w (line.Crash node k fill) fit = opening w (line.Crash node k fill) refl fit
+  line_over w (line.Cut node count) fit = opening w (line.Cut node count) refl fit
+  line_over w (line.Clock node clock) fit = opening w (line.Clock node clock) refl fit
+  line_over w (line.Tick count) fit = opening w (line.Tick count) refl fit
+  line_over w (line.Wake node) fit = opening w (line.Wake node) refl fit
+  line_over w (line.Call id c) fit = opening w (line.Call id c) refl fit
+  line_over w (line.Aim id file node) fit = opening w (line.Aim id file node) refl fit
+  line_over w (line.Deliver number) fit = opening w (line.Deliver number) refl fit
+  line_over w (line.Drop number) fit = opening w (line.Drop number) refl fit
+
+  begins_fit : (lines : List Line) (l : Line) → AreLines (lines ++ l ∷ []) → refusal (run_of room lines) l ≡ None → Fits (begins (run_of room lines) l)
+  unfolding steps
+  begins_fit lines l are allowed = steps_into Stood stood_kept room lines l 0 are allowed
+
+  -- Every line of every run is over after its steps.
+  pub all_over : IsEnough room
+  unfolding done
+  all_over lines l are allowed = line_over (run_of room lines) l (begins_fit lines l are allowed)
