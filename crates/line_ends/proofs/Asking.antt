@@ -44,8 +44,8 @@ use Rattle.osd_rows.specs.Serving.{reads}
 use Rattle.osd_rows.specs.Asks.{newly_issued, read_answer}
 use Rattle.xt_protocol.specs.Register.{Round}
 use Rattle.line_ends.proofs.Leases.{IsLeaseOf}
-use Rattle.line_ends.specs.Weights.{asks_left}
-use Rattle.line_ends.specs.Chains.{IfAbout, HeadStands, IfMessage, IfTenure, TenureStands}
+use Rattle.line_ends.proofs.Weights.{asks_left}
+use Rattle.line_ends.proofs.Standing.{IfAbout, HeadStands, IfMessage, IfTenure, TenureStands}
 use Rattle.line_ends.proofs.Tests.{false_true, not_both}
 use Rattle.line_ends.proofs.Moves.{Moves, moves_none}
 use Rattle.line_ends.proofs.Mine.{token, mine-each}

@@ -22,8 +22,8 @@ use Rattle.osd_rows.specs.Primaries.{fed, fed_next, with_known, last_sent}
 use Rattle.xt_base.specs.declared.record.FileRow.{FileRow}
 use Rattle.xt_protocol.specs.Stamps.{is_earlier}
 use Rattle.osd_rows.specs.OsdSteps.{file_concerned}
-use Rattle.line_ends.specs.Chains.{IsLacking, Stands}
-use Rattle.line_ends.specs.Weights.{Stand, is_lacked, bodies_to, bodies_left, is_wanted, are_named, unless, rank}
+use Rattle.line_ends.proofs.Standing.{IsLacking, Stands}
+use Rattle.line_ends.proofs.Weights.{Stand, is_lacked, bodies_to, bodies_left, is_wanted, are_named, unless, rank}
 use Rattle.line_ends.proofs.Tests.{false_true, not_both}
 
 -- ---- counts

@@ -23,7 +23,7 @@ use Rattle.osd_rows.specs.Asks.{WAITING}
 use Rattle.osd_rows.specs.FileStates.{FileState}
 use Rattle.xt_protocol.specs.Stamps.{is_earlier, is_epoch}
 use Rattle.cluster_runs.specs.Lines.{OWN}
-use Rattle.line_ends.specs.Weights.{Stand, are_named, asks_left, bodies_left, bodies_to, epoch_left, is_lacked, is_wanted, rank, settles, stand_of, tenure_left, unless}
+use Rattle.line_ends.proofs.Weights.{Stand, are_named, asks_left, bodies_left, bodies_to, epoch_left, is_lacked, is_wanted, rank, settles, stand_of, tenure_left, unless}
 use Rattle.line_ends.proofs.Rows.{four_if, six_if, three_if}
 use Rattle.line_ends.proofs.Leases.{IsLeaseOf}
 use Rattle.line_ends.proofs.Files.{FileStands, chain_weight}

@@ -29,8 +29,8 @@ use Rattle.cluster_runs.specs.NodeSteps.{to_itself}
 use Rattle.world_leases.specs.View.{awake_as}
 use Rattle.world_leases.specs.Worlds.{AreBehind, FileFits, Rises, files_of}
 use Rattle.world_leases.proofs.Rising.{before_along, before_itself}
-use Rattle.line_ends.specs.Weights.{is_lease, lease_rank}
-use Rattle.line_ends.specs.Chains.{IfAbout, IfMessage, IsLacking, Stands}
+use Rattle.line_ends.proofs.Weights.{is_lease, lease_rank}
+use Rattle.line_ends.proofs.Standing.{IfAbout, IfMessage, IsLacking, Stands}
 use Rattle.line_ends.proofs.Tests.{false_true}
 use Rattle.line_ends.proofs.Mine.{token}
 use Rattle.line_ends.proofs.Leases.{IsLeaseOf}

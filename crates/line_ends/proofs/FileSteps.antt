@@ -17,8 +17,8 @@ use Rattle.osd_invariants.specs.Sound.{IsSound}
 use Rattle.osd_invariants.proofs.SoundSteps.{expired_so}
 use Rattle.cluster_runs.specs.NodeSteps.{to_itself}
 use Rattle.world_ends.proofs.FileIds.{FileIs}
-use Rattle.line_ends.specs.Weights.{is_lease}
-use Rattle.line_ends.specs.Chains.{IfAbout, IsLacking, Stands}
+use Rattle.line_ends.proofs.Weights.{is_lease}
+use Rattle.line_ends.proofs.Standing.{IfAbout, IsLacking, Stands}
 use Rattle.line_ends.proofs.Tests.{false_true}
 use Rattle.line_ends.proofs.Moves.{Moves}
 use Rattle.line_ends.proofs.Mine.{token, mine-append}

@@ -30,8 +30,8 @@ use Rattle.osd_rows.specs.declared.IssuedUpdate.{IssuedUpdate}
 use Rattle.cluster_runs.specs.NodeSteps.{to_itself}
 use Rattle.world_leases.proofs.Lists.{has_filter}
 use Rattle.world_ends.proofs.FileIds.{FileIs, AsksAre, IssuedAskIs, expired_is}
-use Rattle.line_ends.specs.Weights.{asks_left, epoch_left, rank, settles, stand_of, tenure_left}
-use Rattle.line_ends.specs.Chains.{HeadStands, IfTenure, IfMessage}
+use Rattle.line_ends.proofs.Weights.{asks_left, epoch_left, rank, settles, stand_of, tenure_left}
+use Rattle.line_ends.proofs.Standing.{HeadStands, IfTenure, IfMessage}
 use Rattle.line_ends.proofs.Tests.{false_true}
 use Rattle.line_ends.proofs.Mine.{token, mine-append}
 use Rattle.line_ends.proofs.Rows.{one_if, three_if, four_if}

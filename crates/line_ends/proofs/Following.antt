@@ -25,8 +25,8 @@ use Rattle.xt_base.specs.declared.ids.FileId.{FileId}
 use Rattle.osd_rows.specs.OsdSteps.{file_concerned}
 use Rattle.osd_invariants.specs.Sound.{AreOne}
 use Rattle.cluster_runs.specs.NodeSteps.{to_itself}
-use Rattle.line_ends.specs.Weights.{asks_left, epoch_left, rank, settles, stand_of}
-use Rattle.line_ends.specs.Chains.{IfAbout, HeadStands, IfMessage, IfTenure, Stands, TenureStands}
+use Rattle.line_ends.proofs.Weights.{asks_left, epoch_left, rank, settles, stand_of}
+use Rattle.line_ends.proofs.Standing.{IfAbout, HeadStands, IfMessage, IfTenure, Stands, TenureStands}
 use Rattle.line_ends.proofs.Tests.{false_true, not_both, not_below_self}
 use Rattle.line_ends.proofs.Mine.{token, mine-append}
 use Rattle.xt_base.specs.declared.ids.Epoch.{Epoch}

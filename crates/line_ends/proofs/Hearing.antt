@@ -35,8 +35,8 @@ use Rattle.osd_rows.specs.PrimaryRows.{goes_on, unmoved, status_told, hears_stat
 use Rattle.osd_invariants.proofs.Leads.{put_nodes}
 use Rattle.world_ends.proofs.PrimaryIds.{ProgressIs}
 use Rattle.cluster_runs.specs.NodeSteps.{to_itself}
-use Rattle.line_ends.specs.Weights.{Stand, stand_of, rank, epoch_left, bodies_left, bodies_to, is_wanted, are_named, unless, settles}
-use Rattle.line_ends.specs.Chains.{IfAbout, IfMessage, IsLacking, HeadStands, IsOfEpoch, IsPast, IsNext, TenureStands, ProgressStands, IsUnfed, Stands}
+use Rattle.line_ends.proofs.Weights.{Stand, stand_of, rank, epoch_left, bodies_left, bodies_to, is_wanted, are_named, unless, settles}
+use Rattle.line_ends.proofs.Standing.{IfAbout, IfMessage, IsLacking, HeadStands, IsOfEpoch, IsPast, IsNext, TenureStands, ProgressStands, IsUnfed, Stands}
 use Rattle.line_ends.proofs.Tests.{false_true, not_both, not_new, not_below_self}
 use Rattle.line_ends.proofs.Mine.{token, mine-one, put_same}
 use Rattle.line_ends.proofs.Bodies.{staged_less, missed_less, unknown_now, named_one}

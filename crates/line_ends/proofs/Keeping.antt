@@ -54,8 +54,8 @@ use Rattle.world_leases.proofs.Rising.{before_itself}
 use Rattle.world_leases.proofs.Tables.{same, node_in-new, node_in-other, node_in-id, nobody, node_in-last, node_in-before, node_in-ticked, file_in-before}
 use Rattle.world_leases.proofs.Walk.{IsKept, NodeStep, of_osd, of_client, of_call, Reaches, same_messages, call_step}
 use Rattle.world_ends.proofs.OsdIds.{new_is}
-use Rattle.line_ends.specs.Weights.{is_lease}
-use Rattle.line_ends.specs.Chains.{HeadStands, Stands}
+use Rattle.line_ends.proofs.Weights.{is_lease}
+use Rattle.line_ends.proofs.Standing.{HeadStands, Stands}
 use Rattle.line_ends.proofs.Tests.{false_true}
 use Rattle.line_ends.proofs.Hearing.{IsApart}
 use Rattle.line_ends.proofs.Files.{FileStands}

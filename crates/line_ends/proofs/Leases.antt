@@ -24,8 +24,8 @@ use Rattle.osd_rows.specs.Turns.{message}
 use Rattle.cluster_runs.specs.NodeSteps.{to_itself}
 use Rattle.osd_invariants.specs.Sound.{IsHeld}
 use Rattle.lease_runs.proofs.Tests.{same_node}
-use Rattle.line_ends.specs.Weights.{is_lease, lease_rank}
-use Rattle.line_ends.specs.Chains.{IfAbout}
+use Rattle.line_ends.proofs.Weights.{is_lease, lease_rank}
+use Rattle.line_ends.proofs.Standing.{IfAbout}
 use Rattle.line_ends.proofs.Tests.{false_true}
 use Rattle.line_ends.proofs.Mine.{token}
 

@@ -1,3 +1,5 @@
+pub mod Weights
+pub mod Standing
 pub mod Tests
 pub mod Moves
 pub mod Mine

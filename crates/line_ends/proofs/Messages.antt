@@ -37,8 +37,8 @@ use Rattle.osd_rows.specs.FileSteps.{replica_acts, primary_hears, message_comes}
 use Rattle.osd_invariants.specs.Sound.{AreOne, IsHeld, IsSound, PeersAre}
 use Rattle.cluster_runs.specs.NodeSteps.{to_itself}
 use Rattle.world_ends.proofs.PrimaryIds.{ProgressIs, TenureIs}
-use Rattle.line_ends.specs.Weights.{asks_left, epoch_left, is_lease, lease_rank, rank, stand_of, tenure_left}
-use Rattle.line_ends.specs.Chains.{IfAbout, HeadStands, IfMessage, IfTenure, IsLacking, Stands}
+use Rattle.line_ends.proofs.Weights.{asks_left, epoch_left, is_lease, lease_rank, rank, stand_of, tenure_left}
+use Rattle.line_ends.proofs.Standing.{IfAbout, HeadStands, IfMessage, IfTenure, IsLacking, Stands}
 use Rattle.line_ends.proofs.Tests.{false_true, not_both}
 use Rattle.line_ends.proofs.Moves.{Moves, moves_none, if_moves}
 use Rattle.line_ends.proofs.Mine.{token, mine-append, mine-if, mine-one}

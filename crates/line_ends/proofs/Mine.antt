@@ -16,7 +16,7 @@ use Rattle.cluster_runs.specs.NodeSteps.{to_itself}
 use Rattle.lease_runs.proofs.Tests.{same_node}
 use Rattle.std.proofs.Common.{arith, append-nil}
 use Rattle.std.proofs.lemmas.Bool.Decides.{nat_tests}
-use Rattle.line_ends.specs.Chains.{IsUnfed}
+use Rattle.line_ends.proofs.Standing.{IsUnfed}
 use Rattle.line_ends.proofs.Tests.{false_true}
 
 -- a message of a node to itself, if any

@@ -8,7 +8,7 @@ use Rattle.replica_safety.proofs.Orders.{is_one, not_after, not_before_self, sam
 use Rattle.osd_rows.specs.declared.Progress.{Progress}
 use Rattle.osd_rows.specs.declared.Progress.TheVariants as progress
 use Rattle.osd_rows.specs.declared.Tenure.{Tenure}
-use Rattle.line_ends.specs.Chains.{HeadStands, IfTenure, IsOfEpoch, IsPast, ProgressStands, TenureStands}
+use Rattle.line_ends.proofs.Standing.{HeadStands, IfTenure, IsOfEpoch, IsPast, ProgressStands, TenureStands}
 use Rattle.line_ends.proofs.Tests.{not_both}
 
 -- ---- how a head moves

@@ -30,8 +30,8 @@ use Rattle.world_leases.proofs.Files.{at_fits, file_after}
 use Rattle.world_leases.proofs.Lists.{has_in, has_map, has_filter}
 use Rattle.world_leases.proofs.Rising.{before_itself, with_file_has}
 use Rattle.osd_invariants.proofs.Kept.{expired_quiet, wake_follows}
-use Rattle.line_ends.specs.Weights.{is_lease}
-use Rattle.line_ends.specs.Chains.{IfAbout, IfMessage, Stands}
+use Rattle.line_ends.proofs.Weights.{is_lease}
+use Rattle.line_ends.proofs.Standing.{IfAbout, IfMessage, Stands}
 use Rattle.line_ends.proofs.Tests.{false_true}
 use Rattle.line_ends.proofs.Mine.{token, mine-append, mine-one}
 use Rattle.line_ends.proofs.Leases.{IsFree, IsLeaseOf}

@@ -43,8 +43,8 @@ use Rattle.world_leases.proofs.Lists.{has_in, has_filter}
 use Rattle.world_leases.proofs.Rising.{with_file_has}
 use Rattle.world_ends.proofs.FileIds.{FileIs, HasCome, step_is, expired_is, wake_is}
 use Rattle.world_ends.proofs.OsdIds.{new_is}
-use Rattle.line_ends.specs.Weights.{is_lease}
-use Rattle.line_ends.specs.Chains.{HeadStands, IsPast, IfAbout, IfMessage, IsLacking, Stands}
+use Rattle.line_ends.proofs.Weights.{is_lease}
+use Rattle.line_ends.proofs.Standing.{HeadStands, IsPast, IfAbout, IfMessage, IsLacking, Stands}
 use Rattle.line_ends.proofs.Tests.{false_true}
 use Rattle.line_ends.proofs.Moves.{Moves, moves_none}
 use Rattle.line_ends.proofs.Mine.{token}

@@ -32,8 +32,8 @@ use Rattle.osd_rows.specs.OsdSteps.{file_concerned}
 use Rattle.osd_rows.specs.Primaries.{issued_in, peer_in}
 use Rattle.osd_rows.specs.PrimaryRows.{target_in}
 use Rattle.osd_rows.specs.ReplicaRows.{kept_after, unanswered, only, after_record, refused, behind, as_promised, gathered, staged, stage_record, head_taken, first_missing, head_offered, headed, head_fits, next_update, update_offered, updated}
-use Rattle.line_ends.specs.Weights.{Stand, are_named, bodies_left, bodies_to, epoch_left, is_wanted, rank, settles, stand_of, unless}
-use Rattle.line_ends.specs.Chains.{IfAbout, HeadStands, IfMessage, IfTenure, IsOfEpoch, IsPast, ProgressStands, Stands, TenureStands}
+use Rattle.line_ends.proofs.Weights.{Stand, are_named, bodies_left, bodies_to, epoch_left, is_wanted, rank, settles, stand_of, unless}
+use Rattle.line_ends.proofs.Standing.{IfAbout, HeadStands, IfMessage, IfTenure, IsOfEpoch, IsPast, ProgressStands, Stands, TenureStands}
 use Rattle.line_ends.proofs.Tests.{false_true, fewer_below, not_both, of_its_epoch}
 use Rattle.line_ends.proofs.Bodies.{first_lacked, held_lacks, lacks_less, named_each}
 use Rattle.line_ends.proofs.Moves.{Moves, moves_none, promise_moves, IsMore, more_moves, more_head}

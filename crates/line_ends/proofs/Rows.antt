@@ -36,8 +36,8 @@ use Rattle.osd_rows.specs.Choice.{chosen_of, difference}
 use Rattle.osd_rows.specs.Primaries.{Ground, Led, issued_by, issued_in, is_ready, is_ready_in, nodes_of, peer_in, with_peer, fed, known_of_own, last_sent, last_to_each, majority_among, reports_of, statuses_counted, target_of, unknown_peer}
 use Rattle.osd_rows.specs.PrimaryRows.{epoch_above, epoch_drawn, goes_on, unmoved, peer_fed, peers_fed, installs, fetches, head_chosen, chooses, status_counted, with_state, peer_sent, feeds, target_in, after_keeping}
 use Rattle.cluster_runs.specs.NodeSteps.{to_itself}
-use Rattle.line_ends.specs.Weights.{stand_of, Stand, rank, epoch_left, bodies_left, bodies_to, are_named, unless}
-use Rattle.line_ends.specs.Chains.{IfAbout, HeadStands, IsPast, IsNext, IfTenure, TenureStands, ProgressStands, IsUnfed, Stands, IfMessage}
+use Rattle.line_ends.proofs.Weights.{stand_of, Stand, rank, epoch_left, bodies_left, bodies_to, are_named, unless}
+use Rattle.line_ends.proofs.Standing.{IfAbout, HeadStands, IsPast, IsNext, IfTenure, TenureStands, ProgressStands, IsUnfed, Stands, IfMessage}
 use Rattle.line_ends.proofs.Tests.{false_true, not_both, not_new, not_ready, above_promised}
 use Rattle.line_ends.proofs.Mine.{token, mine-append, mine-one, mine-if, mine-each, mine-peers, of_peer, to_peers_of, put_same, put_other, fresh_unfed}
 use Rattle.line_ends.proofs.Moves.{Moves, moves_none, promise_moves}

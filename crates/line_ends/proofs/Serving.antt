@@ -37,8 +37,8 @@ use Rattle.osd_rows.specs.Primaries.{Ground, Led, is_current, issued_by, issued_
 use Rattle.osd_rows.specs.Serving.{current_others, issues, issues_unless, next_update_of, reads, write_stands, writes_in, writes_under, writes}
 use Rattle.osd_rows.specs.Asks.{Served, is_read, newly_issued, no_asks, read_answer, serves, serves_all, serves_waiting, stays, write_done}
 use Rattle.cluster_runs.specs.NodeSteps.{to_itself}
-use Rattle.line_ends.specs.Weights.{asks_left}
-use Rattle.line_ends.specs.Chains.{IsPast, IsNext, TenureStands, ProgressStands}
+use Rattle.line_ends.proofs.Weights.{asks_left}
+use Rattle.line_ends.proofs.Standing.{IsPast, IsNext, TenureStands, ProgressStands}
 use Rattle.line_ends.proofs.Tests.{false_true}
 use Rattle.line_ends.proofs.Mine.{token, mine-append, mine-one, mine-none}
 use Rattle.line_ends.proofs.Rows.{Body, ground, one_if, own_one}

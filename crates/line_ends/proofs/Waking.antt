@@ -30,8 +30,8 @@ use Rattle.osd_rows.specs.FileSteps.{renews, wakes_under_lease, wake_of_file}
 use Rattle.osd_invariants.specs.Sound.{IsHeld, IsSound, PeersAre}
 use Rattle.osd_invariants.proofs.Kept.{wake_keeps}
 use Rattle.cluster_runs.specs.NodeSteps.{to_itself}
-use Rattle.line_ends.specs.Weights.{asks_left}
-use Rattle.line_ends.specs.Chains.{IfAbout, HeadStands, IfMessage, IfTenure, ProgressStands, TenureStands}
+use Rattle.line_ends.proofs.Weights.{asks_left}
+use Rattle.line_ends.proofs.Standing.{IfAbout, HeadStands, IfMessage, IfTenure, ProgressStands, TenureStands}
 use Rattle.line_ends.proofs.Tests.{false_true}
 use Rattle.line_ends.proofs.Moves.{Moves, moves_none}
 use Rattle.line_ends.proofs.Mine.{token, mine-append, mine-each, mine-one, mine-peers, of_peer}

@@ -1,2 +1,15 @@
-//! Every line of a schedule ends: the messages of a node to itself that follow one event are no more than `OWN` for each file.
+//! The ends of lines: the number of steps that `cluster_runs` allows a line of a schedule is enough for it in every run.
+//!
+//! A node's messages to itself that follow one event come to an end. What may still come of those that aren't handled is weighed
+//! for each file of an OSD: by its lease's messages, by the one message between its primary and its own replica, by its asks, and by
+//! what it lacks. Each that is handled leaves less, and an event brings `OWN` for a file at most.
 #![tactic(auto)]
+
+ghost use Rattle.cluster_runs.specs.NodeSteps.{Room};
+ghost use Rattle.cluster_runs.specs.Runs.{IsEnough};
+
+/// Every line of every run is over after its steps: it is done, or it ended early. So it is of any lines within their limits, and in
+/// every room.
+pub fn lines_are_over()
+    ensures over { (room : Room) → IsEnough room }
+{}

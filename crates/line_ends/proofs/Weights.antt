@@ -1,5 +1,5 @@
 -- how many messages of a file to its own node may still follow those that aren't handled
-use Rattle.std.specs.Prelude.{ℕ, Bool, true, false, ◌&&◌, ◌==◌, not, if◌then◌else◌, ◌+◌, ◌*◌, Option, Some, None, is_some, List, [], ◌∷◌, length, count_by, sum_by, filter}
+use Rattle.std.specs.Prelude.{ℕ, Bool, true, false, ◌&&◌, ◌==◌, not, if◌then◌else◌, ◌+◌, ◌*◌, Option, Some, None, is_some, List, [], ◌∷◌, length, count_by}
 use Rattle.xt_base.specs.declared.ids.NodeId.{NodeId}
 use Rattle.xt_base.specs.declared.ids.Stamp.{Stamp}
 use Rattle.xt_base.specs.declared.file.ObjectVersion.{ObjectVersion}
@@ -18,7 +18,6 @@ use Rattle.osd_rows.specs.declared.PeerState.TheVariants as peer
 use Rattle.osd_rows.specs.declared.Tenure.{Tenure}
 use Rattle.osd_rows.specs.Primaries.{issued_in, peer_in}
 use Rattle.osd_rows.specs.PrimaryRows.{target_in}
-use Rattle.osd_rows.specs.FileStates.{FileState}
 
 -- ---- what a message to the primary's own node meets
 
@@ -123,17 +122,3 @@ abbrev pub tenure_left : LeaseState → Option Tenure → Asks → ℕ
 tenure_left (lease.free p) t asks = 0
 tenure_left _ (Some t) asks = 0
 tenure_left _ None asks = 6 + 2 * asks_left asks
-
--- what the messages of the primary may bring about: there is one at most
-abbrev pub primary_weight : NodeId → FileState → List Payload → ℕ
-primary_weight n s [] = tenure_left s.lease s.primary.tenure s.asks
-primary_weight n s (content ∷ contents) =
-    epoch_left s.kept s.primary.tenure + 2 * asks_left s.asks + rank (stand_of n s.kept s.primary.tenure) content
-
--- those of a file among the messages of a node to itself that aren't handled
-abbrev pub of_primary : List Payload → List Payload
-of_primary contents = filter (λ c. not (is_lease c)) contents
-
--- How many messages may still come of these of a file to its own node, and they.
-abbrev pub weight : NodeId → FileState → List Payload → ℕ
-weight n s contents = sum_by lease_rank contents + primary_weight n s (of_primary contents)
