@@ -1,6 +1,6 @@
 -- what an ask comes to at its file: a round starts, an update is issued, or it waits
-use Rattle.std.proofs.Common.{◌≡◌, ℕ, ◌≤◌, ◌<◌, ◌+◌, ◌*◌, inl, inr, Bool, true, false, List, [], ◌∷◌, ◌++◌, map, length, refl, sym, ap, ap₂, subst, ◌∙◌, arith, Option, Some, None, is_some, le_refl, le_trans, append-nil, length-append}
-use Rattle.std.specs.Prelude.{◌&&◌, ◌||◌, not, cond, ◌==◌, nat_lt}
+use Rattle.std.proofs.Common.{◌≡◌, ℕ, ◌≤◌, ◌<◌, ◌+◌, inr, Bool, true, false, List, [], ◌∷◌, ◌++◌, map, length, refl, sym, ap, subst, ◌∙◌, arith, Option, Some, None, is_some, le_refl, append-nil, length-append}
+use Rattle.std.specs.Prelude.{cond, ◌==◌, nat_lt}
 use Rattle.std.proofs.lemmas.Bool.Decides.{nat_tests}
 use Rattle.xt_base.specs.MemberList.{has_node, are_distinct}
 use Rattle.xt_base.specs.declared.ids.NodeId.{NodeId}
@@ -22,12 +22,12 @@ use Rattle.osd_rows.specs.declared.Progress.{Progress}
 use Rattle.osd_rows.specs.declared.Progress.TheVariants as progress
 use Rattle.osd_rows.specs.declared.Tenure.{Tenure}
 use Rattle.osd_rows.specs.declared.WaitingAsk.{WaitingAsk}
-use Rattle.osd_rows.specs.Turns.{quiet, keeps, tells, to_each}
+use Rattle.osd_rows.specs.Turns.{quiet, keeps}
 use Rattle.osd_rows.specs.ReplicaRows.{kept_after}
 use Rattle.osd_rows.specs.Primaries.{is_active, is_ready, issued_by, issued_in}
 use Rattle.osd_rows.specs.Serving.{writes}
 use Rattle.osd_rows.specs.Asks.{Served, WAITING, asked_already, is_read, serves, waits, write_done}
-use Rattle.osd_rows.specs.FileStates.{FileState, Site, FileStep, nothing, steps_to, and_then, serves_to, members_of, ground_of}
+use Rattle.osd_rows.specs.FileStates.{FileState, Site, FileStep, nothing, steps_to, and_then, members_of, ground_of}
 use Rattle.osd_rows.specs.FileLeases.{running_round}
 use Rattle.osd_rows.specs.AskRows.{turned_off, refusal_of, waiting_ask, ask_waits, ask_served, reads_of, round_for, elsewhere, ask_without_lease, ask_under, ask_rows, view_record, ask_let_in, ask_handled}
 use Rattle.osd_rows.specs.FileSteps.{ask_comes}
@@ -46,14 +46,14 @@ use Rattle.xt_protocol.specs.Register.{Round}
 use Rattle.line_ends.proofs.Leases.{IsLeaseOf}
 use Rattle.line_ends.proofs.Weights.{asks_left}
 use Rattle.line_ends.proofs.Standing.{IfAbout, HeadStands, IfMessage, IfTenure, TenureStands}
-use Rattle.line_ends.proofs.Tests.{false_true, not_both}
-use Rattle.line_ends.proofs.Moves.{Moves, moves_none}
+use Rattle.line_ends.proofs.Tests.{false_true}
+use Rattle.line_ends.proofs.Moves.{moves_none}
 use Rattle.line_ends.proofs.Mine.{token, mine-each}
 use Rattle.line_ends.proofs.Rows.{one_if, next_stands}
 use Rattle.line_ends.proofs.Hearing.{IsApart}
 use Rattle.line_ends.proofs.Serving.{SentIs, Serves, ask_serves, reply_mine}
 use Rattle.line_ends.proofs.Leases.{IfSeated, IsFree, seat_nodes}
-use Rattle.line_ends.proofs.Files.{FileStands, IsLed, IfLed}
+use Rattle.line_ends.proofs.Files.{FileStands, IfLed}
 use Rattle.line_ends.proofs.Messages.{Gives}
 
 -- a round that starts has a seat for each member
@@ -323,7 +323,6 @@ module _ (site : Site) (from : NodeId) (other : (from.0 == site.node.0) ≡ fals
       stored : (was : Option Location) → s.kept.location ≡ was
           → Asked s (and_then (steps_to (record s { used = site.now }) (keeps (view_record s capability.location was))) (λ (state : FileState). ask_rows site state (waiting_ask site id capability.epoch asked)))
       stored (Some location) is =
-          let t : FileState = record s { used = site.now } in
           let q = rows_asked (record s { used = site.now }) seen (record { issued = sound.issued; ready = sound.ready }) apart (waiting_ask site id capability.epoch asked) client in
           record { head = q.head; moves = q.moves; tenure = q.tenure; seats = q.seats; few = q.few; told = q.told; sent = q.sent; outs = q.outs; told_is = q.told_is; about_sent = q.about_sent; about_told = q.about_told; stands = q.stands; led = λ led. q.led (λ mine. absurd (never mine)); idle = q.idle }
         where
@@ -334,8 +333,8 @@ module _ (site : Site) (from : NodeId) (other : (from.0 == site.node.0) ≡ fals
               same a b is = grind (arith, nat_tests)
       stored None is =
           let q = rows_asked (record s { used = site.now; kept = record s.kept { location = Some capability.location } })
-              (record { head = stands.head; tenure = stands.tenure; ids = record { asks = stands.ids.asks; tenure = stands.ids.tenure }; seats = stands.seats; few = stands.few }) (record { issued = sound.issued; ready = sound.ready }) listed
-              (waiting_ask site id capability.epoch asked) client in
+          (record { head = stands.head; tenure = stands.tenure; ids = record { asks = stands.ids.asks; tenure = stands.ids.tenure }; seats = stands.seats; few = stands.few }) (record { issued = sound.issued; ready = sound.ready }) listed
+          (waiting_ask site id capability.epoch asked) client in
           record { head = q.head; moves = q.moves; tenure = q.tenure; seats = q.seats; few = q.few; told = q.told; sent = q.sent; outs = q.outs; told_is = q.told_is; about_sent = q.about_sent; about_told = q.about_told; stands = q.stands; led = λ led. q.led (λ mine. absurd (never mine)); idle = q.idle }
         where
           never : from.0 ≡ site.node.0 → ⊥

@@ -1,8 +1,7 @@
 -- how many bodies a primary still brings to its own node, as each of them is staged or missed
-use Rattle.std.proofs.Common.{◌≡◌, ℕ, ◌≤◌, ◌+◌, ◌*◌, ◌⊎◌, inl, inr, Bool, true, false, List, [], ◌∷◌, ◌++◌, refl, sym, ap, subst, ◌∙◌, arith, Option, Some, None, count_by, filter, find}
+use Rattle.std.proofs.Common.{◌≡◌, ℕ, ◌≤◌, ◌+◌, inl, inr, Bool, true, false, List, [], ◌∷◌, ◌++◌, refl, sym, ap, subst, ◌∙◌, arith, Option, Some, None, count_by, find}
 use Rattle.std.specs.Prelude.{◌&&◌, ◌||◌, not, cond, ◌==◌}
 use Rattle.std.proofs.lemmas.Bool.{and_parts, eqb-true}
-use Rattle.std.proofs.lemmas.Bool.Decides.{nat_tests}
 use Rattle.std.proofs.lemmas.List.Sums.{sum_by-cons, sum_by-le-sum_by}
 use Rattle.xt_base.specs.declared.ids.Stamp.{Stamp}
 use Rattle.xt_base.specs.declared.ids.FileId.{FileId}
@@ -11,7 +10,6 @@ use Rattle.xt_base.specs.declared.file.ObjectVersion.{ObjectVersion}
 use Rattle.xt_base.specs.declared.file.FileHead.{FileHead}
 use Rattle.xt_base.specs.declared.message.Payload.{Payload}
 use Rattle.xt_base.specs.declared.message.Payload.TheVariants as payload
-use Rattle.xt_protocol.specs.Folds.{body_of}
 use Rattle.xt_protocol.specs.Stamps.{is_version, has_version, without_version, with_held}
 use Rattle.xt_protocol.proofs.Stamps.{version-equal, version-itself, has_version-with_held}
 use Rattle.lease_safety.specs.State.{Has}
@@ -23,7 +21,7 @@ use Rattle.xt_base.specs.declared.record.FileRow.{FileRow}
 use Rattle.xt_protocol.specs.Stamps.{is_earlier}
 use Rattle.osd_rows.specs.OsdSteps.{file_concerned}
 use Rattle.line_ends.proofs.Standing.{IsLacking, Stands}
-use Rattle.line_ends.proofs.Weights.{Stand, is_lacked, bodies_to, bodies_left, is_wanted, are_named, unless, rank}
+use Rattle.line_ends.proofs.Weights.{is_lacked, bodies_to, are_named, unless, rank}
 use Rattle.line_ends.proofs.Tests.{false_true, not_both}
 
 -- ---- counts

@@ -1,5 +1,5 @@
 -- the weight of a file and its messages to its own node is bounded
-use Rattle.std.proofs.Common.{◌≡◌, ℕ, ◌≤◌, ◌+◌, ◌*◌, Bool, true, false, List, [], ◌∷◌, length, refl, sym, ap, subst, ◌∙◌, arith, Option, Some, None, le_refl}
+use Rattle.std.proofs.Common.{◌≤◌, ◌+◌, ◌*◌, Bool, true, false, List, [], ◌∷◌, arith, Option, Some, None}
 use Rattle.std.specs.Prelude.{cond}
 use Rattle.std.proofs.lemmas.List.Sums.{count_by-le-length}
 use Rattle.xt_base.specs.declared.ids.NodeId.{NodeId}
@@ -17,9 +17,8 @@ use Rattle.osd_rows.specs.declared.PeerState.TheVariants as peer
 use Rattle.osd_rows.specs.declared.Progress.{Progress}
 use Rattle.osd_rows.specs.declared.Progress.TheVariants as progress
 use Rattle.osd_rows.specs.declared.Tenure.{Tenure}
-use Rattle.osd_rows.specs.Primaries.{peer_in, target_of}
+use Rattle.osd_rows.specs.Primaries.{peer_in}
 use Rattle.osd_rows.specs.PrimaryRows.{target_in}
-use Rattle.osd_rows.specs.Asks.{WAITING}
 use Rattle.osd_rows.specs.FileStates.{FileState}
 use Rattle.xt_protocol.specs.Stamps.{is_earlier, is_epoch}
 use Rattle.cluster_runs.specs.Lines.{OWN}

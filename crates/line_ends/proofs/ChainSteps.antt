@@ -1,51 +1,41 @@
 -- an own message that an OSD handles
-use Rattle.std.proofs.Common.{◌≡◌, ℕ, ◌≤◌, ◌+◌, ◌⊎◌, inl, inr, Bool, true, false, List, [], ◌∷◌, ◌++◌, map, refl, sym, ap, ap₂, subst, ◌∙◌, arith, Option, Some, None, append-nil, append_assoc}
-use Rattle.std.specs.Prelude.{◌&&◌, ◌||◌, not, cond, ◌==◌, max}
+use Rattle.std.proofs.Common.{◌≡◌, ℕ, Bool, true, false, List, [], ◌∷◌, ◌++◌, refl, sym, ap, ap₂, subst, ◌∙◌, arith, Option, Some, None, append-nil}
+use Rattle.std.specs.Prelude.{◌&&◌, not, cond}
 use Rattle.xt_base.specs.MemberList.{are_distinct}
-use Rattle.xt_base.specs.declared.ids.NodeId.{NodeId}
 use Rattle.xt_base.specs.declared.ids.FileId.{FileId}
 use Rattle.xt_base.specs.declared.file.Location.{Location}
-use Rattle.xt_base.specs.declared.event.Event.{Event}
-use Rattle.xt_base.specs.declared.event.Event.TheVariants as event
 use Rattle.xt_base.specs.declared.message.Msg.{Msg}
 use Rattle.xt_base.specs.declared.message.Payload.{Payload}
-use Rattle.xt_base.specs.declared.message.Payload.TheVariants as payload
 use Rattle.xt_base.specs.declared.record.FileRow.{FileRow}
-use Rattle.xt_protocol.specs.FileIds.{is_file, is_before}
-use Rattle.xt_protocol.specs.Folds.{new_row}
-use Rattle.xt_protocol.specs.LeaseRows.{Awake, is_silent}
-use Rattle.xt_protocol.proofs.Folds.{file-equal, file-itself}
+use Rattle.xt_protocol.specs.FileIds.{is_file}
+use Rattle.xt_protocol.proofs.Folds.{file-itself}
 use Rattle.lease_safety.specs.State.{Has}
-use Rattle.osd_rows.specs.Turns.{message, quiet}
-use Rattle.osd_rows.specs.FileStates.{FileState, Site, FileStep, file_from}
+use Rattle.osd_rows.specs.Turns.{message}
+use Rattle.osd_rows.specs.FileStates.{FileState, FileStep}
 use Rattle.osd_rows.specs.FileSteps.{step_of_file}
-use Rattle.osd_rows.specs.OsdSteps.{Outside, OsdState, OsdStep, FilesStep, file_at, with_file, file_concerned, message_handled, event_handled, handled_awake, step_of_osd}
+use Rattle.osd_rows.specs.OsdSteps.{Outside, OsdState, file_at, with_file, file_concerned, message_handled}
 use Rattle.osd_lease_views.specs.LeaseView.{is_about}
 use Rattle.osd_lease_views.specs.OsdView.{site_of}
-use Rattle.osd_lease_views.proofs.OsdLeases.{file_at-with_file, at_file, step_keeps}
+use Rattle.osd_lease_views.proofs.OsdLeases.{at_file, step_keeps}
 use Rattle.cluster_runs.specs.declared.DeclaredFile.{DeclaredFile}
 use Rattle.cluster_runs.specs.World.{file_in}
 use Rattle.cluster_runs.specs.NodeSteps.{to_itself}
 use Rattle.world_leases.specs.View.{awake_as}
-use Rattle.world_leases.specs.Worlds.{AreBehind, FileFits, Rises, files_of}
-use Rattle.world_leases.proofs.Rising.{before_along, before_itself}
-use Rattle.line_ends.proofs.Weights.{is_lease, lease_rank}
+use Rattle.world_leases.specs.Worlds.{FileFits, Rises, files_of}
+use Rattle.line_ends.proofs.Weights.{is_lease}
 use Rattle.line_ends.proofs.Standing.{IfAbout, IfMessage, IsLacking, Stands}
-use Rattle.line_ends.proofs.Tests.{false_true}
 use Rattle.line_ends.proofs.Mine.{token}
 use Rattle.line_ends.proofs.Leases.{IsLeaseOf}
 use Rattle.line_ends.proofs.Files.{FileStands, IfLed, IsLed, chain_weight}
-use Rattle.line_ends.proofs.Messages.{Gives, Less, LeaseLess, PrimaryLess, Comes, is_ask, lease_of}
+use Rattle.line_ends.proofs.Messages.{Less, LeaseLess, PrimaryLess, Comes, lease_of}
 use Rattle.line_ends.proofs.FileSteps.{step_given}
 use Rattle.line_ends.proofs.FileSizes.{FileSmall}
-use Rattle.line_ends.proofs.Osds.{OwnFits, sound_of, apart_of}
-use Rattle.line_ends.proofs.OsdEvents.{fit_at, stands_at, step_at, same_file}
-
-use Rattle.line_ends.proofs.Chains.{Chain, Falls, idle_falls, placed, pick, primary_about, list_of, own_sum, about-append, both_about, both_sum, turned_round}
+use Rattle.line_ends.proofs.Osds.{OwnFits, apart_of}
+use Rattle.line_ends.proofs.OsdEvents.{fit_at, stands_at}
+use Rattle.line_ends.proofs.Chains.{Chain, Falls, idle_falls, placed, primary_about, list_of, own_sum, about-append, both_about, both_sum}
 
 module _ (declared : List DeclaredFile) (lists : (number : ℕ) (location : Location) → file_in declared number ≡ Some location → are_distinct location.members ≡ true) (outside : Outside) (s : OsdState) (now : ℕ)
     (fits : (f : FileState) → Has f s.files → FileFits declared f) (stands : (f : FileState) → Has f s.files → FileStands s.started.node f × FileSmall f) (rises : Rises (files_of s.files)) where
-
   module _ (m : Msg) (rest : List Msg) (k : ℕ) (c : Chain (awake_as s.started) s.started.node s.files (m ∷ rest) k) where
     abbrev pub it : FileId → FileState
     it file = file_at (awake_as s.started) s.files file
@@ -162,5 +152,5 @@ module _ (declared : List DeclaredFile) (lists : (number : ℕ) (location : Loca
         let f = file_at (awake_as s.started) s.files file in
         let fit = fit_at declared lists outside s now fits stands rises file in
         let comes = step_given (site_of outside (awake_as s.started) now) m.from f (stands_at declared lists outside s now fits stands rises file).0 fit.sound
-            (apart_of (site_of outside (awake_as s.started) now) (awake_as s.started) declared lists s.files fits stands f fit) m.payload own.no_ask (λ from primary. own.stands file concerns primary) in
+        (apart_of (site_of outside (awake_as s.started) now) (awake_as s.started) declared lists s.files fits stands f fit) m.payload own.no_ask (λ from primary. own.stands file concerns primary) in
         falls file concerns comes mine

@@ -1,45 +1,29 @@
 -- The messages of an OSD to itself that aren't handled: what they weigh, and that it falls with each that is handled.
-use Rattle.std.proofs.Common.{◌≡◌, ℕ, ◌≤◌, ◌+◌, ◌⊎◌, inl, inr, Bool, true, false, List, [], ◌∷◌, ◌++◌, map, refl, sym, ap, ap₂, subst, ◌∙◌, arith, Option, Some, None, append-nil, append_assoc}
-use Rattle.std.specs.Prelude.{◌&&◌, ◌||◌, not, cond, ◌==◌, max}
-use Rattle.xt_base.specs.MemberList.{are_distinct}
+use Rattle.std.proofs.Common.{◌≡◌, ℕ, ◌≤◌, ◌+◌, inl, inr, Bool, true, false, List, [], ◌∷◌, ◌++◌, refl, sym, ap, ap₂, subst, ◌∙◌, arith, Option, Some, None, append-nil, append_assoc}
+use Rattle.std.specs.Prelude.{◌&&◌, ◌||◌, not, cond}
 use Rattle.xt_base.specs.declared.ids.NodeId.{NodeId}
 use Rattle.xt_base.specs.declared.ids.FileId.{FileId}
-use Rattle.xt_base.specs.declared.file.Location.{Location}
-use Rattle.xt_base.specs.declared.event.Event.{Event}
-use Rattle.xt_base.specs.declared.event.Event.TheVariants as event
 use Rattle.xt_base.specs.declared.message.Msg.{Msg}
 use Rattle.xt_base.specs.declared.message.Payload.{Payload}
 use Rattle.xt_base.specs.declared.message.Payload.TheVariants as payload
 use Rattle.xt_base.specs.declared.record.FileRow.{FileRow}
 use Rattle.xt_protocol.specs.FileIds.{is_file, is_before}
 use Rattle.xt_protocol.specs.Folds.{new_row}
-use Rattle.xt_protocol.specs.LeaseRows.{Awake, is_silent}
+use Rattle.xt_protocol.specs.LeaseRows.{Awake}
 use Rattle.xt_protocol.proofs.Folds.{file-equal, file-itself}
-use Rattle.lease_safety.specs.State.{Has}
-use Rattle.osd_rows.specs.Turns.{message, quiet}
-use Rattle.osd_rows.specs.FileStates.{FileState, Site, FileStep, file_from}
-use Rattle.osd_rows.specs.FileSteps.{step_of_file}
-use Rattle.osd_rows.specs.OsdSteps.{Outside, OsdState, OsdStep, FilesStep, file_at, with_file, file_concerned, message_handled, event_handled, handled_awake, step_of_osd}
+use Rattle.osd_rows.specs.FileStates.{FileState, file_from}
+use Rattle.osd_rows.specs.OsdSteps.{file_at, with_file, file_concerned}
 use Rattle.osd_lease_views.specs.LeaseView.{is_about}
-use Rattle.osd_lease_views.specs.OsdView.{site_of}
-use Rattle.osd_lease_views.proofs.OsdLeases.{file_at-with_file, at_file}
-use Rattle.cluster_runs.specs.declared.DeclaredFile.{DeclaredFile}
-use Rattle.cluster_runs.specs.World.{file_in}
-use Rattle.cluster_runs.specs.NodeSteps.{to_itself}
-use Rattle.world_leases.specs.View.{awake_as}
-use Rattle.world_leases.specs.Worlds.{AreBehind, FileFits, Rises, files_of}
+use Rattle.osd_lease_views.proofs.OsdLeases.{file_at-with_file}
+use Rattle.world_leases.specs.Worlds.{AreBehind, Rises, files_of}
 use Rattle.world_leases.proofs.Rising.{before_along, before_itself}
 use Rattle.line_ends.proofs.Weights.{is_lease, lease_rank}
-use Rattle.line_ends.proofs.Standing.{IfAbout, IfMessage, IsLacking, Stands}
+use Rattle.line_ends.proofs.Standing.{IfAbout, IfMessage, Stands}
 use Rattle.line_ends.proofs.Tests.{false_true}
 use Rattle.line_ends.proofs.Mine.{token}
 use Rattle.line_ends.proofs.Leases.{IsLeaseOf}
-use Rattle.line_ends.proofs.Files.{FileStands, IfLed, IsLed, chain_weight}
-use Rattle.line_ends.proofs.Messages.{Gives, Less, LeaseLess, PrimaryLess, Comes, is_ask, lease_of}
-use Rattle.line_ends.proofs.FileSteps.{step_given}
-use Rattle.line_ends.proofs.FileSizes.{FileSmall}
-use Rattle.line_ends.proofs.Osds.{OwnFits, sound_of, apart_of}
-use Rattle.line_ends.proofs.OsdEvents.{fit_at, stands_at, step_at, same_file}
+use Rattle.line_ends.proofs.Files.{IfLed, chain_weight}
+use Rattle.line_ends.proofs.Messages.{lease_of}
 
 -- ---- what is of a file
 

@@ -1,5 +1,5 @@
 -- a client asks one node at most, and keeps no record
-use Rattle.std.proofs.Common.{◌≡◌, ℕ, ◌⊎◌, inl, inr, Bool, true, false, List, [], ◌∷◌, ◌++◌, refl, ap, Option, Some, None}
+use Rattle.std.proofs.Common.{◌≡◌, ℕ, Bool, true, false, List, [], ◌∷◌, refl, Option, Some, None}
 use Rattle.std.specs.Prelude.{◌&&◌, ◌==◌, not, cond, nat_lt, nat_le, max, filter}
 use Rattle.xt_base.specs.TimeSettings.{TimeSettings}
 use Rattle.xt_base.specs.declared.ids.NodeId.{NodeId}
@@ -20,7 +20,7 @@ use Rattle.osd_rows.specs.Turns.{message}
 use Rattle.cluster_runs.specs.declared.ClientState.{ClientState}
 use Rattle.cluster_runs.specs.declared.RunningCall.{RunningCall}
 use Rattle.cluster_runs.specs.Steps.{Step, stays}
-use Rattle.cluster_runs.specs.Clients.{ClientSite, asks, begins_call, call_comes, call_of_client, ends_call, was_tried, with_outcome, named, next_of, turned_away, turned_away_by, answered, reply_comes, message_comes, wakes, event_comes, step_of_client}
+use Rattle.cluster_runs.specs.Clients.{ClientSite, asks, begins_call, call_of_client, ends_call, was_tried, with_outcome, named, next_of, turned_away, turned_away_by, answered, reply_comes, message_comes, wakes, event_comes, step_of_client}
 use Rattle.xt_base.specs.declared.event.Outcome.TheVariants as outcome
 use Rattle.cluster_runs.specs.Clients.{answers_in}
 use Rattle.line_ends.proofs.Messages.{is_ask}

@@ -1,5 +1,5 @@
 -- no head has more than `OBJECTS` versions: those of a file's steps
-use Rattle.std.proofs.Common.{◌≡◌, ℕ, ◌≤◌, ◌+◌, inl, inr, Bool, true, false, List, [], ◌∷◌, ◌++◌, map, length, refl, sym, ap, subst, ◌∙◌, arith, Option, Some, None}
+use Rattle.std.proofs.Common.{◌≡◌, ℕ, ◌≤◌, ◌+◌, Bool, true, false, List, [], ◌∷◌, ◌++◌, length, refl, sym, ap, subst, ◌∙◌, arith, Option, Some, None}
 use Rattle.std.specs.Prelude.{◌&&◌, not, cond, ◌==◌, nat_lt, nat_le, is_some, filter, fold}
 use Rattle.std.proofs.lemmas.Bool.{and_parts}
 use Rattle.std.proofs.lemmas.Bool.Decides.{nat_tests}
@@ -18,7 +18,6 @@ use Rattle.xt_base.specs.declared.file.Location.{Location}
 use Rattle.xt_base.specs.declared.file.ObjectVersion.{ObjectVersion}
 use Rattle.xt_base.specs.declared.file.Op.{Op}
 use Rattle.xt_base.specs.declared.file.Update.{Update}
-use Rattle.xt_base.specs.declared.message.Msg.{Msg}
 use Rattle.xt_base.specs.declared.message.Payload.{Payload}
 use Rattle.xt_base.specs.declared.message.Payload.TheVariants as payload
 use Rattle.xt_base.specs.declared.record.FileRow.{FileRow}
@@ -27,7 +26,6 @@ use Rattle.xt_base.specs.declared.record.Record.TheVariants as kept
 use Rattle.xt_base.specs.declared.reply.Reply.{Reply}
 use Rattle.xt_base.specs.declared.reply.Reply.TheVariants as reply
 use Rattle.xt_base.specs.declared.TheConstants.{OBJECTS, CLIENTS, COUNTS}
-use Rattle.xt_protocol.specs.declared.Turned.{Turned}
 use Rattle.xt_protocol.specs.Folds.{body_of}
 use Rattle.xt_protocol.specs.Heads.{head_after}
 use Rattle.xt_protocol.specs.Register.{ReadAnswer, promise, read_refused, WriteAnswer, accepted, write_refused, other_boot, on_read, on_write}
@@ -46,20 +44,20 @@ use Rattle.osd_rows.specs.declared.Progress.{Progress}
 use Rattle.osd_rows.specs.declared.Progress.TheVariants as progress
 use Rattle.osd_rows.specs.declared.Tenure.{Tenure}
 use Rattle.osd_rows.specs.declared.WaitingAsk.{WaitingAsk}
-use Rattle.osd_rows.specs.Turns.{quiet, joined, the_record, keeps, message, reply_to, to_each}
+use Rattle.osd_rows.specs.Turns.{quiet, joined, the_record, keeps, message, reply_to}
 use Rattle.osd_rows.specs.Writes.{Standing, repeated, older, turned_away, fresh, standing}
-use Rattle.osd_rows.specs.Primaries.{Ground, Led, if_any, is_active, is_ready, last_sent, have_in, majority_among}
+use Rattle.osd_rows.specs.Primaries.{Ground, Led, if_any, is_active, is_ready, have_in, majority_among}
 use Rattle.osd_rows.specs.PrimaryRows.{hears, hears_in}
-use Rattle.osd_rows.specs.ReplicaRows.{kept_after, gathered, fetched_from, staged, stage_record, headed, head_offered, head_taken, first_missing, updated, update_offered, next_update, head_fits, as_promised, unanswered, only, after_record, refused, behind}
-use Rattle.osd_rows.specs.Serving.{current_others, issues, issues_unless, next_update_of, reads, write_stands, writes_in, writes_under, writes, gather_unknown, unacked, sent_again, wakes_in, wakes_under, wakes}
+use Rattle.osd_rows.specs.ReplicaRows.{kept_after, gathered, fetched_from, staged, stage_record, headed, head_offered, head_taken, first_missing, updated, update_offered, head_fits, as_promised}
+use Rattle.osd_rows.specs.Serving.{current_others, issues, next_update_of, reads, write_stands, writes_in, writes_under, writes, gather_unknown, sent_again, wakes_in, wakes_under, wakes}
 use Rattle.osd_rows.specs.Asks.{Served, asks_behind, asks_follow, is_read, no_asks, read_answer, serves, serves_all, serves_waiting, stays, tells_each, tells_untold, waits, write_done, asked_already}
-use Rattle.osd_rows.specs.FileStates.{FileState, Site, FileStep, nothing, steps_to, and_then, serves_to, members_of, ground_of}
+use Rattle.osd_rows.specs.FileStates.{FileState, Site, FileStep, steps_to, and_then, members_of, ground_of}
 use Rattle.osd_rows.specs.Overdue.{is_due, newly_due, deadlines_under, lease_became, expired}
 use Rattle.osd_rows.specs.FileLeases.{read_comes, write_comes, answer_comes, answer_to_read, answers_to_write, end_after_answer, lease_news, led_on, waiting_told}
-use Rattle.osd_rows.specs.AskRows.{ask_handled, ask_let_in, ask_rows, ask_under, ask_without_lease, ask_served, elsewhere, refusal_of, view_record, waiting_ask}
+use Rattle.osd_rows.specs.AskRows.{ask_handled, ask_let_in, ask_rows, ask_under, ask_without_lease, elsewhere, refusal_of, view_record, waiting_ask}
 use Rattle.osd_rows.specs.FileSteps.{replica_acts, ask_comes, primary_hears, message_comes, renews, step_of_file, wakes_under_lease, wake_of_file}
 use Rattle.osd_invariants.proofs.Kept.{wake_keeps}
-use Rattle.line_ends.proofs.Sizes.{IsSmall, ContentSmall, AreSmall, StateSmall, PeersSmall, TenureSmall, KeepsSmall, LedSmall, both_small, each_small, peers_outs, drawn_small, hears_small}
+use Rattle.line_ends.proofs.Sizes.{IsSmall, ContentSmall, AreSmall, StateSmall, TenureSmall, KeepsSmall, LedSmall, both_small, each_small, peers_outs, drawn_small, hears_small}
 
 pub record FileSmall (s : FileState) : Type 0 where
   pub head : IsSmall s.kept.head

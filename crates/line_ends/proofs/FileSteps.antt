@@ -1,7 +1,6 @@
 -- the whole step of a file at its node: what is overdue, and then what comes
-use Rattle.std.proofs.Common.{◌≡◌, ℕ, ◌≤◌, ◌+◌, inl, inr, Bool, true, false, List, [], ◌∷◌, ◌++◌, refl, sym, ap, ap₂, subst, ◌∙◌, arith, Option, Some, None, le_trans}
+use Rattle.std.proofs.Common.{◌≡◌, ℕ, Bool, true, false, List, ◌++◌, sym, ap, ap₂, subst, ◌∙◌, arith, Option, Some, None}
 use Rattle.std.specs.Prelude.{◌==◌}
-use Rattle.std.proofs.lemmas.Bool.Decides.{nat_tests}
 use Rattle.xt_base.specs.MemberList.{are_distinct}
 use Rattle.xt_base.specs.declared.ids.NodeId.{NodeId}
 use Rattle.xt_base.specs.declared.message.Msg.{Msg}
@@ -15,16 +14,14 @@ use Rattle.osd_rows.specs.FileSteps.{message_comes, step_of_file, wake_of_file}
 use Rattle.osd_rows.specs.Overdue.{expired}
 use Rattle.osd_invariants.specs.Sound.{IsSound}
 use Rattle.osd_invariants.proofs.SoundSteps.{expired_so}
-use Rattle.cluster_runs.specs.NodeSteps.{to_itself}
 use Rattle.world_ends.proofs.FileIds.{FileIs}
 use Rattle.line_ends.proofs.Weights.{is_lease}
 use Rattle.line_ends.proofs.Standing.{IfAbout, IsLacking, Stands}
-use Rattle.line_ends.proofs.Tests.{false_true}
 use Rattle.line_ends.proofs.Moves.{Moves}
-use Rattle.line_ends.proofs.Mine.{token, mine-append}
+use Rattle.line_ends.proofs.Mine.{mine-append}
 use Rattle.line_ends.proofs.Hearing.{IsApart}
-use Rattle.line_ends.proofs.Files.{FileStands, IfLed, IsLed, Settles, Overdue, overdue, overdue_stands}
-use Rattle.line_ends.proofs.Messages.{Gives, LeaseLess, PrimaryLess, Less, Comes, is_ask, message_given}
+use Rattle.line_ends.proofs.Files.{FileStands, Overdue, overdue, overdue_stands}
+use Rattle.line_ends.proofs.Messages.{Gives, Less, Comes, is_ask, message_given}
 use Rattle.line_ends.proofs.Asking.{agree_of, ask_given}
 use Rattle.line_ends.proofs.Waking.{wake_given}
 
@@ -51,7 +48,6 @@ module _ (site : Site) (from : NodeId) (s : FileState) (stands : FileStands site
   -- what comes behind what is overdue
   behind_due : (content : Payload) (rows : FileState → FileStep) → Gives site.node from (expired site s).state (rows (expired site s).state) → Gives site.node from s (and_then (expired site s) rows)
   behind_due content rows q =
-      let rest = rows (expired site s).state in
       record {
         head = q.head;
         moves = subst (λ (k : FileRow). Moves k.head (rows (expired site s).state).state.kept.head) due.settles.kept q.moves;

@@ -1,11 +1,9 @@
 -- what holds of a file at its node, and what comes of what is overdue there
-use Rattle.std.proofs.Common.{◌≡◌, ℕ, ◌≤◌, ◌+◌, ◌*◌, ◌⊎◌, inl, inr, Bool, true, false, List, [], ◌∷◌, ◌++◌, map, length, refl, sym, ap, ap₂, subst, ◌∙◌, arith, Option, Some, None, is_some, le_refl, le_trans, append-nil}
-use Rattle.std.specs.Prelude.{◌&&◌, not, cond, ◌==◌, filter, count_by}
+use Rattle.std.proofs.Common.{◌≡◌, ℕ, ◌≤◌, ◌+◌, ◌*◌, ◌⊎◌, inl, inr, Bool, true, false, List, [], ◌∷◌, ◌++◌, length, refl, sym, ap, ap₂, subst, ◌∙◌, arith, Option, Some, None, is_some, le_refl, le_trans}
+use Rattle.std.specs.Prelude.{not, cond, filter}
 use Rattle.std.proofs.lemmas.List.Sums.{length-filter, count_by-le-length}
-use Rattle.xt_base.specs.MemberList.{has_node, are_distinct}
 use Rattle.xt_base.specs.declared.ids.NodeId.{NodeId}
 use Rattle.xt_base.specs.declared.ids.FileId.{FileId}
-use Rattle.xt_base.specs.declared.ids.OpId.{OpId}
 use Rattle.xt_base.specs.declared.message.Msg.{Msg}
 use Rattle.xt_base.specs.declared.message.Payload.{Payload}
 use Rattle.xt_base.specs.declared.message.Payload.TheVariants as payload
@@ -29,15 +27,15 @@ use Rattle.osd_invariants.specs.Sound.{IsHeld, AreOne}
 use Rattle.osd_rows.specs.declared.IssuedUpdate.{IssuedUpdate}
 use Rattle.cluster_runs.specs.NodeSteps.{to_itself}
 use Rattle.world_leases.proofs.Lists.{has_filter}
-use Rattle.world_ends.proofs.FileIds.{FileIs, AsksAre, IssuedAskIs, expired_is}
+use Rattle.world_ends.proofs.FileIds.{FileIs, IssuedAskIs, expired_is}
 use Rattle.line_ends.proofs.Weights.{asks_left, epoch_left, rank, settles, stand_of, tenure_left}
-use Rattle.line_ends.proofs.Standing.{HeadStands, IfTenure, IfMessage}
+use Rattle.line_ends.proofs.Standing.{HeadStands, IfTenure}
 use Rattle.line_ends.proofs.Tests.{false_true}
-use Rattle.line_ends.proofs.Mine.{token, mine-append}
+use Rattle.line_ends.proofs.Mine.{mine-append}
 use Rattle.line_ends.proofs.Rows.{one_if, three_if, four_if}
 use Rattle.line_ends.proofs.Hearing.{IsApart}
 use Rattle.line_ends.proofs.Serving.{reply_mine}
-use Rattle.line_ends.proofs.Leases.{IfSeated, IsFree, IsSeated}
+use Rattle.line_ends.proofs.Leases.{IfSeated, IsFree}
 
 -- What holds of a file at its node: the asks are those of other nodes, and few.
 pub record FileStands (n : NodeId) (s : FileState) : Type 0 where

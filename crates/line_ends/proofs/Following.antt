@@ -5,7 +5,6 @@ use Rattle.std.proofs.lemmas.Bool.{and_parts}
 use Rattle.xt_base.specs.declared.ids.NodeId.{NodeId}
 use Rattle.xt_base.specs.declared.message.Msg.{Msg}
 use Rattle.xt_base.specs.declared.message.Payload.{Payload}
-use Rattle.xt_base.specs.declared.message.Payload.TheVariants as payload
 use Rattle.xt_base.specs.declared.record.FileRow.{FileRow}
 use Rattle.xt_base.specs.declared.record.Record.{Record}
 use Rattle.lease_safety.specs.State.{Has}
@@ -26,7 +25,7 @@ use Rattle.osd_rows.specs.OsdSteps.{file_concerned}
 use Rattle.osd_invariants.specs.Sound.{AreOne}
 use Rattle.cluster_runs.specs.NodeSteps.{to_itself}
 use Rattle.line_ends.proofs.Weights.{asks_left, epoch_left, rank, settles, stand_of}
-use Rattle.line_ends.proofs.Standing.{IfAbout, HeadStands, IfMessage, IfTenure, Stands, TenureStands}
+use Rattle.line_ends.proofs.Standing.{IfAbout, HeadStands, IfMessage, IfTenure}
 use Rattle.line_ends.proofs.Tests.{false_true, not_both, not_below_self}
 use Rattle.line_ends.proofs.Mine.{token, mine-append}
 use Rattle.xt_base.specs.declared.ids.Epoch.{Epoch}
@@ -154,8 +153,8 @@ module _ (place : Place) (row : FileRow) (its : place.file ≡ row.file) (body :
               let epochs : epoch_left row (Some q.tenure) ≡ epoch_left row led.primary.tenure = ap (λ (e : Epoch). six_if (is_earlier e row.head.promised)) q.epoch_is ∙ sym (ap (epoch_left row) r.is) in
               let two : rank (stand_of place.node row (Some q.tenure)) content ≡ 2
               = ap (rank (stand_of place.node row (Some q.tenure))) sent_is
-                  ∙ ap (λ (p : Progress). four_if (settles (issued_in p) i.update.stamp)) (q.active ∙ ap (λ (o : Option IssuedUpdate). progress.Active q.head o) is)
-                  ∙ ap (λ (b : Bool). four_if (not b)) (not_below_self i.update.stamp) in
+              ∙ ap (λ (p : Progress). four_if (settles (issued_in p) i.update.stamp)) (q.active ∙ ap (λ (o : Option IssuedUpdate). progress.Active q.head o) is)
+              ∙ ap (λ (b : Bool). four_if (not b)) (not_below_self i.update.stamp) in
               subst (λ (x : Option Tenure). burden place.node (Some content) row x (serves_all (ground place row body) led.primary asks.waiting).asks + 1 ≤ limit + 2 * asks_left asks) (sym q.is) (omega (arith, enough, fewer, same, epochs, two))
 
   -- What a row of the primary means for the asks.

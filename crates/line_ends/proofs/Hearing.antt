@@ -1,6 +1,6 @@
 -- what comes of each message to a primary: less is left behind one of its own node
 use Rattle.std.proofs.Common.{◌≡◌, ℕ, ◌≤◌, ◌+◌, ◌*◌, ◌⊎◌, inl, inr, Bool, true, false, List, [], ◌∷◌, ◌++◌, refl, sym, ap, subst, ◌∙◌, arith, Option, Some, None, is_some, le_refl}
-use Rattle.std.specs.Prelude.{◌&&◌, ◌||◌, not, cond, ◌==◌, max, nat_le}
+use Rattle.std.specs.Prelude.{◌&&◌, ◌||◌, not, cond, ◌==◌, max}
 use Rattle.std.proofs.lemmas.Bool.{and_parts, eqb-true}
 use Rattle.std.proofs.lemmas.Bool.Decides.{nat_tests}
 use Rattle.xt_base.specs.MemberList.{has_node, are_distinct}
@@ -11,7 +11,6 @@ use Rattle.xt_base.specs.declared.ids.OpId.{OpId}
 use Rattle.xt_base.specs.declared.ids.Stamp.{Stamp}
 use Rattle.xt_base.specs.declared.file.FileHead.{FileHead}
 use Rattle.xt_base.specs.declared.file.ObjectVersion.{ObjectVersion}
-use Rattle.xt_base.specs.declared.file.Update.{Update}
 use Rattle.xt_base.specs.declared.message.Payload.{Payload}
 use Rattle.xt_base.specs.declared.message.Payload.TheVariants as payload
 use Rattle.xt_base.specs.declared.record.FileRow.{FileRow}
@@ -31,17 +30,16 @@ use Rattle.osd_rows.specs.declared.Tenure.{Tenure}
 use Rattle.osd_rows.specs.Turns.{message, sends}
 use Rattle.osd_rows.specs.ReplicaRows.{kept_after, stage_record}
 use Rattle.osd_rows.specs.Primaries.{Led, carries, is_unknown, issued_in, is_ready_in, nodes_of, peer_in, target_of, with_known, with_node}
-use Rattle.osd_rows.specs.PrimaryRows.{goes_on, unmoved, status_told, hears_status, with_state, body_beyond, body_fetched, hears_object, body_staged, body_missed, hears_missing, target_in, activated, head_acked, committed, update_acked, acked_below, hears_ack, makes_current, forgotten, peer_behind, outpromised, epoch_told, hears_peer, hears_member, hears_epoch}
+use Rattle.osd_rows.specs.PrimaryRows.{goes_on, unmoved, status_told, hears_status, with_state, body_beyond, hears_object, body_staged, body_missed, hears_missing, target_in, activated, head_acked, committed, update_acked, acked_below, hears_ack, makes_current, forgotten, peer_behind, outpromised, epoch_told, hears_peer, hears_member, hears_epoch}
 use Rattle.osd_invariants.proofs.Leads.{put_nodes}
 use Rattle.world_ends.proofs.PrimaryIds.{ProgressIs}
-use Rattle.cluster_runs.specs.NodeSteps.{to_itself}
 use Rattle.line_ends.proofs.Weights.{Stand, stand_of, rank, epoch_left, bodies_left, bodies_to, is_wanted, are_named, unless, settles}
 use Rattle.line_ends.proofs.Standing.{IfAbout, IfMessage, IsLacking, HeadStands, IsOfEpoch, IsPast, IsNext, TenureStands, ProgressStands, IsUnfed, Stands}
-use Rattle.line_ends.proofs.Tests.{false_true, not_both, not_new, not_below_self}
+use Rattle.line_ends.proofs.Tests.{false_true, not_new, not_below_self}
 use Rattle.line_ends.proofs.Mine.{token, mine-one, put_same}
 use Rattle.line_ends.proofs.Bodies.{staged_less, missed_less, unknown_now, named_one}
 use Rattle.line_ends.proofs.Moves.{moves_none}
-use Rattle.line_ends.proofs.Rows.{Body, ground, IfLeads, Row, Next, plain, readied, one_if, six_if, three_if, four_if, left, either, next_stands, stands_with, stands_other, stands_reported, rests, draws, fetching, counting, feeding}
+use Rattle.line_ends.proofs.Rows.{Body, ground, IfLeads, Row, plain, readied, one_if, six_if, three_if, four_if, left, either, next_stands, stands_with, stands_other, stands_reported, rests, draws, fetching, counting, feeding}
 
 -- ---- each message counts
 
@@ -286,7 +284,7 @@ module _ (place : Place) (row : FileRow) (its : place.file ≡ row.file) (body :
             stands = tt;
             leads = tt;
             about = tt;
-            next = plain refl (λ own. let mine = own.0 in some (payload.Ack file stamp));
+            next = plain refl (λ own. some (payload.Ack file stamp));
           }
 
       bound : epoch_left row (Some t) + 3 ≤ limit (payload.Ack file stamp) + 2 * one_if (is_some (issued_in t.progress))
@@ -303,7 +301,7 @@ module _ (place : Place) (row : FileRow) (its : place.file ≡ row.file) (body :
             stands = tt;
             leads = tt;
             about = tt;
-            next = readied (ap (λ (p : Progress). not (is_ready_in p)) is) refl refl (λ own. let mine = own.0 in bound);
+            next = readied (ap (λ (p : Progress). not (is_ready_in p)) is) refl refl (λ own. bound);
           }
 
   below_heard : (file : FileId) (stamp : Stamp) (u : Tenure) (head : FileHead) (newly : Bool) (o : Option IssuedUpdate) → t.progress ≡ progress.Active head o → u.epoch ≡ t.epoch → u.progress ≡ t.progress → TenureStands place.node row.head u
@@ -337,7 +335,7 @@ module _ (place : Place) (row : FileRow) (its : place.file ≡ row.file) (body :
                 stands = tt;
                 leads = tt;
                 about = tt;
-                next = plain refl (λ own. let mine = own.0 in some (payload.Ack file stamp));
+                next = plain refl (λ own. some (payload.Ack file stamp));
               }
 
           bound : epoch_left row (Some u) + 3 ≤ limit (payload.Ack file stamp) + 2 * one_if (is_some (issued_in t.progress))
@@ -363,7 +361,7 @@ module _ (place : Place) (row : FileRow) (its : place.file ≡ row.file) (body :
                 stands = tt;
                 leads = tt;
                 about = tt;
-                next = readied (ap (λ (p : Progress). not (is_ready_in p)) is) refl refl (λ own. let mine = own.0 in bound);
+                next = readied (ap (λ (p : Progress). not (is_ready_in p)) is) refl refl (λ own. bound);
               }
 
       again : (newly : Bool) → not (is_below stamp issued.update.stamp) ≡ false → Owes (payload.Ack file stamp) (cond newly (goes_on learnt u (sends (message place.node from (payload.Update place.file issued.update) ∷ []))) (unmoved learnt u))
@@ -402,7 +400,7 @@ module _ (place : Place) (row : FileRow) (its : place.file ≡ row.file) (body :
                 stands = stands_if b;
                 leads = leads_if b;
                 about = about_if b;
-                next = plain (ap (λ (p : Progress). is_ready_in p && not (is_ready_in t.progress)) same ∙ not_new (is_ready_in t.progress)) (λ own. let mine = own.0 in bound b);
+                next = plain (ap (λ (p : Progress). is_ready_in p && not (is_ready_in t.progress)) same ∙ not_new (is_ready_in t.progress)) (λ own. bound b);
               }
 
   ack_heard : (file : FileId) (stamp : Stamp) (p : Progress) (newly : Bool) (state : PeerState) → t.progress ≡ p → peer_in t.peers from ≡ Some state → stamp.epoch ≡ t.epoch → Heard (payload.Ack file stamp)
@@ -433,7 +431,7 @@ module _ (place : Place) (row : FileRow) (its : place.file ≡ row.file) (body :
             stands = tt;
             leads = tt;
             about = tt;
-            next = plain (not_new (is_ready_in t.progress)) (λ own. let mine = own.0 in some (payload.Behind file epoch stamp));
+            next = plain (not_new (is_ready_in t.progress)) (λ own. some (payload.Behind file epoch stamp));
           }
 
   refused_heard : (file : FileId) (epoch promised : Epoch) → Heard (payload.Refused file epoch promised) → Owes (payload.Refused file epoch promised) (outpromised (ground place row body) learnt t promised)

@@ -1,14 +1,13 @@
 -- In every run the files of every OSD stand, heads are small, and messages come from other nodes, or stand where they are.
-use Rattle.std.proofs.Common.{◌≡◌, ◌≢◌, ℕ, ◌≤◌, ◌+◌, ◌⊎◌, inl, inr, Bool, true, false, List, [], ◌∷◌, ◌++◌, map, refl, sym, ap, ap₂, subst, ◌∙◌, arith, Option, Some, None, append-nil}
-use Rattle.std.specs.Prelude.{◌&&◌, ◌||◌, not, cond, ◌==◌, max, filter, is_some, nat_le, length}
+use Rattle.std.proofs.Common.{◌≡◌, ◌≢◌, ℕ, ◌≤◌, ◌+◌, ◌⊎◌, inl, inr, Bool, true, false, List, [], ◌∷◌, ◌++◌, map, refl, sym, ap, subst, ◌∙◌, arith, Option, Some, None}
+use Rattle.std.specs.Prelude.{◌&&◌, not, cond, ◌==◌, max, filter, is_some, nat_le, length}
 use Rattle.std.specs.Option.{option_map}
 use Rattle.std.proofs.lemmas.Bool.{and_parts, eqb-true}
 use Rattle.std.proofs.lemmas.Bool.Decides.{nat_tests}
 use Rattle.std.proofs.lemmas.List.{map-append}
-use Rattle.xt_base.specs.MemberList.{are_distinct, are_members}
+use Rattle.xt_base.specs.MemberList.{are_distinct}
 use Rattle.xt_base.specs.Limits.{FitsLocation}
 use Rattle.xt_base.specs.declared.ids.NodeId.{NodeId}
-use Rattle.xt_base.specs.declared.ids.FileId.{FileId}
 use Rattle.xt_base.specs.declared.ids.Boot.{Boot}
 use Rattle.xt_base.specs.declared.file.Location.{Location}
 use Rattle.xt_base.specs.declared.event.Event.{Event}
@@ -20,51 +19,48 @@ use Rattle.xt_base.specs.declared.record.Record.{Record}
 use Rattle.xt_base.specs.declared.record.Folded.{Folded}
 use Rattle.xt_base.specs.declared.message.Payload.TheVariants as payload
 use Rattle.xt_base.specs.declared.record.Record.TheVariants as kept
-use Rattle.xt_base.specs.declared.TheConstants.{OBJECTS}
 use Rattle.xt_protocol.specs.declared.Turned.{Turned}
 use Rattle.xt_protocol.specs.FileIds.{is_file}
-use Rattle.xt_protocol.specs.Folds.{fold_of, row_in, new_row, folded_after}
+use Rattle.xt_protocol.specs.Folds.{fold_of, row_in}
 use Rattle.xt_protocol.specs.LeaseRows.{Awake, Silent, is_silent}
 use Rattle.xt_protocol.proofs.Folds.{fold_of-push, fold_of-nothing, file-itself}
-use Rattle.time_line.specs.declared.entry.Halt.{Halt}
 use Rattle.lease_safety.specs.State.{Has}
 use Rattle.lease_runs.proofs.Tests.{same_node}
 use Rattle.osd_rows.specs.FileStates.{FileState, file_from}
-use Rattle.osd_rows.specs.OsdSteps.{OsdState, OsdStep, file_at, file_concerned, step_of_osd}
+use Rattle.osd_rows.specs.OsdSteps.{OsdState, file_at, step_of_osd}
 use Rattle.cluster_runs.specs.declared.ClientState.{ClientState}
 use Rattle.cluster_runs.specs.declared.DeclaredFile.{DeclaredFile}
 use Rattle.cluster_runs.specs.declared.Sent.{Sent}
 use Rattle.cluster_runs.specs.Clients.{step_of_client}
-use Rattle.cluster_runs.specs.World.{World, start_world, Node, Running, Core, osd, client, node_in, with_node, file_in}
-use Rattle.cluster_runs.specs.NodeSteps.{pending, numbered, to_itself, one_more, after_turn, outside_of, halted}
-use Rattle.cluster_runs.specs.Lines.{ticked, osd_starting, next_boot, runs, first_boot, no_longer_pending}
+use Rattle.cluster_runs.specs.World.{World, Node, Running, Core, osd, client, node_in, with_node, file_in}
+use Rattle.cluster_runs.specs.NodeSteps.{pending, numbered, to_itself, one_more, outside_of}
+use Rattle.cluster_runs.specs.Lines.{ticked, osd_starting, next_boot, runs, first_boot}
 use Rattle.world_leases.specs.View.{awake_as, messages}
-use Rattle.world_leases.specs.Worlds.{Agrees, AskFits, CoreFits, FileFits, NodeFits, OsdFits, Rises, RowsFit, UpFits, row_files, AreBehind}
+use Rattle.world_leases.specs.Worlds.{Agrees, CoreFits, OsdFits, Rises, RowsFit, UpFits, row_files}
 use Rattle.osd_lease_views.specs.OsdView.{site_of}
 use Rattle.cluster_runs.specs.declared.Role.TheVariants as role
 use Rattle.cluster_runs.specs.Clients.{new_client, knows, aimed}
 use Rattle.cluster_runs.specs.Lines.{declared_capability, declared_file, epoch_of, uses}
 use Rattle.world_leases.proofs.Files.{record_fits}
-use Rattle.world_leases.proofs.Fit.{IsFit, IsShaped, IsNext, replaced}
+use Rattle.world_leases.proofs.Fit.{IsFit, IsNext, replaced}
 use Rattle.world_leases.proofs.Frame.{next_node}
 use Rattle.world_leases.proofs.LineSteps.{fits_kept}
-use Rattle.world_leases.proofs.Lists.{has_in, has_left, has_right, has_filter, filter_has, has_map, map_same}
+use Rattle.world_leases.proofs.Lists.{has_in, has_left, has_filter, filter_has, has_map, map_same}
 use Rattle.world_leases.proofs.NodeEvents.{step_next}
 use Rattle.world_leases.proofs.Rising.{before_itself}
-use Rattle.world_leases.proofs.Tables.{same, node_in-new, node_in-other, node_in-id, nobody, node_in-last, node_in-before, node_in-ticked, file_in-before}
+use Rattle.world_leases.proofs.Tables.{same, node_in-new, node_in-other, nobody, node_in-last, node_in-before, node_in-ticked, file_in-before}
 use Rattle.world_leases.proofs.Walk.{IsKept, NodeStep, of_osd, of_client, of_call, Reaches, same_messages, call_step}
 use Rattle.world_ends.proofs.OsdIds.{new_is}
-use Rattle.line_ends.proofs.Weights.{is_lease}
-use Rattle.line_ends.proofs.Standing.{HeadStands, Stands}
+use Rattle.line_ends.proofs.Standing.{HeadStands}
 use Rattle.line_ends.proofs.Tests.{false_true}
 use Rattle.line_ends.proofs.Hearing.{IsApart}
 use Rattle.line_ends.proofs.Files.{FileStands}
 use Rattle.line_ends.proofs.Messages.{is_ask}
-use Rattle.line_ends.proofs.Sizes.{IsSmall, ContentSmall, AreSmall, small_of}
+use Rattle.line_ends.proofs.Sizes.{IsSmall, ContentSmall, small_of}
 use Rattle.line_ends.proofs.FileSizes.{FileSmall}
-use Rattle.line_ends.proofs.Osds.{KeptMoves, OwnFits, stands_more, at_stands}
+use Rattle.line_ends.proofs.Osds.{OwnFits, stands_more, at_stands}
 use Rattle.line_ends.proofs.OsdEvents.{OsdAfter, Arrives, event_after}
-use Rattle.line_ends.proofs.Clients.{AsksOne, asks_none, asks_this, ClientGives, client_gives, call_gives}
+use Rattle.line_ends.proofs.Clients.{AsksOne, asks_none, asks_this, client_gives, call_gives}
 
 -- ---- what holds of a world
 
@@ -103,9 +99,6 @@ pub record Stood (w : World) (own : List Msg) : Type 0 where
   pub mine : Mine w.nodes w.files (messages w) own
 
 -- ---- nodes change
-
-none_own : (nodes : List Node) (m : Msg) → Has m [] → OwnAt nodes m
-none_own nodes m h = absurd h
 
 put_nodes : (nodes : List Node) (files : List DeclaredFile) (sent : List Msg) (node old : Node) → node_in nodes node.id.0 ≡ Some old → NodeStands node → Mine nodes files sent [] → Mine (with_node nodes node) files sent []
 put_nodes nodes files sent node old found new mine =
@@ -306,7 +299,6 @@ module _ (w : World) (was : List Msg) (node : Node) (r : Running) (found : node_
   step_leaves _ _ (of_client c happens is_client reaches) =
       let g = client_gives node.id w.times c r.clock happens in client_leaves c (step_of_client node.id w.times c r.clock happens).state (step_of_client node.id w.times c r.clock happens).turned is_client g.outs g.rec
   step_leaves _ _ (of_call c k number location asked is_client resting bound called declared does) =
-      let step = call_step w node r c k number location asked in
       let capability = declared_capability number location (epoch_of c (declared_file number) k) in
       let g = call_gives node.id w.times (uses c capability) r.clock capability k asked in client_leaves c (call_step w node r c k number location asked).state (call_step w node r c k number location asked).turned is_client g.outs g.rec
 
@@ -338,7 +330,6 @@ stepped_mine w was own node r next turned outs rest within found is_up stood q s
 
     numbered_so : (m : Msg) → Has m (map (λ (s : Sent). s.message) (numbered w.nodes node.id outs)) → ((m.from.0 == m.to.0) ≡ false) × ContentSmall m.payload
     numbered_so m h =
-        let test = λ (k : Msg). not (k.to.0 == node.id.0) && is_some (node_in w.nodes k.to.0) in
         let f = has_filter (λ (k : Msg). not (k.to.0 == node.id.0) && is_some (node_in w.nodes k.to.0)) m outs (map_same (λ (s : Sent). s.message) pending (filter (λ (k : Msg). not (k.to.0 == node.id.0) && is_some (node_in w.nodes k.to.0)) outs) (λ k. refl) m h) in
         let out = q.outs m (fewer m f.0) in
         (not_equal m.from.0 m.to.0 node.id.0 (ap (λ (k : NodeId). k.0) out.0) (untrue (m.to.0 == node.id.0) (and_parts (not (m.to.0 == node.id.0)) (is_some (node_in w.nodes m.to.0)) f.1).0), out.1)

@@ -1,9 +1,8 @@
 -- what the messages of a lease come to at its own node: one follows another, and where it is won an epoch is drawn
-use Rattle.std.proofs.Common.{◌≡◌, ℕ, ◌≤◌, ◌+◌, ◌*◌, Bool, true, false, List, [], ◌∷◌, ◌++◌, map, refl, sym, ap, ap₂, subst, ◌∙◌, arith, Option, Some, None, append-nil, filter_map, length, count_by, le_refl}
-use Rattle.std.specs.Prelude.{◌&&◌, ◌||◌, not, cond, ◌==◌, nat_lt, nat_le, filter}
+use Rattle.std.proofs.Common.{◌≡◌, ℕ, ◌≤◌, Bool, true, false, List, [], ◌∷◌, map, refl, sym, ap, ap₂, subst, ◌∙◌, arith, Option, Some, None, count_by, le_refl}
+use Rattle.std.specs.Prelude.{◌&&◌, ◌||◌, not, cond, ◌==◌, nat_le}
 use Rattle.std.specs.List.{cons_option, list_any}
 use Rattle.std.proofs.lemmas.Bool.{and_parts, eqb-true}
-use Rattle.std.proofs.lemmas.Bool.Decides.{nat_tests}
 use Rattle.xt_base.specs.MemberList.{has_node, are_distinct}
 use Rattle.xt_base.specs.declared.ids.NodeId.{NodeId}
 use Rattle.xt_base.specs.declared.ids.FileId.{FileId}
@@ -13,12 +12,9 @@ use Rattle.xt_base.specs.declared.ids.Lease.{Lease}
 use Rattle.xt_base.specs.declared.message.Msg.{Msg}
 use Rattle.xt_base.specs.declared.message.Payload.{Payload}
 use Rattle.xt_base.specs.declared.message.Payload.TheVariants as payload
-use Rattle.xt_base.specs.declared.reply.Reply.{Reply}
-use Rattle.xt_base.specs.declared.reply.Reply.TheVariants as reply
-use Rattle.xt_protocol.specs.Register.{Round, Seat, Took, ignored, counted, write_to, alive, Promised, on_promise, report_taken, promise_counted, with_promise, awaits_promise, with_acceptance, awaits_acceptance, counted_pairs, pair_of, on_acceptance, bars, majority_of, has_promise, same_ballot, lease_of, empty_seat}
+use Rattle.xt_protocol.specs.Register.{Round, Seat, Took, ignored, counted, write_to, alive, Promised, on_promise, report_taken, promise_counted, with_promise, awaits_promise, with_acceptance, awaits_acceptance, counted_pairs, pair_of, on_acceptance, bars, majority_of, has_promise, same_ballot, lease_of}
 use Rattle.xt_protocol.specs.LeaseRows.{LeaseState, free, asking, writing, held, Held, Proposer, LeaseNews, LeaseStep, sends_write, holds, finds, ends, on_answer, asking_answered, asking_promised, asked_by, Asked, asked_still, asked_write, asked_found, step_of_asking, writing_answered, writing_accepted, Written, written_still, written_won, written_late, round_won, step_of_written, news_of_targets, on_renewal, renewal_under, renewal_answered, renewal_promised, renewal_accepted, renewal_won, renewal_outrun, Renewing, Renewal, no_news, renewal_write, renewed, news_of_renewal, round_starts, is_inside}
 use Rattle.xt_protocol.specs.LeaseRows as lease
-use Rattle.lease_safety.specs.State.{Has}
 use Rattle.osd_rows.specs.FileLeases.{running_round}
 use Rattle.osd_rows.specs.Turns.{message}
 use Rattle.cluster_runs.specs.NodeSteps.{to_itself}
@@ -104,9 +100,6 @@ TookFits (alive x) = Unit {0}
 pub record PromisedFits (p : Promised) : Type 0 where
   pub round : IsSeated p.round
   pub took : TookFits p.took
-
-one_apart : (from : NodeId) (boot : Boot) → are_distinct (pair_nodes ((from, boot) ∷ [])) ≡ true
-one_apart from boot = refl
 
 either_promised : (b : Bool) (x y : Promised) → PromisedFits x → PromisedFits y → PromisedFits (cond b x y)
 either_promised true x y p q = p

@@ -1,52 +1,47 @@
 -- what a message that concerns a file comes to at its node, and how much less is left where it was the node's own
-use Rattle.std.proofs.Common.{◌≡◌, ℕ, ◌≤◌, ◌+◌, ◌*◌, ◌⊎◌, inl, inr, Bool, true, false, List, [], ◌∷◌, ◌++◌, map, length, refl, sym, ap, ap₂, subst, ◌∙◌, arith, Option, Some, None, is_some, le_refl, le_trans, append-nil}
-use Rattle.std.specs.Prelude.{◌&&◌, ◌||◌, not, cond, ◌==◌}
+use Rattle.std.proofs.Common.{◌≡◌, ℕ, ◌≤◌, ◌+◌, ◌*◌, inl, inr, Bool, true, false, [], ◌∷◌, ◌++◌, refl, sym, ap, subst, ◌∙◌, arith, Option, Some, None, is_some, le_refl, le_trans, append-nil}
+use Rattle.std.specs.Prelude.{cond, ◌==◌}
 use Rattle.std.proofs.lemmas.Bool.{and_parts, eqb-true}
 use Rattle.std.proofs.lemmas.Bool.Decides.{nat_tests}
-use Rattle.xt_base.specs.MemberList.{has_node, are_distinct}
+use Rattle.xt_base.specs.MemberList.{are_distinct}
 use Rattle.xt_base.specs.declared.ids.NodeId.{NodeId}
 use Rattle.xt_base.specs.declared.ids.Boot.{Boot}
 use Rattle.xt_base.specs.declared.ids.Ballot.{Ballot}
 use Rattle.xt_base.specs.declared.ids.Lease.{Lease}
-use Rattle.xt_base.specs.declared.file.ObjectVersion.{ObjectVersion}
-use Rattle.xt_base.specs.declared.message.Msg.{Msg}
 use Rattle.xt_base.specs.declared.message.Payload.{Payload}
 use Rattle.xt_base.specs.declared.message.Payload.TheVariants as payload
 use Rattle.xt_base.specs.declared.record.FileRow.{FileRow}
-use Rattle.xt_base.specs.declared.record.Record.{Record}
 use Rattle.xt_base.specs.declared.reply.Reply.{Reply}
 use Rattle.xt_base.specs.declared.reply.Reply.TheVariants as reply
 use Rattle.xt_base.specs.declared.event.Mark.TheVariants as mark
-use Rattle.xt_protocol.specs.declared.Turned.{Turned}
 use Rattle.xt_protocol.specs.Register.{ReadAnswer, promise, read_refused, WriteAnswer, accepted, write_refused, other_boot, on_read, on_write}
 use Rattle.xt_protocol.specs.LeaseRows.{LeaseState, free, asking, writing, held, LeaseNews, LeaseStep, sends_write, holds, finds, ends, on_answer}
 use Rattle.xt_protocol.specs.LeaseRows as lease
-use Rattle.lease_runs.proofs.Tests.{when}
 use Rattle.osd_rows.specs.declared.Acted.{Acted}
 use Rattle.osd_rows.specs.declared.Asks.{Asks}
 use Rattle.osd_rows.specs.declared.Place.{Place}
 use Rattle.osd_rows.specs.declared.Tenure.{Tenure}
-use Rattle.osd_rows.specs.Turns.{quiet, sends, shows, message, joined, the_record}
+use Rattle.osd_rows.specs.Turns.{sends, shows, message}
 use Rattle.osd_rows.specs.ReplicaRows.{kept_after, gathered, fetched_from, staged, headed, updated}
 use Rattle.osd_rows.specs.Primaries.{Led, if_any, is_ready, issued_by, nodes_of}
 use Rattle.osd_rows.specs.PrimaryRows.{epoch_drawn, epoch_told, hears, hears_in}
 use Rattle.osd_rows.specs.Asks.{Served, asks_follow, asks_behind, WAITING}
 use Rattle.osd_rows.specs.FileStates.{FileState, Site, FileStep, nothing, steps_to, and_then, serves_to, members_of, ground_of}
-use Rattle.osd_rows.specs.FileLeases.{read_comes, write_comes, answer_comes, answer_to_read, answers_to_write, end_after_write, end_after_answer, lease_news, waiting_told, live_lease, lease_held, led_on, leads_to, running_round}
+use Rattle.osd_rows.specs.FileLeases.{read_comes, write_comes, answer_comes, answer_to_read, answers_to_write, end_after_answer, lease_news, waiting_told, led_on, running_round}
 use Rattle.osd_rows.specs.FileSteps.{replica_acts, primary_hears, message_comes}
 use Rattle.osd_invariants.specs.Sound.{AreOne, IsHeld, IsSound, PeersAre}
 use Rattle.cluster_runs.specs.NodeSteps.{to_itself}
-use Rattle.world_ends.proofs.PrimaryIds.{ProgressIs, TenureIs}
+use Rattle.world_ends.proofs.PrimaryIds.{TenureIs}
 use Rattle.line_ends.proofs.Weights.{asks_left, epoch_left, is_lease, lease_rank, rank, stand_of, tenure_left}
 use Rattle.line_ends.proofs.Standing.{IfAbout, HeadStands, IfMessage, IfTenure, IsLacking, Stands}
 use Rattle.line_ends.proofs.Tests.{false_true, not_both}
 use Rattle.line_ends.proofs.Moves.{Moves, moves_none, if_moves}
-use Rattle.line_ends.proofs.Mine.{token, mine-append, mine-if, mine-one}
-use Rattle.line_ends.proofs.Rows.{Body, ground, IfLeads, Row, Next, plain, readied, left, one_if, draws}
+use Rattle.line_ends.proofs.Mine.{token, mine-if, mine-one}
+use Rattle.line_ends.proofs.Rows.{IfLeads, Row, Next, plain, readied, draws}
 use Rattle.line_ends.proofs.Replicas.{Acts, IfLess, gather_acts, stage_acts, head_acts, update_acts}
-use Rattle.line_ends.proofs.Hearing.{IsApart, limit, rank_some, epoch_heard}
+use Rattle.line_ends.proofs.Hearing.{IsApart, rank_some, epoch_heard}
 use Rattle.line_ends.proofs.Following.{burden, Followed, follow, with_asks, behind_left}
-use Rattle.line_ends.proofs.Leases.{GoesOn, IfSeated, IsFree, IsLeaseOf, IsOver, IsWon, NewsFits, WritesBehind, StepFits, answer_fits, one_write, OneWrite, write_for}
+use Rattle.line_ends.proofs.Leases.{IfSeated, IsFree, IsLeaseOf, IsOver, IsWon, NewsFits, WritesBehind, answer_fits, one_write}
 use Rattle.line_ends.proofs.Files.{FileStands, chain_weight, IsLed, IfLed, none_left, Settles, leaves, tells_mine}
 
 -- whether a message is an ask
@@ -169,7 +164,6 @@ module _ (site : Site) (s : FileState) (from : NodeId) (stands : FileStands site
   read_given content ballot is_one four =
       let answer = answer_to_read s.kept.file s.acceptor.boot ballot (on_read s.acceptor ballot).answer in
       let told = cond (from.0 == site.node.0) (Some answer) None in
-      let step = read_comes site s from ballot in
       let q = same_leaves (read_comes site s from ballot) refl refl refl refl in
       let low = if_own (from.0 == site.node.0) 3 (Some answer) (three (on_read s.acceptor ballot).answer) in
       record {
@@ -333,7 +327,6 @@ module _ (site : Site) (s : FileState) (from : NodeId) (stands : FileStands site
 
       less : LeaseLess site.node s content (and_then (steps_to (record s { lease = l; last_end = end }) (shows (mark.Held s.kept.file.number end))) (λ state. led_on site state None)) None q.sent
       less =
-          let step = and_then (steps_to (record s { lease = l; last_end = end }) (shows (mark.Held s.kept.file.number end))) (λ state. led_on site state None) in
           let before : tenure_left s.lease s.primary.tenure s.asks ≡ 6 + 2 * asks_left s.asks = ap (λ (o : Option Tenure). tenure_left s.lease o s.asks) none ∙ not_free_left s.lease s.asks won.not_free in
           let now = held_left l led.primary.tenure (kept_after s.kept led.turned.rec) s.asks q.sent (and_then (steps_to (record s { lease = l; last_end = end }) (shows (mark.Held s.kept.file.number end))) (λ state. led_on site state None)).state won.held_now refl refl refl refl in
           let fewer = low in

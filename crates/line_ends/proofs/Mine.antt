@@ -1,6 +1,6 @@
 -- the messages of a node to itself among those that it sends
 use Rattle.std.proofs.Common.{◌≡◌, ℕ, Bool, true, false, List, [], ◌∷◌, ◌++◌, map, refl, sym, ap, ap₂, subst, ◌∙◌, Option, Some, None}
-use Rattle.std.specs.Prelude.{◌&&◌, ◌||◌, not, cond, ◌==◌, filter, flat_map}
+use Rattle.std.specs.Prelude.{◌||◌, not, cond, ◌==◌, flat_map}
 use Rattle.std.proofs.lemmas.Bool.{and_parts, eqb-true}
 use Rattle.std.proofs.lemmas.List.Elements.{filter-append}
 use Rattle.xt_base.specs.MemberList.{has_node, are_distinct}

@@ -1,5 +1,5 @@
 -- how the head of a replica moves, and what stands then
-use Rattle.std.proofs.Common.{◌≡◌, ℕ, ◌≤◌, Bool, true, false, refl, sym, ap, subst, ◌∙◌, arith, Option, Some, None, le_trans}
+use Rattle.std.proofs.Common.{◌≡◌, ◌≤◌, true, false, sym, ap, subst, ◌∙◌, Option, Some, None, le_trans}
 use Rattle.xt_base.specs.declared.ids.NodeId.{NodeId}
 use Rattle.xt_base.specs.declared.ids.Epoch.{Epoch}
 use Rattle.xt_base.specs.declared.file.FileHead.{FileHead}
@@ -73,4 +73,3 @@ more_moves own next m =
 
 pub more_head : (own next : FileHead) → IsMore own next → HeadStands next
 more_head own next m = ap (λ (p : Epoch). is_earlier p next.stamp.epoch) (m.promised ∙ sym m.epoch) ∙ not_before_self next.stamp.epoch
-

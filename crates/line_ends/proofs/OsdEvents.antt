@@ -1,44 +1,40 @@
 -- an event at an OSD: its files stand behind it, and what goes to the OSD itself stands there
-use Rattle.std.proofs.Common.{◌≡◌, ℕ, ◌≤◌, ◌+◌, ◌⊎◌, inl, inr, Bool, true, false, List, [], ◌∷◌, ◌++◌, map, refl, sym, ap, ap₂, subst, ◌∙◌, arith, Option, Some, None}
-use Rattle.std.specs.Prelude.{◌&&◌, ◌||◌, not, cond, ◌==◌, max, filter}
+use Rattle.std.proofs.Common.{◌≡◌, ℕ, ◌+◌, ◌⊎◌, inl, inr, Bool, true, false, List, [], ◌∷◌, ◌++◌, map, refl, sym, ap, ap₂, subst, ◌∙◌, Option, Some, None}
+use Rattle.std.specs.Prelude.{cond, ◌==◌}
 use Rattle.xt_base.specs.MemberList.{are_distinct}
-use Rattle.xt_base.specs.declared.ids.NodeId.{NodeId}
 use Rattle.xt_base.specs.declared.ids.FileId.{FileId}
 use Rattle.xt_base.specs.declared.file.Location.{Location}
 use Rattle.xt_base.specs.declared.event.Event.{Event}
 use Rattle.xt_base.specs.declared.event.Event.TheVariants as event
 use Rattle.xt_base.specs.declared.message.Msg.{Msg}
-use Rattle.xt_base.specs.declared.message.Payload.{Payload}
 use Rattle.xt_base.specs.declared.record.FileRow.{FileRow}
-use Rattle.xt_protocol.specs.FileIds.{is_file, is_before}
-use Rattle.xt_protocol.specs.LeaseRows.{Awake, is_silent}
+use Rattle.xt_protocol.specs.FileIds.{is_file}
+use Rattle.xt_protocol.specs.LeaseRows.{Awake}
 use Rattle.xt_protocol.proofs.Folds.{file-equal, file-itself}
 use Rattle.lease_safety.specs.State.{Has}
 use Rattle.osd_rows.specs.Turns.{quiet}
 use Rattle.osd_rows.specs.FileStates.{FileState, Site, FileStep}
 use Rattle.osd_rows.specs.FileSteps.{step_of_file, wake_of_file}
 use Rattle.osd_rows.specs.Overdue.{expired}
-use Rattle.osd_rows.specs.OsdSteps.{Outside, OsdState, OsdStep, FilesStep, file_at, with_file, each_file, file_concerned, message_handled, asks_dir, woken, event_handled, handled_awake, step_of_osd}
+use Rattle.osd_rows.specs.OsdSteps.{Outside, OsdState, OsdStep, file_at, with_file, each_file, file_concerned, message_handled, asks_dir, woken, handled_awake}
 use Rattle.osd_lease_views.specs.OsdView.{site_of, wake_step}
 use Rattle.osd_lease_views.proofs.OsdLeases.{file_at-with_file, at_file, step_keeps, put_here}
 use Rattle.cluster_runs.specs.declared.DeclaredFile.{DeclaredFile}
 use Rattle.cluster_runs.specs.World.{file_in}
 use Rattle.cluster_runs.specs.NodeSteps.{to_itself}
 use Rattle.world_leases.specs.View.{awake_as}
-use Rattle.world_leases.specs.Worlds.{AreBehind, AskFits, FileFits, Rises, files_of}
+use Rattle.world_leases.specs.Worlds.{AskFits, FileFits, Rises, files_of}
 use Rattle.world_leases.proofs.Files.{at_fits, file_after}
 use Rattle.world_leases.proofs.Lists.{has_in, has_map, has_filter}
 use Rattle.world_leases.proofs.Rising.{before_itself, with_file_has}
 use Rattle.osd_invariants.proofs.Kept.{expired_quiet, wake_follows}
 use Rattle.line_ends.proofs.Weights.{is_lease}
-use Rattle.line_ends.proofs.Standing.{IfAbout, IfMessage, Stands}
-use Rattle.line_ends.proofs.Tests.{false_true}
-use Rattle.line_ends.proofs.Mine.{token, mine-append, mine-one}
-use Rattle.line_ends.proofs.Leases.{IsFree, IsLeaseOf}
-use Rattle.line_ends.proofs.Files.{FileStands, IfLed, overdue}
+use Rattle.line_ends.proofs.Standing.{Stands}
+use Rattle.line_ends.proofs.Mine.{token, mine-append}
+use Rattle.line_ends.proofs.Files.{FileStands, overdue}
 use Rattle.line_ends.proofs.Messages.{Gives, is_ask}
 use Rattle.line_ends.proofs.Sizes.{ContentSmall, AreSmall, both_small}
-use Rattle.line_ends.proofs.FileSizes.{FileSmall, StepSmall, step_small, expired_small, wake_small}
+use Rattle.line_ends.proofs.FileSizes.{FileSmall, step_small, expired_small, wake_small}
 use Rattle.line_ends.proofs.Osds.{KeptMoves, kept_same, OwnFits, at_stands, step_any, step_stands, step_moves, wake_any, wake_stands, wake_moves, wake_step_small, own_fits, sound_of}
 
 -- what an event at an OSD owes
@@ -74,7 +70,6 @@ found_in awake (x ∷ xs) f st same rises (inr h) = at (is_file (st x).kept.file
 
 module _ (declared : List DeclaredFile) (lists : (number : ℕ) (location : Location) → file_in declared number ≡ Some location → are_distinct location.members ≡ true) (outside : Outside) (s : OsdState) (now : ℕ)
     (fits : (f : FileState) → Has f s.files → FileFits declared f) (stands : (f : FileState) → Has f s.files → FileStands s.started.node f × FileSmall f) (rises : Rises (files_of s.files)) where
-
   abbrev pub here : Awake
   here = awake_as s.started
 
@@ -112,9 +107,10 @@ module _ (declared : List DeclaredFile) (lists : (number : ℕ) (location : Loca
   there_now msg file = file_at-with_file (awake_as s.started) s.files (step_at msg file).state file ∙ put_here (step_at msg file).state (file_at (awake_as s.started) s.files file) file (same_file msg file)
 
   pub stands_now : (msg : Msg) (file : FileId) → file_concerned msg.payload ≡ Some file → Arrives declared s (event.Deliver msg) → FileStands s.started.node (step_at msg file).state × FileSmall (step_at msg file).state
-  stands_now msg file concerns arrives =
-      (step_stands place here declared lists s.files fits stands (file_at (awake_as s.started) s.files file) msg.from msg.payload (stands_at file).0 (fit_at file) arrives.0 (heard_by msg file concerns arrives),
-      (step_small place (file_at (awake_as s.started) s.files file) msg.from msg.payload (stands_at file).1 arrives.1).state)
+  stands_now msg file concerns arrives = (
+    step_stands place here declared lists s.files fits stands (file_at (awake_as s.started) s.files file) msg.from msg.payload (stands_at file).0 (fit_at file) arrives.0 (heard_by msg file concerns arrives),
+    (step_small place (file_at (awake_as s.started) s.files file) msg.from msg.payload (stands_at file).1 arrives.1).state,
+  )
 
   concerned : (msg : Msg) (file : FileId) → file_concerned msg.payload ≡ Some file → Arrives declared s (event.Deliver msg)
       → OsdAfter s (record { osd = record { started = s.started; last = now; files = with_file s.files (step_at msg file).state }; turned = (step_at msg file).turned })
@@ -156,9 +152,6 @@ module _ (declared : List DeclaredFile) (lists : (number : ℕ) (location : Loca
     none_woken : WokenTo [] []
     one_woken : (f : FileState) (fs : List FileState) (ms rest : List Msg) → WakeSends f ms rest → WokenTo fs rest → WokenTo (f ∷ fs) ms
 
-  its_stands : (fs : List FileState) → ((f : FileState) → Has f fs → Has f s.files) → (f : FileState) → Has f fs → FileStands s.started.node f × FileSmall f
-  its_stands fs within f h = stands f (within f h)
-
   pub gives_woken : (f : FileState) → Has f s.files → Gives s.started.node (record { 0 = s.started.node.0 + 1 }) f (wake_step place f)
   gives_woken f h = wake_any place here declared lists s.files fits stands f (stands f h).0 (fits f h)
 
@@ -176,8 +169,6 @@ module _ (declared : List DeclaredFile) (lists : (number : ℕ) (location : Loca
   wakes_to [] within = none_woken
   wakes_to (f ∷ fs) within =
       let q = gives_woken f (within f (inl refl)) in
-      let wake = wake_of_file place (expired place f).state in
-      let others = (each_file (wake_of_file place) (each_file (expired place) fs).files).turned.outs in
       one_woken f fs _ (to_itself s.started.node (each_file (wake_of_file place) (each_file (expired place) fs).files).turned.outs)
       (record {
         gives = q;
@@ -234,7 +225,6 @@ module _ (declared : List DeclaredFile) (lists : (number : ℕ) (location : Loca
 
   woken_after : OsdAfter s (record { osd = record { started = s.started; last = now; files = (woken place s.files).files }; turned = (woken place s.files).turned })
   woken_after =
-      let step = woken place s.files in
       record {
         started = refl;
         stands = λ f h. let x = has_map (λ (f : FileState). (wake_step place f).state) s.files f (subst (λ (fs : List FileState). Has f fs) (woken_files s.files) h) in

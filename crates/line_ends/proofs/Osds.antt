@@ -1,13 +1,10 @@
 -- what an event comes to at an OSD: each of its files stands, and what goes to the OSD itself stands there
-use Rattle.std.proofs.Common.{◌≡◌, ℕ, ◌≤◌, ◌+◌, ◌⊎◌, inl, inr, Bool, true, false, List, [], ◌∷◌, ◌++◌, map, refl, sym, ap, ap₂, subst, ◌∙◌, arith, Option, Some, None, le_trans, le_refl}
-use Rattle.std.specs.Prelude.{◌&&◌, ◌||◌, not, cond, ◌==◌, ◌-◌, filter}
+use Rattle.std.proofs.Common.{◌≡◌, ℕ, ◌≤◌, ◌+◌, inl, inr, Bool, true, false, List, [], ◌∷◌, refl, sym, ap, subst, ◌∙◌, arith, Option, Some, None}
+use Rattle.std.specs.Prelude.{◌||◌, cond, ◌==◌, ◌-◌}
 use Rattle.std.proofs.lemmas.Bool.{eqb-true}
-use Rattle.std.proofs.lemmas.Bool.Decides.{nat_tests}
 use Rattle.xt_base.specs.MemberList.{are_distinct}
 use Rattle.xt_base.specs.declared.ids.NodeId.{NodeId}
 use Rattle.xt_base.specs.declared.ids.FileId.{FileId}
-use Rattle.xt_base.specs.declared.ids.Epoch.{Epoch}
-use Rattle.xt_base.specs.declared.file.FileHead.{FileHead}
 use Rattle.xt_base.specs.declared.file.Location.{Location}
 use Rattle.xt_base.specs.declared.file.ObjectVersion.{ObjectVersion}
 use Rattle.xt_base.specs.declared.message.Msg.{Msg}
@@ -18,43 +15,38 @@ use Rattle.xt_base.specs.declared.record.Record.{Record}
 use Rattle.xt_base.specs.declared.record.Record.TheVariants as kept
 use Rattle.xt_base.specs.declared.TheConstants.{OBJECTS, NO_OBJECT}
 use Rattle.xt_protocol.specs.FileIds.{is_file}
-use Rattle.xt_protocol.specs.Folds.{new_row, held_after, body_of}
-use Rattle.xt_protocol.specs.Heads.{new_head}
+use Rattle.xt_protocol.specs.Folds.{new_row, body_of}
 use Rattle.xt_protocol.specs.LeaseRows.{Awake}
-use Rattle.xt_protocol.specs.Stamps.{is_epoch, is_earlier, is_version, has_version, with_held}
+use Rattle.xt_protocol.specs.Stamps.{is_version, has_version, with_held}
 use Rattle.xt_protocol.proofs.Stamps.{has_version-with_held}
-use Rattle.xt_protocol.proofs.Folds.{file-equal, file-itself}
 use Rattle.lease_safety.specs.State.{Has}
 use Rattle.osd_rows.specs.ReplicaRows.{kept_after}
-use Rattle.osd_rows.specs.FileStates.{FileState, Site, FileStep, and_then, file_from, members_of}
+use Rattle.osd_rows.specs.FileStates.{FileState, Site, FileStep, file_from, members_of}
 use Rattle.osd_rows.specs.FileSteps.{step_of_file, wake_of_file}
 use Rattle.osd_rows.specs.Overdue.{expired}
-use Rattle.osd_rows.specs.OsdSteps.{file_at, with_file, file_concerned}
+use Rattle.osd_rows.specs.OsdSteps.{file_at, file_concerned}
 use Rattle.osd_invariants.specs.Sound.{IsSound}
 use Rattle.osd_invariants.proofs.Kept.{expired_quiet, step_follows, wake_follows}
 use Rattle.osd_lease_views.specs.OsdView.{wake_step}
-use Rattle.osd_lease_views.proofs.OsdLeases.{file_at-with_file, at_file, step_keeps, put_here, put_there}
 use Rattle.cluster_runs.specs.declared.DeclaredFile.{DeclaredFile}
 use Rattle.cluster_runs.specs.World.{file_in}
 use Rattle.cluster_runs.specs.NodeSteps.{to_itself}
 use Rattle.world_leases.specs.Worlds.{AskFits, FileFits, Listed}
-use Rattle.world_leases.proofs.Files.{at_fits}
-use Rattle.world_leases.proofs.Lists.{has_in, has_filter}
-use Rattle.world_leases.proofs.Rising.{with_file_has}
-use Rattle.world_ends.proofs.FileIds.{FileIs, HasCome, step_is, expired_is, wake_is}
+use Rattle.world_leases.proofs.Lists.{has_in}
+use Rattle.world_ends.proofs.FileIds.{HasCome, step_is, expired_is, wake_is}
 use Rattle.world_ends.proofs.OsdIds.{new_is}
 use Rattle.line_ends.proofs.Weights.{is_lease}
-use Rattle.line_ends.proofs.Standing.{HeadStands, IsPast, IfAbout, IfMessage, IsLacking, Stands}
+use Rattle.line_ends.proofs.Standing.{IsPast, IfAbout, IfMessage, Stands}
 use Rattle.line_ends.proofs.Tests.{false_true}
 use Rattle.line_ends.proofs.Moves.{Moves, moves_none}
 use Rattle.line_ends.proofs.Mine.{token}
 use Rattle.line_ends.proofs.Hearing.{IsApart}
 use Rattle.line_ends.proofs.Leases.{IsLeaseOf}
 use Rattle.line_ends.proofs.Files.{FileStands}
-use Rattle.line_ends.proofs.Messages.{Gives, Comes, is_ask}
+use Rattle.line_ends.proofs.Messages.{Gives, is_ask}
 use Rattle.line_ends.proofs.FileSteps.{stands_after, step_given, ask_step_given, wake_step_given}
-use Rattle.line_ends.proofs.Sizes.{IsSmall, ContentSmall, AreSmall, both_small, small_of}
-use Rattle.line_ends.proofs.FileSizes.{FileSmall, StepSmall, step_small, expired_small, wake_small}
+use Rattle.line_ends.proofs.Sizes.{both_small}
+use Rattle.line_ends.proofs.FileSizes.{FileSmall, StepSmall, expired_small, wake_small}
 
 -- ---- what is kept of a file grows
 
@@ -91,11 +83,13 @@ stands_more row next (payload.Head file epoch head) moves is = moves.head.promis
 stands_more row next (payload.Stage file epoch object version bytes) moves is = moves.head.promised epoch is
 stands_more row next (payload.Staged file epoch object version) moves is = moves.held (body_of object version) is
 stands_more row next (payload.Missing file epoch object version) moves is = tt
-stands_more row next (payload.Update file update) moves is =
-    (moves.head.promised update.stamp.epoch is.0, λ now.
-    let one : IsPast next.head update.stamp.epoch (record row.head { stamp = record { epoch = row.head.stamp.epoch; count = update.stamp.count - 1 } }) = moves.head.past update.stamp.epoch (record row.head { stamp = record { epoch = row.head.stamp.epoch; count = update.stamp.count - 1 } }) is.0 (λ old. let was = is.1 old in (was.0, lower was.1)) in
-    let there = one now in
-    (there.0, upper there.1))
+stands_more row next (payload.Update file update) moves is = (
+  moves.head.promised update.stamp.epoch is.0,
+  λ now.
+      let one : IsPast next.head update.stamp.epoch (record row.head { stamp = record { epoch = row.head.stamp.epoch; count = update.stamp.count - 1 } }) = moves.head.past update.stamp.epoch (record row.head { stamp = record { epoch = row.head.stamp.epoch; count = update.stamp.count - 1 } }) is.0 (λ old. let was = is.1 old in (was.0, lower was.1)) in
+      let there = one now in
+      (there.0, upper there.1),
+)
   where
     lower : {a b : ℕ} → a ≤ b + 1 → a - 1 ≤ b
     lower low = omega (arith, low)
@@ -124,7 +118,6 @@ pub record OwnFits (awake : Awake) (files : List FileState) (content : Payload) 
 
 module _ (site : Site) (awake : Awake) (declared : List DeclaredFile) (lists : (number : ℕ) (location : Location) → file_in declared number ≡ Some location → are_distinct location.members ≡ true)
     (files : List FileState) (fits : (f : FileState) → Has f files → FileFits declared f) (stands : (f : FileState) → Has f files → FileStands site.node f × FileSmall f) where
-
   fresh : (file : FileId) → FileStands site.node (file_from awake (new_row file)) × FileSmall (file_from awake (new_row file))
   fresh file =
       let none : 0 ≤ OBJECTS = omega arith in
@@ -193,9 +186,6 @@ module _ (site : Site) (awake : Awake) (declared : List DeclaredFile) (lists : (
       }
 
   -- ---- a Wake
-
-  outsider : NodeId
-  outsider = record { 0 = site.node.0 + 1 }
 
   pub wake_any : (f : FileState) → FileStands site.node f → FileFits declared f → Gives site.node (record { 0 = site.node.0 + 1 }) f (wake_step site f)
   wake_any f its fit = wake_step_given site (record { 0 = site.node.0 + 1 }) f its (sound_of f fit) (apart_of f fit)

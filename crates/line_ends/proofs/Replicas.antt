@@ -1,6 +1,6 @@
 -- what a replica's answers to its own node come to, and how its head moves
-use Rattle.std.proofs.Common.{◌≡◌, ℕ, ◌≤◌, ◌+◌, ◌*◌, Bool, true, false, List, [], ◌∷◌, ◌++◌, refl, sym, ap, subst, ◌∙◌, arith, Option, Some, None, le_trans, le_refl}
-use Rattle.std.specs.Prelude.{◌&&◌, ◌||◌, not, cond, ◌==◌, nat_le, nat_lt}
+use Rattle.std.proofs.Common.{◌≡◌, ℕ, ◌≤◌, ◌+◌, Bool, true, false, List, [], ◌∷◌, refl, sym, ap, subst, ◌∙◌, arith, Option, Some, None, le_refl}
+use Rattle.std.specs.Prelude.{◌&&◌, ◌||◌, not, cond, ◌==◌, nat_le}
 use Rattle.std.proofs.lemmas.Bool.{and_parts, eqb-true}
 use Rattle.std.proofs.lemmas.Bool.Decides.{nat_tests}
 use Rattle.xt_base.specs.declared.ids.NodeId.{NodeId}
@@ -13,27 +13,24 @@ use Rattle.xt_base.specs.declared.file.Update.{Update}
 use Rattle.xt_base.specs.declared.message.Payload.{Payload}
 use Rattle.xt_base.specs.declared.message.Payload.TheVariants as payload
 use Rattle.xt_base.specs.declared.record.FileRow.{FileRow}
-use Rattle.xt_base.specs.declared.record.Record.{Record}
 use Rattle.xt_base.specs.declared.record.Record.TheVariants as kept
 use Rattle.xt_protocol.specs.Folds.{body_of}
 use Rattle.xt_protocol.specs.Heads.{head_after}
-use Rattle.xt_protocol.specs.Stamps.{is_epoch, is_earlier, is_below, is_version, has_version, with_held}
+use Rattle.xt_protocol.specs.Stamps.{is_epoch, is_earlier, is_below, has_version, with_held}
 use Rattle.xt_protocol.proofs.Stamps.{version-itself, has_version-with_held}
 use Rattle.lease_safety.specs.State.{Has}
 use Rattle.osd_rows.specs.declared.IssuedUpdate.{IssuedUpdate}
-use Rattle.replica_safety.proofs.Orders.{is_one, not_after, not_before_self, same_is, same_self, up_to_before, up_to_trans}
+use Rattle.replica_safety.proofs.Orders.{is_one, not_after, not_before_self, same_is, same_self, up_to_trans}
 use Rattle.osd_rows.specs.declared.Acted.{Acted}
 use Rattle.osd_rows.specs.declared.PeerState.{PeerState}
 use Rattle.osd_rows.specs.declared.PeerState.TheVariants as peer
-use Rattle.osd_rows.specs.declared.Progress.{Progress}
-use Rattle.osd_rows.specs.declared.Progress.TheVariants as progress
 use Rattle.osd_rows.specs.declared.Tenure.{Tenure}
 use Rattle.osd_rows.specs.OsdSteps.{file_concerned}
-use Rattle.osd_rows.specs.Primaries.{issued_in, peer_in}
+use Rattle.osd_rows.specs.Primaries.{peer_in}
 use Rattle.osd_rows.specs.PrimaryRows.{target_in}
 use Rattle.osd_rows.specs.ReplicaRows.{kept_after, unanswered, only, after_record, refused, behind, as_promised, gathered, staged, stage_record, head_taken, first_missing, head_offered, headed, head_fits, next_update, update_offered, updated}
-use Rattle.line_ends.proofs.Weights.{Stand, are_named, bodies_left, bodies_to, epoch_left, is_wanted, rank, settles, stand_of, unless}
-use Rattle.line_ends.proofs.Standing.{IfAbout, HeadStands, IfMessage, IfTenure, IsOfEpoch, IsPast, ProgressStands, Stands, TenureStands}
+use Rattle.line_ends.proofs.Weights.{are_named, bodies_left, epoch_left, is_wanted, rank, settles, stand_of, unless}
+use Rattle.line_ends.proofs.Standing.{IfAbout, HeadStands, IfMessage, Stands}
 use Rattle.line_ends.proofs.Tests.{false_true, fewer_below, not_both, of_its_epoch}
 use Rattle.line_ends.proofs.Bodies.{first_lacked, held_lacks, lacks_less, named_each}
 use Rattle.line_ends.proofs.Moves.{Moves, moves_none, promise_moves, IsMore, more_moves, more_head}

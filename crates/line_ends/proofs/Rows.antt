@@ -1,6 +1,6 @@
 -- what a row of the primary leaves of its own node, sends to it, and how much may come of that
-use Rattle.std.proofs.Common.{◌≡◌, ℕ, ◌≤◌, ◌+◌, ◌*◌, ◌⊎◌, inl, inr, Bool, true, false, List, [], ◌∷◌, ◌++◌, map, refl, sym, ap, subst, ◌∙◌, arith, Option, Some, None, is_some}
-use Rattle.std.specs.Prelude.{◌&&◌, ◌||◌, not, cond, ◌==◌, max, nat_lt, nat_le, filter, flat_map}
+use Rattle.std.proofs.Common.{◌≡◌, ℕ, ◌≤◌, ◌+◌, ◌*◌, Bool, true, false, List, [], ◌∷◌, ◌++◌, map, refl, sym, ap, subst, ◌∙◌, arith, Option, Some, None, is_some}
+use Rattle.std.specs.Prelude.{◌&&◌, not, cond, ◌==◌, nat_lt, nat_le}
 use Rattle.std.proofs.lemmas.Bool.{eqb-true}
 use Rattle.std.proofs.lemmas.Bool.Decides.{nat_tests}
 use Rattle.xt_base.specs.MemberList.{has_node, are_distinct}
@@ -17,9 +17,8 @@ use Rattle.xt_base.specs.declared.record.FileRow.{FileRow}
 use Rattle.xt_base.specs.declared.record.Record.{Record}
 use Rattle.xt_base.specs.declared.record.Record.TheVariants as kept
 use Rattle.xt_base.specs.declared.TheConstants.{COUNTS}
-use Rattle.xt_protocol.specs.declared.Turned.{Turned}
-use Rattle.xt_protocol.specs.Stamps.{is_epoch, is_earlier, is_below, has_version}
-use Rattle.lease_runs.proofs.Tests.{when, same_node}
+use Rattle.xt_protocol.specs.Stamps.{is_epoch, is_earlier, has_version}
+use Rattle.lease_runs.proofs.Tests.{same_node}
 use Rattle.replica_safety.proofs.Orders.{not_before_self, up_to_trans, not_after}
 use Rattle.osd_rows.specs.declared.Place.{Place}
 use Rattle.osd_rows.specs.declared.IssuedUpdate.{IssuedUpdate}
@@ -28,20 +27,19 @@ use Rattle.osd_rows.specs.declared.PeerState.{PeerState}
 use Rattle.osd_rows.specs.declared.PeerState.TheVariants as peer
 use Rattle.osd_rows.specs.declared.Progress.{Progress}
 use Rattle.osd_rows.specs.declared.Progress.TheVariants as progress
-use Rattle.osd_rows.specs.declared.PrimaryState.{PrimaryState}
 use Rattle.osd_rows.specs.declared.Tenure.{Tenure}
 use Rattle.osd_rows.specs.Turns.{message, to_each}
 use Rattle.osd_rows.specs.ReplicaRows.{kept_after}
 use Rattle.osd_rows.specs.Choice.{chosen_of, difference}
 use Rattle.osd_rows.specs.Primaries.{Ground, Led, issued_by, issued_in, is_ready, is_ready_in, nodes_of, peer_in, with_peer, fed, known_of_own, last_sent, last_to_each, majority_among, reports_of, statuses_counted, target_of, unknown_peer}
-use Rattle.osd_rows.specs.PrimaryRows.{epoch_above, epoch_drawn, goes_on, unmoved, peer_fed, peers_fed, installs, fetches, head_chosen, chooses, status_counted, with_state, peer_sent, feeds, target_in, after_keeping}
+use Rattle.osd_rows.specs.PrimaryRows.{epoch_above, epoch_drawn, goes_on, unmoved, peer_fed, peers_fed, installs, fetches, head_chosen, chooses, status_counted, with_state, feeds, target_in, after_keeping}
 use Rattle.cluster_runs.specs.NodeSteps.{to_itself}
 use Rattle.line_ends.proofs.Weights.{stand_of, Stand, rank, epoch_left, bodies_left, bodies_to, are_named, unless}
 use Rattle.line_ends.proofs.Standing.{IfAbout, HeadStands, IsPast, IsNext, IfTenure, TenureStands, ProgressStands, IsUnfed, Stands, IfMessage}
-use Rattle.line_ends.proofs.Tests.{false_true, not_both, not_new, not_ready, above_promised}
-use Rattle.line_ends.proofs.Mine.{token, mine-append, mine-one, mine-if, mine-each, mine-peers, of_peer, to_peers_of, put_same, put_other, fresh_unfed}
+use Rattle.line_ends.proofs.Tests.{false_true, not_new, above_promised}
+use Rattle.line_ends.proofs.Mine.{token, mine-append, mine-one, mine-if, mine-each, mine-peers, of_peer, put_same, put_other, fresh_unfed}
 use Rattle.line_ends.proofs.Moves.{Moves, moves_none, promise_moves}
-use Rattle.line_ends.proofs.Bodies.{named_itself, fed_sends, Feeds}
+use Rattle.line_ends.proofs.Bodies.{named_itself, fed_sends}
 
 abbrev pub Body : Type 0
 Body = ℕ → Stamp → List ℕ
@@ -378,7 +376,7 @@ module _ (place : Place) (row : FileRow) (its : place.file ≡ row.file) (body :
   pub feeding : (learnt : ℕ) (t : Tenure) (p : Progress) (target : FileHead) (from : NodeId) (old : PeerState) (known : List ObjectVersion) (Own : Type 0) (limit : ℕ) → t.progress ≡ p → target_in row.head t.epoch p ≡ Some target
       → peer_in t.peers from ≡ Some old → HeadStands row.head → TenureStands place.node row.head t → 1 ≤ limit
       → (Own → (r : ℕ) → r ≤ 4 + bodies_to row.held known target
-          → ((v : ObjectVersion) → has_version target.versions v ≡ true → has_version known v ≡ false → r ≤ 2 + bodies_to row.held known target) → epoch_left row (Some t) + r + 1 ≤ limit)
+      → ((v : ObjectVersion) → has_version target.versions v ≡ true → has_version known v ≡ false → r ≤ 2 + bodies_to row.held known target) → epoch_left row (Some t) + r + 1 ≤ limit)
       → Row place.node row (Some t) Own limit (feeds (ground place row body) learnt t from target known)
   feeding learnt t p target from old known Own limit is to found head stands some room = at (from.0 == place.node.0) refl
     where

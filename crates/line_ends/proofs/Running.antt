@@ -1,92 +1,41 @@
 -- a step of a line: its node's messages to itself weigh less, or come of an event from outside
-use Rattle.std.proofs.Common.{◌≡◌, ◌≢◌, ℕ, ◌≤◌, ◌+◌, ◌⊎◌, inl, inr, Bool, true, false, List, [], ◌∷◌, ◌++◌, map, refl, sym, ap, ap₂, subst, ◌∙◌, arith, Option, Some, None, append-nil}
-use Rattle.std.specs.Prelude.{◌&&◌, ◌||◌, not, cond, ◌==◌, max, filter, is_some, nat_le, length}
-use Rattle.std.specs.Option.{option_map}
-use Rattle.std.proofs.lemmas.Bool.{and_parts, eqb-true}
+use Rattle.std.proofs.Common.{◌≡◌, ℕ, ◌≤◌, ◌+◌, inl, inr, Bool, true, false, List, [], ◌∷◌, ◌++◌, refl, sym, ap, subst, ◌∙◌, arith, Option, Some, None, append-nil}
+use Rattle.std.specs.Prelude.{cond, ◌==◌, max, length}
+use Rattle.std.proofs.lemmas.Bool.{eqb-true}
 use Rattle.std.proofs.lemmas.Bool.Decides.{nat_tests}
-use Rattle.std.proofs.lemmas.List.{map-append}
-use Rattle.xt_base.specs.MemberList.{are_distinct, are_members}
-use Rattle.xt_base.specs.Limits.{FitsLocation}
 use Rattle.xt_base.specs.declared.ids.NodeId.{NodeId}
 use Rattle.xt_base.specs.TimeSettings.{TimeSettings}
-use Rattle.xt_base.specs.declared.ids.FileId.{FileId}
-use Rattle.xt_base.specs.declared.ids.Boot.{Boot}
-use Rattle.xt_base.specs.declared.file.Location.{Location}
 use Rattle.xt_base.specs.declared.event.Event.{Event}
 use Rattle.xt_base.specs.declared.event.Event.TheVariants as event
 use Rattle.xt_base.specs.declared.message.Msg.{Msg}
-use Rattle.xt_base.specs.declared.message.Payload.{Payload}
-use Rattle.xt_base.specs.declared.record.FileRow.{FileRow}
-use Rattle.xt_base.specs.declared.record.Record.{Record}
-use Rattle.xt_base.specs.declared.record.Folded.{Folded}
-use Rattle.xt_base.specs.declared.message.Payload.TheVariants as payload
-use Rattle.xt_base.specs.declared.record.Record.TheVariants as kept
-use Rattle.xt_base.specs.declared.TheConstants.{OBJECTS}
 use Rattle.xt_protocol.specs.declared.Turned.{Turned}
-use Rattle.xt_protocol.specs.FileIds.{is_file}
-use Rattle.xt_protocol.specs.Folds.{fold_of, row_in, new_row, folded_after}
-use Rattle.xt_protocol.specs.LeaseRows.{Awake, Silent, is_silent}
-use Rattle.xt_protocol.proofs.Folds.{fold_of-push, fold_of-nothing, file-itself}
-use Rattle.time_line.specs.declared.entry.Halt.{Halt}
+use Rattle.xt_protocol.specs.LeaseRows.{is_silent}
 use Rattle.time_line.specs.declared.entry.Halt.TheVariants as halt
 use Rattle.lease_safety.specs.State.{Has}
 use Rattle.lease_runs.proofs.Tests.{same_node}
-use Rattle.osd_rows.specs.FileStates.{FileState, file_from}
-use Rattle.osd_rows.specs.OsdSteps.{OsdState, OsdStep, file_at, file_concerned, step_of_osd}
+use Rattle.osd_rows.specs.OsdSteps.{OsdState, OsdStep, file_concerned, step_of_osd}
 use Rattle.cluster_runs.specs.declared.ClientState.{ClientState}
-use Rattle.cluster_runs.specs.declared.DeclaredFile.{DeclaredFile}
-use Rattle.cluster_runs.specs.declared.Sent.{Sent}
 use Rattle.cluster_runs.specs.Clients.{step_of_client}
-use Rattle.cluster_runs.specs.World.{World, start_world, Node, Running, Core, osd, client, node_in, with_node, file_in}
-use Rattle.cluster_runs.specs.NodeSteps.{pending, numbered, to_itself, one_more, after_turn, outside_of, halted}
-use Rattle.cluster_runs.specs.Lines.{ticked, osd_starting, next_boot, runs, first_boot, no_longer_pending}
-use Rattle.world_leases.specs.View.{awake_as, messages}
-use Rattle.world_leases.specs.Worlds.{Agrees, AskFits, CoreFits, FileFits, NodeFits, OsdFits, Rises, RowsFit, UpFits, row_files, AreBehind}
+use Rattle.cluster_runs.specs.World.{World, Node, Running, Core, osd, client, node_in}
+use Rattle.cluster_runs.specs.NodeSteps.{to_itself, after_turn, outside_of, halted}
+use Rattle.world_leases.specs.View.{awake_as}
 use Rattle.osd_lease_views.specs.OsdView.{site_of}
-use Rattle.cluster_runs.specs.declared.Role.TheVariants as role
-use Rattle.cluster_runs.specs.Clients.{new_client, knows, aimed}
-use Rattle.cluster_runs.specs.Lines.{declared_capability, declared_file, epoch_of, uses}
-use Rattle.world_leases.proofs.Files.{record_fits}
-use Rattle.world_leases.proofs.Fit.{IsFit, IsShaped, IsNext, replaced}
 use Rattle.world_leases.proofs.Frame.{next_node}
-use Rattle.world_leases.proofs.LineSteps.{fits_kept}
-use Rattle.world_leases.proofs.Lists.{has_in, has_left, has_right, has_filter, filter_has, has_map, map_same}
-use Rattle.world_leases.proofs.NodeEvents.{step_next}
-use Rattle.world_leases.proofs.Rising.{before_itself}
-use Rattle.world_leases.proofs.Tables.{same, node_in-new, node_in-other, node_in-id, nobody, node_in-last, node_in-before, node_in-ticked, file_in-before}
-use Rattle.world_leases.proofs.Walk.{IsKept, NodeStep, of_osd, of_client, of_call, Reaches, same_messages, call_step}
-use Rattle.world_ends.proofs.OsdIds.{new_is}
-use Rattle.line_ends.proofs.Weights.{is_lease}
-use Rattle.line_ends.proofs.Standing.{HeadStands, Stands}
-use Rattle.line_ends.proofs.Tests.{false_true}
-use Rattle.line_ends.proofs.Hearing.{IsApart}
-use Rattle.line_ends.proofs.Files.{FileStands}
+use Rattle.world_leases.proofs.Lists.{has_in, has_filter}
+use Rattle.world_leases.proofs.Tables.{same, node_in-new}
 use Rattle.line_ends.proofs.Messages.{is_ask}
-use Rattle.line_ends.proofs.Sizes.{IsSmall, ContentSmall, AreSmall, small_of}
-use Rattle.line_ends.proofs.FileSizes.{FileSmall}
-use Rattle.line_ends.proofs.Osds.{KeptMoves, OwnFits, stands_more, at_stands}
-use Rattle.line_ends.proofs.OsdEvents.{OsdAfter, Arrives, event_after}
-use Rattle.line_ends.proofs.Clients.{AsksOne, asks_none, asks_this, ClientGives, client_gives, call_gives}
-
-use Rattle.std.proofs.Common.{◌*◌, length}
-use Rattle.std.specs.Prelude.{Result, Ok, Err, nat_lt, slice_get, slice_set, ◌-◌, zero, suc}
-use Rattle.xt_base.specs.declared.file.Op.{Op}
-use Rattle.xt_base.specs.declared.event.Call.{Call}
-use Rattle.osd_rows.specs.OsdSteps.{FilesStep, Outside, event_handled, handled_awake, message_handled}
+use Rattle.std.proofs.Common.{length}
+use Rattle.std.specs.Prelude.{Result, Ok, Err, nat_lt}
+use Rattle.osd_rows.specs.OsdSteps.{Outside, event_handled, handled_awake}
 use Rattle.osd_lease_views.specs.OsdView.{site_of}
 use Rattle.cluster_runs.specs.Steps.{Step, stays}
-use Rattle.cluster_runs.specs.Clients.{ClientSite, message_comes}
-use Rattle.cluster_runs.specs.Lines.{OWN, no_longer_pending, delivers}
 use Rattle.cluster_runs.specs.NodeSteps.{Room, Cause, Overflow, came_to, has_no_room, Doing, appends, within_limits, overflow_of, end_of_step, event_at, event_comes, core_step, osd_steps, client_steps, loses_own, cut_in_sending, MESSAGES, MESSAGE_BYTES, frame_bytes}
 use Rattle.xt_base.specs.declared.status.Limited.TheVariants as limited
-use Rattle.world_leases.specs.Worlds.{CallFits}
-use Rattle.world_leases.proofs.Frame.{whole, however}
-use Rattle.cluster_runs.specs.declared.RunningCall.{RunningCall}
-use Rattle.line_ends.proofs.Chains.{Chain, Falls}
+use Rattle.world_leases.proofs.Frame.{however}
+use Rattle.line_ends.proofs.Chains.{Chain}
 use Rattle.line_ends.proofs.ChainSteps.{handled_falls}
-use Rattle.line_ends.proofs.Starts.{event_starts, room_of, IsOutside, Behind}
 use Rattle.line_ends.proofs.Clients.{ask_rests}
-use Rattle.line_ends.proofs.Keeping.{Stood, stood_kept, OwnAt, NodeStands, UpStands, CoreStands, fits, files_stand, node_is, arrives}
+use Rattle.line_ends.proofs.Keeping.{Stood, fits, files_stand, node_is}
 
 -- ---- what is left to handle
 
@@ -199,7 +148,6 @@ pub osd_chain : (d : Doing) (node : Node) (r : Running) (s : OsdState) (happens 
     → (let step = awake_step (outside_of node.kept) s r.clock happens in Chain (awake_as s.started) s.started.node step.osd.files (d.own ++ to_itself s.started.node step.turned.outs) j
     → InChain (after_turn d.world node (record r { core = osd step.osd }) step.turned) (d.own ++ to_itself node.id step.turned.outs) j)
 osd_chain d node r s happens j found mine awake to chain =
-    let step = awake_step (outside_of node.kept) s r.clock happens in
     of_an_osd (record {
       node = next_node node r (osd (awake_step (outside_of node.kept) s r.clock happens).osd) (awake_step (outside_of node.kept) s r.clock happens).turned;
       running = record r { core = osd (awake_step (outside_of node.kept) s r.clock happens).osd };
@@ -231,7 +179,7 @@ own_ran room d m rest k stood (of_an_osd c) =
     let from : m.from.0 ≡ c.state.started.node.0 = ap (λ (n : NodeId). n.0) (at.same ∙ here ∙ sym mine) in
     let own = at.stands c.node c.running c.state (ap (λ (n : NodeId). node_in d.world.nodes n.0) here ∙ c.found) c.up c.core in
     let falls = handled_falls d.world.files stood.mine.lists (outside_of c.node.kept) c.state (max c.running.clock c.state.last) its.0.fits (files_stand d.world (m ∷ rest) c.node c.running c.found c.up stood c.state c.core) its.0.rises
-        m rest k c.chain (file_concerned m.payload) refl from own in
+    m rest k c.chain (file_concerned m.payload) refl from own in
     let chain = osd_chain (record d { own = rest }) c.node c.running c.state (event.Deliver m) falls.j c.found mine c.awake (λ x h. c.to x (inr h)) falls.chain in
     let ran = end_ran room (record d { own = rest }) 1 k falls.j c.node c.running (osd_steps (awake_step (outside_of c.node.kept) c.state c.running.clock (event.Deliver m))) falls.less chain in
     subst (HasRan (record d { own = rest }) 1 k)
@@ -240,20 +188,19 @@ own_ran room d m rest k stood (of_an_osd c) =
     ∙ ap (λ (step : OsdStep). end_of_step room (record d { own = rest }) c.node c.running (osd_steps step)) (awake_is (outside_of c.node.kept) c.state c.running.clock (event.Deliver m) c.awake))) ran
 own_ran room d m rest k stood (of_a_client c) =
     let here : m.to ≡ c.node.id = c.to m (inl refl) in
-    let still = record c.state { last = max c.running.clock c.state.last } in
     let less : length rest + 1 ≤ k = let low = c.low in omega (arith, low) in
     let ran = end_ran room (record d { own = rest }) 1 k (length rest) c.node c.running (client_steps (stays ClientState (record c.state { last = max c.running.clock c.state.last }))) less
-        (of_a_client (record {
-          node = next_node c.node c.running (client (record c.state { last = max c.running.clock c.state.last })) (stays ClientState c.state).turned;
-          running = record c.running { core = client (record c.state { last = max c.running.clock c.state.last }) };
-          state = record c.state { last = max c.running.clock c.state.last };
-          found = node_in-new d.world.nodes (next_node c.node c.running (client (record c.state { last = max c.running.clock c.state.last })) (stays ClientState c.state).turned) c.node c.found;
-          up = refl;
-          core = refl;
-          to = λ x h. c.to x (inr (subst (Has x) (append-nil rest) h));
-          asks = λ x h. c.asks x (inr (subst (Has x) (append-nil rest) h));
-          low = let same = ap (λ (xs : List Msg). length xs) (append-nil rest) in omega (arith, same);
-        })) in
+    (of_a_client (record {
+      node = next_node c.node c.running (client (record c.state { last = max c.running.clock c.state.last })) (stays ClientState c.state).turned;
+      running = record c.running { core = client (record c.state { last = max c.running.clock c.state.last }) };
+      state = record c.state { last = max c.running.clock c.state.last };
+      found = node_in-new d.world.nodes (next_node c.node c.running (client (record c.state { last = max c.running.clock c.state.last })) (stays ClientState c.state).turned) c.node c.found;
+      up = refl;
+      core = refl;
+      to = λ x h. c.to x (inr (subst (Has x) (append-nil rest) h));
+      asks = λ x h. c.asks x (inr (subst (Has x) (append-nil rest) h));
+      low = let same = ap (λ (xs : List Msg). length xs) (append-nil rest) in omega (arith, same);
+    })) in
     subst (HasRan (record d { own = rest }) 1 k)
     (sym (comes_at room (record d { own = rest }) m.to (event.Deliver m) c.node c.running (ap (λ (n : NodeId). node_in d.world.nodes n.0) here ∙ c.found) c.up
     ∙ ap (λ (core : Core). end_of_step room (record d { own = rest }) c.node c.running (core_step d.world.times c.node core c.running.clock (event.Deliver m))) c.core

@@ -1,7 +1,6 @@
 -- asks that are served: at most one update follows, and fewer are left
-use Rattle.std.proofs.Common.{◌≡◌, ℕ, ◌≤◌, ◌+◌, ◌*◌, inl, inr, Bool, true, false, List, [], ◌∷◌, ◌++◌, length, refl, sym, ap, ap₂, subst, ◌∙◌, arith, Option, Some, None, is_some, append-nil, length-append, le_refl}
-use Rattle.std.specs.Prelude.{◌&&◌, ◌||◌, not, cond, ◌==◌, nat_lt, fold, filter, map}
-use Rattle.std.proofs.lemmas.Bool.{and_parts}
+use Rattle.std.proofs.Common.{◌≡◌, ℕ, ◌≤◌, ◌+◌, inl, inr, Bool, true, false, List, [], ◌∷◌, ◌++◌, length, refl, sym, ap, ap₂, subst, ◌∙◌, arith, Option, Some, None, is_some, append-nil, length-append, le_refl}
+use Rattle.std.specs.Prelude.{◌&&◌, ◌||◌, not, cond, ◌==◌, nat_lt, fold, filter}
 use Rattle.xt_base.specs.MemberList.{has_node}
 use Rattle.xt_base.specs.declared.TheConstants.{COUNTS, OBJECTS}
 use Rattle.xt_base.specs.declared.ids.NodeId.{NodeId}
@@ -19,7 +18,6 @@ use Rattle.xt_base.specs.declared.record.FileRow.{FileRow}
 use Rattle.xt_base.specs.declared.record.Record.{Record}
 use Rattle.xt_base.specs.declared.reply.Reply.{Reply}
 use Rattle.xt_base.specs.declared.reply.Reply.TheVariants as reply
-use Rattle.xt_protocol.specs.declared.Turned.{Turned}
 use Rattle.lease_safety.specs.State.{Has}
 use Rattle.osd_rows.specs.declared.Place.{Place}
 use Rattle.osd_rows.specs.declared.Asks.{Asks}
@@ -31,10 +29,10 @@ use Rattle.osd_rows.specs.declared.Progress.{Progress}
 use Rattle.osd_rows.specs.declared.Progress.TheVariants as progress
 use Rattle.osd_rows.specs.declared.Tenure.{Tenure}
 use Rattle.osd_rows.specs.declared.WaitingAsk.{WaitingAsk}
-use Rattle.osd_rows.specs.Turns.{quiet, joined, the_record, message, to_each, reply_to}
+use Rattle.osd_rows.specs.Turns.{quiet, joined, the_record, message, to_each}
 use Rattle.osd_rows.specs.Writes.{Standing, repeated, older, turned_away, fresh, standing, update_of}
 use Rattle.osd_rows.specs.Primaries.{Ground, Led, is_current, issued_by, issued_in, nodes_of}
-use Rattle.osd_rows.specs.Serving.{current_others, issues, issues_unless, next_update_of, reads, write_stands, writes_in, writes_under, writes}
+use Rattle.osd_rows.specs.Serving.{current_others, issues, next_update_of, reads, write_stands, writes_in, writes_under, writes}
 use Rattle.osd_rows.specs.Asks.{Served, is_read, newly_issued, no_asks, read_answer, serves, serves_all, serves_waiting, stays, write_done}
 use Rattle.cluster_runs.specs.NodeSteps.{to_itself}
 use Rattle.line_ends.proofs.Weights.{asks_left}

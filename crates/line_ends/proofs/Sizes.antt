@@ -1,16 +1,13 @@
 -- no head has more than `OBJECTS` versions: those of a primary's rows
-use Rattle.std.proofs.Common.{◌≡◌, ℕ, ◌≤◌, ◌+◌, inl, inr, Bool, true, false, List, [], ◌∷◌, ◌++◌, map, length, refl, sym, ap, subst, ◌∙◌, arith, Option, Some, None, flat_map, filter_map}
-use Rattle.std.specs.Prelude.{◌&&◌, not, cond, ◌==◌, max, nat_lt, nat_le, is_some, fold}
+use Rattle.std.proofs.Common.{◌≡◌, ℕ, ◌≤◌, inl, inr, Bool, true, false, List, [], ◌∷◌, ◌++◌, map, length, refl, sym, ap, subst, ◌∙◌, Option, Some, None, flat_map}
+use Rattle.std.specs.Prelude.{◌&&◌, not, cond, ◌==◌, max, nat_lt, nat_le, fold}
 use Rattle.std.specs.List.{cons_option}
 use Rattle.xt_base.specs.declared.ids.NodeId.{NodeId}
 use Rattle.xt_base.specs.declared.ids.FileId.{FileId}
 use Rattle.xt_base.specs.declared.ids.Epoch.{Epoch}
-use Rattle.xt_base.specs.declared.ids.OpId.{OpId}
 use Rattle.xt_base.specs.declared.ids.Stamp.{Stamp}
 use Rattle.xt_base.specs.declared.file.FileHead.{FileHead}
 use Rattle.xt_base.specs.declared.file.ObjectVersion.{ObjectVersion}
-use Rattle.xt_base.specs.declared.file.Update.{Update}
-use Rattle.xt_base.specs.declared.file.Op.{Op}
 use Rattle.xt_base.specs.declared.message.Msg.{Msg}
 use Rattle.xt_base.specs.declared.message.Payload.{Payload}
 use Rattle.xt_base.specs.declared.message.Payload.TheVariants as payload
@@ -29,11 +26,11 @@ use Rattle.osd_rows.specs.declared.PeerState.TheVariants as peer
 use Rattle.osd_rows.specs.declared.Progress.{Progress}
 use Rattle.osd_rows.specs.declared.Progress.TheVariants as progress
 use Rattle.osd_rows.specs.declared.Tenure.{Tenure}
-use Rattle.osd_rows.specs.Turns.{message, to_each}
+use Rattle.osd_rows.specs.Turns.{message}
 use Rattle.osd_rows.specs.ReplicaRows.{kept_after, stage_record}
 use Rattle.osd_rows.specs.Choice.{chosen_of, is_better, difference}
-use Rattle.osd_rows.specs.Primaries.{Ground, Led, carries, fed, fed_next, if_any, is_unknown, known_of_own, known_of_report, last_sent, last_to_each, majority_among, nodes_of, peer_in, report_of, reports_of, statuses_counted, target_of, unknown_peer, with_known, with_node, with_peer}
-use Rattle.osd_rows.specs.PrimaryRows.{after_keeping, epoch_above, epoch_drawn, peer_fed, peers_fed, installs, fetches, head_chosen, chooses, status_counted, with_state, peer_sent, feeds, status_told, hears_status, body_beyond, body_fetched, hears_object, target_in, body_staged, body_missed, hears_missing, activated, head_acked, committed, update_acked, acked_below, hears_ack, makes_current, forgotten, peer_behind, outpromised, epoch_told, hears_peer, hears_member, hears_epoch, hears_in, unmoved, goes_on}
+use Rattle.osd_rows.specs.Primaries.{Ground, Led, carries, fed, fed_next, if_any, is_unknown, known_of_own, known_of_report, last_sent, majority_among, nodes_of, peer_in, report_of, reports_of, statuses_counted, target_of, unknown_peer, with_known, with_node, with_peer}
+use Rattle.osd_rows.specs.PrimaryRows.{after_keeping, epoch_above, epoch_drawn, peer_fed, peers_fed, installs, fetches, head_chosen, chooses, status_counted, with_state, feeds, status_told, body_beyond, hears_object, target_in, body_staged, body_missed, hears_missing, committed, acked_below, hears_ack, makes_current, forgotten, peer_behind, epoch_told, hears_peer, hears_member, hears_epoch, hears_in, unmoved}
 
 -- ---- what is small
 

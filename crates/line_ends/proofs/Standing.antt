@@ -1,6 +1,6 @@
 -- what holds of a file at an OSD, and of its messages to its own node
-use Rattle.std.specs.Prelude.{◌≡◌, ◌≤◌, ◌⊎◌, ℕ, true, false, ◌==◌, ◌+◌, Option, Some, None, List, [], ◌∷◌, ◌++◌, map}
-use Rattle.xt_base.specs.MemberList.{has_node, are_distinct}
+use Rattle.std.specs.Prelude.{◌≡◌, ◌≤◌, true, false, ◌==◌, ◌+◌, Option, Some, None}
+use Rattle.xt_base.specs.MemberList.{has_node}
 use Rattle.xt_base.specs.declared.ids.NodeId.{NodeId}
 use Rattle.xt_base.specs.declared.ids.Epoch.{Epoch}
 use Rattle.xt_base.specs.declared.file.FileHead.{FileHead}
@@ -74,7 +74,7 @@ Stands row (payload.Missing file epoch object version) = Unit {0}
 Stands row (payload.Update file update) =
     (is_earlier row.head.promised update.stamp.epoch ≡ false)
     × (is_earlier update.stamp.epoch row.head.promised ≡ false
-        → (is_epoch row.head.stamp.epoch update.stamp.epoch ≡ true) × (update.stamp.count ≤ row.head.stamp.count + 1))
+    → (is_epoch row.head.stamp.epoch update.stamp.epoch ≡ true) × (update.stamp.count ≤ row.head.stamp.count + 1))
 Stands row (payload.Ack file stamp) = (is_earlier row.head.promised stamp.epoch ≡ false) × IsOfEpoch row.head stamp.epoch
 Stands row (payload.Refused file epoch promised) = is_earlier row.head.promised promised ≡ false
 Stands row _ = ⊥

@@ -1,6 +1,6 @@
 -- What comes of an event from outside at an OSD: its messages to itself weigh no more than so much for each declared file.
-use Rattle.std.proofs.Common.{◌≡◌, ℕ, ◌≤◌, ◌+◌, ◌⊎◌, inl, inr, Bool, true, false, List, [], ◌∷◌, ◌++◌, map, refl, sym, ap, ap₂, subst, ◌∙◌, arith, Option, Some, None, append-nil, append_assoc}
-use Rattle.std.specs.Prelude.{◌&&◌, ◌||◌, not, cond, ◌==◌, max}
+use Rattle.std.proofs.Common.{◌≡◌, ℕ, ◌≤◌, ◌+◌, inl, inr, Bool, true, false, List, [], ◌∷◌, ◌++◌, map, refl, sym, ap, ap₂, subst, ◌∙◌, arith, Option, Some, None, append-nil}
+use Rattle.std.specs.Prelude.{◌&&◌, ◌||◌, cond, ◌==◌}
 use Rattle.xt_base.specs.MemberList.{are_distinct}
 use Rattle.xt_base.specs.declared.ids.NodeId.{NodeId}
 use Rattle.xt_base.specs.declared.ids.FileId.{FileId}
@@ -9,18 +9,14 @@ use Rattle.xt_base.specs.declared.event.Event.{Event}
 use Rattle.xt_base.specs.declared.event.Event.TheVariants as event
 use Rattle.xt_base.specs.declared.message.Msg.{Msg}
 use Rattle.xt_base.specs.declared.message.Payload.{Payload}
-use Rattle.xt_base.specs.declared.message.Payload.TheVariants as payload
 use Rattle.xt_base.specs.declared.record.FileRow.{FileRow}
-use Rattle.xt_protocol.specs.FileIds.{is_file, is_before}
-use Rattle.xt_protocol.specs.Folds.{new_row}
-use Rattle.xt_protocol.specs.LeaseRows.{Awake, is_silent}
+use Rattle.xt_protocol.specs.FileIds.{is_file}
+use Rattle.xt_protocol.specs.LeaseRows.{Awake}
 use Rattle.xt_protocol.proofs.Folds.{file-equal, file-itself}
 use Rattle.lease_safety.specs.State.{Has}
-use Rattle.osd_rows.specs.Turns.{message, quiet}
-use Rattle.osd_rows.specs.FileStates.{FileState, Site, FileStep, file_from}
+use Rattle.osd_rows.specs.FileStates.{FileState, Site, FileStep}
 use Rattle.osd_rows.specs.FileSteps.{step_of_file}
-use Rattle.osd_rows.specs.OsdSteps.{Outside, OsdState, OsdStep, FilesStep, file_at, with_file, file_concerned, message_handled, event_handled, handled_awake, step_of_osd}
-use Rattle.osd_lease_views.specs.LeaseView.{is_about}
+use Rattle.osd_rows.specs.OsdSteps.{Outside, OsdState, FilesStep, file_at, with_file, file_concerned, message_handled, event_handled}
 use Rattle.osd_lease_views.specs.OsdView.{site_of}
 use Rattle.osd_lease_views.proofs.OsdLeases.{file_at-with_file, at_file}
 use Rattle.cluster_runs.specs.declared.DeclaredFile.{DeclaredFile}
@@ -28,23 +24,20 @@ use Rattle.cluster_runs.specs.World.{file_in}
 use Rattle.cluster_runs.specs.NodeSteps.{to_itself}
 use Rattle.world_leases.specs.View.{awake_as}
 use Rattle.world_leases.specs.Worlds.{AreBehind, FileFits, Rises, files_of}
-use Rattle.world_leases.proofs.Rising.{before_along, before_itself}
-use Rattle.line_ends.proofs.Weights.{is_lease, lease_rank, tenure_left}
-use Rattle.line_ends.proofs.Standing.{IfAbout, IfMessage, IsLacking, Stands}
+use Rattle.world_leases.proofs.Rising.{before_itself}
+use Rattle.line_ends.proofs.Weights.{is_lease, tenure_left}
+use Rattle.line_ends.proofs.Standing.{IfAbout, IfMessage}
 use Rattle.line_ends.proofs.Tests.{false_true}
 use Rattle.line_ends.proofs.Mine.{token}
 use Rattle.line_ends.proofs.Leases.{IsLeaseOf}
 use Rattle.line_ends.proofs.Files.{FileStands, IfLed, IsLed, chain_weight}
-use Rattle.line_ends.proofs.Messages.{Gives, Less, LeaseLess, PrimaryLess, Comes, is_ask, lease_of}
-use Rattle.line_ends.proofs.FileSteps.{step_given}
+use Rattle.line_ends.proofs.Messages.{Gives, lease_of}
 use Rattle.line_ends.proofs.FileSizes.{FileSmall}
-use Rattle.line_ends.proofs.Osds.{OwnFits, sound_of, apart_of}
-use Rattle.line_ends.proofs.OsdEvents.{fit_at, stands_at, step_at, same_file}
-
-use Rattle.line_ends.proofs.Chains.{Chain, pick, primary_about, list_of, own_sum, total, has_file, put, about-append, sum-append, both_about, both_sum, turned_round, stands_primary, behind_absent, has_with}
+use Rattle.line_ends.proofs.OsdEvents.{same_file}
+use Rattle.line_ends.proofs.Chains.{Chain, primary_about, list_of, own_sum, total, has_file, about-append, sum-append, both_about, both_sum, stands_primary, behind_absent, has_with}
 use Rattle.std.proofs.Common.{◌*◌, length, is_some}
 use Rattle.std.proofs.lemmas.Bool.Decides.{nat_tests}
-use Rattle.std.proofs.lemmas.Bool.{and_parts, eqb-true}
+use Rattle.std.proofs.lemmas.Bool.{and_parts}
 use Rattle.xt_protocol.specs.LeaseRows.{LeaseState, free, asking, writing, held}
 use Rattle.osd_invariants.specs.Sound.{IsStored}
 use Rattle.osd_lease_views.specs.ActsView.{IsBusy}
@@ -53,11 +46,11 @@ use Rattle.osd_rows.specs.FileSteps.{wake_of_file}
 use Rattle.osd_rows.specs.Overdue.{expired}
 use Rattle.osd_rows.specs.OsdSteps.{asks_dir, each_file, woken}
 use Rattle.cluster_runs.specs.Lines.{OWN, declared_file}
-use Rattle.world_leases.specs.Worlds.{AskFits, Listed}
+use Rattle.world_leases.specs.Worlds.{Listed}
 use Rattle.line_ends.proofs.Rows.{one_if}
 use Rattle.line_ends.proofs.Leases.{IsFree}
 use Rattle.line_ends.proofs.Bounds.{file_low}
-use Rattle.line_ends.proofs.OsdEvents.{Arrives, gives_at, gives_woken, WokenTo, none_woken, one_woken, WakeSends, wakes_to, woken_files, woken_to, woke_file}
+use Rattle.line_ends.proofs.OsdEvents.{Arrives, gives_at, gives_woken, WokenTo, none_woken, one_woken, wakes_to, woken_files, woken_to, woke_file}
 
 -- ---- busy files
 
@@ -281,7 +274,6 @@ pub record Behind (declared : List DeclaredFile) (n : NodeId) (files : List File
 
 module _ (declared : List DeclaredFile) (lists : (number : ℕ) (location : Location) → file_in declared number ≡ Some location → are_distinct location.members ≡ true) (outside : Outside) (s : OsdState) (now : ℕ)
     (fits : (f : FileState) → Has f s.files → FileFits declared f) (stands : (f : FileState) → Has f s.files → FileStands s.started.node f × FileSmall f) (rises : Rises (files_of s.files)) where
-
   abbrev pub there : Site
   there = site_of outside (awake_as s.started) now
 
@@ -463,7 +455,6 @@ module _ (declared : List DeclaredFile) (lists : (number : ℕ) (location : Loca
   woken_stands : (g : FileId) (b : Bool) → has_file s.files g ≡ b → IfMessage (file_at (awake_as s.started) (map (λ (f : FileState). (wakes f).state) s.files) g).kept (cond b (primary_of (mine (file_at (awake_as s.started) s.files g))) None)
   woken_stands g false is = tt
   woken_stands g true is =
-      let f = file_at (awake_as s.started) s.files g in
       let q = gives_of (file_at (awake_as s.started) s.files g) (at_has (awake_as s.started) s.files g is) in
       subst (λ (x : FileState). IfMessage x.kept (primary_of (mine (file_at (awake_as s.started) s.files g)))) (sym (map_at s.files g is))
       (subst (λ (o : Option Payload). IfMessage (wakes (file_at (awake_as s.started) s.files g)).state.kept o) (sym (woke_sent (file_at (awake_as s.started) s.files g) q)) q.stands)
@@ -481,8 +472,8 @@ module _ (declared : List DeclaredFile) (lists : (number : ℕ) (location : Loca
     woke_low f h its =
         let q = gives_of f h in
         let sent : sent_by s.files (wakes f).state.kept.file ≡ q.sent =
-            ap (sent_by s.files) (its_file f)
-            ∙ ap₂ (λ (b : Bool) (x : FileState). cond b (primary_of (mine x)) None) (in_file s.files f h) (found_here (awake_as s.started) s.files f rises h) ∙ woke_sent f q in
+        ap (sent_by s.files) (its_file f)
+        ∙ ap₂ (λ (b : Bool) (x : FileState). cond b (primary_of (mine x)) None) (in_file s.files f h) (found_here (awake_as s.started) s.files f rises h) ∙ woke_sent f q in
         let weight = ap (chain_weight s.started.node (wakes f).state) sent in
         let sum = woke_sum f q in
         let low = load s.started.node (wakes f).state q.told q.sent its q.told_is (λ idle. q.idle outsider_other idle) in

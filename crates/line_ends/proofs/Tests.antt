@@ -1,8 +1,7 @@
 -- tests of epochs and stamps, and two cases
 use Rattle.std.proofs.Common.{◌≡◌, ℕ, ◌≤◌, ◌+◌, Bool, true, false, refl, sym, ap, ◌∙◌, arith}
-use Rattle.std.specs.Prelude.{◌&&◌, ◌||◌, not, cond, max, nat_lt, nat_le, ◌==◌}
+use Rattle.std.specs.Prelude.{◌&&◌, ◌||◌, not, max, nat_lt, ◌==◌}
 use Rattle.std.proofs.lemmas.Bool.Decides.{nat_tests}
-use Rattle.xt_base.specs.declared.ids.Epoch.{Epoch}
 use Rattle.xt_base.specs.declared.ids.Stamp.{Stamp}
 use Rattle.xt_base.specs.declared.file.FileHead.{FileHead}
 use Rattle.xt_protocol.specs.Stamps.{is_epoch, is_earlier, is_below}
@@ -20,9 +19,6 @@ pub not_new : (b : Bool) → (b && not b) ≡ false
 not_new true = refl
 not_new false = refl
 
-pub not_ready : (a b : Bool) → a ≡ false → (a && not b) ≡ false
-not_ready a b is = ap (λ (x : Bool). x && not b) is
-
 -- ---- epochs
 
 more : (a b : ℕ) → nat_lt a (1 + max a b) ≡ true
@@ -30,19 +26,6 @@ more a b = grind (arith, nat_tests)
 
 pub above_promised : (place : Place) (learnt : ℕ) (own : FileHead) → is_earlier own.promised (epoch_above place learnt own) ≡ true
 above_promised place learnt own = ap (λ (b : Bool). b || (own.promised.number == 1 + max own.promised.number learnt) && nat_lt own.promised.node.0 place.node.0) (more own.promised.number learnt)
-
--- an epoch that is neither earlier nor later
-pub neither_same : (a b : Epoch) → is_earlier a b ≡ false → is_earlier b a ≡ false → is_epoch a b ≡ true
-neither_same a b p q = grind (arith, nat_tests)
-
-pub same_not_earlier : (a b : Epoch) → is_epoch a b ≡ true → is_earlier a b ≡ false
-same_not_earlier a b p = grind (arith, nat_tests)
-
-pub same_back : (a b : Epoch) → is_epoch a b ≡ true → is_epoch b a ≡ true
-same_back a b p = grind (arith, nat_tests)
-
-pub same_trans : (a b c : Epoch) → is_epoch a b ≡ true → is_epoch b c ≡ true → is_epoch a c ≡ true
-same_trans a b c p q = grind (arith, nat_tests)
 
 -- ---- stamps
 

@@ -1,6 +1,6 @@
 -- what a Wake comes to at a file: one message of the primary to the own node, and one of a renewal
-use Rattle.std.proofs.Common.{◌≡◌, ℕ, ◌≤◌, ◌+◌, inl, inr, Bool, true, false, List, [], ◌∷◌, ◌++◌, map, refl, sym, ap, ap₂, subst, ◌∙◌, arith, Option, Some, None, is_some, le_refl, append-nil}
-use Rattle.std.specs.Prelude.{◌&&◌, not, cond, ◌==◌}
+use Rattle.std.proofs.Common.{◌≡◌, ◌≤◌, ◌+◌, inr, Bool, true, false, List, ◌++◌, refl, sym, ap, ap₂, subst, ◌∙◌, Option, Some, None, is_some, le_refl}
+use Rattle.std.specs.Prelude.{cond, ◌==◌}
 use Rattle.xt_base.specs.MemberList.{has_node, are_distinct}
 use Rattle.xt_base.specs.declared.ids.NodeId.{NodeId}
 use Rattle.xt_base.specs.declared.ids.FileId.{FileId}
@@ -20,10 +20,10 @@ use Rattle.osd_rows.specs.declared.Tenure.{Tenure}
 use Rattle.osd_rows.specs.declared.PrimaryState.{PrimaryState}
 use Rattle.osd_rows.specs.declared.Asks.{Asks}
 use Rattle.osd_rows.specs.ReplicaRows.{kept_after}
-use Rattle.osd_rows.specs.Primaries.{last_sent, nodes_of, peer_in}
-use Rattle.osd_rows.specs.Serving.{gather_unknown, unacked, sent_again, to_peers, wakes_in, wakes_under, wakes}
+use Rattle.osd_rows.specs.Primaries.{nodes_of, peer_in}
+use Rattle.osd_rows.specs.Serving.{gather_unknown, unacked, sent_again, wakes_in, wakes_under, wakes}
 use Rattle.osd_rows.specs.Asks.{WAITING}
-use Rattle.osd_rows.specs.FileStates.{FileState, Site, FileStep, nothing, steps_to, and_then, members_of, ground_of}
+use Rattle.osd_rows.specs.FileStates.{FileState, Site, FileStep, nothing, steps_to, members_of, ground_of}
 use Rattle.osd_rows.specs.FileLeases.{running_round}
 use Rattle.osd_rows.specs.AskRows.{reads_of}
 use Rattle.osd_rows.specs.FileSteps.{renews, wakes_under_lease, wake_of_file}
@@ -32,12 +32,11 @@ use Rattle.osd_invariants.proofs.Kept.{wake_keeps}
 use Rattle.cluster_runs.specs.NodeSteps.{to_itself}
 use Rattle.line_ends.proofs.Weights.{asks_left}
 use Rattle.line_ends.proofs.Standing.{IfAbout, HeadStands, IfMessage, IfTenure, ProgressStands, TenureStands}
-use Rattle.line_ends.proofs.Tests.{false_true}
-use Rattle.line_ends.proofs.Moves.{Moves, moves_none}
+use Rattle.line_ends.proofs.Moves.{moves_none}
 use Rattle.line_ends.proofs.Mine.{token, mine-append, mine-each, mine-one, mine-peers, of_peer}
 use Rattle.line_ends.proofs.Rows.{IfLeads, next_stands}
 use Rattle.line_ends.proofs.Leases.{IfSeated, IsFree, IsLeaseOf}
-use Rattle.line_ends.proofs.Files.{FileStands, IfLed, IsLed}
+use Rattle.line_ends.proofs.Files.{FileStands, IfLed}
 use Rattle.line_ends.proofs.Messages.{Gives}
 use Rattle.line_ends.proofs.Asking.{fresh_seats}
 
@@ -50,14 +49,6 @@ record Again (n : NodeId) (row : FileRow) (o : Option Tenure) (outs : List Msg) 
   pub about : IfAbout row.file sent
 
 module _ (place : Place) (row : FileRow) (its : place.file ≡ row.file) (t : Tenure) (stands : TenureStands place.node row.head t) (apart : are_distinct (nodes_of t.peers) ≡ true) where
-  last_again : (o : Option PeerState) → IfMessage row (of_peer (λ (k : NodeId) (state : PeerState). last_sent place.file t.epoch state) place.node o)
-  last_again None = tt
-  last_again (Some peer.Unknown) = tt
-  last_again (Some (peer.Reported head)) = tt
-  last_again (Some (peer.Feeding known object version body)) = (stands.promised, tt)
-  last_again (Some (peer.Heading known head)) = (stands.promised, tt)
-  last_again (Some peer.Current) = tt
-
   unknown_again : (o : Option PeerState) → IfMessage row (of_peer (gather_unknown place t.epoch) place.node o)
   unknown_again None = tt
   unknown_again (Some peer.Unknown) = (stands.promised, tt)
@@ -179,8 +170,6 @@ module _ (site : Site) (from : NodeId) (s : FileState) (stands : FileStands site
   under_woken (writing r) is = record { head = stands.head; moves = moves_none s.kept.head s.kept.head refl; tenure = stands.tenure; seats = stands.seats; few = stands.few; told = None; sent = None; outs = refl; told_is = tt; about_sent = tt; about_told = tt; stands = tt; led = λ led. tt; idle = λ o f. (refl, refl) }
   under_woken (held h) is =
       let place = (ground_of site s).place in
-      let woke = wakes place s.primary in
-      let t = (steps_to s (wakes (ground_of site s).place s.primary)).state in
       record {
         head = subst (λ (k : FileRow). HeadStands k.head) (sym kept_is) stands.head;
         moves = moves_none s.kept.head (renews site (steps_to s (wakes (ground_of site s).place s.primary)).state h).state.kept.head (ap (λ (k : FileRow). k.head) kept_is);
