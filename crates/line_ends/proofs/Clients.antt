@@ -16,6 +16,7 @@ use Rattle.xt_base.specs.declared.event.Call.{Call}
 use Rattle.xt_base.specs.declared.event.Event.{Event}
 use Rattle.xt_base.specs.declared.event.Event.TheVariants as event
 use Rattle.xt_base.specs.declared.TheConstants.{COUNTS}
+use Rattle.osd_lease_views.specs.LeaseView.{is_ask}
 use Rattle.osd_rows.specs.Turns.{message}
 use Rattle.cluster_runs.specs.declared.ClientState.{ClientState}
 use Rattle.cluster_runs.specs.declared.RunningCall.{RunningCall}
@@ -23,7 +24,6 @@ use Rattle.cluster_runs.specs.Steps.{Step, stays}
 use Rattle.cluster_runs.specs.Clients.{ClientSite, asks, begins_call, call_of_client, ends_call, was_tried, with_outcome, named, next_of, turned_away, turned_away_by, answered, reply_comes, message_comes, wakes, event_comes, step_of_client}
 use Rattle.xt_base.specs.declared.event.Outcome.TheVariants as outcome
 use Rattle.cluster_runs.specs.Clients.{answers_in}
-use Rattle.line_ends.proofs.Messages.{is_ask}
 
 -- nothing, or an ask
 pub data AsksOne (node : NodeId) : List Msg → Type 0 where

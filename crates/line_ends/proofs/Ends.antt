@@ -13,6 +13,7 @@ use Rattle.xt_protocol.specs.declared.Turned.{Turned}
 use Rattle.xt_protocol.specs.LeaseRows.{is_silent}
 use Rattle.lease_safety.specs.State.{Has}
 use Rattle.lease_runs.proofs.Tests.{same_node}
+use Rattle.osd_lease_views.specs.LeaseView.{is_ask}
 use Rattle.osd_rows.specs.FileStates.{FileState}
 use Rattle.osd_rows.specs.OsdSteps.{OsdState, OsdStep, step_of_osd}
 use Rattle.cluster_runs.specs.declared.ClientState.{ClientState}
@@ -29,7 +30,6 @@ use Rattle.world_leases.proofs.Lists.{has_filter}
 use Rattle.world_leases.proofs.Tables.{same, node_in-new, node_in-id}
 use Rattle.world_leases.proofs.Walk.{of_osd, of_client, Reaches, call_step}
 use Rattle.line_ends.proofs.Files.{FileStands}
-use Rattle.line_ends.proofs.Messages.{is_ask}
 use Rattle.line_ends.proofs.FileSizes.{FileSmall}
 use Rattle.line_ends.proofs.Clients.{AsksOne, asks_none, asks_this, client_gives, call_gives}
 use Rattle.std.proofs.Common.{◌*◌, length}

@@ -9,6 +9,7 @@ use Rattle.xt_base.specs.declared.message.Payload.TheVariants as payload
 use Rattle.xt_base.specs.declared.record.FileRow.{FileRow}
 use Rattle.xt_base.specs.declared.file.Capability.{Capability}
 use Rattle.xt_base.specs.declared.file.Op.{Op}
+use Rattle.osd_lease_views.specs.LeaseView.{is_ask}
 use Rattle.osd_rows.specs.FileStates.{FileState, Site, FileStep, and_then, members_of}
 use Rattle.osd_rows.specs.FileSteps.{message_comes, step_of_file, wake_of_file}
 use Rattle.osd_rows.specs.Overdue.{expired}
@@ -21,7 +22,7 @@ use Rattle.line_ends.proofs.Moves.{Moves}
 use Rattle.line_ends.proofs.Mine.{mine-append}
 use Rattle.line_ends.proofs.Hearing.{IsApart}
 use Rattle.line_ends.proofs.Files.{FileStands, Overdue, overdue, overdue_stands}
-use Rattle.line_ends.proofs.Messages.{Gives, Less, Comes, is_ask, message_given}
+use Rattle.line_ends.proofs.Messages.{Gives, Less, Comes, message_given}
 use Rattle.line_ends.proofs.Asking.{agree_of, ask_given}
 use Rattle.line_ends.proofs.Waking.{wake_given}
 

@@ -26,6 +26,7 @@ use Rattle.xt_protocol.specs.LeaseRows.{Awake, Silent, is_silent}
 use Rattle.xt_protocol.proofs.Folds.{fold_of-push, fold_of-nothing, file-itself}
 use Rattle.lease_safety.specs.State.{Has}
 use Rattle.lease_runs.proofs.Tests.{same_node}
+use Rattle.osd_lease_views.specs.LeaseView.{is_ask}
 use Rattle.osd_rows.specs.FileStates.{FileState, file_from}
 use Rattle.osd_rows.specs.OsdSteps.{OsdState, file_at, step_of_osd}
 use Rattle.cluster_runs.specs.declared.ClientState.{ClientState}
@@ -55,7 +56,6 @@ use Rattle.line_ends.proofs.Standing.{HeadStands}
 use Rattle.line_ends.proofs.Tests.{false_true}
 use Rattle.line_ends.proofs.Hearing.{IsApart}
 use Rattle.line_ends.proofs.Files.{FileStands}
-use Rattle.line_ends.proofs.Messages.{is_ask}
 use Rattle.line_ends.proofs.Sizes.{IsSmall, ContentSmall, small_of}
 use Rattle.line_ends.proofs.FileSizes.{FileSmall}
 use Rattle.line_ends.proofs.Osds.{OwnFits, stands_more, at_stands}

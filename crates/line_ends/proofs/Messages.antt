@@ -17,6 +17,7 @@ use Rattle.xt_base.specs.declared.event.Mark.TheVariants as mark
 use Rattle.xt_protocol.specs.Register.{ReadAnswer, promise, read_refused, WriteAnswer, accepted, write_refused, other_boot, on_read, on_write}
 use Rattle.xt_protocol.specs.LeaseRows.{LeaseState, free, asking, writing, held, LeaseNews, LeaseStep, sends_write, holds, finds, ends, on_answer}
 use Rattle.xt_protocol.specs.LeaseRows as lease
+use Rattle.osd_lease_views.specs.LeaseView.{is_ask}
 use Rattle.osd_rows.specs.declared.Acted.{Acted}
 use Rattle.osd_rows.specs.declared.Asks.{Asks}
 use Rattle.osd_rows.specs.declared.Place.{Place}
@@ -43,11 +44,6 @@ use Rattle.line_ends.proofs.Hearing.{IsApart, rank_some, epoch_heard}
 use Rattle.line_ends.proofs.Following.{burden, Followed, follow, with_asks, behind_left}
 use Rattle.line_ends.proofs.Leases.{IfSeated, IsFree, IsLeaseOf, IsOver, IsWon, NewsFits, WritesBehind, answer_fits, one_write}
 use Rattle.line_ends.proofs.Files.{FileStands, chain_weight, IsLed, IfLed, none_left, Settles, leaves, tells_mine}
-
--- whether a message is an ask
-abbrev pub is_ask : Payload → Bool
-is_ask (payload.Ask number capability asked) = true
-is_ask _ = false
 
 -- ---- what a step owes
 

@@ -12,6 +12,7 @@ use Rattle.xt_protocol.specs.FileIds.{is_file}
 use Rattle.xt_protocol.specs.LeaseRows.{Awake}
 use Rattle.xt_protocol.proofs.Folds.{file-equal, file-itself}
 use Rattle.lease_safety.specs.State.{Has}
+use Rattle.osd_lease_views.specs.LeaseView.{is_ask}
 use Rattle.osd_rows.specs.Turns.{quiet}
 use Rattle.osd_rows.specs.FileStates.{FileState, Site, FileStep}
 use Rattle.osd_rows.specs.FileSteps.{step_of_file, wake_of_file}
@@ -32,7 +33,7 @@ use Rattle.line_ends.proofs.Weights.{is_lease}
 use Rattle.line_ends.proofs.Standing.{Stands}
 use Rattle.line_ends.proofs.Mine.{token, mine-append}
 use Rattle.line_ends.proofs.Files.{FileStands, overdue}
-use Rattle.line_ends.proofs.Messages.{Gives, is_ask}
+use Rattle.line_ends.proofs.Messages.{Gives}
 use Rattle.line_ends.proofs.Sizes.{ContentSmall, AreSmall, both_small}
 use Rattle.line_ends.proofs.FileSizes.{FileSmall, step_small, expired_small, wake_small}
 use Rattle.line_ends.proofs.Osds.{KeptMoves, kept_same, OwnFits, at_stands, step_any, step_stands, step_moves, wake_any, wake_stands, wake_moves, wake_step_small, own_fits, sound_of}

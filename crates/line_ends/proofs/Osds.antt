@@ -20,6 +20,7 @@ use Rattle.xt_protocol.specs.LeaseRows.{Awake}
 use Rattle.xt_protocol.specs.Stamps.{is_version, has_version, with_held}
 use Rattle.xt_protocol.proofs.Stamps.{has_version-with_held}
 use Rattle.lease_safety.specs.State.{Has}
+use Rattle.osd_lease_views.specs.LeaseView.{is_ask}
 use Rattle.osd_rows.specs.ReplicaRows.{kept_after}
 use Rattle.osd_rows.specs.FileStates.{FileState, Site, FileStep, file_from, members_of}
 use Rattle.osd_rows.specs.FileSteps.{step_of_file, wake_of_file}
@@ -43,7 +44,7 @@ use Rattle.line_ends.proofs.Mine.{token}
 use Rattle.line_ends.proofs.Hearing.{IsApart}
 use Rattle.line_ends.proofs.Leases.{IsLeaseOf}
 use Rattle.line_ends.proofs.Files.{FileStands}
-use Rattle.line_ends.proofs.Messages.{Gives, is_ask}
+use Rattle.line_ends.proofs.Messages.{Gives}
 use Rattle.line_ends.proofs.FileSteps.{stands_after, step_given, ask_step_given, wake_step_given}
 use Rattle.line_ends.proofs.Sizes.{both_small}
 use Rattle.line_ends.proofs.FileSizes.{FileSmall, StepSmall, expired_small, wake_small}

@@ -13,6 +13,7 @@ use Rattle.xt_protocol.specs.LeaseRows.{is_silent}
 use Rattle.time_line.specs.declared.entry.Halt.TheVariants as halt
 use Rattle.lease_safety.specs.State.{Has}
 use Rattle.lease_runs.proofs.Tests.{same_node}
+use Rattle.osd_lease_views.specs.LeaseView.{is_ask}
 use Rattle.osd_rows.specs.OsdSteps.{OsdState, OsdStep, file_concerned, step_of_osd}
 use Rattle.cluster_runs.specs.declared.ClientState.{ClientState}
 use Rattle.cluster_runs.specs.Clients.{step_of_client}
@@ -23,7 +24,6 @@ use Rattle.osd_lease_views.specs.OsdView.{site_of}
 use Rattle.world_leases.proofs.Frame.{next_node}
 use Rattle.world_leases.proofs.Lists.{has_in, has_filter}
 use Rattle.world_leases.proofs.Tables.{same, node_in-new}
-use Rattle.line_ends.proofs.Messages.{is_ask}
 use Rattle.std.proofs.Common.{length}
 use Rattle.std.specs.Prelude.{Result, Ok, Err, nat_lt}
 use Rattle.osd_rows.specs.OsdSteps.{Outside, event_handled, handled_awake}

@@ -11,6 +11,7 @@ use Rattle.xt_protocol.specs.Folds.{body_of}
 use Rattle.xt_protocol.specs.LeaseRows.{LeaseState}
 use Rattle.xt_protocol.specs.LeaseRows as lease
 use Rattle.xt_protocol.specs.Stamps.{is_earlier, is_below, has_version}
+use Rattle.lease_runs.specs.LeaseWorld.{lease_file}
 use Rattle.osd_rows.specs.declared.Asks.{Asks}
 use Rattle.osd_rows.specs.declared.IssuedUpdate.{IssuedUpdate}
 use Rattle.osd_rows.specs.declared.PeerState.{PeerState}
@@ -99,12 +100,7 @@ lease_rank _ = 0
 
 -- whether a message is one of the lease
 abbrev pub is_lease : Payload → Bool
-is_lease (payload.Read file ballot) = true
-is_lease (payload.Promise file ballot boot report) = true
-is_lease (payload.Write file ballot boot lease) = true
-is_lease (payload.Accepted file ballot boot) = true
-is_lease (payload.Outrun file ballot seen) = true
-is_lease _ = false
+is_lease content = is_some (lease_file content)
 
 -- ---- a file
 
