@@ -138,9 +138,6 @@ module _ (declared : List DeclaredFile) (lists : (number : ℕ) (location : Loca
 
   -- ---- a Wake
 
-  abbrev pub woke : FileState → FileState
-  woke f = (wake_step place f).state
-
   pub woke_file : (f : FileState) → (wake_step place f).state.kept.file ≡ f.kept.file
   woke_file f = ap (λ (r : FileRow). r.file) (wake_follows place (expired place f).state) ∙ file_after (expired place f).state.kept (wake_of_file place (expired place f).state).turned.rec ∙ ap (λ (r : FileRow). r.file) (expired_quiet place f).1
 
