@@ -44,16 +44,16 @@ use Rattle.world_leases.specs.Worlds.{CallFits}
 use Rattle.line_ends.proofs.Chains.{Chain}
 use Rattle.line_ends.proofs.Starts.{event_starts, room_of, IsOutside}
 use Rattle.line_ends.proofs.Keeping.{Stood, stood_kept, fits, files_stand, node_is, arrives}
-use Rattle.cluster_runs.specs.declared.Line.{Line}
-use Rattle.cluster_runs.specs.declared.Line.TheVariants as line
+use Rattle.time_line.specs.declared.line.Line.{Line}
+use Rattle.time_line.specs.declared.line.Line.TheVariants as line
 use Rattle.cluster_runs.specs.Rules.{NODES, refusal, called_file}
 use Rattle.cluster_runs.specs.Lines.{Next, finished, opens, goes_on, ends, begins, went, settles, works_on, next_step, steps, first_step, enough, events_of, done, least_pending, starts, starts_as, declares, calls, client_calls, core_calls, location_of, operation_of, does, tells}
 use Rattle.cluster_runs.specs.Runs.{IsOver, IsEnough, run_of}
-use Rattle.cluster_runs.specs.Bounds.{AreLines}
+use Rattle.time_line.specs.Bounds.{AreLines}
 use Rattle.world_leases.proofs.Walk.{NextIs, steps_kept, steps_into}
 use Rattle.line_ends.proofs.Running.{InChain, no_own, of_a_client, Ran, HasRan, end_ran, awake_step, awake_is, silent_is, osd_chain, own_ran}
 use Rattle.xt_base.specs.declared.TheConstants.{COUNTS}
-use Rattle.cluster_runs.specs.declared.Entry.{Entry}
+use Rattle.time_line.specs.declared.entry.Entry.{Entry}
 
 -- ---- an event from outside
 
