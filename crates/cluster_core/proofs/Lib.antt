@@ -1,0 +1,15 @@
+pub mod Hosts
+pub mod Changes
+pub mod Ticks
+pub mod Rows
+pub mod Endings
+pub mod Giving
+pub mod Given
+pub mod Turns
+pub mod FirstSteps
+pub mod Starting
+pub mod Events
+pub mod Calls
+pub mod Runs
+pub mod Opening
+pub mod Whole

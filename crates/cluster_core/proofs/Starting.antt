@@ -1,0 +1,105 @@
+-- an OSD starts
+use Rattle.std.proofs.Common.{◌≡◌, ℕ, Bool, true, false, cond, Option, Some, None, Result, Ok, Err, List, [], ◌∷◌, ◌++◌, refl, ap, sym, ◌∙◌, subst}
+use Rattle.std.specs.Prelude.{nat_lt}
+use Rattle.xt_base.specs.declared.ids.NodeId.{NodeId}
+use Rattle.xt_base.specs.declared.ids.Boot.{Boot}
+use Rattle.xt_base.specs.declared.record.Record.{Record}
+use Rattle.xt_base.specs.declared.record.Record.TheVariants as kept
+use Rattle.xt_base.specs.declared.record.Folded.{Folded}
+use Rattle.xt_base.specs.declared.status.Limited.TheVariants as limited
+use Rattle.xt_base.specs.declared.TheConstants.{COUNTS}
+use Rattle.xt_protocol.specs.Folds.{fold_of}
+use Rattle.time_line.specs.declared.line.Line.TheVariants as line
+use Rattle.time_line.specs.declared.entry.Entry.{Entry}
+use Rattle.time_line.specs.declared.entry.Entry.TheVariants as entry
+use Rattle.cluster_runs.specs.World.{Node, Running, osd, node_in, with_node}
+use Rattle.cluster_runs.specs.NodeSteps.{Room, Overflow, Cause, came_to, has_no_room, Doing}
+use Rattle.cluster_runs.specs.Lines.{does, tells, next_boot, osd_starting, starts_as, starts, first_step}
+use Rattle.cluster_runs.specs.Lines as lines
+use Rattle.world_hull.specs.Answers.{IsFullOrMemory, IsFullExactly}
+use Rattle.world_hull.specs.Appends.{kept_by}
+use Rattle.world_hull.specs.declared.hull.Kept.{Kept}
+use Rattle.world_hull.specs.declared.errors.WorldErr.{WorldErr}
+use Rattle.world_hull.specs.declared.errors.WorldErr.TheVariants as error
+use Rattle.cluster_core.specs.Nodes.{NodesView, IsAt, IsPlace, Changes, kept_when}
+use Rattle.cluster_core.specs.Standing.{Tells, cause_of}
+use Rattle.cluster_core.specs.Endings.{boot_behind}
+use Rattle.cluster_core.proofs.Endings.{twice, at_again}
+use Rattle.cluster_core.proofs.FirstSteps.{found_at}
+
+pub start_nowhere : (room : Room) (d : Doing) (id : NodeId) (clock : ℕ) → node_in d.world.nodes id.0 ≡ None → first_step room d (line.Start id clock) ≡ Ok d
+unfolding first_step
+start_nowhere room d id clock none = ap (starts room d clock) none
+
+-- the next boot, as the code has it
+pub behind_is : (folded said : Folded) (found : Option Boot) (boot : Option Boot) → folded ≡ said → found ≡ boot_behind folded.boot → found ≡ boot → boot_behind said.boot ≡ boot
+behind_is folded said found boot is so got = ap (λ (f : Folded). boot_behind f.boot) (sym is) ∙ sym so ∙ got
+
+module _ (told : Room) (d : Doing) (id : NodeId) (clock place : ℕ) (is : IsPlace d.world.nodes id (Some place)) where
+  abbrev by_room : Boot → Option Overflow → Result Doing Cause
+  by_room boot o = elim o [ Some overflow ↦ Err (has_no_room overflow) | None ↦ does d (starts_as d.world is.0 boot clock) ]
+
+  abbrev by_boot : Bool → Result Doing Cause
+  by_boot b = cond b (by_room (next_boot is.0.kept) (told is.0.kept (kept.Boot (next_boot is.0.kept)))) (Err (came_to limited.Boots))
+
+  here : first_step told d (line.Start id clock) ≡ by_boot (nat_lt (next_boot is.0.kept).0 COUNTS)
+  unfolding first_step
+  here = ap (starts told d clock) (found_at d.world.nodes id place is.0 is.1 is.2)
+
+  -- no start is left
+  pub start_passed : boot_behind (fold_of is.0.kept).boot ≡ None → cause_of (first_step told d (line.Start id clock)) ≡ Some (came_to limited.Boots)
+  start_passed none = ap cause_of here ∙ at (nat_lt (next_boot is.0.kept).0 COUNTS) none
+    where
+      at : (b : Bool) → cond b (Some (next_boot is.0.kept)) None ≡ None → cause_of (by_boot b) ≡ Some (came_to limited.Boots)
+      at true e = absurd (cc)
+      at false e = refl
+
+  -- this is the next one
+  starts_is : (boot : Boot) → boot_behind (fold_of is.0.kept).boot ≡ Some boot → first_step told d (line.Start id clock) ≡ by_room boot (told is.0.kept (kept.Boot boot))
+  starts_is boot some = here ∙ at (nat_lt (next_boot is.0.kept).0 COUNTS) some
+    where
+      the_same : (a b : Boot) → Some a ≡ Some b → a ≡ b
+      the_same a b e = cc
+
+      at : (b : Bool) → cond b (Some (next_boot is.0.kept)) None ≡ Some boot → by_boot b ≡ by_room boot (told is.0.kept (kept.Boot boot))
+      at true e = ap (λ (x : Boot). by_room x (told is.0.kept (kept.Boot x))) (the_same (next_boot is.0.kept) boot e)
+      at false e = absurd (cc)
+
+  -- its record has no room
+  pub start_full : (T : Type 0) (boot : Boot) (e : WorldErr) → boot_behind (fold_of is.0.kept).boot ≡ Some boot → IsFullOrMemory e → IsFullExactly {T = T} (told is.0.kept (kept.Boot boot)) (Err e)
+      → Tells (cause_of (first_step told d (line.Start id clock))) e
+  start_full T boot (error.Illegal rule) some may full = may
+  start_full T boot (error.Limit what limit) some may full = absurd (may)
+  start_full T boot (error.Full need limit) some may full =
+      ap cause_of (starts_is boot some) ∙ ap (λ (o : Option Overflow). cause_of (by_room boot o)) full
+  start_full T boot error.OutOfMemory some may full = tt
+
+  -- the node stands there, as it started
+  pub started_at : (boot : Boot) (between : NodesView)
+      → between ≡ record { times = d.world.times; nodes = with_node d.world.nodes (record is.0 { up = Some (lines.runs boot clock (osd (osd_starting d.world.times is.0 boot clock))) }) }
+      → IsAt between.nodes place (record is.0 { up = Some (lines.runs boot clock (osd (osd_starting d.world.times is.0 boot clock))) })
+  started_at boot between was =
+      let there : Node = record is.0 { up = Some (lines.runs boot clock (osd (osd_starting d.world.times is.0 boot clock))) } in
+      subst (λ (v : NodesView). IsAt v.nodes place there) (sym was) (at_again d.world.nodes place is.0 there is.1 refl)
+
+  -- it has started
+  pub start_done : (boot : Boot) (between after : NodesView) (end : Kept) (es : List Entry) → boot_behind (fold_of is.0.kept).boot ≡ Some boot → told is.0.kept (kept.Boot boot) ≡ None
+      → between ≡ record { times = d.world.times; nodes = with_node d.world.nodes (record is.0 { up = Some (lines.runs boot clock (osd (osd_starting d.world.times is.0 boot clock))) }) }
+      → end ≡ kept_by None → Changes between place (λ node. record node { kept = kept_when node.kept (kept.Boot boot) end }) after
+      → es ≡ d.world.entries ++ entry.Up id boot clock ∷ []
+      → first_step told d (line.Start id clock) ≡ Ok (record d { world = record d.world { times = after.times; nodes = after.nodes; entries = es } })
+  start_done boot between after end es some fits was is_end changes said =
+      let up : Running = lines.runs boot clock (osd (osd_starting d.world.times is.0 boot clock)) in
+      let there : Node = record is.0 { up = Some up } in
+      let at : IsAt between.nodes place there = subst (λ (v : NodesView). IsAt v.nodes place there) (sym was) (at_again d.world.nodes place is.0 there is.1 refl) in
+      let next : Node = record is.0 { kept = is.0.kept ++ kept.Boot boot ∷ []; up = Some up } in
+      let its : after ≡ record { times = d.world.times; nodes = with_node d.world.nodes next } =
+      changes there at
+      ∙ ap (λ (k : Kept). record between { nodes = with_node between.nodes (record there { kept = kept_when is.0.kept (kept.Boot boot) k }) }) is_end
+      ∙ ap (λ (v : NodesView). record v { nodes = with_node v.nodes next }) was
+      ∙ ap (λ (ns : List Node). record { times = d.world.times; nodes = ns }) (twice d.world.nodes there next refl) in
+      starts_is boot some
+      ∙ ap (λ (o : Option Overflow). by_room boot o) fits
+      ∙ ap (λ (i : NodeId). Ok (record d { world = record d.world { nodes = with_node d.world.nodes next; entries = d.world.entries ++ entry.Up i boot clock ∷ [] } })) is.2
+      ∙ ap (λ (v : NodesView). Ok (record d { world = record d.world { times = v.times; nodes = v.nodes; entries = d.world.entries ++ entry.Up id boot clock ∷ [] } })) (sym its)
+      ∙ ap (λ (xs : List Entry). Ok (record d { world = record d.world { times = after.times; nodes = after.nodes; entries = xs } })) (sym said)

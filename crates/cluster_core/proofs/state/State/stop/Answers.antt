@@ -1,0 +1,21 @@
+use Rattle.cluster_runs.specs.Lines.{first_step}
+use Rattle.cluster_runs.specs.NodeSteps.{Doing}
+use Rattle.time_line.specs.declared.line.Line.TheVariants as line
+use Rattle.cluster_core.proofs.FirstSteps.{from_view, stayed, stop_nowhere, stop_down, stop_told}
+use Rattle.std.proofs.Common.{ap, sym, ◌∙◌}
+use Rattle.cluster_core.specs.Standing.{Working}
+use Rattle.cluster_core.proofs.state.State.stop.Goals as goal
+
+pub returns-in_default : goal.returns-in_default
+returns-in_default g c =
+    stayed _ _ (λ (d : Doing). first_step g.H.Hull.overflow d (line.Stop c.args.node)) c.self.view_is (stop_nowhere g.H.Hull.overflow _ c.args.node c.in_default.ensures)
+
+pub returns-in_default-moment : goal.returns-in_default-moment
+returns-in_default-moment g c =
+    stayed _ _ (λ (d : Doing). first_step g.H.Hull.overflow d (line.Stop c.args.node)) c.self.view_is (stop_down g.H.Hull.overflow _ c.args.node c.in-Some.place c.in-Some.ensures (λ node at. sym c.in_default-moment.is ∙ c.moment.ensures.moment node at))
+
+pub returns : goal.returns
+returns g c =
+    from_view _ _ _ (λ (d : Doing). first_step g.H.Hull.overflow d (line.Stop c.args.node)) c.self.view_is
+    (stop_told g.H.Hull.overflow _ c.halt.new.self c.args.node c.in-Some.place c.in-Some.ensures c.in-Some-moment.moment _ (λ node at. sym c.in-Some-moment.is ∙ c.moment.ensures.moment node at) c.in_ok-push.ensures.items
+    (ap (λ (x : Working). x.doing.own) c.self.view_is ∙ c.requires) (c.halt.ensures c.in-Some.ensures.0 c.in-Some.ensures.1))

@@ -1,0 +1,11 @@
+use Rattle.std.proofs.Common.{refl}
+use Rattle.cluster_runs.specs.Lines.{first_step}
+use Rattle.cluster_runs.specs.NodeSteps.{Doing}
+use Rattle.time_line.specs.declared.line.Line.TheVariants as line
+use Rattle.cluster_core.proofs.FirstSteps.{from_view, tick_done}
+use Rattle.cluster_core.proofs.state.State.tick.Goals as goal
+
+pub returns : goal.returns
+returns g c =
+    from_view _ _ _ (λ (d : Doing). first_step g.H.Hull.overflow d (line.Tick c.args.count)) c.self.view_is
+    (tick_done g.H.Hull.overflow _ c.args.count c.tick.new.self _ c.tick.ensures c.in_ok-push.ensures.items, record { rest = refl; lines = refl })

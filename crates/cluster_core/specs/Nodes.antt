@@ -1,0 +1,112 @@
+-- the declared nodes over a hull
+use Rattle.std.specs.Prelude.{ℕ, Bool, true, false, ◌≡◌, ◌<◌, ◌==◌, if◌then◌else◌, Option, Some, None, List, [], ◌∷◌, ◌++◌, ◌+◌, map, length, slice_get, slice_set, slice_index_or}
+use Rattle.std.specs.Option.{IfSome}
+use Rattle.std.specs.List.{AllByRecursion}
+use Rattle.xt_base.specs.TimeSettings.{TimeSettings}
+use Rattle.xt_base.specs.declared.ids.NodeId.{NodeId}
+use Rattle.xt_base.specs.declared.file.Location.{Location}
+use Rattle.xt_base.specs.declared.file.Op.{Op}
+use Rattle.xt_base.specs.declared.event.Call.{Call}
+use Rattle.xt_base.specs.declared.event.Event.{Event}
+use Rattle.xt_base.specs.declared.record.Record.{Record}
+use Rattle.xt_protocol.specs.declared.Turned.{Turned}
+use Rattle.cluster_runs.specs.Steps.{Step}
+use Rattle.cluster_runs.specs.declared.ClientState.{ClientState}
+use Rattle.cluster_runs.specs.World.{World, Node, Running, Core, client, node_in, with_node}
+use Rattle.cluster_runs.specs.NodeSteps.{core_step}
+use Rattle.world_hull.specs.declared.hull.Kept.{Kept}
+use Rattle.world_hull.specs.declared.hull.Kept.TheVariants as ending
+use Rattle.xt_base.specs.declared.TheConstants.{COUNTS}
+use Rattle.node_cores.specs.Hosts.{HostView, node_of}
+use Rattle.node_cores.specs.Turns.{IsOsd, call_step}
+
+-- the times of a world, and its nodes with the records that the hull keeps for them
+pub record NodesView : Type 0 where
+  pub times : TimeSettings
+  pub nodes : List Node
+
+-- a world of these nodes in which nothing else is
+abbrev pub bare : NodesView → World
+bare view = record { times = view.times; nodes = view.nodes; files = []; sent = []; entries = []; lines = [] }
+
+abbrev pub nodes_of : (ℕ → List Record) → List HostView → List Node
+nodes_of kept hosts = map (λ h. node_of (kept h.id.0) h) hosts
+
+-- whether one of them has this id
+abbrev pub has_host : List HostView → ℕ → Bool
+has_host [] id = false
+has_host (h ∷ hs) id = if h.id.0 == id then true else has_host hs id
+
+-- no two have one id
+abbrev pub AreDistinct : List HostView → Type 0
+AreDistinct [] = Unit {0}
+AreDistinct (h ∷ hs) = (has_host hs h.id.0 ≡ false) × AreDistinct hs
+
+-- No two nodes have one id, each steps by the world's times, and only a declared node has records.
+pub record AreHosts (kept : ℕ → List Record) (times : TimeSettings) (hosts : List HostView) : Type 0 where
+  pub distinct : AreDistinct hosts
+  pub timed : AllByRecursion (λ (h : HostView). h.times ≡ times) hosts
+  pub others : (id : ℕ) → has_host hosts id ≡ false → kept id ≡ []
+
+-- ---- one node
+
+-- the node stands there, the first of its id
+pub record IsAt (nodes : List Node) (place : ℕ) (node : Node) : Type 0 where
+  pub inside : place < length nodes
+  pub here : slice_get nodes place ≡ Some node
+  pub found : node_in nodes node.id.0 ≡ Some node
+  pub put : (next : Node) → next.id ≡ node.id → with_node nodes next ≡ slice_set nodes place next
+
+-- where the node of this id stands, if it is there
+abbrev pub IsPlace : List Node → NodeId → Option ℕ → Type 0
+IsPlace nodes id None = node_in nodes id.0 ≡ None
+IsPlace nodes id (Some place) = (node : Node) × IsAt nodes place node × (node.id ≡ id)
+
+-- the node there is changed so
+abbrev pub Changes : NodesView → ℕ → (Node → Node) → NodesView → Type 0
+Changes old place change new = (node : Node) → IsAt old.nodes place node → new ≡ record old { nodes = with_node old.nodes (change node) }
+
+-- how the node there runs is changed so
+abbrev pub ChangesUp : NodesView → ℕ → (Running → Running) → NodesView → Type 0
+ChangesUp old place change new = Changes old place (λ node. record node { up = option_map change node.up }) new
+
+-- ---- steps
+
+-- a running node took this step, which left it this core
+abbrev pub NodeTook : NodesView → Node → Running → Step Core → NodesView → Turned → Type 0
+NodeTook old node running step new turned =
+    (node.up ≡ Some running) × (turned ≡ step.turned)
+    × (new ≡ record old { nodes = with_node old.nodes (record node { up = Some (record running { core = step.state }) }) })
+
+-- an event came to a node; one that doesn't run took no step
+abbrev pub NodeHandles : Event → NodesView → Node → NodesView → Option Turned → Type 0
+NodeHandles happens old node new None = (node.up ≡ None) × (new ≡ old)
+NodeHandles happens old node new (Some turned) =
+    (running : Running) × NodeTook old node running (core_step old.times node running.core running.clock happens) new turned
+
+-- a client made a call on a declared file; an OSD, and a node that doesn't run, made none
+abbrev pub NodeCalls : Call → ℕ → Location → Op → NodesView → Node → NodesView → Option Turned → Type 0
+NodeCalls c number location asked old node new None = ((running : Running) → node.up ≡ Some running → IsOsd running.core) × (new ≡ old)
+NodeCalls c number location asked old node new (Some turned) =
+    (running : Running) × (state : ClientState) × (running.core ≡ client state)
+    × NodeTook old node running
+    (call_step (record { id = node.id; role = node.role; times = old.times; up = node.up }) running.clock state c number location asked) new turned
+
+-- ---- records
+
+-- what a node keeps after the append of a record that ended so
+abbrev pub kept_when : List Record → Record → Kept → List Record
+kept_when kept rec ending.Done = kept ++ rec ∷ []
+kept_when kept rec ending.StoppedKept = kept ++ rec ∷ []
+kept_when kept rec ending.StoppedLost = kept
+
+-- ---- lists of nodes as code has them
+
+-- where a node of this id stands, if one is there
+abbrev pub IsHostPlace : List HostView → NodeId → Option ℕ → Type 0
+IsHostPlace hosts id None = has_host hosts id.0 ≡ false
+IsHostPlace hosts id (Some place) = (place < length hosts) × ((d : HostView) → (slice_index_or hosts place d).id ≡ id)
+
+-- no running clock would reach the end behind so many milliseconds
+abbrev pub MayTick : ℕ → HostView → Type 0
+MayTick count host = IfSome host.up (λ running. running.clock + count < COUNTS)

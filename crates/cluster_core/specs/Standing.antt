@@ -1,0 +1,174 @@
+-- a world that is run by code, and what a line makes of it
+use Rattle.std.specs.Prelude.{ℕ, Bool, true, false, ◌≡◌, ◌≤◌, ◌-◌, ◌⊎◌, ◌∷◌, ◌++◌, [], List, Option, Some, None, Result, Ok, Err}
+use Rattle.xt_base.specs.declared.TheConstants.{COUNTS}
+use Rattle.xt_base.specs.declared.status.Limited.{Limited}
+use Rattle.xt_base.specs.declared.status.Limited.TheVariants as limited
+use Rattle.xt_base.specs.TimeSettings.{AreTimes}
+use Rattle.time_line.specs.declared.TheConstants.{LINES, LINE_BYTES}
+use Rattle.time_line.specs.declared.line.Line.{Line}
+use Rattle.time_line.specs.declared.line.Line.TheVariants as line
+use Rattle.cluster_runs.specs.World.{World}
+use Rattle.cluster_runs.specs.Rules.{NODES, refusal}
+use Rattle.cluster_runs.specs.NodeSteps.{Room, Cause, came_to, has_no_room, Doing, MESSAGES, MESSAGE_BYTES}
+use Rattle.cluster_runs.specs.Lines.{Next, finished, goes_on, ends, begins, steps, so_far, enough, done}
+use Rattle.time_line.specs.Bounds.{AreLines, FitsLine}
+use Rattle.cluster_runs.specs.Runs.{with_line, run_of, IsPartOf}
+use Rattle.cluster_fits.specs.Fits.{FitsAt}
+use Rattle.world_hull.specs.declared.errors.WorldErr.{WorldErr}
+use Rattle.world_hull.specs.declared.errors.WorldErr.TheVariants as error
+
+-- a world, and whether a line of it ended early: then it takes no line again
+pub record Standing : Type 0 where
+  pub world : World
+  pub ended : Bool
+
+-- a line at work, that line where it isn't among the world's lines yet, and whether one ended early
+pub record Working : Type 0 where
+  pub doing : Doing
+  pub begun : List Line
+  pub ended : Bool
+
+-- a world between two lines
+abbrev pub resting : World → Working
+resting w = record { doing = record { world = w; own = []; left = 0 }; begun = []; ended = false }
+
+-- Until a line ends early, the world is the run of its lines, each of which is within its limits.
+abbrev pub IsRunSoFar : Room → Standing → Type 0
+IsRunSoFar room s = s.ended ≡ false → (s.world ≡ run_of room s.world.lines) × AreLines s.world.lines
+
+-- the value that a limited count may not pass
+abbrev pub limit_of : Limited → ℕ
+limit_of limited.Lines = LINES
+limit_of limited.Line = LINE_BYTES
+limit_of limited.Nodes = NODES
+limit_of limited.Messages = MESSAGES
+limit_of limited.Bytes = MESSAGE_BYTES
+limit_of limited.Boots = COUNTS - 1
+limit_of limited.Numbers = COUNTS - 1
+
+-- ---- how steps end
+
+-- the entries and the lines are as before
+pub record IsUntold (old new : Working) : Type 0 where
+  pub entries : new.doing.world.entries ≡ old.doing.world.entries
+  pub lines : new.doing.world.lines ≡ old.doing.world.lines
+  pub begun : new.begun ≡ old.begun
+  pub ended : new.ended ≡ old.ended
+
+-- an error tells of this cause; want of memory may come for any, and no rule is broken within a line
+abbrev pub Tells : Option Cause → WorldErr → Type 0
+Tells cause (error.Illegal rule) = ⊥
+Tells cause (error.Limit what limit) = (cause ≡ Some (came_to what)) × (limit ≡ limit_of what)
+Tells cause (error.Full need limit) = cause ≡ Some (has_no_room (record { need = need; limit = limit }))
+Tells cause error.OutOfMemory = Unit {0}
+
+-- why a step isn't finished, if it isn't
+abbrev pub cause_of : Result Doing Cause → Option Cause
+cause_of (Ok d) = None
+cause_of (Err cause) = Some cause
+
+-- the line at work went on, and nothing else changed
+pub record WentOn (old new : Working) : Type 0 where
+  pub rest : new ≡ record old { doing = new.doing }
+  pub lines : new.doing.world.lines ≡ old.doing.world.lines
+
+-- The step is done; or it isn't finished, and nothing is told of it.
+abbrev pub IsStepped : {T : Type 0} → Working → Result Doing Cause → Working → Result T WorldErr → Type 0
+IsStepped old stepped new (Ok value) = (stepped ≡ Ok new.doing) × WentOn old new
+IsStepped old stepped new (Err e) = Tells (cause_of stepped) e × IsUntold old new
+
+-- the line ended early in this world, and an error tells why
+abbrev pub TellsEnd : Next → World → WorldErr → Type 0
+TellsEnd next w (error.Illegal rule) = ⊥
+TellsEnd next w (error.Limit what limit) = (next ≡ ends (came_to what) w) × (limit ≡ limit_of what)
+TellsEnd next w (error.Full need limit) = next ≡ ends (has_no_room (record { need = need; limit = limit })) w
+TellsEnd next w error.OutOfMemory = Unit {0}
+
+-- The line at work has come so far by one step: it is done, or goes on, or ended early.
+abbrev pub IsTurned : Working → Next → Working → Result Bool WorldErr → Type 0
+IsTurned old next new (Ok true) = (next ≡ finished new.doing.world) × WentOn old new
+IsTurned old next new (Ok false) = (next ≡ goes_on new.doing) × WentOn old new
+IsTurned old next new (Err e) = TellsEnd next old.doing.world e × IsUntold old new
+
+-- ---- how a line ends
+
+-- The entries are those behind some of these steps, and the lines are as before.
+pub record IsLeftIn (old new : Working) (part : World) : Type 0 where
+  pub entries : new.doing.world.entries ≡ part.entries
+  pub lines : new.doing.world.lines ≡ old.doing.world.lines
+  pub begun : new.begun ≡ old.begun
+  pub ended : new.ended ≡ old.ended
+
+-- A line at this place came to its end by a limit or a full journal; or memory ran out behind so many more steps.
+abbrev pub HasEnded : Room → Working → ℕ → Next → Working → WorldErr → Type 0
+HasEnded room old count next new (error.Illegal rule) = ⊥
+HasEnded room old count next new (error.Limit what limit) =
+    (part : World) × (steps count room next ≡ ends (came_to what) part) × (limit ≡ limit_of what) × IsLeftIn old new part
+HasEnded room old count next new (error.Full need limit) =
+    (part : World) × (steps count room next ≡ ends (has_no_room (record { need = need; limit = limit })) part) × IsLeftIn old new part
+HasEnded room old count next new error.OutOfMemory = (k : ℕ) × (k ≤ count) × IsLeftIn old new (so_far (steps k room next))
+
+-- A line at this place came so far by so many steps.
+abbrev pub HasTurned : Room → Working → ℕ → Next → Working → Result Bool WorldErr → Type 0
+HasTurned room old count next new (Ok true) = (steps count room next ≡ finished new.doing.world) × WentOn old new
+HasTurned room old count next new (Ok false) = (steps count room next ≡ goes_on new.doing) × WentOn old new
+HasTurned room old count next new (Err e) = HasEnded room old count next new e
+
+-- each of the steps that may come is made in a world that fits
+abbrev pub AllFit : Room → Next → Type 0
+AllFit room next = (k : ℕ) → FitsAt (steps k room next)
+
+-- how many deliveries a line begins with
+abbrev pub left_of : Line → ℕ
+left_of (line.Settle count) = count
+left_of _ = 0
+
+-- a line within its limits, where it may stand: the times come before the first node
+abbrev pub MayStand : World → Line → Type 0
+MayStand w (line.Times lease drift) = AreTimes lease drift × (w.nodes ≡ [])
+MayStand w l = FitsLine l
+
+-- a line at its begin
+abbrev pub begun_with : World → Line → Doing
+begun_with w l = record { world = w; own = []; left = left_of l }
+
+-- A line of this world came to its end; or it went on for so many steps, and isn't done.
+abbrev pub HasRun : Room → Working → Line → Working → Result Bool WorldErr → Type 0
+HasRun room old l new (Ok true) = (done room old.doing.world l ≡ finished new.doing.world) × WentOn old new
+HasRun room old l new (Ok false) = (k : ℕ) × (steps k room (begins old.doing.world l) ≡ goes_on new.doing) × WentOn old new
+HasRun room old l new (Err e) = HasEnded room old (enough old.doing.world l) (begins old.doing.world l) new e
+
+-- the line isn't taken up; or it is the last line, behind the entries of the steps that it finished, if any
+abbrev pub IsLeft : Room → World → Line → World → Type 0
+IsLeft room old l new =
+    ((new.entries ≡ old.entries) × (new.lines ≡ old.lines))
+    ⊎ ((new.lines ≡ old.lines ++ l ∷ []) × ((new.entries ≡ old.entries) ⊎ ((part : World) × IsPartOf room old l part × (new.entries ≡ part.entries))))
+
+-- the line came to its end by this cause: the entries are those of the steps that it finished, and it is the last line
+pub record CameTo (room : Room) (old : World) (l : Line) (cause : Cause) (new : World) : Type 0 where
+  pub part : World
+  pub ended : done room old l ≡ ends cause part
+  pub entries : new.entries ≡ part.entries
+  pub lines : new.lines ≡ old.lines ++ l ∷ []
+
+-- Why a line isn't done: it breaks a rule, and nothing has changed; it came to a limit; a record of it had no room; or memory
+-- ran out.
+abbrev pub IsRefused : Room → Standing → Line → Standing → WorldErr → Type 0
+IsRefused room old l new (error.Illegal rule) = (refusal old.world l ≡ Some rule) × (new ≡ old)
+IsRefused room old l new (error.Limit what limit) =
+    (refusal old.world l ≡ None) × CameTo room old.world l (came_to what) new.world × (limit ≡ limit_of what) × (new.ended ≡ true)
+IsRefused room old l new (error.Full need limit) =
+    (refusal old.world l ≡ None) × CameTo room old.world l (has_no_room (record { need = need; limit = limit })) new.world × (new.ended ≡ true)
+IsRefused room old l new error.OutOfMemory = (refusal old.world l ≡ None) × IsLeft room old.world l new.world × (new.ended ≡ true)
+
+-- The line is done: it broke no rule, and the world is the one after it.
+pub record IsDone (room : Room) (old : Standing) (l : Line) (new : Standing) : Type 0 where
+  pub legal : refusal old.world l ≡ None
+  pub whole : World
+  pub finished_in : done room old.world l ≡ finished whole
+  pub after_it : new ≡ record { world = with_line whole l; ended = false }
+
+-- What `apply` does with a line.
+abbrev pub IsApplied : {T : Type 0} → Room → Standing → Line → Standing → Result T WorldErr → Type 0
+IsApplied room old l new (Ok value) = IsDone room old l new
+IsApplied room old l new (Err e) = IsRefused room old l new e

@@ -1,0 +1,71 @@
+//! The lines of a trace that the marks of a step give.
+ghost use Rattle.std.specs.Prelude.{◌≡◌, map, IfOk};
+ghost use Rattle.cluster_runs.specs.NodeSteps.{entry_of};
+
+use time_line::Entry;
+use std::alloc::Global;
+use xt_base::{Mark, Marks, NodeId, OutOfMemory};
+
+/// The line of the trace for a mark of a node.
+fn entry_of(node: NodeId, mark: Mark) -> Entry
+    ensures { result ≡ entry_of node mark }
+{
+    match mark {
+        Mark::File { file, location } => Entry::File {
+            number: file,
+            location,
+        },
+        Mark::Begin { number, call } => Entry::Begin {
+            client: node,
+            number,
+            call,
+        },
+        Mark::Held { file, end } => Entry::Held { node, file, end },
+        Mark::Active { file, count, id } => Entry::Active {
+            node,
+            file,
+            count,
+            id,
+        },
+        Mark::Issue { file, count, id } => Entry::Issue {
+            node,
+            file,
+            count,
+            id,
+        },
+        Mark::Commit { file, count, id } => Entry::Commit {
+            node,
+            file,
+            count,
+            id,
+        },
+        Mark::Answer {
+            file,
+            id,
+            count,
+            bytes,
+        } => Entry::Answer {
+            node,
+            file,
+            id,
+            count,
+            bytes,
+        },
+        Mark::Done { number, outcome } => Entry::Done {
+            client: node,
+            number,
+            outcome,
+        },
+    }
+}
+
+/// The lines of the trace for the marks of a node.
+pub fn entries_of(alloc: Global, node: NodeId, marks: Marks) -> Result<Vec<Entry>, OutOfMemory>
+    ensures { IfOk result (λ entries. entries.items ≡ map (entry_of node) marks) }
+{
+    let mut entries = Vec::new(alloc);
+    for mark in marks.items {
+        entries.push(entry_of(node, mark))?;
+    }
+    Ok(entries)
+}
