@@ -2,7 +2,7 @@
 # The two ways of examples/run.sh give the same trace, and each says in one line on standard error which it is.
 set -u
 here=$(cd "$(dirname "$0")" && pwd)
-example=stop-and-restart
+example=found-write
 wanted=$here/../examples/$example.trace
 failed=0
 room=$(mktemp -d)

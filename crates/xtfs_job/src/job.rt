@@ -38,8 +38,8 @@ pub fn run<S: Source, K: Sink>(alloc: Global, words: &Words, src: &mut S, out: &
         IsFinished (K.held out.old) (K.held out.new) status.Usage result }
     ensures untouched { words.now ≢ replay_words → src.new ≡ src.old }
 
-    // The trace is the run of the lines that were taken, over journals of a limited length; what it tells of whole files is as
-    // they stand, and fresh.
+    // The trace is the run of the lines that were taken, over journals of a limited length, and it is safe for each replicated
+    // file: one holder, acts of the holder, one order, each write once, answers that show the file, fresh ends.
     ensures replay { words.now ≡ replay_words →
         IsReplay journal_overflow (S.left src.old) (S.left src.new) (K.held out.old)
         (K.held out.new) result }

@@ -1,8 +1,7 @@
 //! What the program does, over any source and any sink.
 //!
-//! `run` promises that what is put is the text of a run of the lines that were taken, that every answer in it shows its
-//! file as it stands, that acknowledgements are fresh, and when each status comes. A fault of the source or the sink ends
-//! it, and its status tells of no other.
+//! `run` promises that what is put is the text of a run of the lines that were taken, that its trace is safe for each
+//! replicated file, and when each status comes. A fault of the source or the sink ends it, and its status tells of no other.
 #![tactic(auto)]
 
 mod job;
