@@ -173,8 +173,8 @@ good_limit : (room : Room) (w : World) (rest : List Line) (taken behind : List �
     → AreOfSchedule (length w.lines) rest → AreDoneFrom room w rest → length w.lines + length rest ≤ LINES → schedule_text rest ≡ taken ++ behind
     → EndsWith room w taken (Some behind) new (status.Limit what limit)
     → ⊥
-good_limit room w rest taken behind new what limit p done few e (inl lines) = no_more (length w.lines) rest taken behind lines.1 few e lines.2
-good_limit room w rest taken behind new what limit p done few e (inr (inl unread)) = unread_long (length w.lines) rest taken behind what limit p e unread.0.1
+good_limit room w rest taken behind new what limit p legal few e (inl lines) = no_more (length w.lines) rest taken behind lines.1 few e lines.2
+good_limit room w rest taken behind new what limit p legal few e (inr (inl unread)) = unread_long (length w.lines) rest taken behind what limit p e unread.0.1
 good_limit room w rest taken behind new what limit p legal few e (inr (inr (line, begun, early, limited))) =
     not_early room w line (came_to what) new (taken_done room w rest line taken behind p legal e begun.0.1 begun.0.2) early
 
@@ -182,20 +182,20 @@ good_end : (room : Room) (w : World) (rest : List Line) (taken behind : List ℕ
     → AreOfSchedule (length w.lines) rest → AreDoneFrom room w rest → length w.lines + length rest ≤ LINES → schedule_text rest ≡ taken ++ behind
     → EndsWith room w taken (Some behind) new s
     → IsExcused s
-good_end room w rest taken behind new status.Done p done few e ends = tt
-good_end room w rest taken behind new status.OutOfMemory p done few e ends = tt
-good_end room w rest taken behind new (status.SourceFault count) p done few e ends = tt
+good_end room w rest taken behind new status.Done p legal few e ending = tt
+good_end room w rest taken behind new status.OutOfMemory p legal few e ending = tt
+good_end room w rest taken behind new (status.SourceFault count) p legal few e ending = tt
 good_end room w rest taken behind new (status.JournalFull need limit) p legal few e (line, begun, early) =
     not_early room w line (has_no_room (record { need = need; limit = limit })) new (taken_done room w rest line taken behind p legal e begun.0.1 begun.0.2) early
-good_end room w rest taken behind new (status.Malformed number) p done few e ends =
-    let stops = ends.0.1 in no_malformed (length w.lines) rest taken behind stops.0 p e stops.1 stops.4
-good_end room w rest taken behind new (status.Illegal number rule) p done few e (line, is_taken, broken, counted, none) =
-    let whole = taken_done room w rest line taken behind p done e is_taken.1 is_taken.2 in
+good_end room w rest taken behind new (status.Malformed number) p legal few e ending =
+    let stops = ending.0.1 in no_malformed (length w.lines) rest taken behind stops.0 p e stops.1 stops.4
+good_end room w rest taken behind new (status.Illegal number rule) p legal few e (line, is_taken, broken, counted, none) =
+    let whole = taken_done room w rest line taken behind p legal e is_taken.1 is_taken.2 in
     let legal : refusal w line ≡ None = whole.0 in
     let refused : refusal w line ≡ Some rule = broken in
     cc
-good_end room w rest taken behind new (status.Limit what limit) p done few e ends = good_limit room w rest taken behind new what limit p done few e ends
-good_end room w rest taken behind new _ p done few e ends = absurd ends
+good_end room w rest taken behind new (status.Limit what limit) p legal few e ending = good_limit room w rest taken behind new what limit p legal few e ending
+good_end room w rest taken behind new _ p legal few e ending = absurd ending
 
 -- nothing is left of a schedule that was taken whole
 none_left : (rest : List Line) → schedule_text rest ≡ [] → rest ≡ []

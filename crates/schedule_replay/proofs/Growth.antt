@@ -17,6 +17,7 @@ use Rattle.xt_protocol.specs.declared.Turned.{Turned}
 use Rattle.time_line.specs.declared.line.Line.{Line}
 use Rattle.time_line.specs.declared.line.Line.TheVariants as line
 use Rattle.time_line.specs.declared.entry.Entry.{Entry}
+use Rattle.time_line.specs.declared.entry.Entry.TheVariants as entry
 use Rattle.time_line.specs.declared.entry.Halt.{Halt}
 use Rattle.time_line.specs.declared.entry.Halt.TheVariants as halt
 use Rattle.cluster_runs.specs.declared.ClientState.{ClientState}
@@ -149,13 +150,16 @@ stops_grow w (Some node) = up node.up
     up None = stays w
     up (Some running) = halted_grows w node running halt.Idle
 
+-- a node that runs is changed so
+abbrev changed_up : World → Node → (Running → Running) → Option Running → World
+changed_up w node change o =
+    elim o [ None ↦ w | Some running ↦ record w { nodes = with_node w.nodes (record node { up = Some (change running) }) } ]
+
 changed_as_before : (w : World) (node : Option Node) (change : Running → Running) → ((changed w node change).lines ≡ w.lines) × ((changed w node change).entries ≡ w.entries)
 changed_as_before w None change = (refl, refl)
 changed_as_before w (Some node) change = up node.up
   where
-    up : (o : Option Running)
-        → ((elim o [ None ↦ w | Some running ↦ record w { nodes = with_node w.nodes (record node { up = Some (change running) }) } ]).lines ≡ w.lines)
-        × ((elim o [ None ↦ w | Some running ↦ record w { nodes = with_node w.nodes (record node { up = Some (change running) }) } ]).entries ≡ w.entries)
+    up : (o : Option Running) → ((changed_up w node change o).lines ≡ w.lines) × ((changed_up w node change o).entries ≡ w.entries)
     up None = (refl, refl)
     up (Some running) = (refl, refl)
 
@@ -193,7 +197,7 @@ first_grows room d (line.Crash node k fill) = changed_grows d.world (node_in d.w
 first_grows room d (line.Cut node count) = changed_grows d.world (node_in d.world.nodes node.0) (cuts count)
 first_grows room d (line.Clock node clock) =
     let before = changed_as_before d.world (node_in d.world.nodes node.0) (reads_clock clock) in
-    record { same = before.0; more = _; entries = ap (λ (es : List Entry). es ++ _) before.1 }
+    record { same = before.0; more = entry.Clock node clock ∷ []; entries = ap (λ (es : List Entry). es ++ entry.Clock node clock ∷ []) before.1 }
 first_grows room d (line.Tick count) = record { same = refl; more = _; entries = refl }
 first_grows room d (line.Wake node) = event_grows room d node event.Wake
 first_grows room d (line.Call id c) = calls_grow room d (node_in d.world.nodes id.0) c

@@ -34,7 +34,7 @@ one_more lines l all new =
 -- behind the first line none sets the times
 sets_none : (first : Bool) (l : Line) → first ≡ false → IsForm first l → sets_times l ≡ false
 sets_none true l later form = absurd cc
-sets_none false (line.Times lease drift) later form = absurd form
+sets_none false (line.Times lease drift) later form = absurd (let never : false ≡ true = form in cc)
 sets_none false _ later form = refl
 
 not_first : (before : ℕ) → 1 ≤ before → (before == 0) ≡ false

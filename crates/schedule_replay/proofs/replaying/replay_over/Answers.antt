@@ -38,5 +38,5 @@ pub returns-clause-cause : goal.returns-clause-cause
 returns-clause-cause g c =
     moved_cause _ _ _ _ _ _ c.past_last.result c.loop-line.invariant.source c.loop-line.invariant.sink c.past_last.ensures.cause
 
-pub replay_line-requires-run : goal.replay_line-requires-run
-replay_line-requires-run g c = record { same = c.loop-line.invariant.so_far.same; formed = c.loop-line.invariant.so_far.run.formed }
+pub replay_line-requires-clause-run : goal.replay_line-requires-clause-run
+replay_line-requires-clause-run g c = record { same = c.loop-line.invariant.so_far.same; formed = c.loop-line.invariant.so_far.run.formed }
