@@ -191,7 +191,7 @@ good_end room w rest taken behind new (status.Malformed number) p legal few e en
     let stops = ending.0.1 in no_malformed (length w.lines) rest taken behind stops.0 p e stops.1 stops.4
 good_end room w rest taken behind new (status.Illegal number rule) p legal few e (line, is_taken, broken, counted, none) =
     let whole = taken_done room w rest line taken behind p legal e is_taken.1 is_taken.2 in
-    let legal : refusal w line ≡ None = whole.0 in
+    let allowed : refusal w line ≡ None = whole.0 in
     let refused : refusal w line ≡ Some rule = broken in
     cc
 good_end room w rest taken behind new (status.Limit what limit) p legal few e ending = good_limit room w rest taken behind new what limit p legal few e ending
