@@ -1,5 +1,5 @@
 -- the counts of faults where a line is done or refused
-use Rattle.std.proofs.Common.{◌≡◌, ◌∙◌, ℕ, refl, sym, subst, inl}
+use Rattle.std.proofs.Common.{◌≡◌, ℕ, refl, sym, subst, inl}
 use Rattle.xt_base.specs.declared.status.Status.{Status}
 use Rattle.world_hull.specs.declared.errors.WorldErr.{WorldErr}
 use Rattle.world_hull.specs.declared.errors.WorldErr.TheVariants as error

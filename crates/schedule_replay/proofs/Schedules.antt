@@ -1,17 +1,17 @@
 -- lines of a schedule are within their limits, and what a line makes of a run of such lines is safe
-use Rattle.std.proofs.Common.{◌≡◌, ◌∙◌, ℕ, suc, Bool, true, false, ◌==◌, ◌+◌, ◌≤◌, ◌⊎◌, Result, Ok, Err, Option, None, List, [], ◌∷◌, ◌++◌, length, refl, sym, ap, subst, inl, inr, append-nil, arith}
+use Rattle.std.proofs.Common.{◌≡◌, ℕ, suc, Bool, true, false, ◌==◌, ◌+◌, ◌≤◌, ◌⊎◌, Result, Ok, Err, None, List, [], ◌∷◌, ◌++◌, length, refl, sym, ap, subst, inl, inr, append-nil, arith}
 use Rattle.std.specs.List.{AllByRecursion}
 use Rattle.std.proofs.lemmas.Bool.Decides.{nat_tests}
 use Rattle.time_line.specs.declared.line.Line.{Line}
 use Rattle.time_line.specs.declared.line.Line.TheVariants as line
 use Rattle.time_line.specs.declared.entry.Entry.{Entry}
-use Rattle.time_line.specs.Bounds.{sets_times, FitsLine, FitsLater, AreLines}
+use Rattle.time_line.specs.Bounds.{sets_times, FitsLater, AreLines}
 use Rattle.time_line.specs.Verdicts.{IsSafe}
 use Rattle.schedule_text.specs.LineText.{IsForm, IsLine}
 use Rattle.cluster_runs.specs.World.{World}
 use Rattle.cluster_runs.specs.Rules.{refusal}
 use Rattle.cluster_runs.specs.NodeSteps.{Room, Cause}
-use Rattle.cluster_runs.specs.Lines.{Next, finished, ends, so_far, done}
+use Rattle.cluster_runs.specs.Lines.{finished, so_far}
 use Rattle.cluster_runs.specs.Runs.{run_of, IsPartOf}
 use Rattle.cluster_safety.proofs.Runs.{runs_safe, parts_safe}
 use Rattle.world_hull.specs.declared.errors.WorldErr.{WorldErr}
