@@ -19,7 +19,8 @@ use Rattle.xt_protocol.specs.Folds.{body_of, held_after, row_in, with_row, new_r
 use Rattle.version_lists.specs.Rising.{held_rise}
 use Rattle.version_lists.proofs.HeadLimits.{held_still_rise}
 use Rattle.record_folds.proofs.FileRows.{rise-with_row}
-use Rattle.osd_core.specs.Slots.{RowRises, AreRows}
+use Rattle.osd_files.specs.Whole.{RowRises}
+use Rattle.osd_core.specs.Slots.{AreRows}
 use Rattle.cluster_fits.specs.Fits.{FitsKept}
 
 new_fits : FitsHead new_head

@@ -2,8 +2,8 @@
 ghost use Rattle.std.specs.Prelude.{◌≡◌, map, IfOk};
 ghost use Rattle.cluster_runs.specs.NodeSteps.{entry_of};
 
-use time_line::Entry;
 use std::alloc::Global;
+use time_line::Entry;
 use xt_base::{Mark, Marks, NodeId, OutOfMemory};
 
 /// The line of the trace for a mark of a node.

@@ -3,8 +3,8 @@ ghost use Rattle.std.specs.Prelude.{◌≡◌, IfOk};
 ghost use Rattle.cluster_runs.specs.Lines.{events_of};
 ghost use Rattle.cluster_core.specs.Standing.{left_of};
 
-use time_line::Line;
 use std::alloc::Global;
+use time_line::Line;
 use xt_base::{Copies, OutOfMemory};
 
 /// How many events a line has from outside.

@@ -16,13 +16,12 @@ ghost use Rattle.world_tables.specs.Limits.{limit_passed};
 use crate::entries::entries_of;
 use crate::lines::{copy_of, events_of, left_of};
 use crate::nodes::Nodes;
-use time_line::{Entry, Line};
 use disk_model::Stop;
 use node_cores::{Moment, called_file, operation_of};
 use std::alloc::Global;
 use std::collections::VecDeque;
 use std::marker::Model;
-use time_line::{Halt, LINE_BYTES, LINES};
+use time_line::{Entry, Halt, LINE_BYTES, LINES, Line};
 use world_hull::{Hull, Kept, WorldErr};
 use world_tables::{DeclaredFiles, MESSAGE_BYTES, MESSAGES, SentMessages};
 use xt_base::{

@@ -5,9 +5,9 @@ ghost use Rattle.cluster_fits.specs.Fits.{DoStepsFit};
 ghost use Rattle.cluster_core.specs.Standing.{IsApplied};
 
 use crate::state::State;
-use time_line::{Entry, Line};
 use std::alloc::Global;
 use std::marker::Model;
+use time_line::{Entry, Line};
 use world_hull::{Hull, WorldErr};
 
 /// A world of nodes over a hull. It is the run of its lines for as long as none ended early.

@@ -18,7 +18,7 @@ use Rattle.cluster_runs.specs.Rules.{if_so, busy, has_call}
 use Rattle.time_line.specs.Bounds.{FitsCall}
 use Rattle.world_leases.specs.View.{messages}
 use Rattle.world_leases.proofs.Tables.{node_in-id}
-use Rattle.cluster_fits.specs.Fits.{FitsRunning, FitsContent, FitsComing, FitsCalling, FitsDelivery, FitsWorld, Comes}
+use Rattle.cluster_fits.specs.Fits.{FitsKept, FitsRunning, FitsNode, FitsContent, FitsComing, FitsCalling, FitsDelivery, FitsWorld, Comes}
 
 each : {A : Type 0} (P : A → Type 0) (xs : List A) (x : A) → AllByRecursion P xs → Has x xs → P x
 each P [] x all has = absurd (has)
@@ -92,3 +92,26 @@ calling w own id k fits bound free = λ node running is up. (
     not_so : (broken : Bool) (rule : Rule) → if_so broken rule ≡ None → broken ≡ false
     not_so true rule e = absurd (cc)
     not_so false rule e = refl
+
+-- with no message of a node to itself
+pub none_queued : (w : World) (own : List Msg) → FitsWorld w own → FitsWorld w []
+none_queued w own fits = record {
+  nodes = fits.nodes;
+  sent = fits.sent;
+  queued = tt;
+  handled = λ node running happens found up comes. fits.handled node running happens found up (more happens node.id comes);
+  called = fits.called;
+}
+  where
+    more : (happens : Event) (id : NodeId) → Comes w [] id happens → Comes w own id happens
+    more (event.Deliver msg) id is = (is.0, behind own msg (messages w) is.1)
+    more event.Wake id is = tt
+    more (event.Call c) id is = is
+
+-- the first message of a node to itself
+pub first_queued : (w : World) (own rest : List Msg) (m : Msg) → FitsWorld w own → own ≡ m ∷ rest → FitsComing w m.to (event.Deliver m)
+first_queued w own rest m fits is = coming w own m.to (event.Deliver m) fits (refl, subst (λ (ms : List Msg). Has m (ms ++ messages w)) (sym is) (inl refl))
+
+-- what a node keeps
+pub kept_fits : (w : World) (own : List Msg) (id : NodeId) (node : Node) → FitsWorld w own → node_in w.nodes id.0 ≡ Some node → FitsKept node.kept
+kept_fits w own id node fits is = (fits.nodes node (found_by w id node is)).records
