@@ -1,0 +1,39 @@
+-- the head after an update still rises, and it is the one that the record makes, whatever else is kept of the file
+use Rattle.std.proofs.Common.{◌≡◌, ◌==◌, true, List, refl, ap}
+use Rattle.std.specs.Prelude.{Option, Some, None}
+use Rattle.xt_base.specs.declared.file.ObjectVersion.{ObjectVersion}
+use Rattle.xt_base.specs.declared.file.FileHead.{FileHead}
+use Rattle.xt_base.specs.declared.file.Update.{Update}
+use Rattle.xt_base.specs.declared.record.Record.{Record}
+use Rattle.xt_base.specs.declared.record.Record.TheVariants as kept
+use Rattle.xt_base.specs.declared.record.FileRow.{FileRow}
+use Rattle.xt_base.specs.declared.TheConstants.{NO_OBJECT}
+use Rattle.xt_base.specs.Limits.{rise}
+use Rattle.xt_protocol.specs.Heads.{head_after, versions_below}
+use Rattle.osd_rows.specs.ReplicaRows.{kept_after}
+use Rattle.version_lists.specs.Rising.{HeadRises}
+use Rattle.version_lists.proofs.HeadLimits.{when, objects_of, below_still_rise, versions_still_rise, sessions_still_rise}
+use Rattle.osd_plain.specs.Rows.{PlainFile, plain_after}
+
+pub still_rises : (head : FileHead) (update : Update) → HeadRises head → HeadRises (head_after head update)
+still_rises head update up =
+    let below = versions_below head.versions update.drop_from in
+    let below_up : rise (objects_of below) ≡ true = below_still_rise head.versions update.drop_from up.versions in
+    record {
+      versions =
+          when (λ (vs : List ObjectVersion). rise (objects_of vs) ≡ true) (update.object == NO_OBJECT) _ _ (λ none. below_up)
+          (λ some. versions_still_rise below update.object update.stamp below_up);
+      sessions =
+          sessions_still_rise head.sessions
+          (record { client = update.id.client; number = update.id.number; count = update.stamp.count }) up.sessions;
+    }
+
+pub is_of_record : (p : PlainFile) (row : FileRow) (rec : Option Record) → row.head ≡ p.head → (kept_after row rec).head ≡ (plain_after p rec).head
+is_of_record p row None same = same
+is_of_record p row (Some (kept.Promise file epoch)) same = ap (λ (h : FileHead). record h { promised = epoch }) same
+is_of_record p row (Some (kept.Update file update)) same = ap (λ (h : FileHead). head_after h update) same
+is_of_record p row (Some (kept.Stage file object version bytes)) same = same
+is_of_record p row (Some (kept.Head file head)) same = refl
+is_of_record p row (Some (kept.View file location)) same = same
+is_of_record p row (Some (kept.Boot boot)) same = same
+is_of_record p row (Some (kept.Meta from number now nodes request)) same = same

@@ -1,0 +1,32 @@
+//! A striped file at an OSD: each member keeps the objects that it owns and answers for them alone, without a lease.
+//!
+//! `Plain::step` equals the rows of the definitions in `specs/` (`plain_step`): list or range refused, read served, and a write or
+//! a truncation by how it stands to the head. What is kept changes as the step's record says. No head is copied, and no body but
+//! into a record or a reply. Where memory runs out or a body can't be read, the file is as it was.
+#![tactic(auto)]
+
+mod plain;
+mod serving;
+
+ghost use Rattle.std.specs.Prelude.{◌≡◌, Option};
+ghost use Rattle.xt_base.specs.declared.record.Record.{Record};
+ghost use Rattle.xt_base.specs.declared.record.FileRow.{FileRow};
+ghost use Rattle.osd_rows.specs.ReplicaRows.{kept_after};
+ghost use Rattle.osd_plain.specs.Rows.{PlainFile, plain_after};
+
+pub use plain::Plain;
+
+use xt_base::{Record, Reply};
+
+/// What a step gives: at most one record, which is kept first, and then at most one reply.
+#[derive(Drop)]
+pub struct PlainActed {
+    pub rec: Option<Record>,
+    pub reply: Option<Reply>,
+}
+
+/// The head that a step leaves is the one that its record makes of the head before it, whatever else is kept of the file: so a
+/// member that starts again from its records goes on where it was.
+pub fn head_is_of_record()
+    ensures { (p : PlainFile) (row : FileRow) (rec : Option Record) → row.head ≡ p.head → (kept_after row rec).head ≡ (plain_after p rec).head }
+{}
