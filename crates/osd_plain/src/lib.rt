@@ -15,7 +15,6 @@ ghost use Rattle.osd_rows.specs.ReplicaRows.{kept_after};
 ghost use Rattle.osd_plain.specs.Rows.{PlainFile, plain_after};
 
 pub use plain::Plain;
-
 use xt_base::{Record, Reply};
 
 /// What a step gives: at most one record, which is kept first, and then at most one reply.
