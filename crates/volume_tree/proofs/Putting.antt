@@ -39,7 +39,7 @@ equal_from_is_eq Less h = absurd (cc)
 equal_from_is_eq Equal h = refl
 equal_from_is_eq Greater h = absurd (cc)
 
-cmp_same : (n : Name) → name_cmp n n ≡ Equal
+pub cmp_same : (n : Name) → name_cmp n n ≡ Equal
 cmp_same n = equal_from_is_eq (name_cmp n n) (is_eq-slice_cmp n n ∙ name_same n)
 
 flip_less : (a b : Name) → name_cmp a b ≡ Less → name_cmp b a ≡ Greater
@@ -146,8 +146,7 @@ pub place_here : {A : Type 0} (entry : Entry) (kids : List (String A × List Row
 place_here entry kids rows path n [] view is sorted gone place = refl
 place_here entry kids rows path n (m ∷ ms) view is sorted gone place =
     let here = rw (← view, is) at place in
-    let none = rw (find_inside n (parent_of (m ∷ ms)) kids sorted, gone) at here in
-    absurd (cc)
+    absurd (rw (find_inside n (parent_of (m ∷ ms)) kids sorted, gone) at here)
 
 -- the whole list, where the row went into a subtree
 pub put_there : {A : Type 0} (entry : Entry) (kids later : List (String A × List Row)) (rows sub made : List Row) (path : Path) (n : Name) (ns : Path) (e : Entry) → flat entry kids ≡ rows → path ≡ n ∷ ns → AreSorted kids → Some sub ≡ lookup (key_test n) kids → later ≡ set_value (key_test n) kids made → made ≡ with_row sub (row_at ns e) → flat entry later ≡ with_row rows (row_at path e)

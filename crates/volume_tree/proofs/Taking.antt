@@ -44,7 +44,7 @@ this_within n ns (r ∷ rs) rest = rw (name_same n) (go (is_within ns r.path) (t
   go false later = later
 
 -- nothing is within a path whose first name is none of these
-none_within : {A : Type 0} (n : Name) (ns : Path) (kids : List (String A × List Row)) → lookup (key_test n) kids ≡ None → rows_within (n ∷ ns) (inside kids) ≡ []
+pub none_within : {A : Type 0} (n : Name) (ns : Path) (kids : List (String A × List Row)) → lookup (key_test n) kids ≡ None → rows_within (n ∷ ns) (inside kids) ≡ []
 none_within n ns [] gone = refl
 none_within n ns (kid ∷ kids) gone = go (key_test n kid.0) refl gone (none_within n ns kids) where
   go : (b : Bool) → key_test n kid.0 ≡ b → cond b (Some kid.1) (lookup (key_test n) kids) ≡ None → (lookup (key_test n) kids ≡ None → rows_within (n ∷ ns) (inside kids) ≡ []) → rows_within (n ∷ ns) (map (below (string_bytes kid.0)) kid.1 ++ inside kids) ≡ []
@@ -59,7 +59,7 @@ all_outside n ns (kid ∷ kids) gone = go (key_test n kid.0) refl gone (all_outs
   go false t gone later = other_outside (string_bytes kid.0) n ns kid.1 (inside kids) (sym (is_eq-slice_cmp n (string_bytes kid.0)) ∙ t) ∙ ap (λ rest. map (below (string_bytes kid.0)) kid.1 ++ rest) (later gone)
 
 -- later names are others
-not_later : {A : Type 0} (m : Name) (kids : List (String A × List Row)) → AllByRecursion (λ y. slice_cmp nat_cmp m (string_bytes y) ≡ Less) (keys_of kids) → lookup (key_test m) kids ≡ None
+pub not_later : {A : Type 0} (m : Name) (kids : List (String A × List Row)) → AllByRecursion (λ y. slice_cmp nat_cmp m (string_bytes y) ≡ Less) (keys_of kids) → lookup (key_test m) kids ≡ None
 not_later m [] all = refl
 not_later m (kid ∷ kids) all = rw (all.0) (not_later m kids all.1)
 
@@ -71,10 +71,10 @@ within_root : (rows : List Row) → rows_within [] rows ≡ rows
 within_root [] = refl
 within_root (r ∷ rs) = ap (λ xs. r ∷ xs) (within_root rs)
 
-name_of_key : {A : Type 0} (n : Name) (k : String A) → key_test n k ≡ true → n ≡ string_bytes k
+pub name_of_key : {A : Type 0} (n : Name) (k : String A) → key_test n k ≡ true → n ≡ string_bytes k
 name_of_key n k t = (bytes_eq-Decides n (string_bytes k)).0 (sym (is_eq-slice_cmp n (string_bytes k)) ∙ t)
 
-other_key : {A : Type 0} (n : Name) (k : String A) → key_test n k ≡ false → bytes_eq n (string_bytes k) ≡ false
+pub other_key : {A : Type 0} (n : Name) (k : String A) → key_test n k ≡ false → bytes_eq n (string_bytes k) ≡ false
 other_key n k t = sym (is_eq-slice_cmp n (string_bytes k)) ∙ t
 
 -- what stays where a subtree keeps a part
@@ -109,7 +109,7 @@ outside_removed n (kid ∷ kids) sorted = go (key_test n kid.0) refl (outside_re
       other_outside (string_bytes kid.0) n [] kid.1 (inside kids) (other_key n kid.0 t) ∙ ap (λ rest. map (below (string_bytes kid.0)) kid.1 ++ rest) later
 
 -- what goes
-within_there : {A : Type 0} (n : Name) (ns : Path) (sub : List Row) (kids : List (String A × List Row)) → AreSorted kids → lookup (key_test n) kids ≡ Some sub → rows_within (n ∷ ns) (inside kids) ≡ map (below n) (rows_within ns sub)
+pub within_there : {A : Type 0} (n : Name) (ns : Path) (sub : List Row) (kids : List (String A × List Row)) → AreSorted kids → lookup (key_test n) kids ≡ Some sub → rows_within (n ∷ ns) (inside kids) ≡ map (below n) (rows_within ns sub)
 unfolding IsStrictlySortedBy
 within_there n ns sub [] sorted there = absurd (cc)
 within_there n ns sub (kid ∷ kids) sorted there = go (key_test n kid.0) refl there (within_there n ns sub kids sorted.1) where

@@ -7,10 +7,10 @@ use Rattle.xt_base.specs.declared.meta.MetaRefusal.TheVariants as refusal
 use Rattle.xt_base.specs.declared.meta.MetaAnswer.{MetaAnswer}
 use Rattle.xt_base.specs.declared.meta.MetaAnswer.TheVariants as answer
 use Rattle.xt_base.specs.declared.meta.RowKind.TheVariants as row_kind
+use Rattle.volume_tree.specs.declared.Asker.{Asker}
 use Rattle.volume_tree.specs.declared.Picked.{Picked}
 use Rattle.volume_tree.specs.declared.Picked.TheVariants as picked
 use Rattle.volume_tree.specs.Rows.{Volumes, no_volumes}
-use Rattle.volume_tree.specs.Rights.{Asker}
 use Rattle.volume_tree.specs.Requests.{applied}
 
 -- the first asker, and another one of another group

@@ -8,6 +8,7 @@ use Rattle.xt_base.specs.declared.ids.FileId.{FileId}
 use Rattle.xt_base.specs.declared.ids.SizeMark.{SizeMark}
 use Rattle.xt_base.specs.declared.meta.MetaRefusal.{MetaRefusal}
 use Rattle.xt_base.specs.declared.meta.MetaRefusal.TheVariants as refusal
+use Rattle.volume_tree.specs.declared.Asker.{Asker}
 use Rattle.volume_tree.specs.declared.Entry.{Entry}
 use Rattle.volume_tree.specs.declared.Stored.{Stored}
 use Rattle.volume_tree.specs.declared.Content.{Content}
@@ -16,7 +17,7 @@ use Rattle.xt_protocol.specs.FileIds.{is_file}
 use Rattle.volume_tree.specs.declared.Granting.{Granting}
 use Rattle.volume_tree.specs.Paths.{Name, Path}
 use Rattle.volume_tree.specs.Rows.{Row, Volumes, entry_at}
-use Rattle.volume_tree.specs.Rights.{Asker, reading, writing, rule_of_read, rule_of_write, first_of, ancestors, there, file, allowed}
+use Rattle.volume_tree.specs.Rights.{reading, writing, rule_of_read, rule_of_write, first_of, ancestors, there, file, allowed}
 
 -- what a client wants of a file: 1 to read it, 2 to write it, 3 to truncate it
 abbrev pub wants_reading : ℕ → Bool

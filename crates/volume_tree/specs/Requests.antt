@@ -9,6 +9,7 @@ use Rattle.xt_base.specs.declared.meta.MetaAnswer.{MetaAnswer}
 use Rattle.xt_base.specs.declared.meta.MetaAnswer.TheVariants as answer
 use Rattle.xt_base.specs.declared.meta.RowKind.{RowKind}
 use Rattle.xt_base.specs.declared.meta.RowKind.TheVariants as row_kind
+use Rattle.volume_tree.specs.declared.Asker.{Asker}
 use Rattle.volume_tree.specs.declared.Entry.{Entry}
 use Rattle.volume_tree.specs.declared.Content.{Content}
 use Rattle.volume_tree.specs.declared.Content.TheVariants as content
@@ -16,7 +17,7 @@ use Rattle.volume_tree.specs.declared.Picked.{Picked}
 use Rattle.volume_tree.specs.declared.Picked.TheVariants as picked
 use Rattle.volume_tree.specs.Paths.{Name, Path, path_in}
 use Rattle.volume_tree.specs.Rows.{Row, Volumes, entry_at, with_row, without_row, renamed, page_of, mark_of}
-use Rattle.volume_tree.specs.Rights.{Asker, reading, rule_of_read, first_of, ancestors, there, absent, directory, file, allowed, owned, parent_writable, empty, same_volume, outside}
+use Rattle.volume_tree.specs.Rights.{reading, rule_of_read, first_of, ancestors, there, absent, directory, file, allowed, owned, parent_writable, empty, same_volume, outside}
 
 -- the volumes after a request, and what is answered
 pub record Outcome : Type 0 where

@@ -3,16 +3,12 @@ use Rattle.std.specs.Prelude.{ℕ, Bool, true, false, ◌==◌, not, ◌*◌, �
 use Rattle.std.specs.Str.{bytes_eq}
 use Rattle.xt_base.specs.declared.meta.MetaRefusal.{MetaRefusal}
 use Rattle.xt_base.specs.declared.meta.MetaRefusal.TheVariants as refusal
+use Rattle.volume_tree.specs.declared.Asker.{Asker}
 use Rattle.volume_tree.specs.declared.Entry.{Entry}
 use Rattle.volume_tree.specs.declared.Content.{Content}
 use Rattle.volume_tree.specs.declared.Content.TheVariants as content
 use Rattle.volume_tree.specs.Paths.{Path, is_within, parent_of}
 use Rattle.volume_tree.specs.Rows.{Row, entry_at, names_in}
-
--- who asks: a user, and the user's group
-pub record Asker : Type 0 where
-  pub user : ℕ
-  pub group : ℕ
 
 -- what a bit of a mode allows: reading, writing or searching
 abbrev pub reading : ℕ

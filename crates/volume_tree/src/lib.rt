@@ -6,6 +6,7 @@
 #![tactic(auto)]
 
 mod node;
+mod rights;
 
 pub use node::Node;
 use xt_base::{FileId, Location, SizeMark};
@@ -25,6 +26,13 @@ pub struct Stored {
 pub enum Content {
     Directory,
     File { stored: Stored },
+}
+
+/// Who asks: a user, and the user's group.
+#[derive(Clone, Copy, PartialEq, Eq)]
+pub struct Asker {
+    pub user: u32,
+    pub group: u32,
 }
 
 /// What stands at a path: whose it is, who may do what with it, and what it is.

@@ -1,12 +1,18 @@
-ghost use Rattle.std.specs.Prelude.{◌≡◌, ◌<◌, [], ◌∷◌, length, map, OnOk, OnErr};
-ghost use Rattle.volume_tree.specs.Rows.{entry_in, with_row, rows_outside, rows_within};
-ghost use Rattle.volume_tree.specs.Trees.{HasPlace, rows_under};
+ghost use Rattle.std.specs.Prelude.{◌≡◌, ◌<◌, [], ◌∷◌, length, map, OnOk, OnErr, IfOk, IfSome, IfNone, Some};
+ghost use Rattle.volume_tree.specs.Rows.{entry_in, with_row, rows_outside, rows_within, names_in, page_of};
+ghost use Rattle.volume_tree.specs.Rights.{ancestors};
+ghost use Rattle.volume_tree.specs.Trees.{HasPlace, SameKind, IsTree, rows_under};
 
-use crate::Entry;
+use crate::rights::passes;
+use crate::{Asker, Entry};
 use std::alloc::Global;
 use std::collections::BTreeMap;
 use std::marker::Model;
-use xt_base::OutOfMemory;
+use std::ops::Bound;
+use xt_base::{MetaRefusal, Name, Names, OutOfMemory, Seq};
+
+/// How many names an answer has at most.
+const PAGE: usize = 512;
 
 /// A tree of names: an entry, and what is in it under each name. Contracts see the flat list of its rows, each with its path
 /// from the tree's top.
@@ -26,10 +32,9 @@ impl Model for Node {
 
     ghost view = { λ n. flat n.entry n.kids.entries };
 
-    ghost use Rattle.std.specs.String.{string_cmp};
-    ghost use Rattle.std.specs.BTreeMap.{IsOrdered};
+    ghost use Rattle.volume_tree.specs.Trees.{IsSound};
 
-    ghost invariant = { λ n. IsOrdered string_cmp n.kids };
+    ghost invariant = { λ n. IsSound n.entry n.kids.entries };
 
     ghost size = { length };
 
@@ -50,9 +55,17 @@ impl Node {
         }
     }
 
-    /// The entry at a path below, if there is one.
+    /// The entry itself.
+    pub fn own(&self) -> Entry
+        ensures { entry_in self.now [] ≡ Some result }
+    {
+        self.entry
+    }
+
+    /// The entry at a path below, if there is one; else nothing is below that path either.
     pub fn find(&self, names: &[&str]) -> Option<Entry>
-        ensures { result ≡ entry_in self.now (map (λ name. name.now) names.now) }
+        ensures entry { result ≡ entry_in self.now (map (λ name. name.now) names.now) }
+        ensures none { IfNone result (rows_within (map (λ name. name.now) names.now) self.now ≡ []) }
     {
         let Some((name, rest)) = names.split_first() else {
             return Some(self.entry);
@@ -66,9 +79,11 @@ impl Node {
     /// Puts an entry at a path below, whose directory is there: in place of the one that is there, or as a new one with nothing
     /// in it.
     pub fn put(&mut self, alloc: Global, names: &[&str], entry: Entry) -> Result<(), OutOfMemory>
-        requires { HasPlace self.old (map (λ name. name.now) names.now) }
+        requires place { HasPlace self.old (map (λ name. name.now) names.now) }
+        requires kind { SameKind (entry_in self.old (map (λ name. name.now) names.now)) entry }
         ensures ok { OnOk result (self.new ≡ with_row self.old (record { path = map (λ name. name.now) names.now; entry = entry })) }
         ensures err { OnErr result (self.new ≡ self.old) }
+        ensures tree { IsTree self.new }
     {
         let Some((name, rest)) = names.split_first() else {
             self.entry = entry;
@@ -87,6 +102,8 @@ impl Node {
         requires { 0 < length names.now }
         ensures left { self.new ≡ rows_outside (map (λ name. name.now) names.now) self.old }
         ensures taken { rows_under (map (λ name. name.now) names.now) result ≡ rows_within (map (λ name. name.now) names.now) self.old }
+        ensures tree { IsTree self.new }
+        ensures taken_tree { IfSome result (λ node. IsTree node) }
     {
         let Some((name, rest)) = names.split_first() else {
             return None;
@@ -98,5 +115,66 @@ impl Node {
             return kid.take(rest);
         }
         None
+    }
+
+    /// Why the ancestors of a path below turn an asker away, if they do: the first that fails, from the top down.
+    pub fn ancestors(&self, who: Asker, names: &[&str]) -> Option<MetaRefusal>
+        ensures { result ≡ ancestors who self.now (map (λ name. name.now) names.now) }
+    {
+        let Some((name, rest)) = names.split_first() else {
+            return None;
+        };
+        if rest.is_empty() {
+            return None;
+        }
+        let Some(kid) = self.kids.get(*name) else {
+            return Some(MetaRefusal::NotFound);
+        };
+        let refusal = passes(who, kid.own());
+        if refusal.is_some() {
+            return refusal;
+        }
+        kid.ancestors(who, rest)
+    }
+
+    /// How many names are right in the directory at a path below.
+    pub fn count(&self, names: &[&str]) -> usize
+        ensures { result ≡ length (names_in self.now (map (λ name. name.now) names.now)) }
+    {
+        let Some((name, rest)) = names.split_first() else {
+            return self.kids.len();
+        };
+        match self.kids.get(*name) {
+            Some(kid) => kid.count(rest),
+            None => 0,
+        }
+    }
+
+    /// The names right in the directory at a path below, a page of those above `after`.
+    pub fn page(&self, alloc: Global, names: &[&str], after: &str) -> Result<Names, OutOfMemory>
+        ensures { IfOk result (λ page. page ≡ page_of self.now (map (λ name. name.now) names.now) after.now) }
+    {
+        let Some((name, rest)) = names.split_first() else {
+            return self.own_page(alloc, after);
+        };
+        match self.kids.get(*name) {
+            Some(kid) => kid.page(alloc, rest, after),
+            None => Ok(Seq::new(alloc)),
+        }
+    }
+
+    /// A page of the names right in it, above `after`.
+    fn own_page(&self, alloc: Global, after: &str) -> Result<Names, OutOfMemory>
+        ensures { IfOk result (λ page. page ≡ page_of self.now [] after.now) }
+    {
+        let after = String::from_str(alloc, after)?;
+        let mut page = Seq::new(alloc);
+        for (name, _) in self.kids.range((Bound::Excluded(&after), Bound::Unbounded)) {
+            if page.len() == PAGE {
+                return Ok(page);
+            }
+            page.push(Name::of(alloc, name.as_str())?)?;
+        }
+        Ok(page)
     }
 }
