@@ -1,6 +1,9 @@
 pub mod Below
+pub mod Calling
 pub mod Pages
+pub mod Parsing
 pub mod Putting
+pub mod Rooted
 pub mod Sound
 pub mod Taking
 pub mod Walking

@@ -14,7 +14,7 @@ use Rattle.xt_base.specs.declared.meta.MetaRefusal.{MetaRefusal}
 use Rattle.xt_base.specs.declared.meta.MetaRefusal.TheVariants as refusal
 use Rattle.volume_tree.specs.declared.Asker.{Asker}
 use Rattle.volume_tree.specs.declared.Entry.{Entry}
-use Rattle.volume_tree.specs.Paths.{Name, Path, name_in}
+use Rattle.volume_tree.specs.Paths.{Name, Path, name_in, parent_of}
 use Rattle.volume_tree.specs.Rows.{Row, entry_in, entry_at, names_in, page_of, rows_within}
 use Rattle.volume_tree.specs.Rights.{first_of, passes, ancestors, ancestors_from, is_directory}
 use Rattle.volume_tree.specs.Trees.{below, inside, flat, HasPlace, SameKind}
@@ -152,3 +152,7 @@ kind_here entry made kids rows path view is same = rw (← view, is) at same
 -- a name right below a directory that is there is below a directory
 pub place_directory : {A : Type 0} (entry : Entry) (kids : List (String A × List Row)) (rows : List Row) (path : Path) (n : Name) (ns : Path) → flat entry kids ≡ rows → path ≡ n ∷ ns → ns ≡ [] → HasPlace rows path → is_directory entry.content ≡ true
 place_directory entry kids rows path n ns view is alone place = rw (← view, is, alone) at place
+
+-- the directory of a path with two names at least is below the first
+pub parent_below : (path : Path) (n : Name) (ns : Path) (m : Name) (ms : Path) → path ≡ n ∷ ns → ns ≡ m ∷ ms → parent_of path ≡ n ∷ parent_of ns
+parent_below path n ns m ms is some = ap parent_of is ∙ ap (λ (names : Path). parent_of (n ∷ names)) some ∙ ap (λ (names : Path). n ∷ parent_of names) (sym some)

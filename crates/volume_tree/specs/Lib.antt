@@ -3,5 +3,6 @@ pub mod Rows
 pub mod Rights
 pub mod Requests
 pub mod Grants
-pub mod Examples
 pub mod Trees
+pub mod Calls
+pub mod Examples

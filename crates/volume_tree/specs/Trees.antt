@@ -1,5 +1,5 @@
 -- a tree of names as a flat list of rows, each with its path from the tree's top
-use Rattle.std.specs.Prelude.{◌≡◌, Bool, true, false, Option, Some, None, List, [], ◌∷◌, ◌++◌, map, length, String, ◌+◌, ◌≤◌}
+use Rattle.std.specs.Prelude.{◌≡◌, Bool, true, false, Option, Some, None, List, [], ◌∷◌, ◌++◌, map, drop, length, String, ◌+◌, ◌≤◌}
 use Rattle.std.specs.List.{AllByRecursion}
 use Rattle.std.specs.List.Sorted.{IsStrictlySortedBy}
 use Rattle.std.specs.Map.{keys_of}
@@ -12,7 +12,7 @@ use denote.Param.Weighed.{most}
 use Rattle.std.specs.String.{string_bytes}
 use Rattle.volume_tree.specs.declared.Entry.{Entry}
 use Rattle.volume_tree.specs.Paths.{Name, Path, path_cmp, parent_of}
-use Rattle.volume_tree.specs.Rows.{Row, entry_in, names_in}
+use Rattle.volume_tree.specs.Rows.{Row, root, entry_in, names_in}
 use Rattle.volume_tree.specs.Rights.{is_directory}
 
 -- a row below a name
@@ -56,6 +56,15 @@ pub record IsSound {A : Type 0} (entry : Entry) (kids : List (String A × List R
   pub ordered : IsStrictlySortedBy (λ a b. slice_cmp nat_cmp (string_bytes a) (string_bytes b)) (keys_of kids)
   pub trees : AllByRecursion (λ kid. IsTree kid.1) kids
   pub leaf : is_directory entry.content ≡ false → kids ≡ []
+
+-- the rows of all volumes below the root's
+abbrev pub with_root : List Row → List Row
+with_root rows = record { path = []; entry = root } ∷ rows
+
+-- a tree whose top is the root
+pub record IsRooted (top : List Row) : Type 0 where
+  pub rooted : top ≡ with_root (drop 1 top)
+  pub tree : IsTree top
 
 -- a directory is there
 abbrev pub IsDirectory : Option Entry → Type 0

@@ -6,10 +6,14 @@
 #![tactic(auto)]
 
 mod node;
+mod paths;
 mod rights;
+mod tree;
 
 pub use node::Node;
-use xt_base::{FileId, Location, SizeMark};
+use std::alloc::AllocError;
+pub use tree::Tree;
+use xt_base::{FileId, Location, MetaRefusal, SizeMark};
 
 /// What is kept of a file: its number, where its content is, the truncate epoch that was issued last, and its size as it was
 /// reported.
@@ -63,7 +67,23 @@ pub struct Granting {
     pub mark: SizeMark,
 }
 
+/// Why a call on the volumes changes nothing.
+#[derive(Drop)]
+pub enum TreeErr {
+    Refused { why: MetaRefusal },
+    OutOfMemory,
+}
+
+impl From<AllocError> for TreeErr {
+    ghost from_gives = { λ _ e. e ≡ OutOfMemory };
+
+    fn from(_e: AllocError) -> TreeErr {
+        TreeErr::OutOfMemory
+    }
+}
+
 ghost use Rattle.std.specs.Prelude.{◌≡◌, replicate};
+ghost use Rattle.volume_tree.specs.declared.TreeErr.TheVariants.{OutOfMemory};
 ghost use Rattle.volume_tree.specs.declared.Picked.TheVariants.{TooFew as too_few};
 ghost use Rattle.volume_tree.specs.Examples.{answers, two_osds, first_steps, first_answers, bad_paths, refused, long_paths, long_answers, renames, renames_answers};
 

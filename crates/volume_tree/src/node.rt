@@ -1,4 +1,5 @@
 ghost use Rattle.std.specs.Prelude.{◌≡◌, ◌<◌, [], ◌∷◌, length, map, OnOk, OnErr, IfOk, IfSome, IfNone, Some};
+ghost use Rattle.volume_tree.specs.Paths.{parent_of};
 ghost use Rattle.volume_tree.specs.Rows.{entry_in, with_row, rows_outside, rows_within, names_in, page_of};
 ghost use Rattle.volume_tree.specs.Rights.{ancestors};
 ghost use Rattle.volume_tree.specs.Trees.{HasPlace, SameKind, IsTree, rows_under};
@@ -135,6 +136,22 @@ impl Node {
             return refusal;
         }
         kid.ancestors(who, rest)
+    }
+
+    /// The directory that a path below is in, if it is there.
+    pub fn place(&self, names: &[&str]) -> Option<Entry>
+        ensures { result ≡ entry_in self.now (parent_of (map (λ name. name.now) names.now)) }
+    {
+        let Some((name, rest)) = names.split_first() else {
+            return Some(self.entry);
+        };
+        if rest.is_empty() {
+            return Some(self.entry);
+        }
+        match self.kids.get(*name) {
+            Some(kid) => kid.place(rest),
+            None => None,
+        }
     }
 
     /// How many names are right in the directory at a path below.

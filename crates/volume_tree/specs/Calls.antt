@@ -1,0 +1,31 @@
+-- what a call on the volumes gives
+use Rattle.std.specs.Prelude.{◌≡◌, Option, None, Result, Ok, Err, List}
+use Rattle.xt_base.specs.declared.meta.MetaRefusal.{MetaRefusal}
+use Rattle.xt_base.specs.declared.meta.MetaRefusal.TheVariants as refusal
+use Rattle.xt_base.specs.declared.meta.MetaAnswer.{MetaAnswer}
+use Rattle.xt_base.specs.declared.meta.MetaAnswer.TheVariants as answer
+use Rattle.volume_tree.specs.declared.TreeErr.{TreeErr}
+use Rattle.volume_tree.specs.declared.TreeErr.TheVariants as failed
+use Rattle.volume_tree.specs.Paths.{Path}
+use Rattle.volume_tree.specs.Rows.{Volumes}
+use Rattle.volume_tree.specs.Requests.{Outcome}
+
+-- an answer, with a refusal as an error
+abbrev pub in_result : MetaAnswer → Result MetaAnswer MetaRefusal
+in_result (answer.Refused why) = Err why
+in_result answer.Done = Ok answer.Done
+in_result (answer.Names names) = Ok (answer.Names names)
+in_result (answer.Row kind owner group mode mark) = Ok (answer.Row kind owner group mode mark)
+in_result (answer.Granted capability mark) = Ok (answer.Granted capability mark)
+
+-- A call gives the answer of what comes of its request, and the volumes are those after it. Where that is a refusal, or no
+-- memory is left, they stay as they were.
+abbrev pub Comes : Result MetaAnswer TreeErr → Volumes → Volumes → Outcome → Type 0
+Comes (Ok told) old new outcome = (Ok told ≡ in_result outcome.answer) × (new ≡ outcome.volumes)
+Comes (Err (failed.Refused why)) old new outcome = (answer.Refused why ≡ outcome.answer) × (new ≡ old)
+Comes (Err failed.OutOfMemory) old new outcome = new ≡ old
+
+-- a path that is refused isn't one, unless no memory is left
+abbrev pub IsBadPath : TreeErr → Option Path → Type 0
+IsBadPath (failed.Refused why) path = (why ≡ refusal.NameBad) × (path ≡ None)
+IsBadPath failed.OutOfMemory path = Unit {0}
