@@ -3,6 +3,7 @@ pub mod Calling
 pub mod Pages
 pub mod Parsing
 pub mod Putting
+pub mod Removing
 pub mod Rooted
 pub mod Sound
 pub mod Taking

@@ -6,7 +6,7 @@ use Rattle.xt_base.specs.declared.meta.MetaRefusal.TheVariants as refusal
 use Rattle.volume_tree.specs.declared.Asker.{Asker}
 use Rattle.volume_tree.specs.declared.Entry.{Entry}
 use Rattle.volume_tree.specs.Paths.{Name, Path, parent_of}
-use Rattle.volume_tree.specs.Rows.{Row, Volumes, entry_in, entry_at}
+use Rattle.volume_tree.specs.Rows.{Row, Volumes, entry_in, entry_at, names_in}
 use Rattle.volume_tree.specs.Rights.{first_of, unless, passes, allows, searching, rule_of_search, ancestors, ancestors_from, is_directory}
 use Rattle.volume_tree.specs.Trees.{with_root, IsRooted, IsDirectory}
 
@@ -64,3 +64,12 @@ place_of who rows (name ∷ names) none some = walk who rows [] name.now (map (�
 -- the same where more tests follow
 pub place_tested : (who : Asker) (rows : List Row) (names : List (Bor (List ℕ))) (tests : List (Option MetaRefusal)) → first_of (ancestors who rows (map (λ name. name.now) names) ∷ tests) ≡ None → 0 < length names → IsDirectory (entry_at rows (parent_of (map (λ name. name.now) names)))
 place_tested who rows names tests none some = place_of who rows names (first_none (ancestors who rows (map (λ name. name.now) names)) tests none).0 some
+
+names_below_root : (rows : List Row) (path : Path) → names_in (with_root rows) path ≡ names_in rows path
+names_below_root rows [] = refl
+names_below_root rows (name ∷ names) = refl
+
+-- the names in a directory are the path's
+pub names_rooted : (top : List Row) (next : ℕ) (volumes : Volumes) (path : Path) → record { rows = drop 1 top; next = next } ≡ volumes → IsRooted top → names_in top path ≡ names_in volumes.rows path
+names_rooted top next volumes path view root =
+    ap (λ (list : List Row). names_in list path) root.rooted ∙ names_below_root (drop 1 top) path ∙ ap (λ (v : Volumes). names_in v.rows path) view

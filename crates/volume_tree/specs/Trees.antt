@@ -97,3 +97,8 @@ most_le-length-inside (kid ∷ kids) =
     let first = length-map kid.1 (below (string_bytes kid.0)) in
     let both = length-append (map (below (string_bytes kid.0)) kid.1) (inside kids) in
     omega (arith, later, first, both)
+
+-- nothing is below what is at a path: it is a file, or no name is right in it
+abbrev pub HasNothing : Option Entry → List Name → Type 0
+HasNothing None names = names ≡ []
+HasNothing (Some entry) names = is_directory entry.content ≡ true → names ≡ []

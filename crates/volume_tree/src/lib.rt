@@ -1,8 +1,8 @@
 //! Volumes: directories and files under their paths, whose they are, and who may do what with them.
 //!
 //! The definitions have all volumes as one flat list of rows, each with its whole path, and say what comes of each request to
-//! the metadata server, with each refusal in its order. `Node` is a tree of names whose calls equal those on the flat list:
-//! to find an entry, to put one, and to take a subtree out, each by the names of its path alone.
+//! the metadata server, with each refusal in its order. `Tree` keeps them as a tree of names (`Node`), which goes down the names
+//! of a path alone, and its calls equal those on the flat list; a refusal, and want of memory, change nothing.
 #![tactic(auto)]
 
 mod node;

@@ -1,9 +1,9 @@
 ghost use Rattle.std.specs.Prelude.{◌≡◌, ◌<◌, ◌≤◌, ◌^◌, ◌∷◌, [], length, map, IfOk, IfErr, OnOk, OnErr, Some};
 ghost use Rattle.volume_tree.specs.Paths.{path_in, parent_of};
-ghost use Rattle.volume_tree.specs.Rows.{no_volumes, entry_at, with_row, names_in, page_of};
+ghost use Rattle.volume_tree.specs.Rows.{no_volumes, entry_at, with_row, without_row, names_in, page_of};
 ghost use Rattle.volume_tree.specs.Rights.{first_of, ancestors, absent, parent_writable};
-ghost use Rattle.volume_tree.specs.Trees.{IsDirectory, SameKind};
-ghost use Rattle.volume_tree.specs.Requests.{has_names, on_path, new_file, kind_of, directory_made, file_made, entry_told, names_listed, mode_set};
+ghost use Rattle.volume_tree.specs.Trees.{IsDirectory, SameKind, HasNothing};
+ghost use Rattle.volume_tree.specs.Requests.{has_names, on_path, new_file, kind_of, directory_made, file_made, file_unlinked, directory_removed, entry_told, names_listed, mode_set};
 ghost use Rattle.volume_tree.specs.Calls.{Comes, IsBadPath};
 ghost use Rattle.volume_tree.specs.Rows.{mark_of};
 
@@ -142,6 +142,22 @@ impl Tree {
         ensures err { OnErr result (self.new ≡ self.old) }
     {
         self.top.put(self.alloc, names, entry)
+    }
+
+    /// Takes out what is at a path, which has nothing below it.
+    fn cut(&mut self, names: &[&str])
+        requires below { 0 < length names.now }
+        requires bare { let path = map (λ name. name.now) names.now in HasNothing (entry_at self.old.rows path) (names_in self.old.rows path) }
+        ensures { self.new ≡ record self.old { rows = without_row self.old.rows (map (λ name. name.now) names.now) } }
+    {
+        self.top.take(names);
+    }
+
+    /// How many names are right in the directory at a path.
+    fn count(&self, names: &[&str]) -> usize
+        ensures { result ≡ length (names_in self.now.rows (map (λ name. name.now) names.now)) }
+    {
+        self.top.count(names)
     }
 
     /// Why a path's directory may not be written, if it may not.
@@ -286,6 +302,61 @@ impl Tree {
         Err(TreeErr::Refused { why })
     }
 
+    /// Unlink.
+    fn unlink_file(&mut self, who: Asker, names: &[&str]) -> Result<MetaAnswer, TreeErr>
+        requires { 0 < length names.now }
+        ensures { Comes result self.old self.new (file_unlinked self.old who (map (λ name. name.now) names.now)) }
+    {
+        if let Some(why) = self.ancestors(who, names) {
+            return Err(TreeErr::Refused { why });
+        }
+        let Some(entry) = self.find(names) else {
+            return Err(TreeErr::Refused {
+                why: MetaRefusal::NotFound,
+            });
+        };
+        if is_directory(&entry) {
+            return Err(TreeErr::Refused {
+                why: MetaRefusal::IsDir,
+            });
+        }
+        if let Some(why) = self.no_write(who, names) {
+            return Err(TreeErr::Refused { why });
+        }
+        self.cut(names);
+        Ok(MetaAnswer::Done)
+    }
+
+    /// Rmdir.
+    fn remove_directory(&mut self, who: Asker, names: &[&str]) -> Result<MetaAnswer, TreeErr>
+        requires { 0 < length names.now }
+        ensures { Comes result self.old self.new (directory_removed self.old who (map (λ name. name.now) names.now)) }
+    {
+        if let Some(why) = self.ancestors(who, names) {
+            return Err(TreeErr::Refused { why });
+        }
+        let Some(entry) = self.find(names) else {
+            return Err(TreeErr::Refused {
+                why: MetaRefusal::NotFound,
+            });
+        };
+        if !is_directory(&entry) {
+            return Err(TreeErr::Refused {
+                why: MetaRefusal::NotDir,
+            });
+        }
+        if self.count(names) != 0 {
+            return Err(TreeErr::Refused {
+                why: MetaRefusal::NotEmpty,
+            });
+        }
+        if let Some(why) = self.no_write(who, names) {
+            return Err(TreeErr::Refused { why });
+        }
+        self.cut(names);
+        Ok(MetaAnswer::Done)
+    }
+
     /// Mkdir, on the text of a path.
     pub fn mkdir(&mut self, who: Asker, path: &Name, mode: u16) -> Result<MetaAnswer, TreeErr>
         ensures { Comes result self.old self.new (on_path self.old (has_names 1 (path_in path.now)) (directory_made self.old who mode)) }
@@ -339,6 +410,26 @@ impl Tree {
     {
         match self.names(path, 0) {
             Ok(names) => self.list(who, after.as_str(), names.as_slice()),
+            Err(why) => Err(why),
+        }
+    }
+
+    /// Unlink, on the text of a path.
+    pub fn unlink(&mut self, who: Asker, path: &Name) -> Result<MetaAnswer, TreeErr>
+        ensures { Comes result self.old self.new (on_path self.old (has_names 1 (path_in path.now)) (file_unlinked self.old who)) }
+    {
+        match self.names(path, 1) {
+            Ok(names) => self.unlink_file(who, names.as_slice()),
+            Err(why) => Err(why),
+        }
+    }
+
+    /// Rmdir, on the text of a path.
+    pub fn rmdir(&mut self, who: Asker, path: &Name) -> Result<MetaAnswer, TreeErr>
+        ensures { Comes result self.old self.new (on_path self.old (has_names 1 (path_in path.now)) (directory_removed self.old who)) }
+    {
+        match self.names(path, 1) {
+            Ok(names) => self.remove_directory(who, names.as_slice()),
             Err(why) => Err(why),
         }
     }
