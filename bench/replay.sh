@@ -32,6 +32,7 @@ def schedule(length, clients):
     lines += [f"client {10 + number} 0" for number in range(clients)]
     lines += ["start 1 0", "start 2 0"]
     lines += [f"file {number} rep 4096 {1 + number % 2}" for number in range(1, 5)]
+    lines.append("tick 1100")  # the silence of the OSDs is over
     step = 0
     sent = 0
     while len(lines) + 3 * clients <= length:
