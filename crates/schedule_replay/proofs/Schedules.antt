@@ -11,7 +11,7 @@ use Rattle.schedule_text.specs.LineText.{IsForm, IsLine}
 use Rattle.cluster_runs.specs.World.{World}
 use Rattle.cluster_runs.specs.Rules.{refusal}
 use Rattle.cluster_runs.specs.NodeSteps.{Room, Cause}
-use Rattle.cluster_runs.specs.Lines.{finished, so_far}
+use Rattle.cluster_runs.specs.Lines.{so_far}
 use Rattle.cluster_runs.specs.Runs.{run_of, IsPartOf}
 use Rattle.cluster_safety.proofs.Runs.{runs_safe, parts_safe}
 use Rattle.world_hull.specs.declared.errors.WorldErr.{WorldErr}
