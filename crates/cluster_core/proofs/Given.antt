@@ -5,7 +5,7 @@ use Rattle.xt_base.specs.declared.ids.NodeId.{NodeId}
 use Rattle.xt_base.specs.declared.record.Record.{Record}
 use Rattle.cluster_runs.specs.declared.Sent.{Sent}
 use Rattle.cluster_runs.specs.World.{Node, Running, with_node}
-use Rattle.cluster_runs.specs.NodeSteps.{Cause, numbered, one_more, loses_own, stopped_in_append}
+use Rattle.cluster_runs.specs.NodeSteps.{Room, Cause, overflow_of, numbered, one_more, loses_own, stopped_in_append}
 use Rattle.disk_model.specs.declared.plan.Stop.{Stop}
 use Rattle.time_line.specs.declared.entry.Halt.{Halt}
 use Rattle.time_line.specs.declared.entry.Entry.{Entry}
