@@ -8,7 +8,7 @@ failed=0
 words='document|paper|request|demand|rung|definition|theorem|row'
 letters='T[1-5]|D[0-9]{1,2}|R[0-9]{1,2}|W[0-9]{1,2}|[AFGKLMNPQSV][0-9]{1,2}'
 names=$(git grep -nIE "\\b($words) ?[0-9]{1,2}\\b|\\b($letters)\\b" -- ':!*.edit' |
-    grep -vE 'sha|uuid|0x|hex|u8|u16|u32|u64|N1 \.\. Nn')
+    grep -vE 'sha|uuid|0x|hex|u8|u16|u32|u64')
 if [ -n "$names" ]; then
     printf 'Cited by a number or a letter:\n%s\n' "$names"
     failed=1

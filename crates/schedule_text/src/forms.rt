@@ -37,7 +37,7 @@ pub(crate) fn client(words: &[u8]) -> Option<Line>
     Some(Line::Client { node, clock })
 }
 
-/// `file F rep STRIPE N1 .. Nn`
+/// `file F rep STRIPE NODE ..`
 #[tactic(auto, unfolding(crate::specs::LineReading::file_at))]
 pub(crate) fn file(words: &[u8]) -> Option<Line>
     ensures { result ≡ file_at words.now }
