@@ -1,10 +1,10 @@
 ghost use Rattle.std.specs.Prelude.{◌≡◌, ◌++◌, ◌∷◌, [], false};
 ghost use Rattle.cluster_runs.specs.World.{start_world};
 ghost use Rattle.time_line.specs.Bounds.{AreLines};
-ghost use Rattle.cluster_fits.specs.Fits.{DoStepsFit};
 ghost use Rattle.cluster_core.specs.Standing.{IsApplied};
 
 use crate::state::State;
+use cluster_fits::steps_fit;
 use std::alloc::Global;
 use std::marker::Model;
 use time_line::{Entry, Line};
@@ -57,13 +57,13 @@ impl<H: Hull> World<H> {
     pub fn apply(&mut self, line: &Line) -> Result<(), WorldErr>
         requires going { self.old.ended ≡ false }
         requires values { AreLines (self.old.world.lines ++ line.now ∷ []) }
-        requires fits { DoStepsFit H.overflow }
         ensures { IsApplied H.overflow self.old line.now self.new result }
     {
         if let Some(rule) = self.state.refusal(line) {
             return Err(WorldErr::Illegal { rule });
         }
         self.state.begin(line)?;
+        steps_fit();
         let end = self.state.run(line);
         self.state.show();
         if end? {

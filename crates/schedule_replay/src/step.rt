@@ -5,7 +5,6 @@ ghost use Rattle.cluster_core.specs.Standing.{IsApplied};
 ghost use Rattle.schedule_replay.specs.Steps.{IsScheduleRun, IsStep, CausesStep, Grown, status_for};
 
 use cluster_core::World;
-use cluster_fits::steps_fit;
 use node_links::{Sink, Source};
 use schedule_lines::{NextLine, finish, next_line, put_entries};
 use std::alloc::Global;
@@ -34,7 +33,6 @@ fn apply<H: Hull>(world: &mut World<H>, line: Line) -> Result<(), WorldErr>
     ensures grown { Grown world.old.world.entries world.new.world.entries }
     ensures safe { IsSafe world.new.world.entries }
 {
-    steps_fit();
     world.apply(&line)
 }
 

@@ -10,6 +10,3 @@ returns-clause-grown g c = applied_grown g.H.Hull.overflow c.args.world.now c.ap
 
 pub returns-clause-safe : goal.returns-clause-safe
 returns-clause-safe g c = applied_safe g.H.Hull.overflow c.args.world.now c.apply.new.self c.args.line c.apply.result c.requires.run c.requires.formed c.apply.ensures
-
-pub apply-requires-clause-fits : goal.apply-requires-clause-fits
-apply-requires-clause-fits g c = c.steps_fit.ensures g.H.Hull.overflow
