@@ -11,6 +11,7 @@ use Rattle.xt_base.specs.declared.file.Location.{Location}
 use Rattle.xt_base.specs.declared.status.Limited.TheVariants as limited
 use Rattle.time_line.specs.declared.entry.Halt.TheVariants as halt
 use Rattle.time_line.specs.declared.line.Line.TheVariants as line
+use Rattle.cluster_runs.specs.declared.TheConstants.{NODES}
 use Rattle.cluster_runs.specs.declared.Role.TheVariants as role
 use Rattle.cluster_runs.specs.declared.DeclaredFile.{DeclaredFile}
 use Rattle.cluster_runs.specs.Clients.{new_client}
@@ -19,7 +20,7 @@ use Rattle.time_line.specs.declared.entry.Entry.TheVariants as entry
 use Rattle.cluster_runs.specs.World.{World, Node, Running, client, node_in, with_node, up_of}
 use Rattle.time_line.specs.declared.line.Line.{Line}
 use Rattle.xt_base.specs.declared.status.Rule.{Rule}
-use Rattle.cluster_runs.specs.Rules.{NODES, refusal, no_osd, no_node, runs_already, runs_not, goes_back, drifts}
+use Rattle.cluster_runs.specs.Rules.{refusal, no_osd, no_node, runs_already, runs_not, goes_back, drifts}
 use Rattle.cluster_runs.specs.NodeSteps.{Room, Cause, came_to, Doing, halted}
 use Rattle.cluster_runs.specs.Lines.{does, tells, declares, runs, first_boot, changed, stops, crashes, cuts, reads_clock, aims, ticked, first_step}
 use Rattle.node_cores.specs.declared.running.Moment.{Moment}

@@ -7,9 +7,10 @@ use Rattle.xt_base.specs.TimeSettings.{AreTimes}
 use Rattle.time_line.specs.declared.TheConstants.{LINES, LINE_BYTES}
 use Rattle.time_line.specs.declared.line.Line.{Line}
 use Rattle.time_line.specs.declared.line.Line.TheVariants as line
+use Rattle.cluster_runs.specs.declared.TheConstants.{MESSAGES, MESSAGE_BYTES, NODES}
 use Rattle.cluster_runs.specs.World.{World}
-use Rattle.cluster_runs.specs.Rules.{NODES, refusal}
-use Rattle.cluster_runs.specs.NodeSteps.{Room, Cause, came_to, has_no_room, Doing, MESSAGES, MESSAGE_BYTES}
+use Rattle.cluster_runs.specs.Rules.{refusal}
+use Rattle.cluster_runs.specs.NodeSteps.{Room, Cause, came_to, has_no_room, Doing}
 use Rattle.cluster_runs.specs.Lines.{Next, finished, goes_on, ends, begins, steps, so_far, enough, done}
 use Rattle.time_line.specs.Bounds.{AreLines, FitsLine}
 use Rattle.cluster_runs.specs.Runs.{with_line, run_of, IsPartOf}

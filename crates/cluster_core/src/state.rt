@@ -16,6 +16,7 @@ ghost use Rattle.world_tables.specs.Limits.{limit_passed};
 use crate::entries::entries_of;
 use crate::lines::{copy_of, events_of, left_of};
 use crate::nodes::Nodes;
+use cluster_runs::{MESSAGE_BYTES, MESSAGES, NODES};
 use disk_model::Stop;
 use node_cores::{Moment, called_file, operation_of};
 use std::alloc::Global;
@@ -23,15 +24,12 @@ use std::collections::VecDeque;
 use std::marker::Model;
 use time_line::{Entry, Halt, LINE_BYTES, LINES, Line};
 use world_hull::{Hull, Kept, WorldErr};
-use world_tables::{DeclaredFiles, MESSAGE_BYTES, MESSAGES, SentMessages};
+use world_tables::{DeclaredFiles, SentMessages};
 use xt_base::{
     Boot, COUNTS, Call, Copies, Event, Limited, Location, Msg, Msgs, NodeId, OutOfMemory, Record,
     Rule, Times,
 };
 use xt_protocol::Turned;
-
-/// How many nodes a schedule may declare.
-const NODES: u64 = 64;
 
 /// How many messages of a node to itself a file may have behind one event.
 const OWN: u128 = 16_532;

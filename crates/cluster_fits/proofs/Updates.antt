@@ -19,7 +19,7 @@ use Rattle.xt_base.specs.declared.reply.Reply.TheVariants as reply
 use Rattle.xt_base.specs.Limits.{FitsHead, FitsStamp, FitsOpId, FitsOp, FitsBytes, FitsUpdate, FitsSession, FitsReply, IsCount, IsObjectOrNone}
 use Rattle.xt_base.specs.Overlay.{overlay, cut_or_filled}
 use Rattle.xt_protocol.specs.Heads.{version_of, session_of}
-use Rattle.xt_protocol.specs.OsdRows.{present_body, readable}
+use Rattle.xt_protocol.specs.Objects.{present_body, readable}
 use Rattle.osd_rows.specs.Writes.{bytes_shown, Standing, repeated, older, turned_away, fresh, is_old_epoch, too_far, room_for_client, reach, judged, by_session, standing, written, objects_of, cuts_body, truncated, update_of}
 use Rattle.version_lists.proofs.HeadLimits.{either}
 use Rattle.cluster_fits.proofs.Bytes.{each_byte, are_bytes, each-take, each-drop, each-overlay, each-filled, length-filled, length-overlay}

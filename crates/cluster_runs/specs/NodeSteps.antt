@@ -19,18 +19,12 @@ use Rattle.time_line.specs.declared.entry.Halt.TheVariants as halt
 use Rattle.osd_rows.specs.OsdSteps.{OsdStep, Outside, step_of_osd}
 use Rattle.time_line.specs.declared.entry.Entry.{Entry}
 use Rattle.time_line.specs.declared.entry.Entry.TheVariants as entry
+use Rattle.cluster_runs.specs.declared.TheConstants.{MESSAGES, MESSAGE_BYTES}
 use Rattle.cluster_runs.specs.declared.Sent.{Sent}
 use Rattle.cluster_runs.specs.declared.ClientState.{ClientState}
 use Rattle.cluster_runs.specs.Steps.{Step}
 use Rattle.cluster_runs.specs.Clients.{step_of_client}
 use Rattle.cluster_runs.specs.World.{World, Node, Running, Core, osd, client, node_in, with_node}
-
--- how many messages may be numbered, and how many bytes their frames may have in all
-abbrev pub MESSAGES : ℕ
-MESSAGES = 1048576
-
-abbrev pub MESSAGE_BYTES : ℕ
-MESSAGE_BYTES = 1073741824
 
 -- a record that has no room: how long its node's journal would have to be, and how long it may be, in bytes
 pub record Overflow : Type 0 where

@@ -6,6 +6,15 @@
 
 use xt_base::{Capability, FileId, Location, Msg, NodeId, Op, Retry, Seq};
 
+/// How many nodes a schedule may declare.
+pub const NODES: u64 = 64;
+
+/// How many messages may be numbered.
+pub const MESSAGES: u64 = 1_048_576;
+
+/// How many bytes the frames of the numbered messages may have in all.
+pub const MESSAGE_BYTES: u64 = 1_073_741_824;
+
 /// What a node is declared as.
 #[derive(Clone, Copy, PartialEq, Eq)]
 pub enum Role {

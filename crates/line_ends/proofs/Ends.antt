@@ -16,6 +16,7 @@ use Rattle.lease_runs.proofs.Tests.{same_node}
 use Rattle.osd_lease_views.specs.LeaseView.{is_ask}
 use Rattle.osd_rows.specs.FileStates.{FileState}
 use Rattle.osd_rows.specs.OsdSteps.{OsdState, OsdStep, step_of_osd}
+use Rattle.cluster_runs.specs.declared.TheConstants.{NODES}
 use Rattle.cluster_runs.specs.declared.ClientState.{ClientState}
 use Rattle.cluster_runs.specs.declared.DeclaredFile.{DeclaredFile}
 use Rattle.cluster_runs.specs.declared.Sent.{Sent}
@@ -46,7 +47,7 @@ use Rattle.line_ends.proofs.Starts.{event_starts, room_of, IsOutside}
 use Rattle.line_ends.proofs.Keeping.{Stood, stood_kept, fits, files_stand, node_is, arrives}
 use Rattle.time_line.specs.declared.line.Line.{Line}
 use Rattle.time_line.specs.declared.line.Line.TheVariants as line
-use Rattle.cluster_runs.specs.Rules.{NODES, refusal, called_file}
+use Rattle.cluster_runs.specs.Rules.{refusal, called_file}
 use Rattle.cluster_runs.specs.Lines.{Next, finished, opens, goes_on, ends, begins, went, settles, works_on, next_step, steps, first_step, enough, events_of, done, least_pending, starts, starts_as, declares, calls, client_calls, core_calls, location_of, operation_of, does, tells}
 use Rattle.cluster_runs.specs.Runs.{IsOver, IsEnough, run_of}
 use Rattle.time_line.specs.Bounds.{AreLines}

@@ -15,6 +15,7 @@ use Rattle.lease_safety.specs.State.{Has}
 use Rattle.lease_runs.proofs.Tests.{same_node}
 use Rattle.osd_lease_views.specs.LeaseView.{is_ask}
 use Rattle.osd_rows.specs.OsdSteps.{OsdState, OsdStep, file_concerned, step_of_osd}
+use Rattle.cluster_runs.specs.declared.TheConstants.{MESSAGES, MESSAGE_BYTES}
 use Rattle.cluster_runs.specs.declared.ClientState.{ClientState}
 use Rattle.cluster_runs.specs.Clients.{step_of_client}
 use Rattle.cluster_runs.specs.World.{World, Node, Running, Core, osd, client, node_in}
@@ -29,7 +30,7 @@ use Rattle.std.specs.Prelude.{Result, Ok, Err, nat_lt}
 use Rattle.osd_rows.specs.OsdSteps.{Outside, event_handled, handled_awake}
 use Rattle.osd_lease_views.specs.OsdView.{site_of}
 use Rattle.cluster_runs.specs.Steps.{Step, stays}
-use Rattle.cluster_runs.specs.NodeSteps.{Room, Cause, Overflow, came_to, has_no_room, Doing, appends, within_limits, overflow_of, end_of_step, event_at, event_comes, core_step, osd_steps, client_steps, loses_own, cut_in_sending, MESSAGES, MESSAGE_BYTES, frame_bytes}
+use Rattle.cluster_runs.specs.NodeSteps.{Room, Cause, Overflow, came_to, has_no_room, Doing, appends, within_limits, overflow_of, end_of_step, event_at, event_comes, core_step, osd_steps, client_steps, loses_own, cut_in_sending, frame_bytes}
 use Rattle.xt_base.specs.declared.status.Limited.TheVariants as limited
 use Rattle.world_leases.proofs.Frame.{however}
 use Rattle.line_ends.proofs.Chains.{Chain}

@@ -5,7 +5,7 @@
 
 ghost use Rattle.std.specs.Prelude.{◌≡◌, ◌++◌, ◌+◌, ◌<◌, ◌^◌, length, drop, OnOk, IfOk};
 ghost use Rattle.xt_base.specs.Overlay.{zeros, overlay, cut_or_filled};
-ghost use Rattle.xt_protocol.specs.OsdRows.{readable};
+ghost use Rattle.xt_protocol.specs.Objects.{readable};
 
 use std::alloc::Global;
 use xt_base::{Octets, OutOfMemory};

@@ -3,14 +3,7 @@ ghost use Rattle.xt_base.specs.MemberList.{has_node};
 ghost use Rattle.osd_rows.specs.Primaries as rows;
 
 use osd_rows::{Nodes, Peer, PeerState};
-use xt_base::{NodeId, OutOfMemory};
-
-/// Whether the node stands among these.
-pub fn has_node(nodes: &[NodeId], node: NodeId) -> bool
-    ensures { result ≡ has_node nodes.now node.0 }
-{
-    nodes.iter().any(|other| other.0 == node.0)
-}
+use xt_base::{has_node, NodeId, OutOfMemory};
 
 /// Puts the node among these, once.
 pub fn add_node(nodes: &mut Nodes, node: NodeId) -> Result<(), OutOfMemory>

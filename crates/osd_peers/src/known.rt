@@ -2,14 +2,8 @@ ghost use Rattle.std.specs.Prelude.{◌≡◌, ◌++◌, ◌∷◌, [], None, So
 ghost use Rattle.xt_protocol.specs.Stamps as stamps;
 ghost use Rattle.osd_rows.specs.Primaries as rows;
 
+use version_lists::has_version;
 use xt_base::{HeldPairs, ObjectVersion, OutOfMemory};
-
-/// Whether this version is among these.
-pub fn has_version(versions: &[ObjectVersion], version: ObjectVersion) -> bool
-    ensures { result ≡ stamps.has_version versions.now version }
-{
-    versions.iter().any(|other| version == *other)
-}
 
 /// Puts the version among those that are known, once.
 pub fn add_known(known: &mut HeldPairs, version: ObjectVersion) -> Result<(), OutOfMemory>

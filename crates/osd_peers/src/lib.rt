@@ -9,7 +9,7 @@ mod known;
 mod peers;
 mod sending;
 
-pub use counts::{add_node, carries, has_node, is_majority, statuses_counted};
-pub use known::{add_known, first_unknown, has_version, remove_version};
+pub use counts::{add_node, carries, is_majority, statuses_counted};
+pub use known::{add_known, first_unknown, remove_version};
 pub use peers::{peer_in, set_peer, unknown_peers};
 pub use sending::{last_sent, last_to_each, send_any};

@@ -19,7 +19,7 @@ use Rattle.xt_base.specs.declared.record.Record.{Record}
 use Rattle.xt_base.specs.declared.record.Record.TheVariants as kept
 use Rattle.xt_base.specs.declared.TheConstants.{OBJECTS, COUNTS}
 use Rattle.xt_protocol.specs.Heads.{plain_stamp, version_of, head_after}
-use Rattle.xt_protocol.specs.OsdRows.{present_body}
+use Rattle.xt_protocol.specs.Objects.{present_body}
 use Rattle.osd_rows.specs.ReplicaRows.{kept_after, head_fits}
 use Rattle.osd_rows.specs.Writes.{Standing, repeated, older, turned_away, fresh, standing, update_of}
 use Rattle.osd_plain.specs.declared.PlainActed.{PlainActed}

@@ -22,7 +22,7 @@ use Rattle.xt_base.specs.declared.record.Record.{Record}
 use Rattle.xt_base.specs.declared.reply.Reply.{Reply}
 use Rattle.xt_base.specs.declared.reply.Reply.TheVariants as reply
 use Rattle.xt_protocol.specs.Heads.{session_of, version_of}
-use Rattle.xt_protocol.specs.OsdRows.{present_body}
+use Rattle.xt_protocol.specs.Objects.{present_body}
 use Rattle.xt_protocol.specs.declared.Turned.{Turned}
 use Rattle.osd_rows.specs.Asks.{is_read, read_answer}
 use Rattle.osd_rows.specs.Primaries.{Led, Ground, last_sent}

@@ -16,7 +16,7 @@ use Rattle.xt_base.specs.declared.file.Op.TheVariants as op
 use Rattle.xt_base.specs.declared.message.Msg.{Msg}
 use Rattle.xt_base.specs.declared.record.FileRow.{FileRow}
 use Rattle.xt_protocol.specs.declared.Turned.{Turned}
-use Rattle.xt_protocol.specs.OsdRows.{readable}
+use Rattle.xt_protocol.specs.Objects.{readable}
 use Rattle.xt_protocol.specs.Stamps.{has_version}
 use Rattle.osd_rows.specs.PrimaryRows.{body_beyond}
 use Rattle.osd_rows.specs.Primaries.{Ground, peer_in, reported, last_sent, is_ready}

@@ -1,5 +1,5 @@
 ghost use Rattle.std.specs.Prelude.{◌≡◌, [], IfOk};
-ghost use Rattle.xt_protocol.specs.OsdRows as plain;
+ghost use Rattle.xt_protocol.specs.Objects as plain;
 ghost use Rattle.xt_protocol.specs.SeenBodies.{body_by};
 ghost use Rattle.osd_rows.specs.Writes as rows;
 ghost use Rattle.kept_bodies.specs.KeptBodies.{fault_of, ReadsOnly};

@@ -2,11 +2,11 @@ ghost use Rattle.std.specs.Prelude.{◌≡◌, IfOk, flat_map};
 ghost use Rattle.osd_rows.specs.Primaries.{if_any};
 ghost use Rattle.osd_rows.specs.Serving as rows;
 
-use osd_peers::{has_node, last_sent, send_any};
+use osd_peers::{last_sent, send_any};
 use osd_rows::{IssuedUpdate, Peer, PeerState, Place, PrimaryState, Progress, Tenure};
 use std::alloc::Global;
 use step_outputs::{message, quiet, sends, sends_one};
-use xt_base::{Copies, Epoch, FileId, Msgs, NodeId, OutOfMemory, Payload, Seq};
+use xt_base::{Copies, Epoch, FileId, Msgs, NodeId, OutOfMemory, Payload, Seq, has_node};
 use xt_protocol::Turned;
 
 /// An unknown peer is asked anew.

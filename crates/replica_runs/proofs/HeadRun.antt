@@ -14,7 +14,7 @@ use Rattle.xt_base.specs.declared.file.Update.{Update}
 use Rattle.xt_base.specs.declared.record.Record.TheVariants as kept
 use Rattle.xt_protocol.specs.Folds as folds
 use Rattle.xt_protocol.specs.Heads.{new_head, version_of, session_of}
-use Rattle.xt_protocol.specs.OsdRows.{present_body}
+use Rattle.xt_protocol.specs.Objects.{present_body}
 use Rattle.xt_protocol.specs.Stamps.{is_epoch, is_below, has_version}
 use Rattle.replica_safety.specs.Epochs.{Head, name, at_node}
 use Rattle.replica_safety.specs.Lists.{Has}

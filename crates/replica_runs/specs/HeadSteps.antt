@@ -13,7 +13,7 @@ use Rattle.xt_base.specs.declared.file.Session.{Session}
 use Rattle.xt_base.specs.declared.file.Update.{Update}
 use Rattle.xt_protocol.specs.Folds as folds
 use Rattle.xt_protocol.specs.Heads.{version_of, session_of}
-use Rattle.xt_protocol.specs.OsdRows.{present_body}
+use Rattle.xt_protocol.specs.Objects.{present_body}
 use Rattle.xt_protocol.specs.Stamps.{is_below, has_version}
 use Rattle.osd_rows.specs.declared.Acted.{Acted}
 use Rattle.osd_rows.specs.AskRows.{leaves_object}

@@ -19,11 +19,12 @@ use Rattle.time_line.specs.declared.entry.Entry.{Entry}
 use Rattle.time_line.specs.declared.entry.Entry.TheVariants as entry
 use Rattle.time_line.specs.declared.entry.Halt.{Halt}
 use Rattle.time_line.specs.declared.entry.Halt.TheVariants as halt
+use Rattle.cluster_runs.specs.declared.TheConstants.{MESSAGES, MESSAGE_BYTES, NODES}
 use Rattle.cluster_runs.specs.declared.Sent.{Sent}
 use Rattle.cluster_runs.specs.Steps.{Step}
 use Rattle.cluster_runs.specs.World.{World, Node, Running, Core, osd, client, node_in, with_node}
-use Rattle.cluster_runs.specs.Rules.{NODES, called_file}
-use Rattle.cluster_runs.specs.NodeSteps.{Room, Overflow, Cause, came_to, has_no_room, Doing, MESSAGES, MESSAGE_BYTES, frame_bytes, core_step, after_turn, halted, keeps_record, one_more, cut_in_sending, sends, appends, within_limits, overflow_of, end_of_step, event_at, event_comes}
+use Rattle.cluster_runs.specs.Rules.{called_file}
+use Rattle.cluster_runs.specs.NodeSteps.{Room, Overflow, Cause, came_to, has_no_room, Doing, frame_bytes, core_step, after_turn, halted, keeps_record, one_more, cut_in_sending, sends, appends, within_limits, overflow_of, end_of_step, event_at, event_comes}
 use Rattle.cluster_runs.specs.Lines.{Next, finished, opens, goes_on, ends, begins, does, declares, next_boot, starts, starts_as, changed, stops, crashes, cuts, reads_clock, core_calls, calls, location_of, operation_of, aims, no_longer_pending, delivers, least_pending, first_step, went, settles, works_on, next_step, steps, so_far, enough, done}
 use Rattle.cluster_runs.specs.Runs.{IsPartOf}
 

@@ -20,6 +20,7 @@ use Rattle.lease_safety.specs.State.{Has}
 use Rattle.lease_runs.proofs.Tests.{same_node}
 use Rattle.time_line.specs.declared.line.Line.{Line}
 use Rattle.time_line.specs.declared.line.Line.TheVariants as line
+use Rattle.cluster_runs.specs.declared.TheConstants.{MESSAGES, MESSAGE_BYTES, NODES}
 use Rattle.cluster_runs.specs.declared.Sent.{Sent}
 use Rattle.time_line.specs.declared.entry.Entry.{Entry}
 use Rattle.time_line.specs.declared.entry.Entry.TheVariants as entry
@@ -27,7 +28,7 @@ use Rattle.cluster_runs.specs.declared.Role.TheVariants as role
 use Rattle.cluster_runs.specs.declared.ClientState.{ClientState}
 use Rattle.cluster_runs.specs.Clients.{new_client, knows, aimed, call_of_client}
 use Rattle.cluster_runs.specs.World.{World, start_world, Node, Running, Core, osd, client, node_in, with_node, file_in, up_of}
-use Rattle.cluster_runs.specs.Rules.{NODES, refusal, if_so, no_osd, no_node, node_twice, runs_already, runs_not, drifts, drifts_inside, goes_back, clock_ends, called_file}
+use Rattle.cluster_runs.specs.Rules.{refusal, if_so, no_osd, no_node, node_twice, runs_already, runs_not, drifts, drifts_inside, goes_back, clock_ends, called_file}
 use Rattle.cluster_runs.specs.NodeSteps.{Room, Cause, came_to, has_no_room, Overflow, Doing, halted, client_steps, event_comes}
 use Rattle.cluster_runs.specs.Lines.{does, tells, declares, runs, first_boot, next_boot, starts_as, starts, changed, stops, crashes, cuts, reads_clock, declared_file, declared_capability, operation_of, epoch_of, uses, client_calls, core_calls, location_of, calls, aims_at, aims, no_longer_pending, delivers, least_pending, first_step, Next, finished, opens, goes_on, ends, begins, went, settles, works_on, next_step, steps, so_far}
 use Rattle.world_leases.specs.View.{messages}
@@ -43,7 +44,7 @@ use Rattle.lease_safety.specs.Legal.{IsClose}
 use Rattle.osd_rows.specs.OsdSteps.{OsdState, step_of_osd}
 use Rattle.cluster_runs.specs.Steps.{Step}
 use Rattle.cluster_runs.specs.Clients.{step_of_client}
-use Rattle.cluster_runs.specs.NodeSteps.{to_itself, after_turn, appends, within_limits, frame_bytes, MESSAGES, MESSAGE_BYTES, end_of_step, overflow_of, core_step, osd_steps, outside_of, event_at}
+use Rattle.cluster_runs.specs.NodeSteps.{to_itself, after_turn, appends, within_limits, frame_bytes, end_of_step, overflow_of, core_step, osd_steps, outside_of, event_at}
 use Rattle.cluster_runs.specs.Lines.{ticked}
 use Rattle.cluster_runs.specs.Rules.{first_stranger, file_twice}
 use Rattle.cluster_runs.specs.Runs.{with_line, after, after_refusal, run_of}

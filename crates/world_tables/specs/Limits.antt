@@ -3,8 +3,9 @@ use Rattle.std.specs.Prelude.{ℕ, Bool, ◌≡◌, ◌-◌, nat_lt, if◌then�
 use Rattle.xt_base.specs.declared.message.Msg.{Msg}
 use Rattle.xt_base.specs.declared.status.Limited.{Limited}
 use Rattle.xt_base.specs.declared.status.Limited.TheVariants as limited
+use Rattle.cluster_runs.specs.declared.TheConstants.{MESSAGES, MESSAGE_BYTES}
 use Rattle.cluster_runs.specs.declared.Sent.{Sent}
-use Rattle.cluster_runs.specs.NodeSteps.{Cause, came_to, Doing, MESSAGES, MESSAGE_BYTES, frame_bytes}
+use Rattle.cluster_runs.specs.NodeSteps.{Cause, came_to, Doing, frame_bytes}
 
 -- this message was sent under this number
 abbrev pub IsSentAs : List Sent → ℕ → Msg → Type 0

@@ -10,9 +10,3 @@ mod sent;
 
 pub use files::DeclaredFiles;
 pub use sent::SentMessages;
-
-/// How many messages may be numbered.
-pub const MESSAGES: u64 = 1_048_576;
-
-/// How many bytes the frames of the numbered messages may have in all.
-pub const MESSAGE_BYTES: u64 = 1_073_741_824;

@@ -7,8 +7,7 @@ ghost use Rattle.cluster_runs.specs.Lines.{least_pending, no_longer_pending};
 ghost use Rattle.world_tables.specs.Limits.{IsSentAs, limit_passed};
 ghost use Rattle.world_tables.specs.Counts.{IsFirstPending};
 
-use crate::{MESSAGE_BYTES, MESSAGES};
-use cluster_runs::Sent;
+use cluster_runs::{MESSAGE_BYTES, MESSAGES, Sent};
 use frame_lengths::frame_length;
 use std::alloc::Global;
 use std::marker::Model;

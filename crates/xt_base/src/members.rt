@@ -33,7 +33,7 @@ impl Model for Members {
 pub struct BadMembers;
 
 /// Whether the node stands in the list.
-fn has_node(nodes: &[NodeId], node: NodeId) -> bool
+pub fn has_node(nodes: &[NodeId], node: NodeId) -> bool
     ensures { result ≡ has_node nodes.now node.0 }
 {
     nodes.iter().any(|member| member.0 == node.0)

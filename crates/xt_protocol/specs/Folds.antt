@@ -1,5 +1,5 @@
 -- What the records of a node say: its last start, and the row of each file; and which of them are of requests.
-use Rattle.std.specs.Prelude.{ℕ, Bool, not, ◌&&◌, ◌==◌, ◌≡◌, ◌⊎◌, ◌+◌, true, false, if◌then◌else◌, Option, Some, None, List, [], ◌∷◌, ◌++◌, map, filter, Contains}
+use Rattle.std.specs.Prelude.{ℕ, Bool, not, ◌&&◌, ◌==◌, ◌≡◌, ◌⊎◌, ◌+◌, true, false, if◌then◌else◌, Option, Some, None, List, [], ◌∷◌, ◌++◌, filter, Contains}
 use Rattle.std.specs.List.{fold, All}
 use Rattle.xt_base.specs.Limits.{FitsHead, is_at_most}
 use Rattle.xt_base.specs.declared.ids.FileId.{FileId}
@@ -12,7 +12,6 @@ use Rattle.xt_base.specs.declared.record.Record.TheVariants as kept
 use Rattle.xt_base.specs.declared.record.FileRow.{FileRow}
 use Rattle.xt_base.specs.declared.record.Folded.{Folded}
 use Rattle.xt_base.specs.declared.TheConstants.{NO_OBJECT}
-use Rattle.xt_protocol.specs.declared.FileState.{FileState}
 use Rattle.xt_protocol.specs.FileIds.{is_file, is_before}
 use Rattle.xt_protocol.specs.Heads.{first_epoch, new_head, head_after}
 use Rattle.xt_protocol.specs.Stamps.{is_stamp, with_held}
@@ -150,13 +149,3 @@ body_after file object version before rec = newer before (body_put file object v
 -- What these records keep as this version of this object of the file: what the last of them put, none where none did.
 unfoldable pub body_kept : List Record → FileId → ℕ → Stamp → Option (List ℕ)
 body_kept records file object version = fold (body_after file object version) None records
-
--- ---- an OSD that starts
-
--- the state of a file at an OSD that starts
-abbrev pub state_of : FileRow → FileState
-state_of row = record { file = row.file; head = row.head }
-
--- the files of an OSD that starts from these records
-abbrev pub files_from : List Record → List FileState
-files_from records = map state_of (fold_of records).files

@@ -4,7 +4,6 @@ pub mod Stamps
 pub mod VersionOrder
 pub mod Folds
 pub mod SeenBodies
-pub mod OsdRows
-pub mod ClientRows
+pub mod Objects
 pub mod Register
 pub mod LeaseRows
