@@ -1,6 +1,7 @@
 -- how a request's number stands to what is kept of its client
 use Rattle.std.specs.Prelude.{ℕ, ◌==◌, nat_eq, nat_lt, if◌then◌else◌, Option, Some, None, List}
 use Rattle.std.specs.Map.{lookup}
+use Rattle.indexmap.specs.IndexMap.{insert_entry}
 use Rattle.xt_base.specs.declared.ids.NodeId.{NodeId}
 use Rattle.kept_answers.specs.declared.Kept.{Kept}
 use Rattle.kept_answers.specs.declared.Standing.{Standing}
@@ -21,3 +22,8 @@ compared number (Some last) =
 
 abbrev pub standing_of : {A : Type 0} → List (ℕ × Kept A) → NodeId → ℕ → Standing A
 standing_of clients client number = compared number (lookup (nat_eq client.0) clients)
+
+-- with this number and answer of a client, in place of what was kept of it
+abbrev pub with_answer : {A : Type 0} → List (ℕ × Kept A) → NodeId → ℕ → A → List (ℕ × Kept A)
+with_answer clients client number answer =
+    insert_entry nat_eq clients client.0 (record { number = number; answer = answer })

@@ -5,9 +5,8 @@
 //! (`reserve`) before it changes anything, so that to keep an answer (`keep`) can't fail.
 #![tactic(auto)]
 
-ghost use Rattle.std.specs.Prelude.{◌≡◌, ◌<◌, [], nat_eq, IfOk, OnOk};
-ghost use Rattle.indexmap.specs.IndexMap.{insert_entry};
-ghost use Rattle.kept_answers.specs.Standings.{standing_of};
+ghost use Rattle.std.specs.Prelude.{◌≡◌, ◌<◌, [], IfOk, OnOk};
+ghost use Rattle.kept_answers.specs.Standings.{standing_of, with_answer};
 
 use indexmap::IndexMap;
 use std::alloc::Global;
@@ -91,7 +90,7 @@ impl<A> KeptAnswers<A> {
     where
         A: Drop,
         requires { 0 < self.old.room }
-        ensures { self.new.kept ≡ insert_entry nat_eq self.old.kept client.0 (record { number = number; answer = answer }) }
+        ensures { self.new.kept ≡ with_answer self.old.kept client number answer }
     {
         match self.clients.insert(client.0, Kept { number, answer }) {
             Ok(_) => {}
