@@ -32,8 +32,8 @@ pub record Coming : Type 0 where
   pub msg : Msg
 
 -- a request of client 10
-abbrev pub request : ℕ → ℕ → Asked → Coming
-request at number asked =
+abbrev pub sent_at : ℕ → ℕ → Asked → Coming
+sent_at at number asked =
     record {
       at = at;
       msg =
@@ -48,7 +48,7 @@ request at number asked =
 -- requests at the clock 0, under rising numbers
 abbrev pub numbered : ℕ → List Asked → List Coming
 numbered number [] = []
-numbered number (asked ∷ later) = request 0 number asked ∷ numbered (number + 1) later
+numbered number (asked ∷ later) = sent_at 0 number asked ∷ numbered (number + 1) later
 
 -- the server after messages
 abbrev pub after : MrcState → List Coming → MrcState
@@ -103,10 +103,10 @@ create_one path = ask.Create path 420 kind.Replicated 1 4096
 -- now, and an older one gets none
 abbrev pub file_steps : List Coming
 file_steps =
-    request 5000 1 (by_first (mkdir (codes "/v"))) ∷ rows_from 900 (2 ∷ 1 ∷ 2 ∷ []) ∷ rows_from 10 [] ∷ request 5000 2 (by_first (create_one (codes "/v/a")))
-    ∷ request 5000 2 (by_first (ask.Stat (codes "/v")))
-    ∷ request 5000 1 (by_first (mkdir (codes "/v")))
-    ∷ request 5000 3 (by_first (ask.Stat (codes "/v/a")))
+    sent_at 5000 1 (by_first (mkdir (codes "/v"))) ∷ rows_from 900 (2 ∷ 1 ∷ 2 ∷ []) ∷ rows_from 10 [] ∷ sent_at 5000 2 (by_first (create_one (codes "/v/a")))
+    ∷ sent_at 5000 2 (by_first (ask.Stat (codes "/v")))
+    ∷ sent_at 5000 1 (by_first (mkdir (codes "/v")))
+    ∷ sent_at 5000 3 (by_first (ask.Stat (codes "/v/a")))
     ∷ []
 
 abbrev pub file_answers : List (List MetaAnswer)
@@ -116,7 +116,7 @@ file_answers =
     ∷ []
 
 abbrev pub unlinking : List Coming
-unlinking = request 5001 3 (by_first (ask.Unlink (codes "/v/a"))) ∷ []
+unlinking = sent_at 5001 3 (by_first (ask.Unlink (codes "/v/a"))) ∷ []
 
 -- the files that were ever made: their numbers, and when they were unlinked
 abbrev pub fates : MrcState → List (ℕ × Option ℕ)
