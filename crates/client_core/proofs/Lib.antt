@@ -1,3 +1,1 @@
-pub mod Acted
-pub mod Files
-pub mod Left
+pub mod Done
