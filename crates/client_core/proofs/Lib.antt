@@ -1,1 +1,3 @@
-pub mod Done
+pub mod Acted
+pub mod Files
+pub mod Left

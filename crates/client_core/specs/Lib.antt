@@ -1,4 +1,2 @@
-pub mod Holding
-pub mod Requests
-pub mod Rows
 pub mod Views
+pub mod Rows

@@ -1,6 +1,3 @@
-pub mod Hosts
-pub mod Changes
-pub mod Ticks
 pub mod Rows
 pub mod Endings
 pub mod Giving

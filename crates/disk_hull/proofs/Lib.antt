@@ -1,1 +1,4 @@
+mod StoredRecords
+mod Stopping
 mod Hulls
+mod Rooms

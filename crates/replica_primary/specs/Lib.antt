@@ -3,4 +3,3 @@ pub mod PrimaryViews
 pub mod Phases
 pub mod Written
 pub mod Moves
-pub mod Acks

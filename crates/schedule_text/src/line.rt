@@ -115,8 +115,7 @@ fn is_spelled(alloc: Global, line: &Line, bytes: &[u8], first: bool) -> Result<b
     if !is_line(first, line) {
         return Ok(false);
     }
-    let mut text = Vec::with_capacity(alloc, bytes.len())?;
-    push_line(&mut text, line)?;
+    let text = print_line(alloc, line)?;
     Ok(text.as_slice() == bytes)
 }
 

@@ -28,7 +28,7 @@ pub use file::{
 };
 pub use ids::{Ballot, Boot, Epoch, FileId, Lease, NodeId, OpId, SizeMark, Stamp};
 pub use lists::{Copies, Name, Octets, OutOfMemory, Seq, Words};
-pub use members::{BadMembers, Members, has_node};
+pub use members::{has_node, BadMembers, Members};
 pub use message::{Msg, Msgs, Payload};
 pub use meta::{MetaAnswer, MetaRefusal, MetaReq, Names, RowKind};
 pub use outside::{CallList, Failed};

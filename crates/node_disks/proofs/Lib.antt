@@ -1,3 +1,0 @@
-pub mod StoredRecords
-mod Stopping
-mod Rooms

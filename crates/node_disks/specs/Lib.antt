@@ -1,4 +1,0 @@
-pub mod Disks
-pub mod Ends
-pub mod Room
-pub mod Stored

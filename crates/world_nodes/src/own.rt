@@ -1,0 +1,68 @@
+//! The messages of a node to itself that wait.
+ghost use Rattle.std.specs.Prelude.{◌≡◌, ◌++◌, [], OnOk};
+ghost use Rattle.cluster_runs.specs.NodeSteps.{to_itself};
+ghost use Rattle.world_nodes.specs.Own.{IsNext};
+
+use std::alloc::Global;
+use std::collections::VecDeque;
+use std::marker::Model;
+use xt_base::{Msg, Msgs, NodeId, OutOfMemory};
+
+/// The messages of the stepping node to itself that it hasn't handled. Contracts see the list, the next one first.
+#[derive(Drop)]
+pub struct OwnMessages {
+    list: VecDeque<Msg>,
+}
+
+impl Model for OwnMessages {
+    ghost use Rattle.std.specs.Prelude.{List};
+    ghost use Rattle.xt_base.specs.declared.message.Msg.{Msg};
+
+    ghost Value = { List Msg };
+
+    ghost view = { λ own. own.list.items };
+}
+
+/// Those messages of a step that are to its own node come behind all others.
+fn queue(list: &mut VecDeque<Msg>, node: NodeId, outs: Msgs) -> Result<(), OutOfMemory>
+    ensures { OnOk result (list.new.items ≡ list.old.items ++ to_itself node outs) }
+{
+    for message in outs.items {
+        if message.to.0 == node.0 {
+            list.push_back(message)?;
+        }
+    }
+    Ok(())
+}
+
+impl OwnMessages {
+    /// No message.
+    pub fn new(alloc: Global) -> OwnMessages
+        ensures { result ≡ [] }
+    {
+        OwnMessages {
+            list: VecDeque::new(alloc),
+        }
+    }
+
+    /// Those messages of a step that are to its own node come behind all others.
+    pub fn put(&mut self, node: NodeId, outs: Msgs) -> Result<(), OutOfMemory>
+        ensures { OnOk result (self.new ≡ self.old ++ to_itself node outs) }
+    {
+        queue(&mut self.list, node, outs)
+    }
+
+    /// Takes the next one.
+    pub fn take(&mut self) -> Option<Msg>
+        ensures { IsNext self.old self.new result }
+    {
+        self.list.pop_front()
+    }
+
+    /// The node has stopped: they are lost with it.
+    pub fn lose(&mut self)
+        ensures { self.new ≡ [] }
+    {
+        self.list.clear();
+    }
+}
