@@ -2,12 +2,13 @@
 ghost use Rattle.std.specs.Prelude.{◌≡◌, ◌+◌, ◌*◌, ◌<◌, [], false, true, Some, None, length, take};
 ghost use Rattle.cluster_runs.specs.Rules.{refusal};
 ghost use Rattle.cluster_runs.specs.NodeSteps.{event_comes};
-ghost use Rattle.cluster_runs.specs.Lines.{first_step, next_step, goes_on, begins, settles, OWN};
+ghost use Rattle.cluster_runs.specs.Lines.{first_step, next_step, goes_on, begins, done, settles, OWN};
+ghost use Rattle.cluster_runs.specs.Runs.{IsOver};
 ghost use Rattle.cluster_fits.specs.Fits.{FitsWorld};
 ghost use Rattle.cluster_core.specs.Standing.{begun_with, IsStepped, IsTurned, HasTurned, HasRun, AllFit, MayStand};
 
 use crate::state::State;
-use crate::lines::events_of;
+use crate::lines::{events_of, last_of};
 use time_line::Line;
 use world_hull::{Hull, WorldErr};
 use xt_base::Event;
@@ -102,21 +103,25 @@ impl<H: Hull> State<H> {
         1 + OWN * self.files.len() as u128
     }
 
-    /// The steps of a line that breaks no rule and has begun. True where it is done.
-    pub fn run(&mut self, line: &Line) -> Result<bool, WorldErr>
+    /// The steps of a line that breaks no rule and has begun, to its end.
+    pub fn run(&mut self, line: &Line) -> Result<(), WorldErr>
         requires legal { refusal self.old.doing.world line.now ≡ None }
         requires values { MayStand self.old.doing.world line.now }
         requires begun { self.old.doing ≡ begun_with self.old.doing.world line.now }
         requires fits { AllFit H.overflow (begins self.old.doing.world line.now) }
+        requires over { IsOver (done H.overflow self.old.doing.world line.now) }
         ensures { HasRun H.overflow self.old line.now self.new result }
     {
         let count = self.turns_of_event();
         self.open(line)?;
         for event in 0..events_of(line) {
             if self.turns(count)? {
-                return Ok(true);
+                return Ok(());
             }
         }
-        self.turn()
+        if self.turns(last_of(line))? {
+            return Ok(());
+        }
+        unreachable!()
     }
 }
