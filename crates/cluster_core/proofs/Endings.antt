@@ -26,7 +26,7 @@ use Rattle.world_hull.specs.Appends.{kept_by}
 use Rattle.world_hull.specs.declared.errors.WorldErr.{WorldErr}
 use Rattle.std.specs.List.{AllByRecursion}
 use Rattle.xt_base.specs.Limits.{FitsMessage}
-use Rattle.world_nodes.specs.Nodes.{NodesView, IsAt, kept_when}
+use Rattle.cluster_core.specs.Nodes.{NodesView, IsAt, kept_when}
 use Rattle.cluster_core.specs.Standing.{Working, WentOn, IsUntold, Tells, cause_of}
 use Rattle.cluster_core.specs.Endings.{given, hindrance, cause_against, IsGiven, Halts, ended, ended_whole, ended_sending, ended_in_append, halt_of}
 

@@ -18,9 +18,9 @@ use Rattle.cluster_runs.specs.NodeSteps.{Room, Cause, Doing, core_step, end_of_s
 use Rattle.world_hull.specs.declared.errors.WorldErr.{WorldErr}
 use Rattle.node_cores.specs.declared.running.Moment.{Moment}
 use Rattle.node_cores.specs.Turns.{moment_of}
-use Rattle.cluster_core.specs.declared.state.endings.Ending.{Ending}
-use Rattle.cluster_core.specs.declared.state.endings.Ending.TheVariants as ending
-use Rattle.world_nodes.specs.Nodes.{NodesView, IsAt, IsPlace, NodeTook, NodeHandles}
+use Rattle.cluster_core.specs.declared.state.Ending.{Ending}
+use Rattle.cluster_core.specs.declared.state.Ending.TheVariants as ending
+use Rattle.cluster_core.specs.Nodes.{NodesView, IsAt, IsPlace, NodeTook, NodeHandles}
 use Rattle.cluster_core.specs.Standing.{Working, Tells, IsStepped, cause_of}
 use Rattle.cluster_core.specs.Endings.{ending_of, ended}
 use Rattle.cluster_core.proofs.Endings.{end_again, at_again}

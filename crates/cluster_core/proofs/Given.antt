@@ -15,7 +15,7 @@ use Rattle.world_hull.specs.declared.hull.Kept.{Kept}
 use Rattle.std.proofs.lemmas.List.{append-nil}
 use Rattle.world_hull.specs.declared.errors.WorldErr.{WorldErr}
 use Rattle.world_tables.specs.Limits.{limit_passed}
-use Rattle.world_nodes.specs.Nodes.{NodesView, IsAt, Changes, kept_when}
+use Rattle.cluster_core.specs.Nodes.{NodesView, IsAt, Changes, kept_when}
 use Rattle.cluster_core.specs.Standing.{Working, WentOn, IsUntold, Tells, cause_of}
 use Rattle.cluster_core.specs.Endings.{IsGiven, IsWithin, Halts, ended_in_append, halt_of}
 use Rattle.cluster_core.proofs.Endings.{numbered_same, cause_is, append_sent, append_done, at_again}

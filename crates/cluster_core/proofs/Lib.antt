@@ -1,3 +1,6 @@
+pub mod Hosts
+pub mod Changes
+pub mod Ticks
 pub mod Rows
 pub mod Endings
 pub mod Giving

@@ -8,10 +8,10 @@ use Rattle.cluster_runs.specs.Rules.{refusal}
 use Rattle.cluster_runs.specs.NodeSteps.{Room}
 use Rattle.cluster_runs.specs.Lines.{Next, finished, begins, steps, so_far, done}
 use Rattle.time_line.specs.Bounds.{AreLines, FitsLine, FitsLater, sets_times}
-use Rattle.cluster_runs.specs.Runs.{with_line, after, after_refusal, run_of, IsPartOf, IsOver, IsEnough}
+use Rattle.cluster_runs.specs.Runs.{with_line, after, after_refusal, run_of, IsPartOf}
 use Rattle.world_hull.specs.declared.errors.WorldErr.{WorldErr}
 use Rattle.world_hull.specs.declared.errors.WorldErr.TheVariants as error
-use Rattle.cluster_core.specs.Standing.{Standing, Working, WentOn, HasRun, IsRefused, MayStand, begun_with}
+use Rattle.cluster_core.specs.Standing.{Standing, Working, HasRun, IsLeft, IsRefused, MayStand, begun_with}
 use Rattle.cluster_core.proofs.Turns.{none_yet}
 use Rattle.cluster_core.proofs.Whole.{begins_in, done_is}
 
@@ -69,11 +69,6 @@ may_stand room w (line.Deliver number) is are = (last_fits w.lines (line.Deliver
 may_stand room w (line.Drop number) is are = (last_fits w.lines (line.Drop number) are).0
 may_stand room w (line.Settle count) is are = (last_fits w.lines (line.Settle count) are).0
 
--- the line is over behind its steps
-pub over_is : (room : Room) (w : World) (l : Line) → IsEnough room → w ≡ run_of room w.lines → AreLines (w.lines ++ l ∷ []) → refusal w l ≡ None → IsOver (done room w l)
-over_is room w l all is are legal =
-    subst (λ (x : World). IsOver (done room x l)) (sym is) (all w.lines l are (subst (λ (x : World). refusal x l ≡ None) is legal))
-
 -- ---- the end of a line, which is shown
 
 module _ (room : Room) (w : World) (l : Line) (ended shown : Working)
@@ -96,10 +91,10 @@ module _ (room : Room) (w : World) (l : Line) (ended shown : Working)
       inl (its_entries ∙ so ∙ ap (λ (x : World). x.entries) (sym is ∙ ap so_far (none_yet room (begins w l)) ∙ begins_in w l))
   by_steps (suc k) part is so = inr (part, (suc k, omega arith, is), its_entries ∙ so)
 
-  pub refused_is : (T : Type 0) (old : Standing) (e : WorldErr) → old.world ≡ w → HasRun {T = T} room begun l ended (Err e) → IsRefused room old l (record { world = shown.doing.world; ended = shown.ended }) e
-  refused_is T old e same so = subst (λ (x : World). IsRefused room (record { world = x; ended = old.ended }) l (record { world = shown.doing.world; ended = shown.ended }) e) (sym same) (at e so)
+  pub refused_is : (old : Standing) (e : WorldErr) → old.world ≡ w → HasRun room begun l ended (Err e) → IsRefused room old l (record { world = shown.doing.world; ended = shown.ended }) e
+  refused_is old e same so = subst (λ (x : World). IsRefused room (record { world = x; ended = old.ended }) l (record { world = shown.doing.world; ended = shown.ended }) e) (sym same) (at e so)
     where
-      at : (e : WorldErr) → HasRun {T = T} room begun l ended (Err e) → IsRefused room (record { world = w; ended = old.ended }) l (record { world = shown.doing.world; ended = shown.ended }) e
+      at : (e : WorldErr) → HasRun room begun l ended (Err e) → IsRefused room (record { world = w; ended = old.ended }) l (record { world = shown.doing.world; ended = shown.ended }) e
       at (error.Illegal rule) is = absurd (is)
       at (error.Limit what limit) is = (
         legal,
@@ -118,7 +113,15 @@ module _ (room : Room) (w : World) (l : Line) (ended shown : Working)
         its_end is.2.ended,
       )
 
-  pub finished_run : w ≡ run_of room w.lines → AreLines (w.lines ++ l ∷ []) → (done room w l ≡ finished ended.doing.world) × WentOn begun ended
+  pub unfinished_is : (old : World) → old ≡ w → HasRun room begun l ended (Ok false) → (refusal old l ≡ None) × IsLeft room old l shown.doing.world × (shown.ended ≡ true)
+  unfinished_is old same is =
+      subst (λ (x : World). (refusal x l ≡ None) × IsLeft room x l shown.doing.world × (shown.ended ≡ true)) (sym same) (
+        legal,
+        inr (its_lines is.2.lines (ap (λ (x : Working). x.begun) is.2.rest), by_steps is.0 ended.doing.world (ap so_far is.1) refl),
+        its_end (ap (λ (x : Working). x.ended) is.2.rest),
+      )
+
+  pub finished_run : w ≡ run_of room w.lines → AreLines (w.lines ++ l ∷ []) → HasRun room begun l ended (Ok true)
       → (shown.doing.world ≡ run_of room shown.doing.world.lines) × AreLines shown.doing.world.lines
   finished_run is are so =
       let last : ended.begun ≡ l ∷ [] = ap (λ (x : Working). x.begun) so.1.rest in

@@ -21,7 +21,7 @@ use Rattle.world_hull.specs.Appends.{kept_by}
 use Rattle.world_hull.specs.declared.hull.Kept.{Kept}
 use Rattle.world_hull.specs.declared.errors.WorldErr.{WorldErr}
 use Rattle.world_hull.specs.declared.errors.WorldErr.TheVariants as error
-use Rattle.world_nodes.specs.Nodes.{NodesView, IsAt, IsPlace, Changes, kept_when}
+use Rattle.cluster_core.specs.Nodes.{NodesView, IsAt, IsPlace, Changes, kept_when}
 use Rattle.cluster_core.specs.Standing.{Tells, cause_of}
 use Rattle.cluster_core.specs.Endings.{boot_behind}
 use Rattle.cluster_core.proofs.Endings.{twice, at_again}

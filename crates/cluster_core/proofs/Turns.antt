@@ -66,6 +66,10 @@ next_is_settle : (room : Room) (d : Doing) → d.own ≡ [] → next_step room (
 unfolding next_step
 next_is_settle room d is = ap (works_on room d) is
 
+pub nothing_left : (xs ys : List Msg) → xs ≡ ys → ys ≡ drop 1 xs → xs ≡ []
+nothing_left [] ys is rest = refl
+nothing_left (x ∷ xs) ys is rest = absurd (let e : suc (length xs) ≡ length xs = ap length (is ∙ rest) in omega arith)
+
 pub turn_settles : (room : Room) (was self now new : Working) (r : Result Bool WorldErr) → was ≡ self → was.doing.own ≡ [] → now ≡ was → IsTurned now (settles room now.doing now.doing.left) new r
     → IsTurned self (next_step room (goes_on self.doing)) new r
 turn_settles room was self now new r is idle same so =

@@ -7,10 +7,9 @@ use Rattle.cluster_runs.specs.NodeSteps.{Room, Cause, came_to, has_no_room, Doin
 use Rattle.cluster_runs.specs.Lines.{Next, finished, opens, goes_on, ends, begins, went, next_step, steps, so_far, first_step, events_of, enough, done, OWN}
 use Rattle.world_hull.specs.declared.errors.WorldErr.{WorldErr}
 use Rattle.world_hull.specs.declared.errors.WorldErr.TheVariants as error
-use Rattle.cluster_runs.specs.Runs.{IsOver}
 use Rattle.cluster_fits.specs.Fits.{FitsAt, FitsWorld}
-use Rattle.cluster_core.specs.Standing.{Working, WentOn, IsUntold, IsLeftIn, Tells, HasEnded, AllFit, begun_with, cause_of, last_of}
-use Rattle.cluster_core.proofs.Turns.{none_yet, steps-add, done_longer, ended_longer, went_further}
+use Rattle.cluster_core.specs.Standing.{Working, WentOn, IsUntold, IsLeftIn, Tells, IsTurned, HasEnded, HasRun, AllFit, begun_with, cause_of}
+use Rattle.cluster_core.proofs.Turns.{none_yet, steps-add, done_longer, ended_longer, one_more, went_further, has_ended}
 
 opens_one : (room : Room) (l : Line) (w : World) → steps 1 room (opens l w) ≡ went w (first_step room (record { world = w; own = []; left = 0 }) l)
 unfolding steps next_step
@@ -24,23 +23,23 @@ the_doing : (a b : Doing) (so : Result Doing Cause) → so ≡ Ok a → so ≡ O
 the_doing a b so one two = cc
 
 -- the first step leaves the line at work
-pub opened : (room : Room) (w : World) (l : Line) (d : Doing) → first_step room (begun_with w l) l ≡ Ok d → (k : ℕ) × (k ≤ 1) × (k + last_of l ≡ 2) × (steps k room (begins w l) ≡ goes_on d)
-opened room w (line.Settle count) d is = (0, omega arith, refl, none_yet room _ ∙ ap goes_on (the_doing (begun_with w (line.Settle count)) d _ (settling room (begun_with w (line.Settle count)) count _ refl) is))
-opened room w (line.Times lease drift) d is = (1, omega arith, refl, opens_one room (line.Times lease drift) w ∙ ap (went w) is)
-opened room w (line.Osd node) d is = (1, omega arith, refl, opens_one room (line.Osd node) w ∙ ap (went w) is)
-opened room w (line.Client node clock) d is = (1, omega arith, refl, opens_one room (line.Client node clock) w ∙ ap (went w) is)
-opened room w (line.File number location) d is = (1, omega arith, refl, opens_one room (line.File number location) w ∙ ap (went w) is)
-opened room w (line.Start node clock) d is = (1, omega arith, refl, opens_one room (line.Start node clock) w ∙ ap (went w) is)
-opened room w (line.Stop node) d is = (1, omega arith, refl, opens_one room (line.Stop node) w ∙ ap (went w) is)
-opened room w (line.Crash node k fill) d is = (1, omega arith, refl, opens_one room (line.Crash node k fill) w ∙ ap (went w) is)
-opened room w (line.Cut node count) d is = (1, omega arith, refl, opens_one room (line.Cut node count) w ∙ ap (went w) is)
-opened room w (line.Clock node clock) d is = (1, omega arith, refl, opens_one room (line.Clock node clock) w ∙ ap (went w) is)
-opened room w (line.Tick count) d is = (1, omega arith, refl, opens_one room (line.Tick count) w ∙ ap (went w) is)
-opened room w (line.Wake node) d is = (1, omega arith, refl, opens_one room (line.Wake node) w ∙ ap (went w) is)
-opened room w (line.Call id c) d is = (1, omega arith, refl, opens_one room (line.Call id c) w ∙ ap (went w) is)
-opened room w (line.Aim id file node) d is = (1, omega arith, refl, opens_one room (line.Aim id file node) w ∙ ap (went w) is)
-opened room w (line.Deliver number) d is = (1, omega arith, refl, opens_one room (line.Deliver number) w ∙ ap (went w) is)
-opened room w (line.Drop number) d is = (1, omega arith, refl, opens_one room (line.Drop number) w ∙ ap (went w) is)
+pub opened : (room : Room) (w : World) (l : Line) (d : Doing) → first_step room (begun_with w l) l ≡ Ok d → (k : ℕ) × (k ≤ 1) × (steps k room (begins w l) ≡ goes_on d)
+opened room w (line.Settle count) d is = (0, omega arith, none_yet room _ ∙ ap goes_on (the_doing (begun_with w (line.Settle count)) d _ (settling room (begun_with w (line.Settle count)) count _ refl) is))
+opened room w (line.Times lease drift) d is = (1, omega arith, opens_one room (line.Times lease drift) w ∙ ap (went w) is)
+opened room w (line.Osd node) d is = (1, omega arith, opens_one room (line.Osd node) w ∙ ap (went w) is)
+opened room w (line.Client node clock) d is = (1, omega arith, opens_one room (line.Client node clock) w ∙ ap (went w) is)
+opened room w (line.File number location) d is = (1, omega arith, opens_one room (line.File number location) w ∙ ap (went w) is)
+opened room w (line.Start node clock) d is = (1, omega arith, opens_one room (line.Start node clock) w ∙ ap (went w) is)
+opened room w (line.Stop node) d is = (1, omega arith, opens_one room (line.Stop node) w ∙ ap (went w) is)
+opened room w (line.Crash node k fill) d is = (1, omega arith, opens_one room (line.Crash node k fill) w ∙ ap (went w) is)
+opened room w (line.Cut node count) d is = (1, omega arith, opens_one room (line.Cut node count) w ∙ ap (went w) is)
+opened room w (line.Clock node clock) d is = (1, omega arith, opens_one room (line.Clock node clock) w ∙ ap (went w) is)
+opened room w (line.Tick count) d is = (1, omega arith, opens_one room (line.Tick count) w ∙ ap (went w) is)
+opened room w (line.Wake node) d is = (1, omega arith, opens_one room (line.Wake node) w ∙ ap (went w) is)
+opened room w (line.Call id c) d is = (1, omega arith, opens_one room (line.Call id c) w ∙ ap (went w) is)
+opened room w (line.Aim id file node) d is = (1, omega arith, opens_one room (line.Aim id file node) w ∙ ap (went w) is)
+opened room w (line.Deliver number) d is = (1, omega arith, opens_one room (line.Deliver number) w ∙ ap (went w) is)
+opened room w (line.Drop number) d is = (1, omega arith, opens_one room (line.Drop number) w ∙ ap (went w) is)
 
 -- or ends it
 pub opened_err : (room : Room) (w : World) (l : Line) (cause : Cause) → first_step room (begun_with w l) l ≡ Err cause → steps 1 room (begins w l) ≡ ends cause w
@@ -172,6 +171,11 @@ within_enough w l i count k less is le =
     let all : events_of l * count ≡ events_of l * (1 + OWN * length w.files) = ap (λ (n : ℕ). events_of l * n) is in
     omega arith
 
+last_enough : (w : World) (l : Line) (i count k : ℕ) → i ≡ events_of l → count ≡ 1 + OWN * length w.files → k ≤ 1 + i * count → k + 1 ≤ enough w l
+last_enough w l i count k same is le =
+    let all : i * count ≡ events_of l * (1 + OWN * length w.files) = ap (λ (n : ℕ). n * count) same ∙ ap (λ (n : ℕ). events_of l * n) is in
+    omega arith
+
 begin_fits : (w : World) (l : Line) → FitsAt (begins w l) → FitsWorld w []
 begin_fits w (line.Times lease drift) fits = fits
 begin_fits w (line.Osd node) fits = fits
@@ -201,7 +205,7 @@ done_is room w l = refl
 
 module _ (room : Room) (old started now : Working) (l : Line) (i count : ℕ) (begun : old.doing ≡ begun_with old.doing.world l) (first : (first_step room old.doing l ≡ Ok started.doing) × WentOn old started)
     (is_count : count ≡ 1 + OWN * length old.doing.world.files) (came : steps (i * count) room (goes_on started.doing) ≡ goes_on now.doing) (on : WentOn started now) where
-  start : (k : ℕ) × (k ≤ 1) × (k + last_of l ≡ 2) × (steps k room (begins old.doing.world l) ≡ goes_on started.doing)
+  start : (k : ℕ) × (k ≤ 1) × (steps k room (begins old.doing.world l) ≡ goes_on started.doing)
   start = opened room old.doing.world l started.doing (ap (λ (d : Doing). first_step room d l) (sym begun) ∙ first.0)
 
   far : ℕ
@@ -211,13 +215,16 @@ module _ (room : Room) (old started now : Working) (l : Line) (i count : ℕ) (b
   bound = (let le = start.1 in omega arith)
 
   all_came : steps (start.0 + i * count) room (begins old.doing.world l) ≡ goes_on now.doing
-  all_came = steps-add start.0 (i * count) room (begins old.doing.world l) ∙ ap (steps (i * count) room) start.3 ∙ came
+  all_came = steps-add start.0 (i * count) room (begins old.doing.world l) ∙ ap (steps (i * count) room) start.2 ∙ came
 
   all_on : WentOn old now
   all_on = went_further old started now first.1 on
 
   pub event_fits : AllFit room (begins old.doing.world l) → AllFit room (goes_on now.doing)
   event_fits fits = later_fits room old now (begins old.doing.world l) (start.0 + i * count) all_came all_on fits
+
+  pub turn_fits : AllFit room (begins old.doing.world l) → FitsWorld now.doing.world now.doing.own
+  turn_fits fits = subst FitsAt (none_yet room (goes_on now.doing)) (event_fits fits 0)
 
   pub event_ends : (new : Working) (e : WorldErr) → i < events_of l → HasEnded room now count (goes_on now.doing) new e → HasEnded room old (enough old.doing.world l) (begins old.doing.world l) new e
   event_ends new e less so =
@@ -233,37 +240,22 @@ module _ (room : Room) (old started now : Working) (l : Line) (i count : ℕ) (b
     went_further old now new all_on so.1,
   )
 
-  -- with its last steps they are as many as a line may have
-  last_all : i ≡ events_of l → start.0 + i * count + last_of l ≡ enough old.doing.world l
-  last_all same =
-      let all : i * count ≡ events_of l * (1 + OWN * length old.doing.world.files) = ap (λ (n : ℕ). n * count) same ∙ ap (λ (n : ℕ). events_of l * n) is_count in
-      let two : start.0 + last_of l ≡ 2 = start.2 in
-      omega arith
-
-  pub last_done : (new : Working) → i ≡ events_of l → (steps (last_of l) room (goes_on now.doing) ≡ finished new.doing.world) × WentOn now new
-      → (done room old.doing.world l ≡ finished new.doing.world) × WentOn old new
-  last_done new same so = (
+  pub last_turn : (new : Working) (r : Result Bool WorldErr) → i ≡ events_of l → IsTurned now (next_step room (goes_on now.doing)) new r → HasRun room old l new r
+  last_turn new (Ok true) same so = (
     done_is room old.doing.world l
-        ∙ done_behind room old now (begins old.doing.world l) (start.0 + i * count) all_came all_on (last_of l) (enough old.doing.world l) new.doing.world
-        (let all = last_all same in omega arith) so.0,
+        ∙ done_longer (start.0 + i * count + 1) (enough old.doing.world l) room (begins old.doing.world l) new.doing.world
+        (one_more (start.0 + i * count) room (begins old.doing.world l) (finished new.doing.world) now.doing all_came so.0)
+        (last_enough old.doing.world l i count (start.0 + i * count) same is_count bound),
     went_further old now new all_on so.1,
   )
-
-  pub last_ends : (new : Working) (e : WorldErr) → i ≡ events_of l → HasEnded room now (last_of l) (goes_on now.doing) new e
-      → HasEnded room old (enough old.doing.world l) (begins old.doing.world l) new e
-  last_ends new e same so =
-      ended_behind room old now (begins old.doing.world l) (start.0 + i * count) all_came all_on (last_of l) (enough old.doing.world l) new e
-      (let all = last_all same in omega arith) so
-
-  -- a line that is over doesn't go on
-  pub never_on : (d : Doing) → i ≡ events_of l → IsOver (done room old.doing.world l) → steps (last_of l) room (goes_on now.doing) ≡ goes_on d → ⊥
-  never_on d same over so =
-      subst IsOver
-      (done_is room old.doing.world l
-      ∙ ap (λ (n : ℕ). steps n room (begins old.doing.world l)) (sym (last_all same))
-      ∙ steps-add (start.0 + i * count) (last_of l) room (begins old.doing.world l)
-      ∙ ap (steps (last_of l) room) all_came ∙ so)
-      over
+  last_turn new (Ok false) same so = (
+    start.0 + i * count + 1,
+    one_more (start.0 + i * count) room (begins old.doing.world l) (goes_on new.doing) now.doing all_came so.0,
+    went_further old now new all_on so.1,
+  )
+  last_turn new (Err e) same so =
+      has_ended room old now new (begins old.doing.world l) (start.0 + i * count) (enough old.doing.world l) e
+      (let le = last_enough old.doing.world l i count (start.0 + i * count) same is_count bound in omega arith) all_came all_on so
 
 pub some_enough : (w : World) (l : Line) → 1 ≤ enough w l
 some_enough w l = omega arith

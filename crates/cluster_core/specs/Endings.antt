@@ -14,12 +14,12 @@ use Rattle.cluster_runs.specs.World.{World, Node, Running, with_node}
 use Rattle.cluster_runs.specs.NodeSteps.{Room, Cause, came_to, has_no_room, Doing, numbered, one_more, overflow_of, within_limits, after_turn, to_itself, loses_own, cut_in_sending, stopped_in_append}
 use Rattle.world_tables.specs.Limits.{limit_passed}
 use Rattle.world_hull.specs.declared.errors.WorldErr.{WorldErr}
-use Rattle.cluster_core.specs.declared.state.endings.Ending.{Ending}
-use Rattle.cluster_core.specs.declared.state.endings.Ending.TheVariants as ending
+use Rattle.cluster_core.specs.declared.state.Ending.{Ending}
+use Rattle.cluster_core.specs.declared.state.Ending.TheVariants as ending
 use Rattle.world_hull.specs.declared.errors.WorldErr.TheVariants as error
 use Rattle.world_hull.specs.declared.hull.Kept.{Kept}
 use Rattle.world_hull.specs.declared.hull.Kept.TheVariants as kept
-use Rattle.world_nodes.specs.Nodes.{IsAt}
+use Rattle.cluster_core.specs.Nodes.{IsAt}
 use Rattle.cluster_core.specs.Standing.{Working, Tells, IsUntold, limit_of}
 
 -- By the plans and by what a step gives: a record is appended where a crash is planned, or messages are sent where a cut is.

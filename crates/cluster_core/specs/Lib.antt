@@ -1,2 +1,4 @@
+pub mod Nodes
+pub mod Clocks
 pub mod Standing
 pub mod Endings

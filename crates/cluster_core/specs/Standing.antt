@@ -133,14 +133,10 @@ MayStand w l = FitsLine l
 abbrev pub begun_with : World → Line → Doing
 begun_with w l = record { world = w; own = []; left = left_of l }
 
--- how many steps a line has behind those of its events: one to end it, and one more where no step has opened it
-abbrev pub last_of : Line → ℕ
-last_of (line.Settle count) = 2
-last_of _ = 1
-
--- A line of this world came to its end.
-abbrev pub HasRun : {T : Type 0} → Room → Working → Line → Working → Result T WorldErr → Type 0
-HasRun room old l new (Ok value) = (done room old.doing.world l ≡ finished new.doing.world) × WentOn old new
+-- A line of this world came to its end; or it went on for so many steps, and isn't done.
+abbrev pub HasRun : Room → Working → Line → Working → Result Bool WorldErr → Type 0
+HasRun room old l new (Ok true) = (done room old.doing.world l ≡ finished new.doing.world) × WentOn old new
+HasRun room old l new (Ok false) = (k : ℕ) × (steps k room (begins old.doing.world l) ≡ goes_on new.doing) × WentOn old new
 HasRun room old l new (Err e) = HasEnded room old (enough old.doing.world l) (begins old.doing.world l) new e
 
 -- the line isn't taken up; or it is the last line, behind the entries of the steps that it finished, if any

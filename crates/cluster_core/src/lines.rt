@@ -1,7 +1,7 @@
 //! What is to be known of a line before its first step.
 ghost use Rattle.std.specs.Prelude.{◌≡◌, IfOk};
 ghost use Rattle.cluster_runs.specs.Lines.{events_of};
-ghost use Rattle.cluster_core.specs.Standing.{last_of, left_of};
+ghost use Rattle.cluster_core.specs.Standing.{left_of};
 
 use std::alloc::Global;
 use time_line::Line;
@@ -13,16 +13,6 @@ pub fn events_of(line: &Line) -> u128
 {
     match line {
         Line::Settle { count } => *count,
-        _ => 1,
-    }
-}
-
-/// How many steps a line has behind those of its events: one to end it, and one more where no step has opened it.
-pub fn last_of(line: &Line) -> u128
-    ensures { result ≡ last_of line.now }
-{
-    match line {
-        Line::Settle { .. } => 2,
         _ => 1,
     }
 }

@@ -5,7 +5,6 @@ ghost use Rattle.cluster_core.specs.Standing.{IsApplied};
 
 use crate::state::State;
 use cluster_fits::steps_fit;
-use line_ends::lines_are_over;
 use std::alloc::Global;
 use std::marker::Model;
 use time_line::{Entry, Line};
@@ -65,11 +64,13 @@ impl<H: Hull> World<H> {
         }
         self.state.begin(line)?;
         steps_fit();
-        lines_are_over();
         let end = self.state.run(line);
         self.state.show();
-        end?;
-        self.state.go_on();
-        Ok(())
+        if end? {
+            self.state.go_on();
+            Ok(())
+        } else {
+            Err(WorldErr::OutOfMemory)
+        }
     }
 }

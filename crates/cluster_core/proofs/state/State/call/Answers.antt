@@ -1,5 +1,5 @@
 use Rattle.std.proofs.Common.{refl, sym, ◌∙◌, subst}
-use Rattle.world_nodes.specs.Nodes.{NodeCalls}
+use Rattle.cluster_core.specs.Nodes.{NodeCalls}
 use Rattle.cluster_core.proofs.Calls.{call_steps, call_fits}
 use Rattle.cluster_core.proofs.state.State.call.Goals as goal
 

@@ -6,7 +6,7 @@ use Rattle.xt_base.specs.declared.message.Msg.{Msg}
 use Rattle.time_line.specs.declared.entry.Halt.TheVariants as halt
 use Rattle.time_line.specs.declared.entry.Entry.TheVariants as entry
 use Rattle.cluster_runs.specs.NodeSteps.{Doing, loses_own, cut_in_sending, numbered}
-use Rattle.world_nodes.specs.Nodes.{IsAt}
+use Rattle.cluster_core.specs.Nodes.{IsAt}
 use Rattle.cluster_core.specs.Standing.{Working}
 use Rattle.cluster_core.proofs.Endings.{gave_not, gave_inside, sending_told, fits_front}
 use Rattle.cluster_core.proofs.state.State.cut_sending.Goals as goal

@@ -1,7 +1,7 @@
 use Rattle.std.proofs.Common.{Option, refl, sym, ◌∙◌, subst}
 use Rattle.xt_base.specs.declared.record.Record.{Record}
-use Rattle.cluster_core.specs.declared.state.endings.Ending.TheVariants as ending
-use Rattle.world_nodes.specs.Nodes.{IsAt}
+use Rattle.cluster_core.specs.declared.state.Ending.TheVariants as ending
+use Rattle.cluster_core.specs.Nodes.{IsAt}
 use Rattle.cluster_core.specs.Standing.{Working, IsStepped}
 use Rattle.cluster_core.specs.Endings.{ended}
 use Rattle.cluster_core.proofs.Events.{step_ends, way, no_moment}

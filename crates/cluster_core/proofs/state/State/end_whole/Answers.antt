@@ -4,7 +4,7 @@ use Rattle.std.specs.List.{AllByRecursion}
 use Rattle.std.proofs.lemmas.Result.{err_from_is_err_and}
 use Rattle.xt_base.specs.Limits.{FitsMessage}
 use Rattle.xt_base.specs.declared.message.Msg.{Msg}
-use Rattle.world_nodes.specs.Nodes.{IsAt}
+use Rattle.cluster_core.specs.Nodes.{IsAt}
 use Rattle.cluster_core.specs.Standing.{Working}
 use Rattle.cluster_core.proofs.Endings.{gave_not, whole_told}
 use Rattle.cluster_core.proofs.state.State.end_whole.Goals as goal
@@ -25,5 +25,5 @@ returns-in_err-give g c = λ node running at up.
 pub returns : goal.returns
 returns g c = λ node running at up.
     whole_told (Unit {0}) g.H.Hull.overflow c.args.self.now c.args.self.now c.give.new.self _ _ c.args.place node running c.args.turned tt c.as_slice.result.now c.id-node.result
-    c.in_ok-made.made.items c.append.new.self.items c.put.new.self refl at up c.in_ok-give.ensures c.as_slice.ensures (λ n there. c.id-node.ensures.id n (subst (λ (x : Working). IsAt x.doing.world.nodes c.args.place n) (sym c.self.view_is) there)) c.in_ok-made.ensures
-    c.self-2.view_is c.in_ok-append.ensures.items c.in_ok-put.ensures refl
+    c.in_ok-made.made.items c.append.new.self.items c.queue.new.own.items refl at up c.in_ok-give.ensures c.as_slice.ensures (λ n there. c.id-node.ensures.id n (subst (λ (x : Working). IsAt x.doing.world.nodes c.args.place n) (sym c.self.view_is) there)) c.in_ok-made.ensures
+    c.self-2.view_is c.in_ok-append.ensures.items c.in_ok-queue.ensures refl

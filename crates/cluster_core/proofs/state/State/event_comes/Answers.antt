@@ -1,6 +1,6 @@
 use Rattle.std.proofs.Common.{Ok, take, refl, ap, sym, ◌∙◌, subst}
 use Rattle.cluster_runs.specs.NodeSteps.{Doing, event_comes}
-use Rattle.world_nodes.specs.Nodes.{NodesView, NodeHandles}
+use Rattle.cluster_core.specs.Nodes.{NodesView, NodeHandles}
 use Rattle.cluster_core.proofs.FirstSteps.{from_view, stayed}
 use Rattle.cluster_core.proofs.Events.{event_nowhere, event_down, event_steps, running_fits, end_fits}
 use Rattle.cluster_core.proofs.state.State.event_comes.Goals as goal
@@ -37,7 +37,7 @@ returns-in-None g c =
               entries = c.self.inside.entries.items;
               lines = take c.self.inside.shown c.self.inside.lines.items;
             };
-            own = c.self.inside.own;
+            own = c.self.inside.own.items;
             left = c.self.inside.left;
           })) (sym handles.1),
       record { rest = refl; lines = refl },

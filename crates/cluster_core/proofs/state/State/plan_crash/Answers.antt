@@ -4,7 +4,7 @@ use Rattle.time_line.specs.declared.line.Line.TheVariants as line
 use Rattle.cluster_core.proofs.FirstSteps.{stayed, at_view, crash_nowhere, crash_planned}
 use Rattle.std.proofs.Common.{ℕ, subst}
 use Rattle.cluster_runs.specs.Lines.{crashes}
-use Rattle.world_nodes.specs.Nodes.{ChangesUp}
+use Rattle.cluster_core.specs.Nodes.{ChangesUp}
 use Rattle.cluster_core.proofs.state.State.plan_crash.Goals as goal
 
 pub returns-in-Some-clause-step : goal.returns-in-Some-clause-step

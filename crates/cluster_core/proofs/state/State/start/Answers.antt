@@ -10,7 +10,7 @@ use Rattle.cluster_runs.specs.Lines.{first_step, runs, osd_starting}
 use Rattle.time_line.specs.declared.entry.Entry.{Entry}
 use Rattle.time_line.specs.declared.entry.Entry.TheVariants as entry
 use Rattle.cluster_runs.specs.NodeSteps.{Doing}
-use Rattle.world_nodes.specs.Nodes.{NodesView, IsAt}
+use Rattle.cluster_core.specs.Nodes.{NodesView, IsAt}
 use Rattle.cluster_core.specs.Standing.{Working, Tells, cause_of}
 use Rattle.cluster_core.proofs.Rows.{rows_are}
 use Rattle.cluster_core.proofs.FirstSteps.{from_view, stayed, limit_said, found_at}
@@ -55,7 +55,7 @@ returns-in_err-append g c =
               entries = c.self.inside.entries.items;
               lines = take c.self.inside.shown c.self.inside.lines.items;
             };
-            own = c.self.inside.own;
+            own = c.self.inside.own.items;
             left = c.self.inside.left;
           }) c.args.node c.args.clock c.in-Some.place c.in-Some.ensures c.in-Some-next_boot.boot c.start.new.self (subst
           (λ (v : NodesView). c.start.new.self ≡ record v { nodes = with_node v.nodes (record c.in-Some.ensures.0 { up = Some (runs c.in-Some-next_boot.boot c.args.clock (osd (osd_starting v.times c.in-Some.ensures.0 c.in-Some-next_boot.boot c.args.clock))) }) })
@@ -82,7 +82,7 @@ returns g c =
               entries = c.self.inside.entries.items;
               lines = take c.self.inside.shown c.self.inside.lines.items;
             };
-            own = c.self.inside.own;
+            own = c.self.inside.own.items;
             left = c.self.inside.left;
           }) c.args.node c.args.clock c.in-Some.place c.in-Some.ensures c.in-Some-next_boot.boot c.start.new.self (subst
           (λ (v : NodesView). c.start.new.self ≡ record v { nodes = with_node v.nodes (record c.in-Some.ensures.0 { up = Some (runs c.in-Some-next_boot.boot c.args.clock (osd (osd_starting v.times c.in-Some.ensures.0 c.in-Some-next_boot.boot c.args.clock))) }) })

@@ -1,3 +1,0 @@
-pub mod Hosts
-pub mod Changes
-pub mod Ticks
