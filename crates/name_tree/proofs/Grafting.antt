@@ -1,12 +1,13 @@
 -- a tree in the place of a subtree
 use Rattle.std.proofs.Common.{◌≡◌, ◌∙◌, List, [], ◌∷◌, ◌++◌, map, refl, sym, ap, subst, Bool, true, false, cond, append_assoc, append-nil, String}
-use Rattle.std.specs.Prelude.{Some, None, IsSome, is_some, ◌&&◌, fold}
+use Rattle.std.specs.Prelude.{Option, Some, None, IsSome, is_some, ◌&&◌, fold}
 use Rattle.std.specs.Str.{bytes_eq}
-use Rattle.std.specs.Ordering.{is_eq, ordering_reverse, ordering_then}
+use Rattle.std.specs.String.{string_bytes}
+use Rattle.std.specs.Ordering.{is_eq, is_lt, ordering_reverse, ordering_then}
 use Rattle.std.specs.declared.cmp.Ordering.{Ordering}
 use Rattle.std.specs.declared.cmp.Ordering.TheVariants.{Less, Equal, Greater}
 use Rattle.std.specs.List.{AllByRecursion}
-use Rattle.std.specs.Map.{lookup, set_value}
+use Rattle.std.specs.Map.{lookup, keys_of, set_value}
 use Rattle.std.proofs.lemmas.Map.{keys-set_value}
 use Rattle.std.proofs.lemmas.Map.Text.{is_eq-slice_cmp}
 use Rattle.std.specs.Cmp.{IsTotalOrder}
@@ -14,7 +15,7 @@ use Rattle.std.proofs.lemmas.Cmp.{nat_list_cmp_total, lists_total}
 use Rattle.volume_rows.specs.declared.Entry.{Entry}
 use Rattle.volume_rows.specs.Paths.{Name, Path, same_path, path_cmp}
 use Rattle.volume_rows.specs.Rows.{Row, entry_in, with_row, rows_within, rows_outside}
-use Rattle.name_tree.specs.Trees.{below, inside, flat, under, grafted, IsRising, IsTree}
+use Rattle.name_tree.specs.Trees.{below, inside, flat, under, rows_under, grafted, IsRising, IsTree}
 use Rattle.name_tree.proofs.Below.{not_found}
 use Rattle.name_tree.proofs.Putting.{AreSorted, key_test, name_cmp, put_back, with_inside_there}
 use Rattle.name_tree.proofs.Sound.{rising_tree}

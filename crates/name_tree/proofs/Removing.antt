@@ -1,12 +1,13 @@
 -- what is taken out where nothing is below a path
-use Rattle.std.proofs.Common.{◌≡◌, ◌∙◌, List, [], ◌∷◌, ◌++◌, map, refl, ap, Bool, true, false, cond, append-nil}
-use Rattle.std.specs.Prelude.{◌&&◌, not, Option, Some, None}
+use Rattle.std.proofs.Common.{◌≡◌, ◌∙◌, ℕ, ◌<◌, List, [], ◌∷◌, ◌++◌, map, length, drop, refl, sym, ap, subst, arith, Bool, true, false, cond, append-nil, Bor}
+use Rattle.std.specs.Prelude.{◌&&◌, not, Option, Some, None, IfSome}
 use Rattle.std.specs.Str.{bytes_eq}
 use Rattle.std.specs.List.{cons_option}
 use Rattle.volume_rows.specs.declared.Entry.{Entry}
 use Rattle.volume_rows.specs.Paths.{Name, Path, same_path, is_within, name_in}
-use Rattle.volume_rows.specs.Rows.{Row, entry_in, names_in, rows_within, rows_outside, without_row}
-use Rattle.name_tree.specs.Trees.{under}
+use Rattle.volume_rows.specs.Rows.{Row, Volumes, entry_in, entry_at, names_in, rows_within, rows_outside, without_row}
+use Rattle.volume_rows.specs.Rights.{is_directory}
+use Rattle.name_tree.specs.Trees.{under, rows_under, IsTree}
 use Rattle.name_tree.proofs.Below.{bytes_eq-flip}
 use Rattle.name_tree.proofs.Putting.{name_same}
 

@@ -1,5 +1,5 @@
 -- what a tree's flat list has at or below a path, and what it has besides
-use Rattle.std.proofs.Common.{◌≡◌, ◌∙◌, List, [], ◌∷◌, ◌++◌, map, refl, sym, ap, Bool, true, false, cond, append-nil, String}
+use Rattle.std.proofs.Common.{◌≡◌, ◌∙◌, ℕ, List, [], ◌∷◌, ◌++◌, map, refl, sym, ap, Bool, true, false, cond, arith, append-nil, length, Bor, String}
 use Rattle.std.specs.Prelude.{Option, Some, None, not}
 use Rattle.std.specs.Str.{bytes_eq}
 use Rattle.std.specs.String.{string_bytes}

@@ -1,6 +1,6 @@
 -- what is the same of rows whether their files have their sizes or not
-use Rattle.std.proofs.Common.{◌≡◌, ◌∙◌, List, [], ◌∷◌, ◌++◌, map, refl, ap, Bool, true, false, cond}
-use Rattle.std.specs.Prelude.{Option, Some, None, filter, fold, not}
+use Rattle.std.proofs.Common.{◌≡◌, ◌∙◌, ℕ, List, [], ◌∷◌, ◌++◌, map, drop, length, refl, sym, ap, Bool, true, false, cond}
+use Rattle.std.specs.Prelude.{Option, Some, None, filter, filter_map, fold, not}
 use Rattle.std.specs.Ordering.{is_lt}
 use Rattle.std.specs.List.{cons_option}
 use Rattle.std.specs.Option.{option_map}
@@ -10,9 +10,9 @@ use Rattle.volume_rows.specs.declared.Asker.{Asker}
 use Rattle.volume_rows.specs.declared.Entry.{Entry}
 use Rattle.volume_rows.specs.declared.Content.{Content}
 use Rattle.volume_rows.specs.declared.Content.TheVariants as content
-use Rattle.volume_rows.specs.Paths.{Path, same_path, path_cmp, is_within, name_in}
-use Rattle.volume_rows.specs.Rows.{Row, entry_in, entry_at, with_row, rows_within, rows_outside, moved, renamed, names_in}
-use Rattle.volume_rows.specs.Rights.{first_of, unless, passes, allows, searching, rule_of_search, ancestors_from, is_directory}
+use Rattle.volume_rows.specs.Paths.{Name, Path, same_path, path_cmp, is_within, name_in}
+use Rattle.volume_rows.specs.Rows.{Row, entry_in, entry_at, with_row, without_row, rows_within, rows_outside, moved, renamed, names_in}
+use Rattle.volume_rows.specs.Rights.{first_of, unless, passes, allows, searching, rule_of_search, ancestors, ancestors_from, is_directory}
 use Rattle.volume_table.specs.Tables.{Kept, content_sized, entry_sized, row_sized}
 
 -- rows, each file with its sizes

@@ -1,27 +1,30 @@
 -- the numbers of files as rows change
-use Rattle.std.proofs.Common.{◌≡◌, ◌∙◌, ℕ, ◌+◌, ◌≤◌, List, [], ◌∷◌, ◌++◌, map, drop, length, refl, sym, ap, arith, Bool, true, false, cond}
-use Rattle.std.specs.Prelude.{◌==◌, ◌&&◌, Option, Some, None, not}
+use Rattle.std.proofs.Common.{◌≡◌, ◌∙◌, ℕ, ◌+◌, ◌≤◌, List, [], ◌∷◌, ◌++◌, map, drop, length, refl, sym, ap, subst, arith, Bool, true, false, cond}
+use Rattle.std.specs.Prelude.{◌==◌, ◌&&◌, Option, Some, None, IsSome, is_some, filter_map, not}
 use Rattle.std.specs.Str.{bytes_eq}
 use Rattle.std.specs.Ordering.{nat_cmp, is_eq, is_lt}
 use Rattle.std.specs.declared.cmp.Ordering.{Ordering}
 use Rattle.std.specs.declared.cmp.Ordering.TheVariants.{Less, Equal, Greater}
 use Rattle.std.specs.List.{AllByRecursion, cons_option}
-use Rattle.std.proofs.lemmas.Bool.Decides.{nat_tests}
+use Rattle.std.proofs.lemmas.Bool.Decides.{Decides-eqb, nat_tests}
 use Rattle.std.proofs.lemmas.Slice.Eq.{bytes_eq-Decides}
+use Rattle.xt_base.specs.declared.ids.FileId.{FileId}
+use Rattle.xt_base.specs.declared.ids.SizeMark.{SizeMark}
 use Rattle.xt_base.specs.declared.meta.MetaRefusal.TheVariants as refusal
+use Rattle.xt_protocol.specs.FileIds.{is_file}
 use Rattle.volume_rows.specs.declared.Entry.{Entry}
 use Rattle.volume_rows.specs.declared.Stored.{Stored}
 use Rattle.volume_rows.specs.declared.Content.{Content}
 use Rattle.volume_rows.specs.declared.Content.TheVariants as content
-use Rattle.volume_rows.specs.Paths.{Path, same_path, path_cmp, is_within}
+use Rattle.volume_rows.specs.Paths.{Name, Path, same_path, path_cmp, is_within}
 use Rattle.volume_rows.specs.Rows.{Row, entry_in, with_row, rows_within, rows_outside, moved}
 use Rattle.volume_rows.specs.Rights.{same_volume}
-use Rattle.volume_rows.specs.Grants.{volume_id, volume_of, stored_of}
+use Rattle.volume_rows.specs.Grants.{volume_id, volume_of, stored_of, holds_file, sizes_in, sizes_set, with_sizes}
 use Rattle.name_tree.specs.Trees.{IsRising, IsMoved}
 use Rattle.name_tree.proofs.Grafting.{same_cmp, path_total}
 use Rattle.name_tree.proofs.Moving.{same_path_is}
 use Rattle.volume_table.specs.declared.table.Sizes.{Sizes}
-use Rattle.volume_table.specs.Tables.{Kept, stored_sized, content_sized, row_sized, volume_if, volume_numbered, volumes_numbered}
+use Rattle.volume_table.specs.Tables.{Kept, stored_sized, content_sized, row_sized, volume_if, volume_numbered, volumes_numbered, volume_kept}
 use Rattle.volume_table.proofs.Framing.{all_sized}
 
 -- what is kept of one number is changed

@@ -1,9 +1,9 @@
 -- what is taken out where nothing is below a path
-use Rattle.std.proofs.Common.{◌≡◌, ◌∙◌, List, [], ◌∷◌, map, refl, sym, ap, subst, Bool, true, false, cond}
+use Rattle.std.proofs.Common.{◌≡◌, ◌∙◌, ℕ, ◌<◌, List, [], ◌∷◌, ◌++◌, map, length, drop, refl, sym, ap, subst, arith, Bool, true, false, cond, Bor}
 use Rattle.std.specs.Prelude.{Option, Some, None, IfSome}
 use Rattle.std.specs.List.{cons_option}
 use Rattle.volume_rows.specs.declared.Entry.{Entry}
-use Rattle.volume_rows.specs.Paths.{Path, name_in}
+use Rattle.volume_rows.specs.Paths.{Name, Path, same_path, name_in}
 use Rattle.volume_rows.specs.Rows.{Row, entry_in, names_in, rows_within, rows_outside, without_row}
 use Rattle.volume_rows.specs.Rights.{is_directory}
 use Rattle.name_tree.specs.Trees.{under, rows_under, IsTree}

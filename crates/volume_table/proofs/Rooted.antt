@@ -1,13 +1,13 @@
 -- what the list below the root has of the whole tree's
 use Rattle.std.proofs.Common.{◌≡◌, ◌∙◌, ℕ, List, [], ◌∷◌, ◌++◌, map, drop, refl, sym, ap, subst, Bool, true, false, cond}
-use Rattle.std.specs.Prelude.{Option, fold}
+use Rattle.std.specs.Prelude.{Option, Some, None, fold, not}
 use Rattle.xt_base.specs.declared.meta.MetaRefusal.{MetaRefusal}
 use Rattle.volume_rows.specs.declared.Asker.{Asker}
 use Rattle.volume_rows.specs.declared.Entry.{Entry}
 use Rattle.volume_rows.specs.Paths.{Name, Path, is_within}
 use Rattle.volume_rows.specs.Rows.{Row, root, entry_in, entry_at, with_row, rows_within, rows_outside, moved, renamed, names_in}
 use Rattle.volume_rows.specs.Rights.{first_of, passes, ancestors, ancestors_from}
-use Rattle.name_tree.specs.Trees.{IsTree, IsRising}
+use Rattle.name_tree.specs.Trees.{IsTree, IsRising, HasTop}
 use Rattle.volume_table.specs.Tables.{with_root, IsRooted, volumes_numbered}
 
 below_root : (rows : List Row) (path : Path) → entry_in (with_root rows) path ≡ entry_at rows path

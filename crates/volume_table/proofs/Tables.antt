@@ -16,15 +16,15 @@ use Rattle.volume_rows.specs.declared.Stored.{Stored}
 use Rattle.volume_rows.specs.declared.Content.{Content}
 use Rattle.volume_rows.specs.declared.Content.TheVariants as content
 use Rattle.volume_rows.specs.Paths.{Name, Path, same_path, is_within, parent_of}
-use Rattle.volume_rows.specs.Rows.{Row, Volumes, root, entry_in, entry_at, with_row, without_row, rows_within, rows_outside, renamed, names_in}
+use Rattle.volume_rows.specs.Rows.{Row, Volumes, root, entry_in, entry_at, with_row, without_row, rows_within, rows_outside, renamed, names_in, page_of}
 use Rattle.volume_rows.specs.Rights.{ancestors, same_volume, is_directory}
 use Rattle.volume_rows.specs.Requests.{new_file}
 use Rattle.volume_rows.specs.Grants.{volume_of, stored_of, sizes_in, sizes_set}
-use Rattle.name_tree.specs.Trees.{IsTree, IsDirectory, HasPlace, SameKind, IsMoved, under, rows_under}
+use Rattle.name_tree.specs.Trees.{IsTree, IsRising, IsDirectory, HasPlace, SameKind, IsMoved, under, rows_under}
 use Rattle.volume_table.specs.declared.table.Sizes.{Sizes}
-use Rattle.volume_table.specs.Tables.{Kept, stored_sized, content_sized, entry_sized, volumes_in, volume_if, volumes_numbered, volume_kept, HasSizes, with_root, IsRooted, IsTable, SameContent, HasNothing, file_added}
+use Rattle.volume_table.specs.Tables.{Kept, stored_sized, content_sized, entry_sized, row_sized, volumes_in, volume_if, volume_numbered, volumes_numbered, volume_kept, HasSizes, with_root, IsRooted, IsTable, SameContent, HasNothing, file_added}
 use Rattle.volume_table.proofs.Framing.{all_sized, entry_at_framed, directory_framed, ancestors_framed, names_framed, with_framed, filter_framed, renamed_framed}
-use Rattle.volume_table.proofs.Numbers.{Changes, changed_other, changed_here, volume_sized, content_twice, volume_at, numbers_put, numbers_added, sized_alike, numbers_parted, numbers_outside, no_length, numbers_renamed}
+use Rattle.volume_table.proofs.Numbers.{Changes, changed_other, changed_here, volume_sized, content_twice, volume_at, numbers_put, numbers_added, sized_alike, sized_same, numbers_parted, numbers_outside, no_length, numbers_renamed}
 use Rattle.volume_table.proofs.Removing.{taken_out, bare}
 use Rattle.volume_table.proofs.Rooted.{entry_rooted, ancestors_rooted, names_rooted, within_rooted, nothing_rooted, numbers_rooted, rising_rooted, rooted_with, with_below, outside_below, within_named, renamed_below}
 use Rattle.volume_table.proofs.Sizing.{sizes_none, sizes_one, sizes_put}
@@ -48,6 +48,16 @@ ancestors_found who top kept next volumes path why view table is =
 pub names_found : (top : List Row) (kept : Kept) (next : ℕ) (volumes : Volumes) (path : Path) → volumes_in top kept next ≡ volumes → IsTable top kept next → names_in top path ≡ names_in volumes.rows path
 names_found top kept next volumes path view table =
     names_rooted top path table.root ∙ sym (names_framed kept (drop 1 top) path) ∙ ap (λ (v : Volumes). names_in v.rows path) view
+
+-- no volumes are a table
+pub none_kept : (sizes : Kept) → ((number : ℕ) → sizes number ≡ None) → HasSizes [] sizes 1000000
+none_kept sizes none = record { of_files = λ number. ap volume_kept (sym (none number)); below_next = λ number later. none number }
+
+pub nothing_tabled : (top : List Row) (kept : Kept) → top ≡ with_root [] → IsTree top → ((number : ℕ) → kept number ≡ None) → IsTable top kept 1000000
+nothing_tabled top kept is tree none = record {
+  root = rooted_with top [] is tree;
+  sizes = subst (λ (rows : List Row). HasSizes rows kept 1000000) (ap (drop 1) (sym is)) (none_kept kept none);
+}
 
 -- the directory of a path is there in the tree too
 pub place_tabled : (top : List Row) (kept : Kept) (next : ℕ) (volumes : Volumes) (path : Path) → volumes_in top kept next ≡ volumes → IsTable top kept next → IsDirectory (entry_at volumes.rows (parent_of path)) → HasPlace top path
@@ -192,6 +202,13 @@ add_viewed top later kept new next volumes (name ∷ names) who mode location vi
     (sized_alike next kept new (drop 1 top) (changed_other next first kept new changes) (table.sizes.of_files next ∙ ap volume_kept (table.sizes.below_next next (omega arith))))
     ∙ ap (λ (v : Volumes). file_added v who mode location path) view
 
+-- what was kept and is taken back leaves all as it was
+pub undone : (number : ℕ) (what : Option Sizes) (kept new last : Kept) → Changes number what kept new → Changes number None new last → kept number ≡ None → (q : ℕ) → last q ≡ kept q
+undone number what kept new last one two none q = go (q == number) refl where
+  go : (b : Bool) → (q == number) ≡ b → last q ≡ kept q
+  go true e = changed_here number None new last two q e ∙ sym (ap kept ((Decides-eqb q number).0 e) ∙ none)
+  go false e = changed_other number None new last two q e ∙ changed_other number what kept new one q e
+
 pub same_tabled : (top later : List Row) (kept last : Kept) (next : ℕ) → IsTable top kept next → later ≡ top → ((q : ℕ) → last q ≡ kept q) → IsTable later last next
 same_tabled top later kept last next table is same = subst (λ (list : List Row). IsTable list last next) (sym is) (record {
   root = table.root;
@@ -200,6 +217,10 @@ same_tabled top later kept last next table is same = subst (λ (list : List Row)
     below_next = λ number above. same number ∙ table.sizes.below_next number above;
   };
 })
+
+pub same_viewed : (top later : List Row) (kept last : Kept) (next : ℕ) (volumes : Volumes) → volumes_in top kept next ≡ volumes → later ≡ top → ((q : ℕ) → last q ≡ kept q) → volumes_in later last next ≡ volumes
+same_viewed top later kept last next volumes view is same =
+    ap (λ (list : List Row). volumes_in list last next) is ∙ ap (volumes_with next) (sized_same kept last (drop 1 top) same) ∙ view
 
 -- where nothing is below a path, nothing is in the tree either
 nothing_sized : (kept : Kept) (o : Option Entry) (names : List Name) → HasNothing (option_map (entry_sized kept) o) names → HasNothing o names
@@ -415,6 +436,27 @@ set_known top kept next volumes file sizes view table is there =
       go : (b : Bool) → cond b (Some (sizes.epoch, sizes.mark)) None ≡ sizes_in volumes.rows file → b ≡ true
       go true h = refl
       go false h = absurd (let some : is_some (sizes_in volumes.rows file) ≡ true = there in (cc))
+
+pub set_tabled : (top : List Row) (kept new : Kept) (next : ℕ) (number : ℕ) (sizes : Sizes) (epoch : ℕ) (mark : SizeMark) → IsTable top kept next → Some sizes ≡ kept number → Changes number (Some (record { volume = sizes.volume; epoch = epoch; mark = mark })) kept new → IsTable top new next
+set_tabled top kept new next number sizes epoch mark table is changes =
+    record {
+      root = table.root;
+      sizes = record {
+        of_files = λ q. table.sizes.of_files q ∙ each q (q == number) refl;
+        below_next = λ q above. below q above (q == number) refl;
+      };
+    } where
+      put : Option Sizes
+      put = Some (record { volume = sizes.volume; epoch = epoch; mark = mark })
+
+      each : (q : ℕ) (b : Bool) → (q == number) ≡ b → volume_kept (kept q) ≡ volume_kept (new q)
+      each q true e =
+          ap (λ (n : ℕ). volume_kept (kept n)) ((Decides-eqb q number).0 e) ∙ ap volume_kept (sym is) ∙ ap volume_kept (sym (changed_here number put kept new changes q e))
+      each q false e = ap volume_kept (sym (changed_other number put kept new changes q e))
+
+      below : (q : ℕ) → next ≤ q → (b : Bool) → (q == number) ≡ b → new q ≡ None
+      below q above true e = absurd (let same = ap kept ((Decides-eqb q number).0 e) in let none = table.sizes.below_next q above in (cc))
+      below q above false e = changed_other number put kept new changes q e ∙ table.sizes.below_next q above
 
 pub set_viewed : (top : List Row) (kept new : Kept) (next : ℕ) (volumes : Volumes) (file : FileId) (sizes : Sizes) (epoch : ℕ) (mark : SizeMark) → volumes_in top kept next ≡ volumes → IsTable top kept next → Some sizes ≡ kept file.number → IsSome (sizes_in volumes.rows file) → Changes file.number (Some (record { volume = sizes.volume; epoch = epoch; mark = mark })) kept new → volumes_in top new next ≡ record volumes { rows = sizes_set file epoch mark volumes.rows }
 set_viewed top kept new next volumes file sizes epoch mark view table is there changes =

@@ -38,8 +38,7 @@ pub struct Sizes {
     pub mark: SizeMark,
 }
 
-/// All volumes. Contracts see the flat list of their rows, and the number that the next file gets. The tree has each file with
-/// the sizes that it was made with; those that are told are kept beside it.
+/// All volumes. Contracts see the flat list of their rows, and the number that the next file gets.
 #[derive(Drop)]
 pub struct Table {
     top: Node,

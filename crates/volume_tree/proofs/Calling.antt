@@ -1,6 +1,6 @@
 -- calls on the texts of paths
-use Rattle.std.proofs.Common.{◌≡◌, ℕ, sym, ap, subst}
-use Rattle.std.specs.Prelude.{Option, Some, Result, Err}
+use Rattle.std.proofs.Common.{◌≡◌, ℕ, refl, sym, ap, subst}
+use Rattle.std.specs.Prelude.{Option, Some, None, Result, Ok, Err}
 use Rattle.xt_base.specs.declared.meta.MetaAnswer.{MetaAnswer}
 use Rattle.xt_base.specs.declared.meta.MetaAnswer.TheVariants as answer
 use Rattle.xt_base.specs.declared.meta.MetaRefusal.{MetaRefusal}

@@ -5,7 +5,7 @@ use Rattle.xt_base.specs.declared.meta.MetaRefusal.{MetaRefusal}
 use Rattle.xt_base.specs.declared.meta.MetaAnswer.TheVariants as answer
 use Rattle.volume_rows.specs.declared.Asker.{Asker}
 use Rattle.volume_rows.specs.Paths.{Path}
-use Rattle.volume_rows.specs.Rows.{Volumes, entry_at, renamed}
+use Rattle.volume_rows.specs.Rows.{Row, Volumes, entry_at, renamed}
 use Rattle.volume_rows.specs.Rights.{first_of, ancestors, same_volume, there, absent, outside, parent_writable}
 use Rattle.volume_rows.specs.Requests.{Outcome, done, after_tests, path_renamed}
 use Rattle.volume_tree.proofs.Placing.{first_none}

@@ -1,5 +1,5 @@
 -- what tests that pass say of a path
-use Rattle.std.proofs.Common.{◌≡◌, ℕ, ◌<◌, List, [], ◌∷◌, ◌++◌, map, length, refl, sym, subst, arith, Bool, true, false, append-nil, append_assoc, Bor}
+use Rattle.std.proofs.Common.{◌≡◌, ◌∙◌, ℕ, ◌<◌, List, [], ◌∷◌, ◌++◌, map, length, refl, sym, subst, arith, Bool, true, false, append-nil, append_assoc, Bor}
 use Rattle.std.specs.Prelude.{Option, Some, None}
 use Rattle.xt_base.specs.declared.meta.MetaRefusal.{MetaRefusal}
 use Rattle.xt_base.specs.declared.meta.MetaRefusal.TheVariants as refusal

@@ -1,5 +1,5 @@
 -- what a call on the volumes gives
-use Rattle.std.specs.Prelude.{◌≡◌, ◌<◌, ◌^◌, Option, None, Result, Ok, Err}
+use Rattle.std.specs.Prelude.{◌≡◌, ◌<◌, ◌^◌, Option, None, Result, Ok, Err, List}
 use Rattle.xt_base.specs.declared.meta.MetaRefusal.{MetaRefusal}
 use Rattle.xt_base.specs.declared.meta.MetaRefusal.TheVariants as refusal
 use Rattle.xt_base.specs.declared.meta.MetaAnswer.{MetaAnswer}
