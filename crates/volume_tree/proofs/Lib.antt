@@ -1,3 +1,10 @@
+pub mod Below
 pub mod Calling
-pub mod Moves
-pub mod Placing
+pub mod Pages
+pub mod Parsing
+pub mod Putting
+pub mod Removing
+pub mod Rooted
+pub mod Sound
+pub mod Taking
+pub mod Walking

@@ -1,4 +1,0 @@
-pub mod Settling
-pub mod Picking
-pub mod Asking
-pub mod Plans
