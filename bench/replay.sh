@@ -1,48 +1,43 @@
 #!/usr/bin/env bash
 # How fast schedules are replayed, and how the time and the memory grow with their length.
 #   bench/replay.sh [PROGRAM]
-# Makes schedules of 16,000, 32,000 and 64,000 lines, of one client and of 60: reads and writes of 16 bytes on four files
-# of two OSDs, with objects of 4,096 bytes, each request and each reply delivered. Prints the lines a second (the best of
-# three replays), the greatest resident memory, and the ratio of the times for 64,000 and 16,000 lines, which is 4 where
-# the time grows with the length alone.
+# Replays schedules of 16,000 and 64,000 lines, of one client and of 60, over files of one replica and of three
+# (schedules.py makes them). Prints the lines and the delivered messages a second (the best of three replays), the greatest
+# resident memory, and the ratio of the times for 64,000 and 16,000 lines, which is 4 where the time grows with the length alone.
+#
+# Files of three replicas fail over each 1,000 lines: the leases lapse, and the next OSD becomes the primary. No OSD stops for it,
+# since one that starts reads the whole journal of its node, which is never made shorter yet: with stops the time of a failover
+# would grow with the length.
 set -eu
 here=$(cd "$(dirname "$0")" && pwd)
 program=${1:-$(bash "$here/../tests/build.sh")}
-exec python3 - "$program" <<'PYTHON'
+exec python3 - "$program" "$here" <<'PYTHON'
 import os
 import subprocess
 import sys
 import tempfile
 import time
 
-program = sys.argv[1]
+program, here = sys.argv[1:]
+sys.path.insert(0, here)
+sys.dont_write_bytecode = True
+from schedules import schedule
 
 
-def operation(client, step):
-    """A call of the client: every third one is a read."""
-    place = f"{1 + step * 7 % 4} {step * 5 % 4} {step * 131 % 4000}"
-    if step % 3 == 0:
-        return f"read {client} {place} 16"
-    return f"write {client} {place} {step:032x}"
-
-
-def schedule(length, clients):
-    """So many lines: in turn each client calls, each request is delivered, and then each reply."""
-    lines = ["times 1000 100", "osd 1", "osd 2"]
-    lines += [f"client {10 + number} 0" for number in range(clients)]
-    lines += ["start 1 0", "start 2 0"]
-    lines += [f"file {number} rep 4096 {1 + number % 2}" for number in range(1, 5)]
-    lines.append("tick 1100")  # the silence of the OSDs is over
-    step = 0
-    sent = 0
-    while len(lines) + 3 * clients <= length:
-        for number in range(clients):
-            lines.append(operation(10 + number, step))
-            step += 1
-        lines += [f"deliver {sent + 1 + number}" for number in range(2 * clients)]
-        sent += 2 * clients
-    lines += ["tick 1"] * (length - len(lines))
-    return "".join(line + "\n" for line in lines)
+def sent(text):
+    """How many messages a schedule sends, found by the program itself: a `drop` of a later one is refused."""
+    some, none = 0, 1 << 20
+    while none - some > 1:
+        step = -(-(none - some) // 1000)
+        rungs = range(some + step, none + step, step)
+        lines = text + "".join(f"drop {number}\n" for number in rungs)
+        output = subprocess.run([program, "replay"], input=lines, capture_output=True, text=True).stdout
+        *_, rule, number = output.splitlines()[-1].split()
+        if rule != "nosuchmessage":
+            sys.exit("a replay ended otherwise")
+        none = int(number)
+        some = none - step
+    return some
 
 
 def peak_kib(pid):
@@ -72,18 +67,27 @@ def replay(path):
     return seconds, peak
 
 
-print(f"{'clients':>7} {'lines':>7} {'seconds':>8} {'lines/s':>9} {'peak KiB':>9}")
+columns = ("replicas", "clients", "lines", "messages", "seconds", "lines/s", "messages/s", "peak MiB")
+print(" ".join(f"{column:>10}" for column in columns))
 with tempfile.TemporaryDirectory() as folder:
-    for clients in (1, 60):
-        taken = {}
-        for length in (16000, 32000, 64000):
-            path = os.path.join(folder, "lines.schedule")
-            with open(path, "w") as file:
-                file.write(schedule(length, clients))
-            runs = [replay(path) for _ in range(3)]
-            seconds = min(run[0] for run in runs)
-            peak = max(run[1] for run in runs)
-            taken[length] = seconds
-            print(f"{clients:>7} {length:>7} {seconds:>8.3f} {length / seconds:>9.0f} {peak:>9}")
-        print(f"{clients:>7} clients: the time for 64,000 lines is {taken[64000] / taken[16000]:.2f} times that for 16,000")
+    path = os.path.join(folder, "lines.schedule")
+    for replicas in (1, 3):
+        for clients in (1, 60):
+            taken = {}
+            for length in (16_000, 64_000):
+                text = schedule(replicas, length, clients)
+                with open(path, "w") as file:
+                    file.write(text)
+                messages = sent(text)
+                runs = [replay(path) for _ in range(3)]
+                seconds = min(run[0] for run in runs)
+                peak = max(run[1] for run in runs)
+                taken[length] = seconds
+                print(
+                    f"{replicas:>10} {clients:>10} {length:>10} {messages:>10} {seconds:>10.3f} {length / seconds:>10.0f} "
+                    f"{messages / seconds:>10.0f} {peak / 1024:>10.0f}",
+                    flush=True,
+                )
+            ratio = taken[64_000] / taken[16_000]
+            print(f"{replicas:>10} {clients:>10} clients: the time for 64,000 lines is {ratio:.2f} times that for 16,000")
 PYTHON

@@ -1,6 +1,6 @@
 -- each step's record tells its change
-use Rattle.std.proofs.Common.{◌≡◌, ◌∙◌, ℕ, List, ◌++◌, refl, sym, Bool, true, false, cond, nat_lt}
-use Rattle.std.specs.Prelude.{fold, Option, Some, None, ◌==◌}
+use Rattle.std.proofs.Common.{◌≡◌, ◌∙◌, ℕ, List, ◌++◌, refl, sym, Bool, true, false, cond}
+use Rattle.std.specs.Prelude.{fold}
 use Rattle.std.specs.Option.{option_to_list}
 use Rattle.std.proofs.lemmas.List.Sums.{fold-append}
 use Rattle.xt_base.specs.declared.ids.NodeId.{NodeId}
@@ -10,9 +10,12 @@ use Rattle.xt_base.specs.declared.message.Payload.TheVariants as payload
 use Rattle.xt_base.specs.declared.event.Event.{Event}
 use Rattle.xt_base.specs.declared.event.Event.TheVariants as event
 use Rattle.xt_base.specs.declared.record.Record.{Record}
-use Rattle.dir_core.specs.declared.directory.Kept.{Kept}
+use Rattle.xt_base.specs.declared.registry.RegistryAnswer.{RegistryAnswer}
+use Rattle.kept_answers.specs.declared.Standing.{Standing}
+use Rattle.kept_answers.specs.declared.Standing.TheVariants as standing
+use Rattle.kept_answers.specs.Standings.{standing_of}
 use Rattle.dir_core.specs.Registry.{outcome_of, is_recorded, is_spent}
-use Rattle.dir_core.specs.Steps.{DirState, DirStep, dir_of, after_record, nothing, answered, recorded, fresh, by_number, kept_of, told_by, step_of_dir}
+use Rattle.dir_core.specs.Steps.{DirState, DirStep, dir_of, after_record, nothing, answered, recorded, fresh, by_standing, told_by, step_of_dir}
 
 -- the state after a step is the one before it with what the record tells
 abbrev IsTold : DirState → DirStep → Type 0
@@ -25,16 +28,13 @@ fresh_told dir client number request = go (is_spent dir.rows request) (is_record
   go false true = refl
   go false false = refl
 
-by_number_told : (dir : DirState) (client : NodeId) (number : ℕ) (request : RegistryReq) (last : Option Kept) → IsTold dir (by_number dir client number request last)
-by_number_told dir client number request None = fresh_told dir client number request
-by_number_told dir client number request (Some last) = go (number == last.number) (nat_lt number last.number) where
-  go : (same lower : Bool) → IsTold dir (cond same (answered dir client number last.answer) (cond lower (nothing dir) (fresh dir client number request)))
-  go true lower = refl
-  go false true = refl
-  go false false = fresh_told dir client number request
+standing_told : (dir : DirState) (client : NodeId) (number : ℕ) (request : RegistryReq) (stands : Standing RegistryAnswer) → IsTold dir (by_standing dir client number request stands)
+standing_told dir client number request standing.Fresh = fresh_told dir client number request
+standing_told dir client number request (standing.Again answer) = refl
+standing_told dir client number request standing.Older = refl
 
 payload_told : (dir : DirState) (from : NodeId) (content : Payload) → IsTold dir (told_by dir from content)
-payload_told dir from (payload.Registry number request) = by_number_told dir from number request (kept_of dir from)
+payload_told dir from (payload.Registry number request) = standing_told dir from number request (standing_of dir.clients from number)
 payload_told dir from _ = refl
 
 step_told : (dir : DirState) (happens : Event) → IsTold dir (step_of_dir dir happens)

@@ -1,7 +1,5 @@
 -- The step of the directory service.
-use Rattle.std.specs.Prelude.{ℕ, ◌==◌, nat_eq, nat_lt, if◌then◌else◌, Option, Some, None, List, [], ◌∷◌, fold}
-use Rattle.std.specs.Map.{lookup}
-use Rattle.indexmap.specs.IndexMap.{insert_entry}
+use Rattle.std.specs.Prelude.{ℕ, if◌then◌else◌, Some, None, List, [], ◌∷◌, fold}
 use Rattle.xt_base.specs.declared.ids.NodeId.{NodeId}
 use Rattle.xt_base.specs.declared.registry.RegistryReq.{RegistryReq}
 use Rattle.xt_base.specs.declared.registry.RegistryAnswer.{RegistryAnswer}
@@ -14,13 +12,16 @@ use Rattle.xt_base.specs.declared.record.Logged.TheVariants as logged
 use Rattle.xt_base.specs.declared.record.Record.{Record}
 use Rattle.xt_base.specs.declared.record.Record.TheVariants as kept
 use Rattle.xt_protocol.specs.declared.Turned.{Turned}
-use Rattle.dir_core.specs.declared.directory.Kept.{Kept}
+use Rattle.kept_answers.specs.declared.Kept.{Kept}
+use Rattle.kept_answers.specs.declared.Standing.{Standing}
+use Rattle.kept_answers.specs.declared.Standing.TheVariants as standing
+use Rattle.kept_answers.specs.Standings.{standing_of, with_answer}
 use Rattle.dir_core.specs.Registry.{Rows, outcome_of, is_recorded, is_spent}
 
 -- the state of the directory service: the registry, and for each client its last recorded request's number and answer
 pub record DirState : Type 0 where
   pub rows : Rows
-  pub clients : List (ℕ × Kept)
+  pub clients : List (ℕ × Kept RegistryAnswer)
 
 -- a directory service: the secret that it shares with whoever may stop it, and its state
 pub record DirNode : Type 0 where
@@ -30,10 +31,6 @@ pub record DirNode : Type 0 where
 -- before any record
 abbrev pub empty_dir : DirState
 empty_dir = record { rows = []; clients = [] }
-
--- a client's last recorded number and answer
-abbrev pub kept_of : DirState → NodeId → Option Kept
-kept_of dir client = lookup (nat_eq client.0) dir.clients
 
 -- the service after a step, and what the step gives
 pub record DirStep : Type 0 where
@@ -62,7 +59,7 @@ after_request dir client number request =
     let outcome = outcome_of dir.rows request in
     record {
       rows = outcome.rows;
-      clients = insert_entry nat_eq dir.clients client.0 (record { number = number; answer = outcome.answer });
+      clients = with_answer dir.clients client number outcome.answer;
     }
 
 -- recorded: the request is kept, and then answered
@@ -86,17 +83,15 @@ fresh dir client number request =
     else if is_recorded request then recorded dir client number request
     else answered dir client number (outcome_of dir.rows request).answer
 
--- A request, by the client's last recorded number, if it has one: under that number it gets the same answer; under a lower one
--- nothing; else it is a fresh one.
-abbrev pub by_number : DirState → NodeId → ℕ → RegistryReq → Option Kept → DirStep
-by_number dir client number request None = fresh dir client number request
-by_number dir client number request (Some last) =
-    if number == last.number then answered dir client number last.answer
-    else if nat_lt number last.number then nothing dir
-    else fresh dir client number request
+-- A request, by how its number stands to the client's last recorded one: under that number it gets the same answer; under a
+-- lower one nothing; else it is a fresh one.
+abbrev pub by_standing : DirState → NodeId → ℕ → RegistryReq → Standing RegistryAnswer → DirStep
+by_standing dir client number request standing.Fresh = fresh dir client number request
+by_standing dir client number request (standing.Again answer) = answered dir client number answer
+by_standing dir client number request standing.Older = nothing dir
 
 abbrev pub requested : DirState → NodeId → ℕ → RegistryReq → DirStep
-requested dir client number request = by_number dir client number request (kept_of dir client)
+requested dir client number request = by_standing dir client number request (standing_of dir.clients client number)
 
 -- a message: what isn't a request to the registry does nothing
 abbrev pub told_by : DirState → NodeId → Payload → DirStep

@@ -1,5 +1,5 @@
-ghost use Rattle.std.specs.Prelude.{◌≡◌, ◌≤◌, ◌<◌, ◌+◌, ◌^◌, [], ◌∷◌, nat_eq, length, None, IfOk, OnOk, OnErr, Ok, All};
-ghost use Rattle.indexmap.specs.IndexMap.{insert_entry};
+ghost use Rattle.std.specs.Prelude.{◌≡◌, ◌≤◌, ◌<◌, ◌+◌, ◌^◌, [], ◌∷◌, length, None, IfOk, OnOk, OnErr, Ok, All};
+ghost use Rattle.kept_answers.specs.Standings.{with_answer};
 ghost use Rattle.xt_base.specs.Limits.{FitsRecord};
 ghost use Rattle.capabilities.specs.Stops.{is_stop};
 ghost use Rattle.dir_core.specs.Registry.{row_of, version_in, row_set, row_removed, is_recorded, is_spent, outcome_of};
@@ -8,7 +8,7 @@ ghost use Rattle.dir_core.specs.Plans.{applied, HasRoom};
 
 use crate::registry::{Change, Registered, Registry};
 use capabilities::is_stop;
-use indexmap::IndexMap;
+use kept_answers::{KeptAnswers, Standing};
 use std::alloc::Global;
 use std::marker::Model;
 use xt_base::{
@@ -16,13 +16,6 @@ use xt_base::{
     Record, RegistryAnswer, RegistryReq, Seq,
 };
 use xt_protocol::Turned;
-
-/// The last recorded request of a client: its number, and what it was answered.
-#[derive(Drop)]
-pub struct Kept {
-    pub number: u64,
-    pub answer: RegistryAnswer,
-}
 
 /// What comes of a request: what it does to the registry, and what is answered.
 #[derive(Drop)]
@@ -36,7 +29,7 @@ pub struct Plan {
 pub struct Dir {
     key: Octets,
     registry: Registry,
-    clients: IndexMap<u32, Kept>,
+    clients: KeptAnswers<RegistryAnswer>,
 }
 
 impl Model for Dir {
@@ -45,7 +38,7 @@ impl Model for Dir {
 
     ghost Value = { DirNode };
 
-    ghost view = { λ d. record { secret = d.key; state = record { rows = d.registry; clients = d.clients.entries } } };
+    ghost view = { λ d. record { secret = d.key; state = record { rows = d.registry; clients = d.clients.kept } } };
 
     ghost invariant = { λ d. (1 ≤ length d.key) × (length d.key ≤ 64) };
 }
@@ -125,7 +118,7 @@ impl Dir {
         let mut dir = Dir {
             key: Octets::of(alloc, key)?,
             registry: Registry::new(alloc),
-            clients: IndexMap::new(alloc),
+            clients: KeptAnswers::new(alloc),
         };
         for rec in records {
             dir.take(alloc, rec)?;
@@ -175,15 +168,11 @@ impl Dir {
         ensures state { OnOk result (self.new ≡ record { secret = self.old.secret; state = (requested self.old.state client number request.now).dir }) }
         ensures err { OnErr result (self.new ≡ self.old) }
     {
-        if let Some(last) = self.clients.get(&client.0) {
-            if number == last.number {
-                return answer(alloc, None, client, number, last.answer.copy(alloc)?);
-            }
-            if number < last.number {
-                return Ok(quiet(alloc));
-            }
+        match self.clients.standing(alloc, client, number)? {
+            Standing::Fresh => self.fresh(alloc, client, number, request),
+            Standing::Again { answer: kept } => answer(alloc, None, client, number, kept),
+            Standing::Older => Ok(quiet(alloc)),
         }
-        self.fresh(alloc, client, number, request)
     }
 
     /// Handles a request under a number above the client's last recorded one.
@@ -325,20 +314,13 @@ impl Dir {
 
     /// Makes a planned change, and keeps the number and the answer for the client. Nothing changes if memory runs out.
     fn commit(&mut self, client: NodeId, number: u64, plan: Plan) -> Result<(), OutOfMemory>
-        ensures ok { OnOk result (self.new ≡ record { secret = self.old.secret; state = record { rows = applied self.old.state.rows plan.change; clients = insert_entry nat_eq self.old.state.clients client.0 (record { number = number; answer = plan.answer }) } }) }
+        ensures ok { OnOk result (self.new ≡ record { secret = self.old.secret; state = record { rows = applied self.old.state.rows plan.change; clients = with_answer self.old.state.clients client number plan.answer } }) }
         ensures err { OnErr result (self.new ≡ self.old) }
     {
-        self.clients.reserve(1)?;
+        self.clients.reserve()?;
         self.registry.apply(plan.change)?;
-        let kept = Kept {
-            number,
-            answer: plan.answer,
-        };
-        match self.clients.insert(client.0, kept) {
-            Ok(_) => Ok(()),
-            // there is room
-            Err(_) => unreachable!(),
-        }
+        self.clients.keep(client, number, plan.answer);
+        Ok(())
     }
 
     /// Takes what a record tells.

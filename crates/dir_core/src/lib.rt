@@ -14,7 +14,7 @@ ghost use Rattle.xt_base.specs.declared.event.Event.{Event};
 ghost use Rattle.xt_base.specs.declared.record.Record.{Record};
 ghost use Rattle.dir_core.specs.Steps.{dir_of, step_of_dir};
 
-pub use directory::{Dir, Kept};
+pub use directory::Dir;
 pub use registry::Registered;
 
 /// The records tell the state: with that of a step behind the earlier ones they tell the state after the step. So a service

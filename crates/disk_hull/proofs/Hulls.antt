@@ -1,5 +1,5 @@
--- the records of the nodes after an append
-use Rattle.std.proofs.Common.{◌≡◌, ◌==◌, ℕ, Bool, true, false, cond, if◌then◌else◌, List, [], Option, Some, unwrap_or, refl, sym, ◌∙◌, ap, arith}
+-- the nodes after an append
+use Rattle.std.proofs.Common.{◌≡◌, ◌==◌, ℕ, Bool, true, false, cond, if◌then◌else◌, List, Option, Some, unwrap_or, refl, sym, ◌∙◌, ap, arith, eq-eqb}
 use Rattle.std.proofs.lemmas.Bool.{eqb-true}
 use Rattle.std.proofs.lemmas.Bool.Decides.{nat_tests}
 use Rattle.std.proofs.Math.Path.{fun_ext}
@@ -12,21 +12,34 @@ use Rattle.xt_base.specs.declared.record.Record.{Record}
 use Rattle.world_hull.specs.declared.hull.Kept.{Kept}
 use Rattle.world_hull.specs.declared.hull.Kept.TheVariants.{Done, StoppedKept, StoppedLost}
 use Rattle.world_hull.specs.Appends.{kept_by, records_after, IsAppended}
-use Rattle.disk_hull.specs.Nodes.{own_after}
+use Rattle.node_disks.specs.Ends.{own_after}
+use Rattle.node_disks.specs.Stored.{Stored, none_stored}
 
-chosen : (b : Bool) (store : List Record) (before : Option (List Record)) → unwrap_or (cond b (Some store) before) [] ≡ (if b then store else unwrap_or before [])
+chosen : (b : Bool) (store : Stored) (before : Option Stored)
+    → unwrap_or (cond b (Some store) before) none_stored ≡ (if b then store else unwrap_or before none_stored)
 chosen true store before = refl
 chosen false store before = refl
 
 other_way : (m n : ℕ) → (m == n) ≡ (n == m)
 other_way m n = grind (arith, nat_tests)
 
-pub put_at : (old new : BTreeMap ℕ (List Record)) (node : ℕ) (store : List Record) → Updates nat_cmp old new node (Some store)
-    → (n : ℕ) → unwrap_or (get nat_cmp new n) [] ≡ (if n == node then store else unwrap_or (get nat_cmp old n) [])
+pub put_at : (old new : BTreeMap ℕ Stored) (node : ℕ) (store : Stored) → Updates nat_cmp old new node (Some store)
+    → (n : ℕ) → unwrap_or (get nat_cmp new n) none_stored ≡ (if n == node then store else unwrap_or (get nat_cmp old n) none_stored)
 put_at old new node store updates n =
-    ap (λ found. unwrap_or found []) (updates.0 n)
-    ∙ ap (λ tied. unwrap_or (cond tied (Some store) (get nat_cmp old n)) []) (unsigned_tied node n ∙ other_way node n)
+    ap (λ found. unwrap_or found none_stored) (updates.0 n)
+    ∙ ap (λ tied. unwrap_or (cond tied (Some store) (get nat_cmp old n)) none_stored) (unsigned_tied node n ∙ other_way node n)
     ∙ chosen (n == node) store (get nat_cmp old n)
+
+-- the node that was put in
+pub at_own : (old new : ℕ → Stored) (node : ℕ) (store : Stored) → new ≡ (λ n. if n == node then store else old n) → new node ≡ store
+at_own old new node store put =
+    ap (λ (nodes : ℕ → Stored). nodes node) put ∙ ap (λ (b : Bool). if b then store else old node) (eq-eqb node node refl)
+
+-- another one
+pub at_other : (old new : ℕ → Stored) (node : ℕ) (store : Stored) → new ≡ (λ n. if n == node then store else old n)
+    → (n : ℕ) → (n == node) ≡ false → new n ≡ old n
+at_other old new node store put n differs =
+    ap (λ (nodes : ℕ → Stored). nodes n) put ∙ ap (λ (b : Bool). if b then store else old n) differs
 
 either_way : (b : Bool) (records : List Record) → (if b then records else records) ≡ records
 either_way true records = refl
@@ -39,22 +52,32 @@ only_own old node rec Done n = refl
 only_own old node rec StoppedKept n = refl
 only_own old node rec StoppedLost n = either_way (n == node.0) (old n)
 
-pub is_appended : (old mid new : ℕ → List Record) (node : NodeId) (rec : Record) (stop : Option Stop) (end : Kept) (store : List Record)
+pub is_appended : (old mid new : ℕ → Stored) (node : NodeId) (rec : Record) (stop : Option Stop) (end : Kept) (store : Stored)
     → end ≡ kept_by stop
-    → store ≡ own_after (old node.0) rec (kept_by stop)
+    → store.records ≡ own_after (old node.0).records rec (kept_by stop)
     → ((n : ℕ) → (n == node.0) ≡ false → mid n ≡ old n)
     → new ≡ (λ n. if n == node.0 then store else mid n)
-    → IsAppended old new node rec stop end
-is_appended old mid new node rec stop end store ends own others put = (ends, put ∙ fun_ext (λ n. at n (n == node.0) refl ∙ only_own old node rec end n))
+    → IsAppended (λ n. (old n).records) (λ n. (new n).records) node rec stop end
+is_appended old mid new node rec stop end store ends own others put =
+    (ends, fun_ext (λ n. ap (λ (nodes : ℕ → Stored). (nodes n).records) put ∙ at n (n == node.0) refl ∙ only_own (λ k. (old k).records) node rec end n))
   where
-    at : (n : ℕ) (b : Bool) → (n == node.0) ≡ b → (if b then store else mid n) ≡ (if b then own_after (old n) rec end else old n)
-    at n true same = own ∙ ap (λ e. own_after (old node.0) rec e) (sym ends) ∙ ap (λ (k : ℕ). own_after (old k) rec end) (sym (eqb-true n node.0 same))
-    at n false differ = others n differ
+    at : (n : ℕ) (b : Bool) → (n == node.0) ≡ b
+        → (if b then store else mid n).records ≡ (if b then own_after (old n).records rec end else (old n).records)
+    at n true same =
+        own ∙ ap (λ e. own_after (old node.0).records rec e) (sym ends)
+        ∙ ap (λ (k : ℕ). own_after (old k).records rec end) (sym (eqb-true n node.0 same))
+    at n false differ = ap (λ (node : Stored). node.records) (others n differ)
 
--- what the node had is put in again
-pub put_same : (old new : ℕ → List Record) (node : ℕ) (store : List Record) → old node ≡ store → new ≡ (λ n. if n == node then store else old n) → new ≡ old
-put_same old new node store had put = put ∙ fun_ext (λ n. at n (n == node) refl)
+abbrev records_at : BTreeMap ℕ Stored → ℕ → List Record
+records_at stores node = (unwrap_or (get nat_cmp stores node) none_stored).records
+
+-- the same records, written over those of a node
+pub written_same : (old new : BTreeMap ℕ Stored) (node : ℕ) (store : Stored) → Updates nat_cmp old new node (Some store)
+    → store.records ≡ records_at old node → records_at new ≡ records_at old
+written_same old new node store updates same =
+    fun_ext (λ n. ap (λ (s : Stored). s.records) (put_at old new node store updates n) ∙ at n (n == node) refl)
   where
-    at : (n : ℕ) (b : Bool) → (n == node) ≡ b → (if b then store else old n) ≡ old n
-    at n true same = sym had ∙ ap old (sym (eqb-true n node same))
+    at : (n : ℕ) (b : Bool) → (n == node) ≡ b
+        → (if b then store else unwrap_or (get nat_cmp old n) none_stored).records ≡ records_at old n
+    at n true is = same ∙ ap (records_at old) (sym (eqb-true n node is))
     at n false differ = refl

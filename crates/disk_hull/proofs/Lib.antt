@@ -1,4 +1,1 @@
-mod StoredRecords
-mod Stopping
 mod Hulls
-mod Rooms

@@ -1,18 +1,32 @@
--- the records of each node, where each has a store of its own
-use Rattle.std.specs.Prelude.{ℕ, List, [], ◌∷◌, ◌++◌, unwrap_or}
+-- the nodes, where each that has kept a record has a store of its own
+use Rattle.std.specs.Prelude.{ℕ, ◌≡◌, ◌==◌, false, List, Option, None, Some, unwrap_or}
 use Rattle.std.specs.Ordering.{nat_cmp}
 use Rattle.std.specs.BTreeMap.{get}
+use Rattle.disk_model.specs.Changes.{Memory}
+use Rattle.disk_model.specs.declared.plan.Stop.{Stop}
+use Rattle.xt_base.specs.declared.ids.NodeId.{NodeId}
 use Rattle.xt_base.specs.declared.record.Record.{Record}
-use Rattle.world_hull.specs.declared.hull.Kept.{Kept}
-use Rattle.world_hull.specs.declared.hull.Kept.TheVariants.{Done, StoppedKept, StoppedLost}
+use Rattle.node_disks.specs.Ends.{IsReadAfter}
+use Rattle.node_disks.specs.Stored.{Stored, none_stored}
 use Rattle.disk_hull.specs.declared.disk_hull.DiskHull.{DiskHull}
 
--- what the node's store has, nothing where it has none
-abbrev pub records_of : DiskHull → ℕ → List Record
-records_of hull node = unwrap_or (get nat_cmp hull.stores node) []
+-- what the node has, no record on a disk without a byte where it has no store
+abbrev pub node_of : DiskHull → ℕ → Stored
+node_of hull node = unwrap_or (get nat_cmp hull.stores node) none_stored
 
--- a node's records after an append that ended so
-abbrev pub own_after : List Record → Record → Kept → List Record
-own_after records rec Done = records ++ rec ∷ []
-own_after records rec StoppedKept = records ++ rec ∷ []
-own_after records rec StoppedLost = records
+-- its records
+abbrev pub records_of : DiskHull → ℕ → List Record
+records_of hull node = (node_of hull node).records
+
+-- its disk
+abbrev pub disk_of : DiskHull → ℕ → Memory
+disk_of hull node = (node_of hull node).disk
+
+-- the node's disk after an append with this stop in it, or none
+abbrev pub IsDiskAfter : Option Stop → List Record → Record → Memory → Type 0
+IsDiskAfter None records rec new = Unit {0}
+IsDiskAfter (Some stop) records rec new = IsReadAfter stop records rec new
+
+-- every other node's records and disk are as they were
+abbrev pub AreOtherNodesSame : DiskHull → DiskHull → NodeId → Type 0
+AreOtherNodesSame old new node = (n : ℕ) → (n == node.0) ≡ false → node_of new n ≡ node_of old n

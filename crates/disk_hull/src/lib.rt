@@ -1,16 +1,11 @@
 //! A hull over real frames, parts, journals and stores.
 //!
-//! `DiskHull` carries each message as its frame, cut into parts that are joined again. Each node's records are a store on a
-//! disk in memory. A stop in an append stops that disk in one of the append's calls, and what a crash leaves of it is what
-//! the node finds when it starts again. So the hull's promises are those of the disks, and nothing is kept beside them. A
-//! record has no room exactly where its node's journal would pass `JOURNAL` bytes with it.
+//! `DiskHull` gives the very message, which it carries as its frame, cut into parts that are joined again. It shows each node's
+//! disk, whose bytes stand for the records that the node keeps. A stop in an append is one of a disk, and what that disk leaves
+//! is what the node has then; a node that starts again has what a crash leaves of its disk. Nothing is kept beside the disks.
 #![tactic(auto)]
 
 mod carrying;
 mod disk_hull;
-mod node_store;
 
 pub use disk_hull::DiskHull;
-
-/// How long a node's journal may be, in bytes.
-pub const JOURNAL: u64 = 1_073_741_824;

@@ -8,7 +8,7 @@ ghost use Rattle.file_lease.specs.Moves.{IsSettled};
 ghost use Rattle.osd_invariants.specs.Sound.{IsStored, ListUnder};
 ghost use Rattle.replica_state.specs.Kept.{IsNotable};
 ghost use Rattle.osd_rows.specs.ReplicaRows.{kept_after};
-ghost use Rattle.osd_rows.specs.Turns.{message};
+ghost use Rattle.osd_rows.specs.Turns.{joined, message, shows};
 ghost use Rattle.osd_rows.specs.FileLeases as rows;
 ghost use Rattle.osd_files.specs.Answers.{read_answer, write_answer, answered_write, news_of, HasTurn, HoldBy};
 ghost use Rattle.osd_files.specs.Views.{shown};
@@ -190,6 +190,13 @@ fn led_on(file: &mut Parts, now: u64) -> Result<Turned, OutOfMemory>
     Ok(turned)
 }
 
+/// This mark, and then what was given.
+fn marked_before(alloc: Global, mark: Mark, given: Turned) -> Result<Turned, OutOfMemory>
+    ensures { IfOk result (λ both. both ≡ joined (shows mark) given) }
+{
+    join(shows(alloc, mark)?, given)
+}
+
 /// Lease won, or renewed: it is marked, and an idle primary draws its epoch.
 fn lease_held(file: &mut Parts, now: u64, end: u64) -> Result<Turned, OutOfMemory>
     requires clock { now < 2 ^ 62 }
@@ -198,9 +205,8 @@ fn lease_held(file: &mut Parts, now: u64, end: u64) -> Result<Turned, OutOfMemor
     ensures { IfOk result (λ turned. IsRow (λ site s. rows.lease_held site s end) now (shown file.old) (shown file.new) turned) }
 {
     let number = file.replica.file().number;
-    let marked = shows(file.alloc, Mark::Held { file: number, end })?;
     let led = led_on(file, now)?;
-    join(marked, led)
+    marked_before(file.alloc, Mark::Held { file: number, end }, led)
 }
 
 /// What the news of a round mean for the file.

@@ -13,7 +13,7 @@ use crate::overdue::expire;
 use crate::parts::Parts;
 use std::alloc::Global;
 use step_outputs::{join, quiet, sends, to_each};
-use xt_base::{Ballot, FileId, Members, NodeId, OutOfMemory, Payload};
+use xt_base::{Ballot, FileId, Members, Msgs, NodeId, OutOfMemory, Payload};
 use xt_protocol::Turned;
 
 /// What a Wake gives at a file: of what was overdue, and of what is sent again or renewed.
@@ -21,6 +21,20 @@ use xt_protocol::Turned;
 pub struct Woken {
     pub overdue: Turned,
     pub again: Turned,
+}
+
+/// The messages of a round's Read, one to each of these.
+fn read_to_each(
+    alloc: Global,
+    node: NodeId,
+    file: FileId,
+    members: &Members,
+    ballot: Ballot,
+) -> Result<Msgs, OutOfMemory>
+    ensures { IfOk result (λ outs. outs ≡ to_each node members.now (payload.Read file ballot)) }
+{
+    let content = Payload::Read { file, ballot };
+    to_each(alloc, node, members.as_slice(), &content)
 }
 
 /// A Read of the round's ballot to each of these.
@@ -33,8 +47,7 @@ pub fn reads_of(
 ) -> Result<Turned, OutOfMemory>
     ensures { IfOk result (λ turned. turned ≡ sends (to_each node members.now (payload.Read file ballot))) }
 {
-    let content = Payload::Read { file, ballot };
-    let outs = to_each(alloc, node, members.as_slice(), &content)?;
+    let outs = read_to_each(alloc, node, file, members, ballot)?;
     Ok(sends(alloc, outs))
 }
 

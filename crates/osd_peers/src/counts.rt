@@ -3,7 +3,7 @@ ghost use Rattle.xt_base.specs.MemberList.{has_node};
 ghost use Rattle.osd_rows.specs.Primaries as rows;
 
 use osd_rows::{Nodes, Peer, PeerState};
-use xt_base::{has_node, NodeId, OutOfMemory};
+use xt_base::{NodeId, OutOfMemory, has_node};
 
 /// Puts the node among these, once.
 pub fn add_node(nodes: &mut Nodes, node: NodeId) -> Result<(), OutOfMemory>

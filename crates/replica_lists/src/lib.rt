@@ -5,9 +5,10 @@
 //! OSDs, whatever order they are given in.
 #![tactic(auto)]
 
-ghost use Rattle.std.specs.Prelude.{◌≡◌, ◌<◌, ◌≤◌, ◌↔◌, length, IsTrue, IfOk, OnOk, Err};
+ghost use Rattle.std.specs.Prelude.{◌≡◌, ◌<◌, ◌≤◌, ◌↔◌, length, IsTrue, IfOk, IfErr, OnOk, Err};
 ghost use Rattle.xt_base.specs.MemberList.{are_distinct};
 ghost use Rattle.replica_lists.specs.Picking.{picked};
+ghost use Rattle.replica_lists.specs.Faults.{Explains};
 ghost use Rattle.replica_lists.specs.declared.PickErr.TheVariants.{TooFew, OutOfMemory};
 
 use std::alloc::{AllocError, Global};
@@ -38,6 +39,7 @@ pub fn pick(alloc: Global, osds: &[NodeId], file: u64, n: u8) -> Result<Members,
     requires few { n ≤ 9 }
     requires different { IsTrue (are_distinct osds.now) }
     ensures too_few { (result ≡ Err (TooFew (length osds.now))) ↔ (length osds.now < n) }
+    ensures why { IfErr result (λ why. Explains osds.now n why) }
     ensures value { IfOk result (λ members. members ≡ picked osds.now file n) }
     ensures enough { OnOk result (n ≤ length osds.now) }
 {

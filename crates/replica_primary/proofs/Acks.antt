@@ -1,46 +1,96 @@
--- what an acknowledgement does, by how it is tested
-use Rattle.std.proofs.Common.{◌≡◌, ◌∷◌, [], ℕ, Bool, true, false, Option, Some, List, refl, ap, sym}
+-- what an acknowledgement does, as the code tells it
+use Rattle.std.proofs.Common.{◌≡◌, ◌∙◌, ◌∷◌, [], ℕ, Bool, true, false, Some, None, List, refl, ap, sym}
 use Rattle.std.specs.Prelude.{cond, not}
+use Rattle.xt_base.specs.declared.ids.Epoch.{Epoch}
 use Rattle.xt_base.specs.declared.ids.NodeId.{NodeId}
 use Rattle.xt_base.specs.declared.ids.Stamp.{Stamp}
 use Rattle.xt_base.specs.declared.file.FileHead.{FileHead}
 use Rattle.xt_base.specs.declared.file.Update.{Update}
 use Rattle.xt_base.specs.declared.message.Payload.TheVariants as payload
+use Rattle.xt_protocol.specs.declared.Turned.{Turned}
 use Rattle.xt_protocol.specs.Stamps.{is_below}
 use Rattle.osd_rows.specs.declared.IssuedUpdate.{IssuedUpdate}
+use Rattle.osd_rows.specs.declared.Peer.{Peer}
 use Rattle.osd_rows.specs.declared.PeerState.TheVariants as peer
+use Rattle.osd_rows.specs.declared.Progress.{Progress}
 use Rattle.osd_rows.specs.declared.Progress.TheVariants as progress
 use Rattle.osd_rows.specs.declared.Tenure.{Tenure}
-use Rattle.osd_rows.specs.Turns.{message, sends}
-use Rattle.osd_rows.specs.Primaries.{Ground, carries, with_node}
-use Rattle.osd_rows.specs.PrimaryRows.{acked_below, activated, committed, goes_on, head_acked, hears_ack, unmoved, update_acked, with_state}
-use Rattle.replica_primary.specs.Moves.{peers_after}
+use Rattle.osd_rows.specs.Turns.{message, quiet, sends}
+use Rattle.osd_rows.specs.Primaries.{Ground, is_active_in, issued_in, with_node, with_peer}
+use Rattle.osd_rows.specs.PrimaryRows.{goes_on, hears_ack, unmoved, update_acked}
+use Rattle.replica_primary.specs.Acks.{acked_by, is_installing, peers_after}
 
-module _ (g : Ground) (learnt : ℕ) (t : Tenure) where
-  -- a majority has the head
-  pub head_carried : (chosen : FileHead) (acked : List NodeId) → carries g.place t.peers acked ≡ true → activated g learnt t ≡ head_acked g learnt t chosen acked
-  head_carried chosen acked is = sym (ap (λ (b : Bool). cond b (activated g learnt t) (unmoved learnt (record t { progress = progress.Installing chosen acked }))) is)
+-- the head that is installed is acknowledged
+pub installing_by : (g : Ground) (learnt : ℕ) (t : Tenure) (from : NodeId) (stamp : Stamp) (p : Progress) → is_installing p ≡ true
+    → acked_by g.place g.own learnt (record { epoch = t.epoch; peers = with_peer t.peers from peer.Current; progress = p }) from ≡ hears_ack g learnt t p from true stamp
+installing_by g learnt t from stamp (progress.Installing chosen acked) is = refl
+installing_by g learnt t from stamp progress.Gathering is = absurd cc
+installing_by g learnt t from stamp (progress.Fetching chosen source asked later) is = absurd cc
+installing_by g learnt t from stamp (progress.Active head issued) is = absurd cc
 
-  -- a majority has the update
-  pub update_carried : (head : FileHead) (update : Update) (acked : List NodeId) → carries g.place t.peers acked ≡ true → committed g learnt t update ≡ update_acked g learnt t head update acked
-  update_carried head update acked is =
-      sym (ap (λ (b : Bool). cond b (committed g learnt t update) (unmoved learnt (record t { progress = progress.Active head (Some (record { update = update; acked = acked })) }))) is)
+-- the update to a peer that has just become current
+abbrev pub newly_told : Ground → NodeId → Bool → Update → Turned
+newly_told g from newly update = cond newly (sends (message g.place.node from (payload.Update g.place.file update) ∷ [])) quiet
+
+module _ (g : Ground) (learnt : ℕ) (epoch : Epoch) (peers : List Peer) (from : NodeId) (stamp : Stamp) where
+  abbrev before : Progress → Tenure
+  before p = record { epoch = epoch; peers = peers; progress = p }
+
+  abbrev after : Bool → Progress → Tenure
+  after newly p = record { epoch = epoch; peers = peers_after peers from newly; progress = p }
+
+  -- nothing is issued
+  pub none_acked : (newly : Bool) (p : Progress) → is_active_in p ≡ true → issued_in p ≡ None
+      → unmoved learnt (record { epoch = epoch; peers = peers_after peers from newly; progress = p })
+      ≡ hears_ack g learnt (record { epoch = epoch; peers = peers; progress = p }) p from newly stamp
+  none_acked true (progress.Active head None) active none = refl
+  none_acked false (progress.Active head None) active none = refl
+  none_acked newly (progress.Active head (Some issued)) active none = absurd cc
+  none_acked newly progress.Gathering active none = absurd cc
+  none_acked newly (progress.Fetching chosen source asked later) active none = absurd cc
+  none_acked newly (progress.Installing chosen acked) active none = absurd cc
+
+  below_issued : (newly : Bool) (head : FileHead) (issued : IssuedUpdate) → is_below stamp issued.update.stamp ≡ true
+      → goes_on learnt (after newly (progress.Active head (Some issued))) (newly_told g from newly issued.update)
+      ≡ hears_ack g learnt (before (progress.Active head (Some issued))) (progress.Active head (Some issued)) from newly stamp
+  below_issued true head issued is =
+      let t = after true (progress.Active head (Some issued)) in
+      sym (ap (λ (b : Bool). cond (not b) (update_acked g learnt t head issued.update (with_node issued.acked from)) (goes_on learnt t (newly_told g from true issued.update))) is)
+  below_issued false head issued is =
+      let t = after false (progress.Active head (Some issued)) in
+      sym (ap (λ (b : Bool). cond (not b) (update_acked g learnt t head issued.update (with_node issued.acked from)) (unmoved learnt t)) is)
+
+  -- it is of an update below the issued one
+  pub below_acked : (newly : Bool) (p : Progress) (issued : IssuedUpdate) → is_active_in p ≡ true → issued_in p ≡ Some issued → is_below stamp issued.update.stamp ≡ true
+      → goes_on learnt (record { epoch = epoch; peers = peers_after peers from newly; progress = p }) (newly_told g from newly issued.update)
+      ≡ hears_ack g learnt (record { epoch = epoch; peers = peers; progress = p }) p from newly stamp
+  below_acked newly (progress.Active head (Some it)) issued active some is =
+      let same : issued ≡ it = cc in
+      ap (λ (i : IssuedUpdate). goes_on learnt (after newly (progress.Active head (Some it))) (newly_told g from newly i.update)) same
+      ∙ below_issued newly head it (sym (ap (λ (i : IssuedUpdate). is_below stamp i.update.stamp) same) ∙ is)
+  below_acked newly (progress.Active head None) issued active some is = absurd cc
+  below_acked newly progress.Gathering issued active some is = absurd cc
+  below_acked newly (progress.Fetching chosen source asked later) issued active some is = absurd cc
+  below_acked newly (progress.Installing chosen acked) issued active some is = absurd cc
+
+  of_issued : (newly : Bool) (head : FileHead) (issued : IssuedUpdate) → is_below stamp issued.update.stamp ≡ false
+      → acked_by g.place g.own learnt (after newly (progress.Active head (Some issued))) from
+      ≡ hears_ack g learnt (before (progress.Active head (Some issued))) (progress.Active head (Some issued)) from newly stamp
+  of_issued true head issued is =
+      let t = after true (progress.Active head (Some issued)) in
+      sym (ap (λ (b : Bool). cond (not b) (update_acked g learnt t head issued.update (with_node issued.acked from)) (goes_on learnt t (newly_told g from true issued.update))) is)
+  of_issued false head issued is =
+      let t = after false (progress.Active head (Some issued)) in
+      sym (ap (λ (b : Bool). cond (not b) (update_acked g learnt t head issued.update (with_node issued.acked from)) (unmoved learnt t)) is)
 
   -- it is of the issued update
-  pub of_issued : (head : FileHead) (from : NodeId) (stamp : Stamp) (newly : Bool) (issued : IssuedUpdate) → is_below stamp issued.update.stamp ≡ false
-      → update_acked g learnt t head issued.update (with_node issued.acked from) ≡ acked_below g learnt t head from stamp newly (Some issued)
-  of_issued head from stamp newly issued is =
-      sym (ap (λ (b : Bool). cond (not b) (update_acked g learnt t head issued.update (with_node issued.acked from))
-      (cond newly (goes_on learnt t (sends (message g.place.node from (payload.Update g.place.file issued.update) ∷ []))) (unmoved learnt t))) is)
-
-  -- the peer is current first, where the acknowledgement makes it so
-  pub newly_acked : (head : FileHead) (from : NodeId) (stamp : Stamp) (newly : Bool) (issued : Option IssuedUpdate)
-      → acked_below g learnt (record t { peers = peers_after t.peers from newly }) head from stamp newly issued ≡ hears_ack g learnt t (progress.Active head issued) from newly stamp
-  newly_acked head from stamp true issued = refl
-  newly_acked head from stamp false issued = refl
-
-  -- the own head or the chosen one is acknowledged
-  pub newly_installed : (chosen : FileHead) (acked : List NodeId) (from : NodeId) (stamp : Stamp) (newly : Bool) → newly ≡ true
-      → head_acked g learnt (with_state t from peer.Current) chosen (with_node acked from) ≡ hears_ack g learnt t (progress.Installing chosen acked) from newly stamp
-  newly_installed chosen acked from stamp newly is =
-      sym (ap (λ (b : Bool). cond b (head_acked g learnt (with_state t from peer.Current) chosen (with_node acked from)) (unmoved learnt t)) is)
+  pub issued_acked : (newly : Bool) (p : Progress) (issued : IssuedUpdate) → is_active_in p ≡ true → issued_in p ≡ Some issued → is_below stamp issued.update.stamp ≡ false
+      → acked_by g.place g.own learnt (record { epoch = epoch; peers = peers_after peers from newly; progress = p }) from
+      ≡ hears_ack g learnt (record { epoch = epoch; peers = peers; progress = p }) p from newly stamp
+  issued_acked newly (progress.Active head (Some it)) issued active some is =
+      let same : issued ≡ it = cc in
+      of_issued newly head it (sym (ap (λ (i : IssuedUpdate). is_below stamp i.update.stamp) same) ∙ is)
+  issued_acked newly (progress.Active head None) issued active some is = absurd cc
+  issued_acked newly progress.Gathering issued active some is = absurd cc
+  issued_acked newly (progress.Fetching chosen source asked later) issued active some is = absurd cc
+  issued_acked newly (progress.Installing chosen acked) issued active some is = absurd cc

@@ -7,7 +7,7 @@ use Rattle.osd_rows.specs.declared.PeerState.{PeerState}
 use Rattle.osd_rows.specs.declared.PeerState.TheVariants as peer
 use Rattle.osd_rows.specs.declared.Tenure.{Tenure}
 use Rattle.osd_rows.specs.Primaries.{Ground}
-use Rattle.osd_rows.specs.PrimaryRows.{body_missed, body_staged}
+use Rattle.osd_rows.specs.PrimaryRows.{body_missed, body_staged, unmoved}
 use Rattle.replica_primary.specs.Moves.{feeds_any, known_at_head, known_of, with_any, without_any}
 
 module _ (g : Ground) (learnt : ℕ) (t : Tenure) (from : NodeId) (v : ObjectVersion) where
@@ -34,3 +34,8 @@ module _ (g : Ground) (learnt : ℕ) (t : Tenure) (from : NodeId) (v : ObjectVer
   pub missed_fed : (target : Option FileHead) (state : PeerState) (known : Option (List ObjectVersion)) → known ≡ known_at_head state
       → feeds_any g learnt t target from (without_any known v) ≡ body_missed g learnt t target from state v
   missed_fed target state known is = ap (λ k. feeds_any g learnt t target from (without_any k v)) is ∙ missed_by target state
+
+-- nothing is known of the peer
+pub none_known : (g : Ground) (learnt : ℕ) (t : Tenure) (from : NodeId) (target : Option FileHead) → unmoved learnt t ≡ feeds_any g learnt t target from None
+none_known g learnt t from (Some target) = refl
+none_known g learnt t from None = refl

@@ -1,6 +1,6 @@
 -- what a message does, by how it is tested
 use Rattle.std.proofs.Common.{◌≡◌, ◌∙◌, ◌∷◌, ◌++◌, ◌+◌, ◌<◌, ◌≤◌, [], ℕ, Bool, true, false, Option, Some, None, List, length, take, get_or, inl, inr, refl, ap, sym, arith}
-use Rattle.std.specs.Prelude.{cond, find, not, nat_le, ◌&&◌, ◌==◌, ◌⊎◌, slice_get}
+use Rattle.std.specs.Prelude.{cond, find, max, not, nat_le, ◌==◌, ◌⊎◌, slice_get}
 use Rattle.std.proofs.lemmas.Grind.{common_steps}
 use Rattle.std.proofs.lemmas.List.{take_more}
 use Rattle.std.proofs.lemmas.List.Elements.{filter_map-append}
@@ -13,8 +13,14 @@ use Rattle.xt_base.specs.declared.file.FileHead.{FileHead}
 use Rattle.xt_base.specs.declared.message.Payload.{Payload}
 use Rattle.xt_base.specs.declared.message.Payload.TheVariants as payload
 use Rattle.xt_protocol.specs.declared.Turned.{Turned}
-use Rattle.xt_protocol.specs.Folds.{body_of}
-use Rattle.xt_protocol.specs.Stamps.{has_version, is_epoch, is_version}
+use Rattle.xt_protocol.specs.Stamps.{has_version, is_earlier, is_epoch}
+use Rattle.xt_base.specs.declared.record.Record.{Record}
+use Rattle.xt_protocol.specs.SeenBodies.{body_by}
+use Rattle.osd_rows.specs.declared.Place.{Place}
+use Rattle.osd_rows.specs.declared.IssuedUpdate.{IssuedUpdate}
+use Rattle.osd_rows.specs.ReplicaRows.{stage_record}
+use Rattle.replica_primary.specs.declared.moving.FetchedBody.{FetchedBody}
+use Rattle.replica_primary.specs.Written.{ground}
 use Rattle.osd_rows.specs.declared.Peer.{Peer}
 use Rattle.osd_rows.specs.declared.PeerState.{PeerState}
 use Rattle.osd_rows.specs.declared.PeerState.TheVariants as peer
@@ -22,11 +28,13 @@ use Rattle.osd_rows.specs.declared.Progress.{Progress}
 use Rattle.osd_rows.specs.declared.Progress.TheVariants as progress
 use Rattle.osd_rows.specs.declared.Tenure.{Tenure}
 use Rattle.osd_rows.specs.Choice.{chosen_of, difference}
-use Rattle.osd_rows.specs.Primaries.{Ground, fed, fed_next, is_unknown, known_of_own, last_to_each, majority_among, peer_in, report_of, reports_of, statuses_counted, target_of}
-use Rattle.osd_rows.specs.PrimaryRows.{body_fetched, body_missed, chooses, feeds, fetches, goes_on, head_chosen, hears_epoch, hears_member, hears_missing, hears_object, hears_peer, hears_status, installs, peer_fed, peers_fed, status_counted, status_told, target_in, unmoved}
-use Rattle.osd_rows.specs.Turns.{message, sends}
+use Rattle.osd_rows.specs.Primaries.{Ground, Led, fed, fed_next, is_reported, is_unknown, known_of_own, last_to_each, majority_among, nodes_of, peer_in, report_of, reports_of, statuses_counted, target_of, with_peer}
+use Rattle.osd_rows.specs.PrimaryRows.{after_keeping, body_beyond, body_fetched, body_missed, chooses, epoch_drawn, fetches, forgotten, goes_on, head_chosen, hears_epoch, hears_member, hears_missing, hears_object, hears_peer, hears_status, installs, peer_fed, peers_fed, status_counted, status_told, target_in, unmoved}
+use Rattle.osd_rows.specs.PrimaryRows as rows
+use Rattle.osd_rows.specs.Turns.{message, quiet, sends}
 use Rattle.failover_fetch.specs.Reports.{best_report}
-use Rattle.replica_primary.specs.Moves.{IsSplit, any_report, feeds_any, source_in, tenure_of}
+use Rattle.replica_primary.specs.declared.moving.Heard.TheVariants as heard
+use Rattle.replica_primary.specs.Moves.{IsSplit, any_report, feeds_any, ground_beyond, is_asked, is_to_feed, kept_of, led_by, outpromised, source_in}
 
 -- a peer gets the body of the first version that isn't known of it
 pub fed_body : (body : ℕ → Stamp → List ℕ) (target : FileHead) (known : List ObjectVersion) (v : ObjectVersion) (bytes : List ℕ)
@@ -36,16 +44,39 @@ unfolding fed
 fed_body body target known v bytes first is =
     ap (λ (b : List ℕ). peer.Feeding known v.object v.version b) is ∙ sym (ap (λ (w : Option ObjectVersion). fed_next body target known w) first)
 
-fed_push : (h : Ground) (target : FileHead) (peers : List Peer) (p : Peer)
-    → peers_fed h target (peers ++ p ∷ []) ≡ peers_fed h target peers ++ record { node = p.node; state = peer_fed h target p.node p.state } ∷ []
-fed_push h target [] p = refl
-fed_push h target (q ∷ peers) p = ap (λ (rest : List Peer). record { node = q.node; state = peer_fed h target q.node q.state } ∷ rest) (fed_push h target peers p)
+not_is : (b : Bool) → not b ≡ true → b ≡ false
+not_is true is = absurd cc
+not_is false is = refl
 
--- one peer more is fed
-pub fed_more : (h : Ground) (target : FileHead) (peers after pushed : List Peer) (p q : Peer) → pushed ≡ after ++ q ∷ [] → after ≡ peers_fed h target peers
-    → q ≡ record { node = p.node; state = peer_fed h target p.node p.state } → pushed ≡ peers_fed h target (peers ++ p ∷ [])
-fed_more h target peers after pushed p q push before is =
-    push ∙ ap (λ (ps : List Peer). ps ++ q ∷ []) before ∙ ap (λ (r : Peer). peers_fed h target peers ++ r ∷ []) is ∙ sym (fed_push h target peers p)
+not_is_not : (b : Bool) → not b ≡ false → b ≡ true
+not_is_not true is = refl
+not_is_not false is = absurd cc
+
+-- another peer that has reported is fed
+feed_of : (h : Ground) (target : FileHead) (node : NodeId) (state fed_as : PeerState) → is_to_feed h.place (record { node = node; state = state }) ≡ true → fed_as ≡ fed h.body target []
+    → fed_as ≡ peer_fed h target node state
+feed_of h target node (peer.Reported head) fed_as is fed_is =
+    fed_is ∙ sym (ap (λ (b : Bool). cond b (peer.Reported head) (fed h.body target [])) (not_is (node.0 == h.place.node.0) is))
+feed_of h target node peer.Unknown fed_as is fed_is = absurd cc
+feed_of h target node (peer.Feeding known object version body) fed_as is fed_is = absurd cc
+feed_of h target node (peer.Heading known head) fed_as is fed_is = absurd cc
+feed_of h target node peer.Current fed_as is fed_is = absurd cc
+
+pub feed_to : (h : Ground) (target : FileHead) (p : Peer) (fed_as : PeerState) → is_to_feed h.place p ≡ true → fed_as ≡ fed h.body target []
+    → (let q : Peer = record { node = p.node; state = fed_as } in q) ≡ record { node = p.node; state = peer_fed h target p.node p.state }
+feed_to h target p fed_as is fed_is = ap (λ (s : PeerState). let q : Peer = record { node = p.node; state = s } in q) (feed_of h target p.node p.state fed_as is fed_is)
+
+-- any other peer stays as it is
+left_of : (h : Ground) (target : FileHead) (node : NodeId) (state : PeerState) → is_to_feed h.place (record { node = node; state = state }) ≡ false → state ≡ peer_fed h target node state
+left_of h target node (peer.Reported head) is =
+    sym (ap (λ (b : Bool). cond b (peer.Reported head) (fed h.body target [])) (not_is_not (node.0 == h.place.node.0) is))
+left_of h target node peer.Unknown is = refl
+left_of h target node (peer.Feeding known object version body) is = refl
+left_of h target node (peer.Heading known head) is = refl
+left_of h target node peer.Current is = refl
+
+pub left_as : (h : Ground) (target : FileHead) (p : Peer) → is_to_feed h.place p ≡ false → p ≡ record { node = p.node; state = peer_fed h target p.node p.state }
+left_as h target p is = ap (λ (s : PeerState). let q : Peer = record { node = p.node; state = s } in q) (left_of h target p.node p.state is)
 
 -- a report more, where there is one
 reports_push : (peers : List Peer) (p : Peer) → reports_of (peers ++ p ∷ []) ≡ reports_of peers ++ any_report (report_of p.node p.state)
@@ -77,16 +108,94 @@ split_none wanted None is none = is
 split_none wanted (Some s) is none = absurd cc
 
 -- installed, part by part
-pub installed : (g : Ground) (learnt : ℕ) (epoch : Epoch) (before : List Peer) (p : Progress) (chosen target : FileHead) (peers : List Peer) (turned : Turned) (acked : List NodeId)
-    → target ≡ target_of g.own epoch chosen → peers ≡ peers_fed g target before
-    → turned ≡ sends (message g.place.node g.place.node (payload.Head g.place.file epoch target) ∷ last_to_each g.place epoch peers) → acked ≡ []
-    → goes_on learnt (tenure_of epoch peers (progress.Installing chosen acked)) turned ≡ installs g learnt (tenure_of epoch before p) chosen
-installed g learnt epoch before p chosen target peers turned acked ith iph ith2 iah =
-    let head = λ (h : FileHead). message g.place.node g.place.node (payload.Head g.place.file epoch h) in
-    ap (λ (ns : List NodeId). goes_on learnt (tenure_of epoch peers (progress.Installing chosen ns)) turned) iah
-    ∙ ap (λ (u : Turned). goes_on learnt (tenure_of epoch peers (progress.Installing chosen [])) u) ith2
-    ∙ ap (λ (ps : List Peer). goes_on learnt (tenure_of epoch ps (progress.Installing chosen [])) (sends (head target ∷ last_to_each g.place epoch ps))) iph
-    ∙ ap (λ (h : FileHead). goes_on learnt (tenure_of epoch (peers_fed g h before) (progress.Installing chosen [])) (sends (head h ∷ last_to_each g.place epoch (peers_fed g h before)))) ith
+pub installed : (g : Ground) (learnt : ℕ) (t installing : Tenure) (chosen target : FileHead) (peers : List Peer) (turned : Turned) (acked : List NodeId)
+    → installing ≡ record t { progress = progress.Installing chosen acked } → target ≡ target_of g.own t.epoch chosen → peers ≡ peers_fed g target installing.peers
+    → turned ≡ sends (message g.place.node g.place.node (payload.Head g.place.file installing.epoch target) ∷ last_to_each g.place installing.epoch peers) → acked ≡ []
+    → goes_on learnt (record installing { peers = peers }) turned ≡ installs g learnt t chosen
+installed g learnt t installing chosen target peers turned acked it ith iph ith2 iah =
+    let head = λ (s : Tenure) (h : FileHead). message g.place.node g.place.node (payload.Head g.place.file s.epoch h) in
+    let led = λ (s : Tenure) (h : FileHead). goes_on learnt (record s { peers = peers_fed g h s.peers }) (sends (head s h ∷ last_to_each g.place s.epoch (peers_fed g h s.peers))) in
+    ap (λ (u : Turned). goes_on learnt (record installing { peers = peers }) u) ith2
+    ∙ ap (λ (ps : List Peer). goes_on learnt (record installing { peers = ps }) (sends (head installing target ∷ last_to_each g.place installing.epoch ps))) iph
+    ∙ ap (λ (h : FileHead). led installing h) ith
+    ∙ ap (λ (s : Tenure). led s (target_of g.own t.epoch chosen)) it
+    ∙ ap (λ (ns : List NodeId). led (record t { progress = progress.Installing chosen ns }) (target_of g.own t.epoch chosen)) iah
+
+-- the next of the wanted bodies is asked for
+pub fetched_next : (g : Ground) (learnt : ℕ) (t fetching : Tenure) (chosen : FileHead) (source : NodeId) (asked : ObjectVersion) (later wanted : List ObjectVersion) (turned : Turned)
+    → fetching ≡ record t { progress = progress.Fetching chosen source asked later } → wanted ≡ asked ∷ later
+    → turned ≡ sends (message g.place.node source (payload.Fetch g.place.file t.epoch asked.object asked.version) ∷ [])
+    → goes_on learnt fetching turned ≡ fetches g learnt t chosen source wanted
+fetched_next g learnt t fetching chosen source asked later wanted turned it iw iu =
+    ap (λ (u : Turned). goes_on learnt fetching u) iu
+    ∙ ap (λ (s : Tenure). goes_on learnt s (sends (message g.place.node source (payload.Fetch g.place.file t.epoch asked.object asked.version) ∷ []))) it
+    ∙ ap (λ (vs : List ObjectVersion). fetches g learnt t chosen source vs) (sym iw)
+
+pub split_some : (wanted : List ObjectVersion) (s : Option (ObjectVersion × List ObjectVersion)) (asked : ObjectVersion) (later : List ObjectVersion)
+    → IsSplit wanted s → s ≡ Some (asked, later) → wanted ≡ asked ∷ later
+split_some wanted None asked later is some = absurd cc
+split_some wanted (Some s) asked later is some = let same : s ≡ (asked, later) = cc in is ∙ ap (λ (q : ObjectVersion × List ObjectVersion). q.0 ∷ q.1) same
+
+-- what is fetched doesn't depend on how far the tenure was
+fetched_any : (g : Ground) (learnt : ℕ) (epoch : Epoch) (peers : List Peer) (p q : Progress) (chosen : FileHead) (source : NodeId) (wanted : List ObjectVersion)
+    → fetches g learnt (record { epoch = epoch; peers = peers; progress = p }) chosen source wanted ≡ fetches g learnt (record { epoch = epoch; peers = peers; progress = q }) chosen source wanted
+fetched_any g learnt epoch peers p q chosen source [] = refl
+fetched_any g learnt epoch peers p q chosen source (v ∷ later) = refl
+
+-- the fetch goes on, which was taken out of the tenure
+pub fetched_on : (g : Ground) (learnt : ℕ) (t : Tenure) (taken p : Progress) (chosen : FileHead) (source : NodeId) (asked : ObjectVersion) (later : List ObjectVersion)
+    (chosen' : FileHead) (source' : NodeId) (asked' : ObjectVersion) (later' : List ObjectVersion)
+    → taken ≡ t.progress → taken ≡ progress.Fetching chosen' source' asked' later' → t.progress ≡ progress.Fetching chosen source asked later
+    → fetches g learnt (record { epoch = t.epoch; peers = t.peers; progress = p }) chosen' source' later' ≡ fetches g learnt t chosen source later
+fetched_on g learnt t taken p chosen source asked later chosen' source' asked' later' it is was =
+    let same : progress.Fetching chosen' source' asked' later' ≡ progress.Fetching chosen source asked later = sym is ∙ it ∙ was in
+    let ic : chosen' ≡ chosen = cc in
+    let iso : source' ≡ source = cc in
+    let il : later' ≡ later = cc in
+    fetched_any g learnt t.epoch t.peers p t.progress chosen' source' later'
+    ∙ ap (λ (h : FileHead). fetches g learnt t h source' later') ic
+    ∙ ap (λ (n : NodeId). fetches g learnt t chosen n later') iso
+    ∙ ap (λ (vs : List ObjectVersion). fetches g learnt t chosen source vs) il
+
+-- a body that has come is kept first, where it wasn't held
+pub kept_first : (place : Place) (records : List Record) (own : FileHead) (held : List ObjectVersion) (learnt : ℕ) (t after : Tenure) (chosen : FileHead) (source : NodeId) (later : List ObjectVersion)
+    (object : ℕ) (version : Stamp) (bytes : List ℕ) (fetched : Option FetchedBody) (turned : Turned) (rec : Option Record)
+    → rec ≡ kept_of place.file fetched → kept_of place.file fetched ≡ stage_record place.file held object version bytes
+    → goes_on learnt after turned ≡ fetches (ground_beyond place records fetched own held) learnt t chosen source later
+    → goes_on learnt after (record turned { rec = rec }) ≡ body_fetched (ground place records own held) learnt t chosen source later object version bytes
+kept_first place records own held learnt t after chosen source later object version bytes fetched turned rec irec ikept step =
+    let stands = λ (k : Option Record). let g : Ground = record { place = place; own = own; held = held; body = body_beyond place.file k (body_by records place.file) } in g in
+    ap (λ (led : Led). after_keeping rec led) step
+    ∙ ap (λ (r : Option Record). after_keeping r (fetches (stands (kept_of place.file fetched)) learnt t chosen source later)) irec
+    ∙ ap (λ (k : Option Record). after_keeping k (fetches (stands k) learnt t chosen source later)) ikept
+
+-- a peer's state that is put in its place again
+keep_at : (p : Peer) (peers : List Peer) (node : NodeId) (state : PeerState) (b : Bool) → (peer_in peers node ≡ Some state → with_peer peers node state ≡ peers)
+    → cond b (Some p.state) (peer_in peers node) ≡ Some state
+    → cond b (record { node = p.node; state = state } ∷ peers) (p ∷ with_peer peers node state) ≡ p ∷ peers
+keep_at p peers node state true rest is = let same : p.state ≡ state = cc in ap (λ (s : PeerState). let q : Peer = record { node = p.node; state = s } in q ∷ peers) (sym same)
+keep_at p peers node state false rest is = ap (λ (ps : List Peer). p ∷ ps) (rest is)
+
+keep_peer : (peers : List Peer) (node : NodeId) (state : PeerState) → peer_in peers node ≡ Some state → with_peer peers node state ≡ peers
+unfolding peer_in with_peer
+keep_peer [] node state is = absurd cc
+keep_peer (p ∷ peers) node state is = keep_at p peers node state (p.node.0 == node.0) (keep_peer peers node state) is
+
+-- a peer that has reported stays so
+pub reported_kept : (peers : List Peer) (node : NodeId) (state : PeerState) → peer_in peers node ≡ Some state → is_reported state ≡ true → peers ≡ with_peer peers node (forgotten state)
+reported_kept peers node (peer.Reported head) is reported = sym (keep_peer peers node (peer.Reported head) is)
+reported_kept peers node peer.Unknown is reported = absurd cc
+reported_kept peers node (peer.Feeding known object version body) is reported = absurd cc
+reported_kept peers node (peer.Heading known head) is reported = absurd cc
+reported_kept peers node peer.Current is reported = absurd cc
+
+-- of any other one nothing is known any more
+pub other_forgotten : (state : PeerState) → is_reported state ≡ false → peer.Unknown ≡ forgotten state
+other_forgotten (peer.Reported head) other = absurd cc
+other_forgotten peer.Unknown other = refl
+other_forgotten (peer.Feeding known object version body) other = refl
+other_forgotten (peer.Heading known head) other = refl
+other_forgotten peer.Current other = refl
 
 module _ (g : Ground) (learnt : ℕ) (t : Tenure) where
   -- the best report is chosen
@@ -112,24 +221,39 @@ module _ (g : Ground) (learnt : ℕ) (t : Tenure) where
       sym (ap (λ (b : Bool). cond b (installs g learnt t best.1) (fetches g learnt t best.1 best.0 (difference (known_of_own g.held) best.1.versions))) is)
 
   -- the object is the one that was asked for
-  pub asked_object : (chosen : FileHead) (source : NodeId) (asked : ObjectVersion) (later : List ObjectVersion) (from : NodeId) (object : ℕ) (version : Stamp) (bytes : List ℕ)
-      → from.0 ≡ source.0 → is_version asked (body_of object version) ≡ true
-      → body_fetched g learnt t chosen source later object version bytes ≡ hears_object g learnt t (progress.Fetching chosen source asked later) from object version bytes
-  asked_object chosen source asked later from object version bytes same which =
-      let who : (from.0 == source.0) ≡ true = grind arith in
-      sym (ap (λ (b : Bool). cond (b && is_version asked (body_of object version)) (body_fetched g learnt t chosen source later object version bytes) (unmoved learnt t)) who
-      ∙ ap (λ (b : Bool). cond b (body_fetched g learnt t chosen source later object version bytes) (unmoved learnt t)) which)
+  pub asked_object : (p : Progress) (from : NodeId) (v : ObjectVersion) (bytes : List ℕ) (led : Led) → is_asked p from v ≡ true
+      → ((chosen : FileHead) (source : NodeId) (asked : ObjectVersion) (later : List ObjectVersion) → p ≡ progress.Fetching chosen source asked later
+      → led ≡ body_fetched g learnt t chosen source later v.object v.version bytes)
+      → led ≡ hears_object g learnt t p from v.object v.version bytes
+  asked_object (progress.Fetching chosen source asked later) from v bytes led is by =
+      by chosen source asked later refl ∙ sym (ap (λ (b : Bool). cond b (body_fetched g learnt t chosen source later v.object v.version bytes) (unmoved learnt t)) is)
+  asked_object progress.Gathering from v bytes led is by = absurd cc
+  asked_object (progress.Installing chosen acked) from v bytes led is by = absurd cc
+  asked_object (progress.Active committed issued) from v bytes led is by = absurd cc
+
+  -- any other object does nothing
+  pub other_object : (p : Progress) (from : NodeId) (v : ObjectVersion) (bytes : List ℕ) → is_asked p from v ≡ false → unmoved learnt t ≡ hears_object g learnt t p from v.object v.version bytes
+  other_object (progress.Fetching chosen source asked later) from v bytes is =
+      sym (ap (λ (b : Bool). cond b (body_fetched g learnt t chosen source later v.object v.version bytes) (unmoved learnt t)) is)
+  other_object progress.Gathering from v bytes is = refl
+  other_object (progress.Installing chosen acked) from v bytes is = refl
+  other_object (progress.Active committed issued) from v bytes is = refl
 
   -- the first status of a peer
   pub first_status : (from : NodeId) (state : PeerState) (head : FileHead) → is_unknown state ≡ true
       → status_told g learnt t t.progress from head ≡ hears_status g learnt t from state head
   first_status from state head is = sym (ap (λ (b : Bool). cond b (status_told g learnt t t.progress from head) (unmoved learnt t)) is)
 
-  -- a head to which peers are brought, and something that is known of the peer
-  pub fed_any : (o : Option FileHead) (k : Option (List ObjectVersion)) (target : FileHead) (known : List ObjectVersion) (from : NodeId) → o ≡ Some target → k ≡ Some known
-      → feeds g learnt t from target known ≡ feeds_any g learnt t o from k
-  fed_any o k target known from io ik =
-      sym (ap (λ (p : Option FileHead). feeds_any g learnt t p from k) io ∙ ap (λ (q : Option (List ObjectVersion)). feeds_any g learnt t (Some target) from q) ik)
+  -- a status that comes while the head is installed, or later
+  pub installing_told : (p : Progress) (chosen : FileHead) (acked : List NodeId) (from : NodeId) (head : FileHead) → p ≡ progress.Installing chosen acked
+      → feeds_any g learnt t (target_in g.own t.epoch p) from (Some []) ≡ status_told g learnt t p from head
+  installing_told p chosen acked from head is =
+      ap (λ (q : Progress). feeds_any g learnt t (target_in g.own t.epoch q) from (Some [])) is ∙ ap (λ (q : Progress). status_told g learnt t q from head) (sym is)
+
+  pub active_told : (p : Progress) (committed : FileHead) (issued : Option IssuedUpdate) (from : NodeId) (head : FileHead) → p ≡ progress.Active committed issued
+      → feeds_any g learnt t (target_in g.own t.epoch p) from (Some []) ≡ status_told g learnt t p from head
+  active_told p committed issued from head is =
+      ap (λ (q : Progress). feeds_any g learnt t (target_in g.own t.epoch q) from (Some [])) is ∙ ap (λ (q : Progress). status_told g learnt t q from head) (sym is)
 
   -- a body is missed once no body is fetched any more
   pub missed_later : (p : Progress) (from : NodeId) (state : PeerState) (v : ObjectVersion) → source_in p ≡ None
@@ -146,3 +270,11 @@ module _ (g : Ground) (learnt : ℕ) (t : Tenure) where
       sym (ap (λ (e : Option Epoch). hears_epoch g learnt t from e content) told
       ∙ ap (λ (b : Bool). cond b (hears_member g learnt t from (peer_in t.peers from) content) (unmoved learnt t)) same
       ∙ ap (λ (s : Option PeerState). hears_member g learnt t from s content) is)
+
+  redraw : (b : Bool) (above : ℕ) → led_by g learnt (Some t) (cond b (heard.Redraws above) (heard.GoesOn quiet)) ≡ cond b (epoch_drawn g.place above g.own (nodes_of t.peers)) (unmoved learnt t)
+  redraw true above = refl
+  redraw false above = refl
+
+  -- outpromised: a new epoch is drawn, or nothing comes of it
+  pub outpromised_by : (promised : Epoch) → led_by g learnt (Some t) (outpromised learnt t.epoch promised) ≡ rows.outpromised g learnt t promised
+  outpromised_by promised = redraw (is_earlier t.epoch promised) (max learnt promised.number)

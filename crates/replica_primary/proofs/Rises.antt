@@ -1,5 +1,5 @@
 -- the committed head of a primary that has heard a message rises, where the own head does
-use Rattle.std.proofs.Common.{ℕ, List, [], ◌∷◌, Bool, true, false}
+use Rattle.std.proofs.Common.{◌≡◌, ℕ, List, [], ◌∷◌, Bool, true, false, subst, sym}
 use Rattle.std.specs.Prelude.{Option, Some, None, cond, not, ◌&&◌, ◌==◌, max, nat_lt, nat_le}
 use Rattle.xt_base.specs.declared.ids.NodeId.{NodeId}
 use Rattle.xt_base.specs.declared.ids.Epoch.{Epoch}
@@ -113,6 +113,11 @@ module _ (g : Ground) (learnt : ℕ) where
     of_epoch t r from None content = r
     of_epoch t r from (Some epoch) content = either (is_epoch epoch t.epoch) _ _ (of_member t r from (peer_in t.peers from) content) r
 
+    in_tenure : (tenure : Option Tenure) → CommittedUnder tenure → (from : NodeId) (content : Payload) → LedRises (hears_in g learnt tenure from content)
+    in_tenure None r from content = tt
+    in_tenure (Some t) r from content = of_epoch t r from (epoch_told content) content
+
     -- A message leaves a committed head that rises.
-    pub hears_rises : (t : Tenure) → CommittedRises t.progress → (from : NodeId) (content : Payload) → CommittedUnder (hears_in g learnt (Some t) from content).primary.tenure
-    hears_rises t r from content = of_epoch t r from (epoch_told content) content
+    pub hears_rises : (tenure : Option Tenure) → CommittedUnder tenure → (from : NodeId) (content : Payload) (led : Led) → led ≡ hears_in g learnt tenure from content
+        → CommittedUnder led.primary.tenure
+    hears_rises tenure r from content led is = subst LedRises (sym is) (in_tenure tenure r from content)

@@ -3,3 +3,4 @@ pub mod PrimaryViews
 pub mod Phases
 pub mod Written
 pub mod Moves
+pub mod Acks

@@ -1,5 +1,5 @@
 -- what a message makes of a tenure
-use Rattle.std.specs.Prelude.{ℕ, Bool, true, false, ◌≡◌, Option, Some, None, List, [], ◌∷◌}
+use Rattle.std.specs.Prelude.{ℕ, Bool, true, false, ◌≡◌, ◌==◌, ◌&&◌, not, if◌then◌else◌, max, Option, Some, None, List, [], ◌∷◌}
 use Rattle.xt_base.specs.declared.ids.FileId.{FileId}
 use Rattle.xt_base.specs.declared.ids.Epoch.{Epoch}
 use Rattle.xt_base.specs.declared.ids.Stamp.{Stamp}
@@ -15,27 +15,30 @@ use Rattle.osd_rows.specs.declared.Place.{Place}
 use Rattle.osd_rows.specs.declared.Peer.{Peer}
 use Rattle.osd_rows.specs.declared.PeerState.{PeerState}
 use Rattle.osd_rows.specs.declared.PeerState.TheVariants as peer
-use Rattle.xt_protocol.specs.Stamps.{without_version}
+use Rattle.xt_protocol.specs.Stamps.{is_earlier, is_version, without_version}
 use Rattle.osd_rows.specs.declared.Progress.{Progress}
 use Rattle.osd_rows.specs.declared.Progress.TheVariants as progress
 use Rattle.osd_rows.specs.declared.Tenure.{Tenure}
-use Rattle.osd_rows.specs.Primaries.{Ground, Led, with_known, with_peer}
-use Rattle.osd_rows.specs.PrimaryRows.{body_beyond, feeds, goes_on, unmoved}
+use Rattle.osd_rows.specs.Primaries.{Ground, Led, is_reported, nodes_of, with_known}
+use Rattle.osd_rows.specs.PrimaryRows.{body_beyond, epoch_drawn, feeds, unmoved}
+use Rattle.osd_rows.specs.Turns.{quiet}
 use Rattle.replica_primary.specs.declared.moving.FetchedBody.{FetchedBody}
 use Rattle.replica_primary.specs.declared.moving.Heard.{Heard}
-use Rattle.replica_primary.specs.declared.moving.Moved.{Moved}
+use Rattle.replica_primary.specs.declared.moving.Heard.TheVariants as heard
 
--- a primary that goes on in its tenure
-abbrev pub led_on : ℕ → Moved → Led
-led_on learnt moved = goes_on learnt moved.tenure moved.turned
+-- the peers in a tenure, if there is one
+abbrev pub peers_under : Option Tenure → List Peer
+peers_under None = []
+peers_under (Some t) = t.peers
 
 -- a primary that has heard a message
-abbrev pub led_by : Heard → Led
-led_by heard = record { primary = record { learnt = heard.learnt; tenure = heard.tenure }; turned = heard.turned }
+abbrev pub led_by : Ground → ℕ → Option Tenure → Heard → Led
+led_by g learnt tenure (heard.GoesOn turned) = record { primary = record { learnt = learnt; tenure = tenure }; turned = turned }
+led_by g learnt tenure (heard.Redraws above) = epoch_drawn g.place above g.own (nodes_of (peers_under tenure))
 
--- a tenure by its parts
-abbrev pub tenure_of : Epoch → List Peer → Progress → Tenure
-tenure_of epoch peers p = record { epoch = epoch; peers = peers; progress = p }
+-- outpromised: a new epoch is drawn above the higher number
+abbrev pub outpromised : ℕ → Epoch → Epoch → Heard
+outpromised learnt epoch promised = if is_earlier epoch promised then heard.Redraws (max learnt promised.number) else heard.GoesOn quiet
 
 -- the record of a body that was just fetched, where there is one
 abbrev pub kept_of : FileId → Option FetchedBody → Option Record
@@ -89,11 +92,6 @@ keeps_tenure (payload.Missing file epoch object version) = false
 keeps_tenure (payload.Refused file epoch promised) = false
 keeps_tenure _ = true
 
--- the peers after an acknowledgement, which may have made its sender current
-abbrev pub peers_after : List Peer → NodeId → Bool → List Peer
-peers_after peers from true = with_peer peers from peer.Current
-peers_after peers from false = peers
-
 -- a report, where there is one
 abbrev pub any_report : Option (NodeId × FileHead) → List (NodeId × FileHead)
 any_report None = []
@@ -105,3 +103,12 @@ source_in (progress.Fetching chosen source asked later) = Some source
 source_in progress.Gathering = None
 source_in (progress.Installing chosen acked) = None
 source_in (progress.Active committed issued) = None
+
+-- whether this is the version that was asked for last, from its source
+abbrev pub is_asked : Progress → NodeId → ObjectVersion → Bool
+is_asked (progress.Fetching chosen source asked later) from version = from.0 == source.0 && is_version asked version
+is_asked _ from version = false
+
+-- whether this is another peer than the own node, and has reported
+abbrev pub is_to_feed : Place → Peer → Bool
+is_to_feed place p = is_reported p.state && not (p.node.0 == place.node.0)

@@ -1,22 +1,23 @@
-ghost use Rattle.std.specs.Prelude.{◌≡◌, ◌∷◌, if◌then◌else◌, [], ℕ, List, None, Some, IfOk};
+ghost use Rattle.std.specs.Prelude.{◌≡◌, ◌∷◌, if◌then◌else◌, [], ℕ, List, None, Some, MatchOption, IfOk, IsTrue, OnOk};
+ghost use Rattle.xt_base.specs.declared.file.ObjectVersion.{ObjectVersion};
 ghost use Rattle.xt_base.specs.declared.ids.Stamp.{Stamp};
 ghost use Rattle.xt_base.specs.declared.message.Payload.TheVariants as payload;
-ghost use Rattle.osd_rows.specs.Turns.{message, quiet, sends};
-ghost use Rattle.xt_base.specs.declared.file.ObjectVersion.{ObjectVersion};
 ghost use Rattle.xt_base.specs.declared.record.Record.{Record};
-ghost use Rattle.osd_rows.specs.declared.Progress.{Progress};
 ghost use Rattle.osd_rows.specs.declared.Progress.TheVariants as progress;
+ghost use Rattle.osd_rows.specs.Turns.{message, quiet, sends};
+ghost use Rattle.osd_rows.specs.Primaries.{carries, is_active_in, issued_in};
 ghost use Rattle.osd_rows.specs.PrimaryRows as rows;
+ghost use Rattle.osd_rows.specs.PrimaryRows.{goes_on};
 ghost use Rattle.replica_primary.specs.Written.{ground};
-ghost use Rattle.replica_primary.specs.Moves.{led_on, peers_after, tenure_of};
+ghost use Rattle.replica_primary.specs.Acks.{acked_by, acked_in, carried_told, commit_told, is_installing, peers_after, with_ack};
 
-use crate::moving::{Moved, unmoved};
+use crate::moving::advance;
 use osd_peers::{add_node, carries, set_peer};
-use osd_rows::{IssuedUpdate, Nodes, PeerState, Peers, Place, Progress, Tenure};
+use osd_rows::{IssuedUpdate, PeerState, Peers, Place, Progress, Tenure};
 use std::alloc::Global;
 use step_outputs::{answers, join, message, quiet, sends_one, shows};
 use version_lists::is_below;
-use xt_base::{Copies, Epoch, FileHead, Mark, NodeId, Octets, OutOfMemory, Payload, Stamp, Update};
+use xt_base::{Copies, FileHead, Mark, NodeId, Octets, OutOfMemory, Payload, Stamp, Update};
 use xt_protocol::Turned;
 
 /// Whether an acknowledgement makes the peer current: it isn't below the head that was sent to it, or it is the own node's.
@@ -31,129 +32,127 @@ pub fn makes_current(place: &Place, from: NodeId, state: &PeerState, stamp: Stam
     }
 }
 
-/// A tenure that is active from the own head, with nothing issued.
-fn active_from(
-    alloc: Global,
-    epoch: Epoch,
-    peers: Peers,
-    own: &FileHead,
-) -> Result<Tenure, OutOfMemory>
-    ensures { IfOk result (λ tenure. tenure ≡ tenure_of epoch peers (progress.Active own.now None)) }
+/// Who has acknowledged the head that is installed, or the update that is issued.
+fn acked_in(progress: &Progress) -> &[NodeId]
+    ensures { result.now ≡ acked_in progress.now }
 {
-    Ok(Tenure {
-        epoch,
-        peers,
-        progress: Progress::Active {
-            committed: own.copy(alloc)?,
-            issued: None,
-        },
-    })
+    match progress {
+        Progress::Installing { acked, .. } => acked.as_slice(),
+        Progress::Active {
+            issued: Some(issued),
+            ..
+        } => issued.acked.as_slice(),
+        _ => &[],
+    }
 }
 
-/// Activated: a majority has the head, the own node among it.
-fn activated(
+/// A node has acknowledged the head that is installed, or the update that is issued.
+fn count_ack(progress: &mut Progress, node: NodeId) -> Result<(), OutOfMemory>
+    ensures { OnOk result (progress.new ≡ with_ack progress.old node) }
+{
+    match progress {
+        Progress::Installing { acked, .. } => add_node(acked, node),
+        Progress::Active {
+            issued: Some(issued),
+            ..
+        } => add_node(&mut issued.acked, node),
+        _ => Ok(()),
+    }
+}
+
+/// Whether a majority has acknowledged, the own node among it.
+fn is_carried(place: &Place, tenure: &Tenure) -> bool
+    ensures { result ≡ carries place.now tenure.now.peers (acked_in tenure.now.progress) }
+{
+    carries(
+        place.node,
+        tenure.peers.as_slice(),
+        acked_in(&tenure.progress),
+    )
+}
+
+/// A commit of this update: its mark, and the answer to its client.
+fn commit_told(alloc: Global, place: &Place, update: &Update) -> Result<Turned, OutOfMemory>
+    ensures { IfOk result (λ turned. turned ≡ commit_told place.now update.now) }
+{
+    let (file, id, count) = (&place.file, update.id, update.stamp.count);
+    let mark = Mark::Commit {
+        file: file.number,
+        count,
+        id,
+    };
+    let marked = shows(alloc, mark)?;
+    let none = Octets::new(alloc);
+    let answered = answers(alloc, place.node, file, id, count, update.mark, none)?;
+    join(marked, answered)
+}
+
+/// What is told when a majority has acknowledged: that the issued update is committed, or that the primary is active.
+fn carried_told(
     alloc: Global,
     place: &Place,
-    epoch: Epoch,
-    peers: Peers,
     own: &FileHead,
-) -> Result<Moved, OutOfMemory>
-    ensures { IfOk result (λ moved. (learnt : ℕ) (records : List Record) (held : List ObjectVersion) (p : Progress) → led_on learnt moved ≡ rows.activated (ground place.now records own.now held) learnt (tenure_of epoch peers p)) }
+    progress: &Progress,
+) -> Result<Turned, OutOfMemory>
+    ensures { IfOk result (λ turned. turned ≡ carried_told place.now own.now progress.now) }
 {
-    let tenure = active_from(alloc, epoch, peers, own)?;
+    if let Progress::Active {
+        issued: Some(issued),
+        ..
+    } = progress
+    {
+        return commit_told(alloc, place, &issued.update);
+    }
     let mark = Mark::Active {
         file: place.file.number,
         count: own.stamp.count,
         id: own.last,
     };
-    Ok(Moved {
+    shows(alloc, mark)
+}
+
+/// The primary is active from the own head, with nothing issued.
+fn serve_from(alloc: Global, tenure: &mut Tenure, own: &FileHead) -> Result<(), OutOfMemory>
+    ensures { OnOk result (tenure.new ≡ record tenure.old { progress = progress.Active own.now None }) }
+{
+    let committed = own.copy(alloc)?;
+    advance(
         tenure,
-        turned: shows(alloc, mark)?,
-    })
+        Progress::Active {
+            committed,
+            issued: None,
+        },
+    );
+    Ok(())
 }
 
-/// Peer acknowledged, while the head is installed.
-fn head_acked(
+/// A node has acknowledged the head that is installed, or the issued update. Once a majority has it, the own node among it, the
+/// primary is activated, or the update is committed.
+fn acked_by(
     alloc: Global,
     place: &Place,
-    epoch: Epoch,
-    peers: Peers,
+    tenure: &mut Tenure,
     own: &FileHead,
-    chosen: FileHead,
-    acked: Nodes,
-) -> Result<Moved, OutOfMemory>
-    ensures { IfOk result (λ moved. (learnt : ℕ) (records : List Record) (held : List ObjectVersion) (p : Progress) → led_on learnt moved ≡ rows.head_acked (ground place.now records own.now held) learnt (tenure_of epoch peers p) chosen acked) }
+    from: NodeId,
+) -> Result<Turned, OutOfMemory>
+    ensures { IfOk result (λ turned. (learnt : ℕ) → goes_on learnt tenure.new turned ≡ acked_by place.now own.now learnt tenure.old from) }
 {
-    if carries(place.node, peers.as_slice(), acked.as_slice()) {
-        return Ok(activated(alloc, place, epoch, peers, own)?);
+    count_ack(&mut tenure.progress, from)?;
+    if !is_carried(place, tenure) {
+        return Ok(quiet(alloc));
     }
-    let progress = Progress::Installing { chosen, acked };
-    Ok(unmoved(
-        alloc,
-        Tenure {
-            epoch,
-            peers,
-            progress,
-        },
-    ))
+    let told = carried_told(alloc, place, own, &tenure.progress)?;
+    serve_from(alloc, tenure, own)?;
+    Ok(told)
 }
 
-/// Committed: a majority has the update, the own node among it; its client is answered.
-fn committed(
-    alloc: Global,
-    place: &Place,
-    epoch: Epoch,
-    peers: Peers,
-    own: &FileHead,
-    update: &Update,
-) -> Result<Moved, OutOfMemory>
-    ensures { IfOk result (λ moved. (learnt : ℕ) (records : List Record) (held : List ObjectVersion) (p : Progress) → led_on learnt moved ≡ rows.committed (ground place.now records own.now held) learnt (tenure_of epoch peers p) update.now) }
+/// The peers after an acknowledgement, which may have made its sender current.
+fn make_current(peers: &mut Peers, from: NodeId, newly: bool)
+    ensures { peers.new ≡ peers_after peers.old from newly }
 {
-    let tenure = active_from(alloc, epoch, peers, own)?;
-    let (file, id, count) = (&place.file, update.id, update.stamp.count);
-    let marked = shows(
-        alloc,
-        Mark::Commit {
-            file: file.number,
-            count,
-            id,
-        },
-    )?;
-    let none = Octets::new(alloc);
-    let answered = answers(alloc, place.node, file, id, count, update.mark, none)?;
-    Ok(Moved {
-        tenure,
-        turned: join(marked, answered)?,
-    })
-}
-
-/// An acknowledgement of the issued update.
-fn update_acked(
-    alloc: Global,
-    place: &Place,
-    epoch: Epoch,
-    peers: Peers,
-    own: &FileHead,
-    head: FileHead,
-    issued: IssuedUpdate,
-) -> Result<Moved, OutOfMemory>
-    ensures { IfOk result (λ moved. (learnt : ℕ) (records : List Record) (held : List ObjectVersion) (p : Progress) → led_on learnt moved ≡ rows.update_acked (ground place.now records own.now held) learnt (tenure_of epoch peers p) head issued.update issued.acked) }
-{
-    if carries(place.node, peers.as_slice(), issued.acked.as_slice()) {
-        return Ok(committed(alloc, place, epoch, peers, own, &issued.update)?);
+    if newly {
+        set_peer(peers, from, PeerState::Current);
     }
-    let progress = Progress::Active {
-        committed: head,
-        issued: Some(issued),
-    };
-    Ok(unmoved(
-        alloc,
-        Tenure {
-            epoch,
-            peers,
-            progress,
-        },
-    ))
 }
 
 /// The update to a peer that has just become current; nothing to one that was.
@@ -176,169 +175,79 @@ fn sent_to_newly(
     sends_one(alloc, message(place.node, from, content))
 }
 
-/// What an acknowledgement means for the issued update: it is of it, or the peer that has just become current gets it.
-fn issued_acked(
-    alloc: Global,
-    place: &Place,
-    epoch: Epoch,
-    peers: Peers,
-    own: &FileHead,
-    head: FileHead,
-    from: NodeId,
-    newly: bool,
-    stamp: Stamp,
-    issued: IssuedUpdate,
-) -> Result<Moved, OutOfMemory>
-    ensures { IfOk result (λ moved. (learnt : ℕ) (records : List Record) (held : List ObjectVersion) → led_on learnt moved ≡ rows.acked_below (ground place.now records own.now held) learnt (tenure_of epoch peers (progress.Active head (Some issued))) head from stamp newly (Some issued)) }
+/// The update that is issued, if one is.
+fn issued_in(progress: &Progress) -> Option<&IssuedUpdate>
+    ensures { MatchOption result (issued_in progress.now ≡ None) (λ issued. issued_in progress.now ≡ Some issued.now) }
 {
-    if !is_below(stamp, issued.update.stamp) {
-        let mut issued = issued;
-        add_node(&mut issued.acked, from)?;
-        return Ok(update_acked(alloc, place, epoch, peers, own, head, issued)?);
+    match progress {
+        Progress::Active {
+            issued: Some(issued),
+            ..
+        } => Some(issued),
+        _ => None,
     }
-    let turned = sent_to_newly(alloc, place, from, newly, &issued.update)?;
-    let progress = Progress::Active {
-        committed: head,
-        issued: Some(issued),
-    };
-    Ok(Moved {
-        tenure: Tenure {
-            epoch,
-            peers,
-            progress,
-        },
-        turned,
-    })
 }
 
-/// What an acknowledgement means for the issued update, if there is one.
-fn acked_below(
-    alloc: Global,
-    place: &Place,
-    epoch: Epoch,
-    peers: Peers,
-    own: &FileHead,
-    head: FileHead,
-    from: NodeId,
-    newly: bool,
-    stamp: Stamp,
-    issued: Option<IssuedUpdate>,
-) -> Result<Moved, OutOfMemory>
-    ensures { IfOk result (λ moved. (learnt : ℕ) (records : List Record) (held : List ObjectVersion) → led_on learnt moved ≡ rows.acked_below (ground place.now records own.now held) learnt (tenure_of epoch peers (progress.Active head issued)) head from stamp newly issued) }
-{
-    let Some(issued) = issued else {
-        let progress = Progress::Active {
-            committed: head,
-            issued: None,
-        };
-        return Ok(unmoved(
-            alloc,
-            Tenure {
-                epoch,
-                peers,
-                progress,
-            },
-        ));
-    };
-    Ok(issued_acked(
-        alloc, place, epoch, peers, own, head, from, newly, stamp, issued,
-    )?)
-}
-
-/// The peers after an acknowledgement, which may have made its sender current.
-fn peers_after(peers: Peers, from: NodeId, newly: bool) -> Peers
-    ensures { result ≡ peers_after peers from newly }
-{
-    let mut peers = peers;
-    if newly {
-        set_peer(&mut peers, from, PeerState::Current);
-    }
-    peers
-}
-
-/// Peer acknowledged, while the primary is active.
+/// Peer acknowledged, while the primary is active: the issued update is acknowledged, or sent to a peer that has just become
+/// current.
 fn active_acked(
     alloc: Global,
     place: &Place,
-    epoch: Epoch,
-    peers: Peers,
+    tenure: &mut Tenure,
     own: &FileHead,
-    head: FileHead,
     from: NodeId,
     newly: bool,
     stamp: Stamp,
-    issued: Option<IssuedUpdate>,
-) -> Result<Moved, OutOfMemory>
-    ensures { IfOk result (λ moved. (learnt : ℕ) (records : List Record) (held : List ObjectVersion) → led_on learnt moved ≡ rows.hears_ack (ground place.now records own.now held) learnt (tenure_of epoch peers (progress.Active head issued)) (progress.Active head issued) from newly stamp) }
+) -> Result<Turned, OutOfMemory>
+    requires { IsTrue (is_active_in tenure.old.progress) }
+    ensures { IfOk result (λ turned. (learnt : ℕ) (records : List Record) (held : List ObjectVersion) → goes_on learnt tenure.new turned ≡ rows.hears_ack (ground place.now records own.now held) learnt tenure.old tenure.old.progress from newly stamp) }
 {
-    let peers = peers_after(peers, from, newly);
-    Ok(acked_below(
-        alloc, place, epoch, peers, own, head, from, newly, stamp, issued,
-    )?)
+    make_current(&mut tenure.peers, from, newly);
+    let Some(issued) = issued_in(&tenure.progress) else {
+        return Ok(quiet(alloc));
+    };
+    if is_below(stamp, issued.update.stamp) {
+        return Ok(sent_to_newly(alloc, place, from, newly, &issued.update)?);
+    }
+    Ok(acked_by(alloc, place, tenure, own, from)?)
 }
 
 /// Peer acknowledged, while the head is installed.
 fn installing_acked(
     alloc: Global,
     place: &Place,
-    epoch: Epoch,
-    peers: Peers,
+    tenure: &mut Tenure,
     own: &FileHead,
-    chosen: FileHead,
-    acked: Nodes,
     from: NodeId,
     newly: bool,
-) -> Result<Moved, OutOfMemory>
-    ensures { IfOk result (λ moved. (learnt : ℕ) (records : List Record) (held : List ObjectVersion) (stamp : Stamp) → led_on learnt moved ≡ rows.hears_ack (ground place.now records own.now held) learnt (tenure_of epoch peers (progress.Installing chosen acked)) (progress.Installing chosen acked) from newly stamp) }
+) -> Result<Turned, OutOfMemory>
+    requires { IsTrue (is_installing tenure.old.progress) }
+    ensures { IfOk result (λ turned. (learnt : ℕ) (records : List Record) (held : List ObjectVersion) (stamp : Stamp) → goes_on learnt tenure.new turned ≡ rows.hears_ack (ground place.now records own.now held) learnt tenure.old tenure.old.progress from newly stamp) }
 {
-    let (mut peers, mut acked) = (peers, acked);
     if !newly {
-        let progress = Progress::Installing { chosen, acked };
-        return Ok(unmoved(
-            alloc,
-            Tenure {
-                epoch,
-                peers,
-                progress,
-            },
-        ));
+        return Ok(quiet(alloc));
     }
-    set_peer(&mut peers, from, PeerState::Current);
-    add_node(&mut acked, from)?;
-    Ok(head_acked(alloc, place, epoch, peers, own, chosen, acked)?)
+    set_peer(&mut tenure.peers, from, PeerState::Current);
+    Ok(acked_by(alloc, place, tenure, own, from)?)
 }
 
 /// Peer acknowledged. `newly` says whether that makes the peer current.
 pub fn hears_ack(
     alloc: Global,
     place: &Place,
-    tenure: Tenure,
+    tenure: &mut Tenure,
     own: &FileHead,
     from: NodeId,
     newly: bool,
     stamp: Stamp,
-) -> Result<Moved, OutOfMemory>
-    ensures { IfOk result (λ moved. (learnt : ℕ) (records : List Record) (held : List ObjectVersion) → led_on learnt moved ≡ rows.hears_ack (ground place.now records own.now held) learnt tenure tenure.progress from newly stamp) }
+) -> Result<Turned, OutOfMemory>
+    ensures { IfOk result (λ turned. (learnt : ℕ) (records : List Record) (held : List ObjectVersion) → goes_on learnt tenure.new turned ≡ rows.hears_ack (ground place.now records own.now held) learnt tenure.old tenure.old.progress from newly stamp) }
 {
-    let Tenure {
-        epoch,
-        peers,
-        progress,
-    } = tenure;
-    match progress {
-        Progress::Installing { chosen, acked } => Ok(installing_acked(
-            alloc, place, epoch, peers, own, chosen, acked, from, newly,
-        )?),
-        Progress::Active { committed, issued } => Ok(active_acked(
-            alloc, place, epoch, peers, own, committed, from, newly, stamp, issued,
-        )?),
-        progress => Ok(unmoved(
-            alloc,
-            Tenure {
-                epoch,
-                peers,
-                progress,
-            },
-        )),
+    match &tenure.progress {
+        Progress::Installing { .. } => {
+            Ok(installing_acked(alloc, place, tenure, own, from, newly)?)
+        }
+        Progress::Active { .. } => active_acked(alloc, place, tenure, own, from, newly, stamp),
+        _ => Ok(quiet(alloc)),
     }
 }

@@ -1,12 +1,15 @@
 ghost use Rattle.std.specs.Prelude.{◌≡◌, IfOk};
+ghost use Rattle.xt_base.specs.declared.message.Payload.TheVariants as payload;
+ghost use Rattle.osd_rows.specs.Primaries.{nodes_of};
 ghost use Rattle.osd_rows.specs.PrimaryRows as rows;
+ghost use Rattle.osd_rows.specs.Turns.{to_each};
 ghost use Rattle.replica_primary.specs.Committed.{CommittedUnder};
 
 use osd_peers::unknown_peers;
-use osd_rows::{Place, Progress, Tenure};
+use osd_rows::{Nodes, Peer, Place, Progress, Tenure};
 use std::alloc::Global;
 use step_outputs::{quiet, to_each};
-use xt_base::{COUNTS, Epoch, FileHead, NodeId, OutOfMemory, Payload, Record, Seq};
+use xt_base::{COUNTS, Epoch, FileHead, Msgs, NodeId, OutOfMemory, Payload, Record, Seq};
 use xt_protocol::Turned;
 
 /// A tenure that begins, none where no number is left, and what is sent then.
@@ -14,6 +17,22 @@ use xt_protocol::Turned;
 pub struct Drawn {
     pub tenure: Option<Tenure>,
     pub turned: Turned,
+}
+
+/// Each of these nodes is asked what it has.
+fn gathers(
+    alloc: Global,
+    place: &Place,
+    epoch: Epoch,
+    nodes: &[NodeId],
+) -> Result<Msgs, OutOfMemory>
+    ensures { IfOk result (λ outs. outs ≡ to_each place.now.node nodes.now (payload.Gather place.now.file epoch)) }
+{
+    let gather = Payload::Gather {
+        file: place.file,
+        epoch,
+    };
+    to_each(alloc, place.node, nodes, &gather)
 }
 
 /// Epoch drawn: the own promise is kept, and all are asked. Without a number left the primary is idle.
@@ -39,12 +58,8 @@ pub fn epoch_drawn(
         number: 1 + greatest,
         node: place.node,
     };
-    let gather = Payload::Gather {
-        file: place.file,
-        epoch,
-    };
+    let outs = gathers(alloc, place, epoch, members)?;
     let peers = unknown_peers(alloc, members)?;
-    let outs = to_each(alloc, place.node, members, &gather)?;
     Ok(Drawn {
         tenure: Some(Tenure {
             epoch,
@@ -60,4 +75,29 @@ pub fn epoch_drawn(
             marks: Seq::new(alloc),
         },
     })
+}
+
+/// The nodes of these peers, in order.
+fn nodes_of(alloc: Global, peers: &[Peer]) -> Result<Nodes, OutOfMemory>
+    ensures { IfOk result (λ nodes. nodes ≡ nodes_of peers.now) }
+{
+    let mut nodes = Seq::new(alloc);
+    for peer in peers {
+        nodes.push(peer.node)?;
+    }
+    Ok(nodes)
+}
+
+/// A new epoch is drawn, and the same members are asked.
+pub fn redrawn(
+    alloc: Global,
+    place: &Place,
+    learnt: u64,
+    own: &FileHead,
+    peers: &[Peer],
+) -> Result<Drawn, OutOfMemory>
+    ensures { IfOk result (λ drawn. record { primary = record { learnt = learnt; tenure = drawn.tenure }; turned = drawn.turned } ≡ rows.epoch_drawn place.now learnt own.now (nodes_of peers.now)) }
+{
+    let nodes = nodes_of(alloc, peers)?;
+    epoch_drawn(alloc, place, learnt, own, nodes.as_slice())
 }

@@ -3,23 +3,24 @@ ghost use Rattle.xt_base.specs.declared.file.ObjectVersion.{ObjectVersion};
 ghost use Rattle.xt_base.specs.declared.file.FileHead.{FileHead};
 ghost use Rattle.osd_rows.specs.declared.PeerState.{PeerState};
 ghost use Rattle.osd_rows.specs.Primaries as rows;
-ghost use Rattle.osd_rows.specs.PrimaryRows.{body_missed, body_staged, feeds, peer_sent, target_in, with_state};
+ghost use Rattle.osd_rows.specs.PrimaryRows.{body_missed, body_staged, feeds, goes_on, target_in, with_state};
 ghost use Rattle.osd_rows.specs.Turns.{sends};
 ghost use Rattle.kept_bodies.specs.KeptBodies.{fault_of, ReadsOnly};
 ghost use Rattle.replica_primary.specs.Written.{ground};
-ghost use Rattle.replica_primary.specs.Moves.{body_seen, feeds_any, known_at_head, known_of, led_on, with_any, without_any};
+ghost use Rattle.replica_primary.specs.Moves.{body_seen, feeds_any, known_at_head, known_of, with_any, without_any};
 
-use crate::moving::{FetchedBody, Moved, unmoved};
+use crate::moving::FetchedBody;
 use kept_bodies::{Bodies, StepErr, seen};
 use osd_peers::{add_known, first_unknown, last_sent, peer_in, remove_version, send_any, set_peer};
 use osd_rows::{Peer, PeerState, Place, Progress, Tenure};
 use std::alloc::Global;
-use step_outputs::sends;
+use step_outputs::{quiet, sends};
 use version_lists::{is_epoch, is_stamp};
 use xt_base::{
     Copies, Epoch, FileHead, FileId, HeldPairs, NodeId, ObjectVersion, Octets, OutOfMemory, Seq,
     Stamp,
 };
+use xt_protocol::Turned;
 
 /// A body as a row sees it: the one that was just fetched, else the one that is kept.
 fn body_seen<B: Bodies>(
@@ -86,41 +87,36 @@ pub fn target_of(
     Ok(target)
 }
 
-/// The head to which peers are brought; none before one is installed.
-fn target_in(
+/// What leads a peer to this state: a body, a head, or nothing.
+fn sent_to(
     alloc: Global,
-    own: &FileHead,
+    place: &Place,
     epoch: Epoch,
-    progress: &Progress,
-) -> Result<Option<FileHead>, OutOfMemory>
-    ensures { IfOk result (λ target. target ≡ target_in own.now epoch progress.now) }
+    node: NodeId,
+    state: &PeerState,
+) -> Result<Turned, OutOfMemory>
+    ensures { IfOk result (λ turned. turned ≡ sends (rows.if_any place.now.node node (rows.last_sent place.now.file epoch state.now))) }
 {
-    match progress {
-        Progress::Installing { chosen, .. } => Ok(Some(target_of(alloc, own, epoch, chosen)?)),
-        Progress::Active { .. } => Ok(Some(own.copy(alloc)?)),
-        _ => Ok(None),
-    }
+    let content = last_sent(alloc, &place.file, epoch, state)?;
+    let mut outs = Seq::new(alloc);
+    send_any(&mut outs, place.node, node, content)?;
+    Ok(sends(alloc, outs))
 }
 
 /// A peer gets this state, and the message that leads to it.
 fn peer_sent(
     alloc: Global,
     place: &Place,
-    tenure: Tenure,
+    tenure: &mut Tenure,
     node: NodeId,
     state: PeerState,
-) -> Result<Moved, OutOfMemory>
-    ensures { IfOk result (λ moved. moved ≡ record { tenure = with_state tenure node state; turned = sends (rows.if_any place.now.node node (rows.last_sent place.now.file tenure.epoch state)) }) }
+) -> Result<Turned, OutOfMemory>
+    ensures state { tenure.new ≡ with_state tenure.old node state }
+    ensures sent { IfOk result (λ turned. turned ≡ sends (rows.if_any place.now.node node (rows.last_sent place.now.file tenure.old.epoch state))) }
 {
-    let mut tenure = tenure;
-    let content = last_sent(alloc, &place.file, tenure.epoch, &state)?;
-    let mut outs = Seq::new(alloc);
-    send_any(&mut outs, place.node, node, content)?;
+    let sent = sent_to(alloc, place, tenure.epoch, node, &state);
     set_peer(&mut tenure.peers, node, state);
-    Ok(Moved {
-        tenure,
-        turned: sends(alloc, outs),
-    })
+    sent
 }
 
 /// A peer is fed on: these versions are known of it.
@@ -128,12 +124,12 @@ pub fn feeds<B: Bodies>(
     bodies: &mut B,
     alloc: Global,
     place: &Place,
-    tenure: Tenure,
+    tenure: &mut Tenure,
     node: NodeId,
     target: &FileHead,
     known: HeldPairs,
-) -> Result<Moved, StepErr>
-    ensures value { IfOk result (λ moved. (learnt : ℕ) (own : FileHead) (held : List ObjectVersion) → led_on learnt moved ≡ feeds (ground place.now (B.records bodies.old) own held) learnt tenure node target.now known) }
+) -> Result<Turned, StepErr>
+    ensures value { IfOk result (λ turned. (learnt : ℕ) (own : FileHead) (held : List ObjectVersion) → goes_on learnt tenure.new turned ≡ feeds (ground place.now (B.records bodies.old) own held) learnt tenure.old node target.now known) }
     ensures reads { ReadsOnly B.records B.fault_count bodies.old bodies.new (fault_of result) }
 {
     let state = fed(bodies, alloc, &place.file, &None, target, known)?;
@@ -162,63 +158,81 @@ fn known_at_head(alloc: Global, state: &PeerState) -> Result<Option<HeldPairs>, 
     }
 }
 
+/// A peer of which these versions are known is fed on, where there is a head to which peers are brought.
+pub fn feeds_on<B: Bodies>(
+    bodies: &mut B,
+    alloc: Global,
+    place: &Place,
+    tenure: &mut Tenure,
+    own: &FileHead,
+    from: NodeId,
+    known: HeldPairs,
+) -> Result<Turned, StepErr>
+    ensures value { IfOk result (λ turned. (learnt : ℕ) (held : List ObjectVersion) → goes_on learnt tenure.new turned ≡ feeds_any (ground place.now (B.records bodies.old) own.now held) learnt tenure.old (target_in own.now tenure.old.epoch tenure.old.progress) from (Some known)) }
+    ensures reads { ReadsOnly B.records B.fault_count bodies.old bodies.new (fault_of result) }
+{
+    match &tenure.progress {
+        Progress::Installing { chosen, .. } => {
+            let target = target_of(alloc, own, tenure.epoch, chosen)?;
+            Ok(feeds(bodies, alloc, place, tenure, from, &target, known)?)
+        }
+        Progress::Active { .. } => Ok(feeds(bodies, alloc, place, tenure, from, own, known)?),
+        _ => Ok(quiet(alloc)),
+    }
+}
+
 /// A peer is fed on, where something is known of it, and there is a head to which peers are brought.
 fn feeds_any<B: Bodies>(
     bodies: &mut B,
     alloc: Global,
     place: &Place,
-    tenure: Tenure,
+    tenure: &mut Tenure,
     own: &FileHead,
     from: NodeId,
     known: Option<HeldPairs>,
-) -> Result<Moved, StepErr>
-    ensures value { IfOk result (λ moved. (learnt : ℕ) (held : List ObjectVersion) → led_on learnt moved ≡ feeds_any (ground place.now (B.records bodies.old) own.now held) learnt tenure (target_in own.now tenure.epoch tenure.progress) from known) }
+) -> Result<Turned, StepErr>
+    ensures value { IfOk result (λ turned. (learnt : ℕ) (held : List ObjectVersion) → goes_on learnt tenure.new turned ≡ feeds_any (ground place.now (B.records bodies.old) own.now held) learnt tenure.old (target_in own.now tenure.old.epoch tenure.old.progress) from known) }
     ensures reads { ReadsOnly B.records B.fault_count bodies.old bodies.new (fault_of result) }
 {
-    let target = target_in(alloc, own, tenure.epoch, &tenure.progress)?;
-    match (target, known) {
-        (Some(target), Some(known)) => {
-            Ok(feeds(bodies, alloc, place, tenure, from, &target, known)?)
-        }
-        _ => Ok(unmoved(alloc, tenure)),
-    }
+    let Some(known) = known else {
+        return Ok(quiet(alloc));
+    };
+    Ok(feeds_on(bodies, alloc, place, tenure, own, from, known)?)
 }
 
-/// Body staged: it is known of the peer, which is fed on. `known` is what was known of it, if it was sent a body or a head.
-#[tactic(auto, using(crate::proofs::Fed::staged_fed))]
+/// Body staged: it is known of the peer, which is fed on.
 pub fn body_staged<B: Bodies>(
     bodies: &mut B,
     alloc: Global,
     place: &Place,
-    tenure: Tenure,
+    tenure: &mut Tenure,
     own: &FileHead,
     from: NodeId,
-    known: Option<HeldPairs>,
     version: ObjectVersion,
-) -> Result<Moved, StepErr>
-    ensures value { IfOk result (λ moved. (learnt : ℕ) (held : List ObjectVersion) (state : PeerState) → known ≡ known_of state → led_on learnt moved ≡ body_staged (ground place.now (B.records bodies.old) own.now held) learnt tenure (target_in own.now tenure.epoch tenure.progress) from state version) }
+) -> Result<Turned, StepErr>
+    ensures value { IfOk result (λ turned. (learnt : ℕ) (held : List ObjectVersion) (state : PeerState) → rows.peer_in tenure.old.peers from ≡ Some state → goes_on learnt tenure.new turned ≡ body_staged (ground place.now (B.records bodies.old) own.now held) learnt tenure.old (target_in own.now tenure.old.epoch tenure.old.progress) from state version) }
     ensures reads { ReadsOnly B.records B.fault_count bodies.old bodies.new (fault_of result) }
 {
-    let known = with_any(known, version)?;
+    let told = known_told(alloc, tenure.peers.as_slice(), from)?;
+    let known = with_any(told, version)?;
     Ok(feeds_any(bodies, alloc, place, tenure, own, from, known)?)
 }
 
-/// Body missed: it is no longer known of the peer, which is fed on. `known` is what was known of it, if it was sent a head.
-#[tactic(auto, using(crate::proofs::Fed::missed_fed))]
+/// Body missed: it is no longer known of the peer, which is fed on.
 pub fn body_missed<B: Bodies>(
     bodies: &mut B,
     alloc: Global,
     place: &Place,
-    tenure: Tenure,
+    tenure: &mut Tenure,
     own: &FileHead,
     from: NodeId,
-    known: Option<HeldPairs>,
     version: ObjectVersion,
-) -> Result<Moved, StepErr>
-    ensures value { IfOk result (λ moved. (learnt : ℕ) (held : List ObjectVersion) (state : PeerState) → known ≡ known_at_head state → led_on learnt moved ≡ body_missed (ground place.now (B.records bodies.old) own.now held) learnt tenure (target_in own.now tenure.epoch tenure.progress) from state version) }
+) -> Result<Turned, StepErr>
+    ensures value { IfOk result (λ turned. (learnt : ℕ) (held : List ObjectVersion) (state : PeerState) → rows.peer_in tenure.old.peers from ≡ Some state → goes_on learnt tenure.new turned ≡ body_missed (ground place.now (B.records bodies.old) own.now held) learnt tenure.old (target_in own.now tenure.old.epoch tenure.old.progress) from state version) }
     ensures reads { ReadsOnly B.records B.fault_count bodies.old bodies.new (fault_of result) }
 {
-    let known = without_any(known, version);
+    let told = known_of_head(alloc, tenure.peers.as_slice(), from)?;
+    let known = without_any(told, version);
     Ok(feeds_any(bodies, alloc, place, tenure, own, from, known)?)
 }
 
@@ -246,11 +260,7 @@ fn without_any(known: Option<HeldPairs>, version: ObjectVersion) -> Option<HeldP
 }
 
 /// What is known of this peer, if it was sent a body or a head.
-pub fn known_told(
-    alloc: Global,
-    peers: &[Peer],
-    from: NodeId,
-) -> Result<Option<HeldPairs>, OutOfMemory>
+fn known_told(alloc: Global, peers: &[Peer], from: NodeId) -> Result<Option<HeldPairs>, OutOfMemory>
     ensures { IfOk result (λ known. (state : PeerState) → rows.peer_in peers.now from ≡ Some state → known ≡ known_of state) }
 {
     match peer_in(peers, from) {
@@ -260,7 +270,7 @@ pub fn known_told(
 }
 
 /// What is known of this peer, if it was sent a head.
-pub fn known_of_head(
+fn known_of_head(
     alloc: Global,
     peers: &[Peer],
     from: NodeId,

@@ -5,21 +5,22 @@ ghost use Rattle.xt_base.specs.declared.file.FileHead.{FileHead};
 ghost use Rattle.xt_base.specs.declared.message.Payload.TheVariants as payload;
 ghost use Rattle.osd_rows.specs.declared.Progress.{Progress};
 ghost use Rattle.osd_rows.specs.declared.PeerState.TheVariants as peer;
-ghost use Rattle.osd_rows.specs.Primaries.{last_to_each, report_of, reports_of, target_of};
+ghost use Rattle.osd_rows.specs.Primaries.{last_to_each, report_of, reports_of, target_of, with_peer};
 ghost use Rattle.osd_rows.specs.PrimaryRows as rows;
+ghost use Rattle.osd_rows.specs.PrimaryRows.{goes_on};
 ghost use Rattle.osd_rows.specs.Turns.{message, sends};
 ghost use Rattle.kept_bodies.specs.KeptBodies.{fault_of, ReadsOnly};
 ghost use Rattle.replica_primary.specs.Written.{ground};
-ghost use Rattle.replica_primary.specs.Moves.{IsSplit, any_report, ground_beyond, led_on, tenure_of};
+ghost use Rattle.replica_primary.specs.Moves.{IsSplit, any_report, ground_beyond, is_to_feed};
 
-use crate::feeding::{fed, feeds, target_of};
-use crate::moving::{FetchedBody, Moved, unmoved};
+use crate::feeding::{fed, feeds_on, target_of};
+use crate::moving::{FetchedBody, advance};
 use failover_fetch::{choose, difference};
 use kept_bodies::{Bodies, StepErr};
 use osd_peers::{is_majority, last_to_each, set_peer, statuses_counted};
 use osd_rows::{Peer, PeerState, Peers, Place, Progress, Tenure};
 use std::alloc::Global;
-use step_outputs::{join, message, sends, sends_one};
+use step_outputs::{join, message, quiet, sends, sends_one};
 use xt_base::{
     Copies, Epoch, FileHead, NodeId, ObjectVersion, OutOfMemory, Payload, Seq, Versions,
 };
@@ -60,6 +61,16 @@ fn reports_of(alloc: Global, peers: &[Peer]) -> Result<Seq<(NodeId, FileHead)>, 
     Ok(reports)
 }
 
+/// Whether this is another peer than the own node, and has reported.
+fn is_to_feed(place: &Place, peer: &Peer) -> bool
+    ensures { result ≡ is_to_feed place.now peer.now }
+{
+    match peer.state {
+        PeerState::Reported { .. } => peer.node.0 != place.node.0,
+        _ => false,
+    }
+}
+
 /// A peer that has reported is fed; the own node gets the head itself.
 fn peer_fed<B: Bodies>(
     bodies: &mut B,
@@ -67,23 +78,34 @@ fn peer_fed<B: Bodies>(
     place: &Place,
     fetched: &Option<FetchedBody>,
     target: &FileHead,
-    peer: Peer,
-) -> Result<Peer, StepErr>
-    ensures value { IfOk result (λ after. (own : FileHead) (held : List ObjectVersion) → after ≡ record { node = peer.node; state = rows.peer_fed (ground_beyond place.now (B.records bodies.old) fetched.now own held) target.now peer.node peer.state }) }
+    peer: &mut Peer,
+) -> Result<(), StepErr>
+    ensures value { OnOk result ((own : FileHead) (held : List ObjectVersion) → peer.new ≡ record { node = peer.old.node; state = rows.peer_fed (ground_beyond place.now (B.records bodies.old) fetched.now own held) target.now peer.old.node peer.old.state }) }
     ensures reads { ReadsOnly B.records B.fault_count bodies.old bodies.new (fault_of result) }
 {
-    let node = peer.node;
-    match peer.state {
-        PeerState::Reported { head } => {
-            let state = if node.0 == place.node.0 {
-                PeerState::Reported { head }
-            } else {
-                fed(bodies, alloc, &place.file, fetched, target, Seq::new(alloc))?
-            };
-            Ok(Peer { node, state })
-        }
-        state => Ok(Peer { node, state }),
+    if !is_to_feed(place, peer) {
+        return Ok(());
     }
+    peer.state = fed(bodies, alloc, &place.file, fetched, target, Seq::new(alloc))?;
+    Ok(())
+}
+
+/// Each of these that has reported is fed; the own node gets the head itself.
+fn each_fed<B: Bodies>(
+    bodies: &mut B,
+    alloc: Global,
+    place: &Place,
+    fetched: &Option<FetchedBody>,
+    target: &FileHead,
+    peers: &mut [Peer],
+) -> Result<(), StepErr>
+    ensures value { OnOk result (peers.new ≡ rows.peers_fed (ground_beyond place.now (B.records bodies.old) fetched.now target.now []) target.now peers.old) }
+    ensures reads { ReadsOnly B.records B.fault_count bodies.old bodies.new (fault_of result) }
+{
+    for peer in peers.iter_mut() {
+        peer_fed(bodies, alloc, place, fetched, target, peer)?;
+    }
+    Ok(())
 }
 
 /// Each peer that has reported is fed; the own node gets the head itself.
@@ -93,16 +115,37 @@ fn peers_fed<B: Bodies>(
     place: &Place,
     fetched: &Option<FetchedBody>,
     target: &FileHead,
-    peers: Peers,
-) -> Result<Peers, StepErr>
-    ensures value { IfOk result (λ after. after ≡ rows.peers_fed (ground_beyond place.now (B.records bodies.old) fetched.now target.now []) target.now peers) }
+    peers: &mut Peers,
+) -> Result<(), StepErr>
+    ensures value { OnOk result (peers.new ≡ rows.peers_fed (ground_beyond place.now (B.records bodies.old) fetched.now target.now []) target.now peers.old) }
     ensures reads { ReadsOnly B.records B.fault_count bodies.old bodies.new (fault_of result) }
 {
-    let mut after = Seq::new(alloc);
-    for peer in peers.items {
-        after.push(peer_fed(bodies, alloc, place, fetched, target, peer)?)?;
-    }
-    Ok(after)
+    each_fed(
+        bodies,
+        alloc,
+        place,
+        fetched,
+        target,
+        peers.items.as_mut_slice(),
+    )?;
+    Ok(())
+}
+
+/// The head goes to the node itself.
+fn head_sent(
+    alloc: Global,
+    place: &Place,
+    epoch: Epoch,
+    head: FileHead,
+) -> Result<Turned, OutOfMemory>
+    ensures { IfOk result (λ turned. turned ≡ sends (message place.now.node place.now.node (payload.Head place.now.file epoch head) ∷ [])) }
+{
+    let content = Payload::Head {
+        file: place.file,
+        epoch,
+        head,
+    };
+    sends_one(alloc, message(place.node, place.node, content))
 }
 
 /// The head to the node itself, and to each peer that is brought up to date what was sent to it last.
@@ -115,13 +158,8 @@ fn install_sent(
 ) -> Result<Turned, OutOfMemory>
     ensures { IfOk result (λ turned. turned ≡ sends (message place.now.node place.now.node (payload.Head place.now.file epoch target) ∷ last_to_each place.now epoch peers.now)) }
 {
-    let head = Payload::Head {
-        file: place.file,
-        epoch,
-        head: target,
-    };
-    let own = sends_one(alloc, message(place.node, place.node, head))?;
     let others = last_to_each(alloc, place.node, &place.file, epoch, peers)?;
+    let own = head_sent(alloc, place, epoch, target)?;
     join(own, sends(alloc, others))
 }
 
@@ -131,29 +169,18 @@ fn installs<B: Bodies>(
     alloc: Global,
     place: &Place,
     fetched: &Option<FetchedBody>,
-    epoch: Epoch,
-    peers: Peers,
+    tenure: &mut Tenure,
     own: &FileHead,
     chosen: FileHead,
-) -> Result<Moved, StepErr>
-    ensures value { IfOk result (λ moved. (learnt : ℕ) (held : List ObjectVersion) (p : Progress) → led_on learnt moved ≡ rows.installs (ground_beyond place.now (B.records bodies.old) fetched.now own.now held) learnt (tenure_of epoch peers p) chosen) }
+) -> Result<Turned, StepErr>
+    ensures value { IfOk result (λ turned. (learnt : ℕ) (held : List ObjectVersion) → goes_on learnt tenure.new turned ≡ rows.installs (ground_beyond place.now (B.records bodies.old) fetched.now own.now held) learnt tenure.old chosen) }
     ensures reads { ReadsOnly B.records B.fault_count bodies.old bodies.new (fault_of result) }
 {
-    let target = target_of(alloc, own, epoch, &chosen)?;
-    let peers = peers_fed(bodies, alloc, place, fetched, &target, peers)?;
-    let turned = install_sent(alloc, place, epoch, target, peers.as_slice())?;
-    let progress = Progress::Installing {
-        chosen,
-        acked: Seq::new(alloc),
-    };
-    Ok(Moved {
-        tenure: Tenure {
-            epoch,
-            peers,
-            progress,
-        },
-        turned,
-    })
+    let target = target_of(alloc, own, tenure.epoch, &chosen)?;
+    let acked = Seq::new(alloc);
+    advance(tenure, Progress::Installing { chosen, acked });
+    peers_fed(bodies, alloc, place, fetched, &target, &mut tenure.peers)?;
+    Ok(install_sent(alloc, place, tenure.epoch, target, tenure.peers.as_slice())?)
 }
 
 /// The first of the wanted versions, and those after it.
@@ -174,40 +201,34 @@ pub fn fetches<B: Bodies>(
     alloc: Global,
     place: &Place,
     fetched: &Option<FetchedBody>,
-    epoch: Epoch,
-    peers: Peers,
+    tenure: &mut Tenure,
     own: &FileHead,
     chosen: FileHead,
     source: NodeId,
     wanted: Versions,
-) -> Result<Moved, StepErr>
-    ensures value { IfOk result (λ moved. (learnt : ℕ) (held : List ObjectVersion) (p : Progress) → led_on learnt moved ≡ rows.fetches (ground_beyond place.now (B.records bodies.old) fetched.now own.now held) learnt (tenure_of epoch peers p) chosen source wanted) }
+) -> Result<Turned, StepErr>
+    ensures value { IfOk result (λ turned. (learnt : ℕ) (held : List ObjectVersion) → goes_on learnt tenure.new turned ≡ rows.fetches (ground_beyond place.now (B.records bodies.old) fetched.now own.now held) learnt tenure.old chosen source wanted) }
     ensures reads { ReadsOnly B.records B.fault_count bodies.old bodies.new (fault_of result) }
 {
     let Some((asked, later)) = split(wanted) else {
-        return Ok(installs(bodies, alloc, place, fetched, epoch, peers, own, chosen)?);
+        return Ok(installs(bodies, alloc, place, fetched, tenure, own, chosen)?);
     };
     let fetch = Payload::Fetch {
         file: place.file,
-        epoch,
+        epoch: tenure.epoch,
         object: asked.object,
         version: asked.version,
     };
-    let turned = sends_one(alloc, message(place.node, source, fetch))?;
-    let progress = Progress::Fetching {
-        chosen,
-        source,
-        asked,
-        later,
-    };
-    Ok(Moved {
-        tenure: Tenure {
-            epoch,
-            peers,
-            progress,
+    advance(
+        tenure,
+        Progress::Fetching {
+            chosen,
+            source,
+            asked,
+            later,
         },
-        turned,
-    })
+    );
+    Ok(sends_one(alloc, message(place.node, source, fetch))?)
 }
 
 /// Head chosen: the own one is installed; of another one the bodies are fetched that are wanted.
@@ -215,21 +236,20 @@ fn head_chosen<B: Bodies>(
     bodies: &mut B,
     alloc: Global,
     place: &Place,
-    tenure: Tenure,
+    tenure: &mut Tenure,
     own: &FileHead,
     source: NodeId,
     chosen: FileHead,
-) -> Result<Moved, StepErr>
-    ensures value { IfOk result (λ moved. (learnt : ℕ) (held : List ObjectVersion) → led_on learnt moved ≡ rows.head_chosen (ground place.now (B.records bodies.old) own.now held) learnt tenure (source, chosen)) }
+) -> Result<Turned, StepErr>
+    ensures value { IfOk result (λ turned. (learnt : ℕ) (held : List ObjectVersion) → goes_on learnt tenure.new turned ≡ rows.head_chosen (ground place.now (B.records bodies.old) own.now held) learnt tenure.old (source, chosen)) }
     ensures reads { ReadsOnly B.records B.fault_count bodies.old bodies.new (fault_of result) }
 {
-    let Tenure { epoch, peers, .. } = tenure;
     if source.0 == place.node.0 {
-        return Ok(installs(bodies, alloc, place, &None, epoch, peers, own, chosen)?);
+        return Ok(installs(bodies, alloc, place, &None, tenure, own, chosen)?);
     }
     let wanted = difference(alloc, &Seq::new(alloc), &chosen.versions)?;
     Ok(fetches(
-        bodies, alloc, place, &None, epoch, peers, own, chosen, source, wanted,
+        bodies, alloc, place, &None, tenure, own, chosen, source, wanted,
     )?)
 }
 
@@ -238,15 +258,15 @@ fn chooses<B: Bodies>(
     bodies: &mut B,
     alloc: Global,
     place: &Place,
-    tenure: Tenure,
+    tenure: &mut Tenure,
     own: &FileHead,
     reports: &[(NodeId, FileHead)],
-) -> Result<Moved, StepErr>
-    ensures value { IfOk result (λ moved. (learnt : ℕ) (held : List ObjectVersion) → led_on learnt moved ≡ rows.chooses (ground place.now (B.records bodies.old) own.now held) learnt tenure reports.now) }
+) -> Result<Turned, StepErr>
+    ensures value { IfOk result (λ turned. (learnt : ℕ) (held : List ObjectVersion) → goes_on learnt tenure.new turned ≡ rows.chooses (ground place.now (B.records bodies.old) own.now held) learnt tenure.old reports.now) }
     ensures reads { ReadsOnly B.records B.fault_count bodies.old bodies.new (fault_of result) }
 {
     if reports.is_empty() {
-        return Ok(unmoved(alloc, tenure));
+        return Ok(quiet(alloc));
     }
     let (source, chosen) = &reports[choose(place.node, reports)];
     let chosen = chosen.copy(alloc)?;
@@ -258,15 +278,15 @@ fn status_counted<B: Bodies>(
     bodies: &mut B,
     alloc: Global,
     place: &Place,
-    tenure: Tenure,
+    tenure: &mut Tenure,
     own: &FileHead,
-) -> Result<Moved, StepErr>
-    ensures value { IfOk result (λ moved. (learnt : ℕ) (held : List ObjectVersion) → led_on learnt moved ≡ rows.status_counted (ground place.now (B.records bodies.old) own.now held) learnt tenure) }
+) -> Result<Turned, StepErr>
+    ensures value { IfOk result (λ turned. (learnt : ℕ) (held : List ObjectVersion) → goes_on learnt tenure.new turned ≡ rows.status_counted (ground place.now (B.records bodies.old) own.now held) learnt tenure.old) }
     ensures reads { ReadsOnly B.records B.fault_count bodies.old bodies.new (fault_of result) }
 {
     let peers = tenure.peers.as_slice();
     if !is_majority(peers, statuses_counted(peers)) {
-        return Ok(unmoved(alloc, tenure));
+        return Ok(quiet(alloc));
     }
     let reports = reports_of(alloc, peers)?;
     Ok(chooses(bodies, alloc, place, tenure, own, reports.as_slice())?)
@@ -275,16 +295,15 @@ fn status_counted<B: Bodies>(
 /// A status of an unknown peer is counted, or kept until the head is installed.
 fn status_kept(
     alloc: Global,
-    tenure: Tenure,
+    peers: &mut Peers,
     from: NodeId,
     head: &FileHead,
-) -> Result<Tenure, OutOfMemory>
-    ensures { IfOk result (λ after. after ≡ rows.with_state tenure from (peer.Reported head.now)) }
+) -> Result<(), OutOfMemory>
+    ensures { OnOk result (peers.new ≡ with_peer peers.old from (peer.Reported head.now)) }
 {
-    let mut tenure = tenure;
     let head = head.copy(alloc)?;
-    set_peer(&mut tenure.peers, from, PeerState::Reported { head });
-    Ok(tenure)
+    set_peer(peers, from, PeerState::Reported { head });
+    Ok(())
 }
 
 /// A status of an unknown peer: counted, kept until the head is installed, or late, and then the peer is fed.
@@ -292,26 +311,28 @@ pub fn status_told<B: Bodies>(
     bodies: &mut B,
     alloc: Global,
     place: &Place,
-    tenure: Tenure,
+    tenure: &mut Tenure,
     own: &FileHead,
     from: NodeId,
     head: &FileHead,
-) -> Result<Moved, StepErr>
-    ensures value { IfOk result (λ moved. (learnt : ℕ) (held : List ObjectVersion) → led_on learnt moved ≡ rows.status_told (ground place.now (B.records bodies.old) own.now held) learnt tenure tenure.progress from head.now) }
+) -> Result<Turned, StepErr>
+    ensures value { IfOk result (λ turned. (learnt : ℕ) (held : List ObjectVersion) → goes_on learnt tenure.new turned ≡ rows.status_told (ground place.now (B.records bodies.old) own.now held) learnt tenure.old tenure.old.progress from head.now) }
     ensures reads { ReadsOnly B.records B.fault_count bodies.old bodies.new (fault_of result) }
 {
     match &tenure.progress {
         Progress::Gathering => {
-            let tenure = status_kept(alloc, tenure, from, head)?;
+            status_kept(alloc, &mut tenure.peers, from, head)?;
             Ok(status_counted(bodies, alloc, place, tenure, own)?)
         }
-        Progress::Fetching { .. } => { Ok(unmoved(alloc, status_kept(alloc, tenure, from, head)?)) }
-        Progress::Installing { chosen, .. } => {
-            let target = target_of(alloc, own, tenure.epoch, chosen)?;
-            Ok(feeds(bodies, alloc, place, tenure, from, &target, Seq::new(alloc))?)
+        Progress::Fetching { .. } => {
+            status_kept(alloc, &mut tenure.peers, from, head)?;
+            Ok(quiet(alloc))
+        }
+        Progress::Installing { .. } => {
+            Ok(feeds_on(bodies, alloc, place, tenure, own, from, Seq::new(alloc))?)
         }
         Progress::Active { .. } => {
-            Ok(feeds(bodies, alloc, place, tenure, from, own, Seq::new(alloc))?)
+            Ok(feeds_on(bodies, alloc, place, tenure, own, from, Seq::new(alloc))?)
         }
     }
 }

@@ -1,28 +1,35 @@
-ghost use Rattle.std.specs.Prelude.{◌≡◌, ℕ, List, None, Some, IfOk, IsTrue};
+ghost use Rattle.std.specs.Prelude.{◌≡◌, ◌∷◌, [], ℕ, List, Some, IfOk, IsTrue, OnErr, OnOk};
 ghost use Rattle.xt_base.specs.declared.file.ObjectVersion.{ObjectVersion};
 ghost use Rattle.xt_base.specs.declared.file.FileHead.{FileHead};
+ghost use Rattle.xt_base.specs.declared.message.Payload.TheVariants as payload;
 ghost use Rattle.xt_base.specs.declared.record.Record.{Record};
 ghost use Rattle.xt_protocol.specs.Folds.{body_of};
 ghost use Rattle.osd_rows.specs.declared.PeerState.{PeerState};
-ghost use Rattle.osd_rows.specs.Primaries.{is_unknown, peer_in};
+ghost use Rattle.osd_rows.specs.Primaries.{is_reported, is_unknown, nodes_of, peer_in, with_peer};
 ghost use Rattle.osd_rows.specs.PrimaryRows as rows;
+ghost use Rattle.osd_rows.specs.PrimaryRows.{goes_on};
+ghost use Rattle.osd_rows.specs.Turns.{message, quiet, sends};
 ghost use Rattle.kept_bodies.specs.KeptBodies.{fault_of, ReadsOnly};
-ghost use Rattle.version_lists.specs.Rising.{held_rise};
+ghost use Rattle.version_lists.specs.Rising.{HeadRises, held_rise};
+ghost use Rattle.replica_primary.specs.Committed.{CommittedUnder};
+ghost use Rattle.replica_primary.specs.declared.moving.Heard.TheVariants as heard;
 ghost use Rattle.replica_primary.specs.Written.{ground};
-ghost use Rattle.replica_primary.specs.Moves.{keeps_tenure, led_by, led_on};
+ghost use Rattle.replica_primary.specs.Moves.{keeps_tenure, led_by, outpromised, peers_under};
 
 use crate::acking::{hears_ack, makes_current};
-use crate::feeding::{body_staged, known_told};
-use crate::fetching::{draws, hears_missing, hears_object};
+use crate::drawing::redrawn;
+use crate::feeding::body_staged;
+use crate::fetching::{hears_missing, hears_object};
 use crate::gathering::status_told;
-use crate::moving::{Heard, Moved, goes_on, unmoved};
+use crate::moving::Heard;
 use kept_bodies::{Bodies, StepErr};
 use osd_peers::{peer_in, set_peer};
-use osd_rows::{Peer, PeerState, Place, Tenure};
+use osd_rows::{Peer, PeerState, Peers, Place, PrimaryState, Tenure};
 use std::alloc::Global;
-use step_outputs::{message, sends_one};
+use step_outputs::{message, quiet, sends_one};
 use version_lists::{is_earlier, is_epoch};
-use xt_base::{Copies, Epoch, FileHead, NodeId, ObjectVersion, OutOfMemory, Payload, Stamp};
+use xt_base::{Epoch, FileHead, NodeId, ObjectVersion, OutOfMemory, Payload, Stamp};
+use xt_protocol::Turned;
 
 /// Whether nothing is known of this peer.
 fn is_unknown(peers: &[Peer], from: NodeId) -> bool
@@ -39,18 +46,18 @@ fn hears_status<B: Bodies>(
     bodies: &mut B,
     alloc: Global,
     place: &Place,
-    tenure: Tenure,
+    tenure: &mut Tenure,
     own: &FileHead,
     from: NodeId,
     head: &FileHead,
-) -> Result<Moved, StepErr>
-    ensures value { IfOk result (λ moved. (learnt : ℕ) (held : List ObjectVersion) (state : PeerState) → peer_in tenure.peers from ≡ Some state → led_on learnt moved ≡ rows.hears_status (ground place.now (B.records bodies.old) own.now held) learnt tenure from state head.now) }
+) -> Result<Turned, StepErr>
+    ensures value { IfOk result (λ turned. (learnt : ℕ) (held : List ObjectVersion) (state : PeerState) → peer_in tenure.old.peers from ≡ Some state → goes_on learnt tenure.new turned ≡ rows.hears_status (ground place.now (B.records bodies.old) own.now held) learnt tenure.old from state head.now) }
     ensures reads { ReadsOnly B.records B.fault_count bodies.old bodies.new (fault_of result) }
 {
-    if is_unknown(tenure.peers.as_slice(), from) {
-        return Ok(status_told(bodies, alloc, place, tenure, own, from, head)?);
+    if !is_unknown(tenure.peers.as_slice(), from) {
+        return Ok(quiet(alloc));
     }
-    Ok(unmoved(alloc, tenure))
+    Ok(status_told(bodies, alloc, place, tenure, own, from, head)?)
 }
 
 /// Whether an acknowledgement makes this peer current.
@@ -63,56 +70,74 @@ fn newly_current(place: &Place, peers: &[Peer], from: NodeId, stamp: Stamp) -> b
     }
 }
 
-/// A peer of which nothing is known any more; one that is still to be fed stays reported.
-fn forgotten(alloc: Global, peers: &[Peer], from: NodeId) -> Result<PeerState, OutOfMemory>
-    ensures { IfOk result (λ after. (state : PeerState) → peer_in peers.now from ≡ Some state → after ≡ rows.forgotten state) }
+/// Whether this peer has reported, and is still to be fed.
+fn is_reported(peers: &[Peer], from: NodeId) -> bool
+    ensures { (state : PeerState) → peer_in peers.now from ≡ Some state → result ≡ is_reported state }
 {
     match peer_in(peers, from) {
-        Some(PeerState::Reported { head }) => Ok(PeerState::Reported {
-            head: head.copy(alloc)?,
-        }),
-        _ => Ok(PeerState::Unknown),
+        Some(PeerState::Reported { .. }) => true,
+        _ => false,
     }
+}
+
+/// Of a peer nothing is known any more; one that is still to be fed stays reported.
+fn forget(peers: &mut Peers, from: NodeId)
+    ensures { (state : PeerState) → peer_in peers.old from ≡ Some state → peers.new ≡ with_peer peers.old from (rows.forgotten state) }
+{
+    if is_reported(peers.as_slice(), from) {
+        return;
+    }
+    set_peer(peers, from, PeerState::Unknown);
+}
+
+/// A peer is asked what it has.
+fn gather_sent(
+    alloc: Global,
+    place: &Place,
+    epoch: Epoch,
+    to: NodeId,
+) -> Result<Turned, OutOfMemory>
+    ensures { IfOk result (λ turned. turned ≡ sends (message place.now.node to (payload.Gather place.now.file epoch) ∷ [])) }
+{
+    let gather = Payload::Gather {
+        file: place.file,
+        epoch,
+    };
+    sends_one(alloc, message(place.node, to, gather))
 }
 
 /// Peer behind: it is asked anew.
 fn peer_behind(
     alloc: Global,
     place: &Place,
-    tenure: Tenure,
+    tenure: &mut Tenure,
     from: NodeId,
-) -> Result<Moved, OutOfMemory>
-    ensures { IfOk result (λ moved. (learnt : ℕ) (records : List Record) (own : FileHead) (held : List ObjectVersion) (state : PeerState) → peer_in tenure.peers from ≡ Some state → led_on learnt moved ≡ rows.peer_behind (ground place.now records own held) learnt tenure from state) }
+) -> Result<Turned, OutOfMemory>
+    ensures { IfOk result (λ turned. (learnt : ℕ) (records : List Record) (own : FileHead) (held : List ObjectVersion) (state : PeerState) → peer_in tenure.old.peers from ≡ Some state → goes_on learnt tenure.new turned ≡ rows.peer_behind (ground place.now records own held) learnt tenure.old from state) }
 {
-    let mut tenure = tenure;
-    let state = forgotten(alloc, tenure.peers.as_slice(), from)?;
-    set_peer(&mut tenure.peers, from, state);
-    let gather = Payload::Gather {
-        file: place.file,
-        epoch: tenure.epoch,
-    };
-    Ok(Moved {
-        tenure,
-        turned: sends_one(alloc, message(place.node, from, gather))?,
-    })
+    forget(&mut tenure.peers, from);
+    Ok(gather_sent(alloc, place, tenure.epoch, from)?)
+}
+
+/// Nothing comes of a message, and the tenure goes on.
+fn unmoved(alloc: Global) -> Heard
+    ensures { result ≡ heard.GoesOn quiet }
+{
+    Heard::GoesOn {
+        turned: quiet(alloc),
+    }
 }
 
 /// Outpromised: the higher number is learnt, and a new epoch drawn.
-fn outpromised(
-    alloc: Global,
-    place: &Place,
-    learnt: u64,
-    tenure: Tenure,
-    own: &FileHead,
-    promised: Epoch,
-) -> Result<Heard, OutOfMemory>
-    ensures { IfOk result (λ heard. (records : List Record) (held : List ObjectVersion) → led_by heard ≡ rows.outpromised (ground place.now records own.now held) learnt tenure promised) }
+fn outpromised(alloc: Global, learnt: u64, epoch: Epoch, promised: Epoch) -> Heard
+    ensures { result ≡ outpromised learnt epoch promised }
 {
-    if !is_earlier(tenure.epoch, promised) {
-        return Ok(goes_on(learnt, unmoved(alloc, tenure)));
+    if !is_earlier(epoch, promised) {
+        return unmoved(alloc);
     }
-    let learnt = learnt.max(promised.number);
-    Ok(draws(alloc, place, learnt, own, tenure.peers.as_slice())?)
+    Heard::Redraws {
+        above: learnt.max(promised.number),
+    }
 }
 
 /// The epoch of a message to a primary.
@@ -131,20 +156,27 @@ fn epoch_told(payload: &Payload) -> Option<Epoch>
     }
 }
 
+/// A version of an object.
+fn version_of(object: u64, version: Stamp) -> ObjectVersion
+    ensures { result ≡ body_of object version }
+{
+    ObjectVersion { object, version }
+}
+
 /// A message of the primary's epoch, from a peer, after which the tenure goes on.
 fn goes_on_hearing<B: Bodies>(
     bodies: &mut B,
     alloc: Global,
     place: &Place,
-    tenure: Tenure,
+    tenure: &mut Tenure,
     own: &FileHead,
     held: &[ObjectVersion],
     from: NodeId,
     payload: &Payload,
-) -> Result<Moved, StepErr>
+) -> Result<Turned, StepErr>
     requires rising { IsTrue (held_rise held.now) }
     requires goes { IsTrue (keeps_tenure payload.now) }
-    ensures value { IfOk result (λ moved. (learnt : ℕ) (state : PeerState) → peer_in tenure.peers from ≡ Some state → led_on learnt moved ≡ rows.hears_peer (ground place.now (B.records bodies.old) own.now held.now) learnt tenure from state payload.now) }
+    ensures value { IfOk result (λ turned. (learnt : ℕ) (state : PeerState) → peer_in tenure.old.peers from ≡ Some state → goes_on learnt tenure.new turned ≡ rows.hears_peer (ground place.now (B.records bodies.old) own.now held.now) learnt tenure.old from state payload.now) }
     ensures reads { ReadsOnly B.records B.fault_count bodies.old bodies.new (fault_of result) }
 {
     match payload {
@@ -167,24 +199,16 @@ fn goes_on_hearing<B: Bodies>(
             version,
             ..
         } => {
-            let known = known_told(alloc, tenure.peers.as_slice(), from)?;
             let version = version_of(*object, *version);
-            Ok(body_staged(bodies, alloc, place, tenure, own, from, known, version)?)
+            Ok(body_staged(bodies, alloc, place, tenure, own, from, version)?)
         }
         Payload::Ack { stamp, .. } => {
             let newly = newly_current(place, tenure.peers.as_slice(), from, *stamp);
             Ok(hears_ack(alloc, place, tenure, own, from, newly, *stamp)?)
         }
         Payload::Behind { .. } => Ok(peer_behind(alloc, place, tenure, from)?),
-        _ => Ok(unmoved(alloc, tenure)),
+        _ => Ok(quiet(alloc)),
     }
-}
-
-/// A version of an object.
-fn version_of(object: u64, version: Stamp) -> ObjectVersion
-    ensures { result ≡ body_of object version }
-{
-    ObjectVersion { object, version }
 }
 
 /// A message of the primary's epoch, from a peer.
@@ -193,14 +217,14 @@ fn hears_peer<B: Bodies>(
     alloc: Global,
     place: &Place,
     learnt: u64,
-    tenure: Tenure,
+    tenure: &mut Tenure,
     own: &FileHead,
     held: &[ObjectVersion],
     from: NodeId,
     payload: &Payload,
 ) -> Result<Heard, StepErr>
     requires { IsTrue (held_rise held.now) }
-    ensures value { IfOk result (λ heard. (state : PeerState) → peer_in tenure.peers from ≡ Some state → led_by heard ≡ rows.hears_peer (ground place.now (B.records bodies.old) own.now held.now) learnt tenure from state payload.now) }
+    ensures value { IfOk result (λ heard. (state : PeerState) → peer_in tenure.old.peers from ≡ Some state → led_by (ground place.now (B.records bodies.old) own.now held.now) learnt (Some tenure.new) heard ≡ rows.hears_peer (ground place.now (B.records bodies.old) own.now held.now) learnt tenure.old from state payload.now) }
     ensures reads { ReadsOnly B.records B.fault_count bodies.old bodies.new (fault_of result) }
 {
     match payload {
@@ -213,11 +237,11 @@ fn hears_peer<B: Bodies>(
             Ok(hears_missing(bodies, alloc, place, learnt, tenure, own, from, version)?)
         }
         Payload::Refused { promised, .. } => {
-            Ok(outpromised(alloc, place, learnt, tenure, own, *promised)?)
+            Ok(outpromised(alloc, learnt, tenure.epoch, *promised))
         }
         _ => {
-            let moved = goes_on_hearing(bodies, alloc, place, tenure, own, held, from, payload)?;
-            Ok(goes_on(learnt, moved))
+            let turned = goes_on_hearing(bodies, alloc, place, tenure, own, held, from, payload)?;
+            Ok(Heard::GoesOn { turned })
         }
     }
 }
@@ -228,26 +252,105 @@ pub fn hears_in<B: Bodies>(
     alloc: Global,
     place: &Place,
     learnt: u64,
-    tenure: Tenure,
+    tenure: &mut Tenure,
     own: &FileHead,
     held: &[ObjectVersion],
     from: NodeId,
     payload: &Payload,
 ) -> Result<Heard, StepErr>
     requires { IsTrue (held_rise held.now) }
-    ensures value { IfOk result (λ heard. led_by heard ≡ rows.hears_in (ground place.now (B.records bodies.old) own.now held.now) learnt (Some tenure) from payload.now) }
+    ensures value { IfOk result (λ heard. led_by (ground place.now (B.records bodies.old) own.now held.now) learnt (Some tenure.new) heard ≡ rows.hears_in (ground place.now (B.records bodies.old) own.now held.now) learnt (Some tenure.old) from payload.now) }
     ensures reads { ReadsOnly B.records B.fault_count bodies.old bodies.new (fault_of result) }
 {
     let Some(epoch) = epoch_told(payload) else {
-        return Ok(goes_on(learnt, unmoved(alloc, tenure)));
+        return Ok(unmoved(alloc));
     };
     if !is_epoch(epoch, tenure.epoch) {
-        return Ok(goes_on(learnt, unmoved(alloc, tenure)));
+        return Ok(unmoved(alloc));
     }
     match peer_in(tenure.peers.as_slice(), from) {
-        None => Ok(goes_on(learnt, unmoved(alloc, tenure))),
+        None => Ok(unmoved(alloc)),
         Some(_) => Ok(hears_peer(
             bodies, alloc, place, learnt, tenure, own, held, from, payload,
         )?),
+    }
+}
+
+/// A message to a primary that may have no tenure: nothing comes of it then.
+fn hears_under<B: Bodies>(
+    bodies: &mut B,
+    alloc: Global,
+    place: &Place,
+    learnt: u64,
+    tenure: &mut Option<Tenure>,
+    own: &FileHead,
+    held: &[ObjectVersion],
+    from: NodeId,
+    payload: &Payload,
+) -> Result<Heard, StepErr>
+    requires { IsTrue (held_rise held.now) }
+    ensures value { IfOk result (λ heard. led_by (ground place.now (B.records bodies.old) own.now held.now) learnt tenure.new heard ≡ rows.hears_in (ground place.now (B.records bodies.old) own.now held.now) learnt tenure.old from payload.now) }
+    ensures reads { ReadsOnly B.records B.fault_count bodies.old bodies.new (fault_of result) }
+{
+    match tenure {
+        Some(tenure) => Ok(hears_in(
+            bodies, alloc, place, learnt, tenure, own, held, from, payload,
+        )?),
+        None => Ok(unmoved(alloc)),
+    }
+}
+
+/// The peers in a tenure, if there is one.
+fn peers_under(tenure: &Option<Tenure>) -> &[Peer]
+    ensures { result.now ≡ peers_under tenure.now }
+{
+    match tenure {
+        Some(tenure) => tenure.peers.as_slice(),
+        None => &[],
+    }
+}
+
+/// A new epoch is drawn above this number, and the same members are asked.
+fn redraws(
+    alloc: Global,
+    place: &Place,
+    primary: &mut PrimaryState,
+    own: &FileHead,
+    above: u64,
+) -> Result<Turned, OutOfMemory>
+    ensures row { IfOk result (λ turned. record { primary = primary.new; turned = turned } ≡ rows.epoch_drawn place.now above own.now (nodes_of (peers_under primary.old.tenure))) }
+    ensures kept { OnErr result (primary.new ≡ primary.old) }
+{
+    let drawn = redrawn(alloc, place, above, own, peers_under(&primary.tenure))?;
+    primary.learnt = above;
+    primary.tenure = drawn.tenure;
+    Ok(drawn.turned)
+}
+
+/// A message to a primary. Where it can't be taken, what was learnt goes on, and the tenure isn't to be used again.
+#[tactic(auto, unfolding(osd_rows::specs::PrimaryRows::hears))]
+pub fn hears<B: Bodies>(
+    bodies: &mut B,
+    alloc: Global,
+    place: &Place,
+    primary: &mut PrimaryState,
+    own: &FileHead,
+    held: &[ObjectVersion],
+    from: NodeId,
+    payload: &Payload,
+) -> Result<Turned, StepErr>
+    requires { IsTrue (held_rise held.now) }
+    ensures row { IfOk result (λ turned. record { primary = primary.new; turned = turned } ≡ rows.hears (ground place.now (B.records bodies.old) own.now held.now) primary.old from payload.now) }
+    ensures rises { OnOk result (HeadRises own.now → CommittedUnder primary.old.tenure → CommittedUnder primary.new.tenure) }
+    ensures kept { OnErr result (primary.new.learnt ≡ primary.old.learnt) }
+    ensures reads { ReadsOnly B.records B.fault_count bodies.old bodies.new (fault_of result) }
+{
+    let (learnt, tenure) = (primary.learnt, &mut primary.tenure);
+    let heard = hears_under(
+        bodies, alloc, place, learnt, tenure, own, held, from, payload,
+    )?;
+    match heard {
+        Heard::GoesOn { turned } => Ok(turned),
+        Heard::Redraws { above } => Ok(redraws(alloc, place, primary, own, above)?),
     }
 }

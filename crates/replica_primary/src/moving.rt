@@ -1,25 +1,16 @@
-ghost use Rattle.std.specs.Prelude.{◌≡◌, None, Some};
-ghost use Rattle.osd_rows.specs.Turns as rows;
+ghost use Rattle.std.specs.Prelude.{◌≡◌};
 
-use osd_rows::Tenure;
-use std::alloc::Global;
-use step_outputs::quiet;
-use xt_base::{Octets, Stamp};
+use osd_rows::{Progress, Tenure};
+use xt_base::{Octets, Record, Stamp};
 use xt_protocol::Turned;
 
-/// A tenure that goes on after a row, and what the row gives.
+/// What a message makes of a tenure.
 #[derive(Drop)]
-pub struct Moved {
-    pub tenure: Tenure,
-    pub turned: Turned,
-}
-
-/// A primary after a message, and what the message gives.
-#[derive(Drop)]
-pub struct Heard {
-    pub learnt: u64,
-    pub tenure: Option<Tenure>,
-    pub turned: Turned,
+pub enum Heard {
+    /// It goes on, and this is given.
+    GoesOn { turned: Turned },
+    /// It ends, and a new epoch is drawn above this number.
+    Redraws { above: u64 },
 }
 
 /// A body that has just come from its source, and that no record keeps yet.
@@ -30,23 +21,20 @@ pub struct FetchedBody {
     pub bytes: Octets,
 }
 
-/// Nothing comes of a message.
-pub fn unmoved(alloc: Global, tenure: Tenure) -> Moved
-    ensures { result ≡ record { tenure = tenure; turned = rows.quiet } }
+/// The tenure comes this far.
+pub fn advance(tenure: &mut Tenure, progress: Progress)
+    ensures { tenure.new ≡ record tenure.old { progress = progress } }
 {
-    Moved {
-        tenure,
-        turned: quiet(alloc),
-    }
+    tenure.progress = progress;
 }
 
-/// The tenure goes on.
-pub fn goes_on(learnt: u64, moved: Moved) -> Heard
-    ensures { result ≡ record { learnt = learnt; tenure = Some moved.tenure; turned = moved.turned } }
+/// What a row gives that keeps this record first, if there is one.
+pub fn after_keeping(rec: Option<Record>, turned: Turned) -> Turned
+    ensures { result ≡ record turned { rec = rec } }
 {
-    Heard {
-        learnt,
-        tenure: Some(moved.tenure),
-        turned: moved.turned,
+    Turned {
+        rec,
+        outs: turned.outs,
+        marks: turned.marks,
     }
 }

@@ -13,7 +13,7 @@ ghost use Rattle.std.specs.Option.{option_map};
 ghost use Rattle.replica_primary.specs.PrimaryViews.{chosen_by, rests_by};
 
 use crate::drawing::epoch_drawn;
-use crate::hearing::hears_in;
+use crate::hearing::hears;
 use crate::serving::{Written, put_issued, read_served, writes};
 use crate::waking::wakes;
 use flease_lease::Turn;
@@ -221,7 +221,6 @@ impl Primary {
 
     /// A message to the primary, in this turn: `own` and `held` are the head and the held versions of its own replica. Where
     /// memory is out or a body can't be read, the primary is idle.
-    #[tactic(auto, unfolding(osd_rows::specs::PrimaryRows::hears), using(crate::proofs::Rises::hears_rises))]
     pub fn take<B: Bodies>(
         &mut self,
         turn: &Turn<'_>,
@@ -240,18 +239,24 @@ impl Primary {
         ensures reads { ReadsOnly B.records B.fault_count bodies.old bodies.new (fault_of result) }
     {
         let _turn = turn;
-        let (alloc, learnt) = (self.alloc, self.state.learnt);
-        let Some(tenure) = self.state.tenure.take() else {
-            return Ok(quiet(alloc));
-        };
-        let place = &self.place;
-        let held = held.as_slice();
-        let heard = hears_in(
-            bodies, alloc, place, learnt, tenure, own, held, from, payload,
-        )?;
-        self.state.learnt = heard.learnt;
-        self.state.tenure = heard.tenure;
-        Ok(heard.turned)
+        let (alloc, place) = (self.alloc, &self.place);
+        let state = &mut self.state;
+        match hears(
+            bodies,
+            alloc,
+            place,
+            state,
+            own,
+            held.as_slice(),
+            from,
+            payload,
+        ) {
+            Ok(turned) => Ok(turned),
+            Err(error) => {
+                self.state.tenure = None;
+                Err(error)
+            }
+        }
     }
 
     /// How far the primary is, and how many have answered what it waits for.

@@ -3,7 +3,7 @@ ghost use Rattle.xt_base.specs.Faults.{Rose};
 ghost use Rattle.cluster_runs.specs.World.{start_world};
 ghost use Rattle.cluster_runs.specs.NodeSteps.{Room};
 ghost use Rattle.cluster_core.specs.Standing.{Standing};
-ghost use Rattle.disk_hull.specs.Room.{journal_overflow};
+ghost use Rattle.node_disks.specs.Room.{journal_overflow};
 ghost use Rattle.schedule_lines.specs.Causes.{HasCause};
 ghost use Rattle.schedule_replay.specs.Replay.{IsReplay, Completes};
 ghost use Rattle.schedule_replay.specs.Steps.{IsEnd};

@@ -61,18 +61,22 @@ decimal-Lacks mark n wide none = lacks (decimal n) (decimal_is_IsNumeral_wide n 
 
 -- Readers.
 
+-- a number, of any width that occurs
+abbrev number_in : List ℕ → ℕ
+number_in word = number_of 128 word
+
 retry_of : List ℕ → List ℕ → Retry
 retry_of name values =
-    if bytes_eq name (codes "nolease") then retry.NoLease (number_of values)
-    else if bytes_eq name (codes "nomajority") then retry.NoMajority (number_of (front 47 values)) (number_of (back 47 values))
-    else if bytes_eq name (codes "elsewhere") then retry.Elsewhere (node_of (number_of (front 58 values))) (number_of (back 58 values))
+    if bytes_eq name (codes "nolease") then retry.NoLease (number_in values)
+    else if bytes_eq name (codes "nomajority") then retry.NoMajority (number_in (front 47 values)) (number_in (back 47 values))
+    else if bytes_eq name (codes "elsewhere") then retry.Elsewhere (node_of (number_in (front 58 values))) (number_in (back 58 values))
     else retry.Silent
 
 retry_in : List ℕ → Retry
 retry_in word = retry_of (front 58 word) (back 58 word)
 
 pub answered_in : List ℕ → Answered
-answered_in word = record { node = node_of (number_of (front 61 word)); outcome = retry_in (back 61 word) }
+answered_in word = record { node = node_of (number_in (front 61 word)); outcome = retry_in (back 61 word) }
 
 pub answers_in : List ℕ → List Answered
 answers_in words = each_word answered_in (length words) words
@@ -94,24 +98,24 @@ retry_text_is (retry.Elsewhere node end) = refl
 retry_text_is retry.Silent = refl
 
 two_again : (mark first second : ℕ) → first < 2 ^ 128 → second < 2 ^ 128 → (48 ≤ mark → 57 < mark)
-    → (number_of (front mark (decimal first ++ mark ∷ decimal second)) ≡ first)
-    × (number_of (back mark (decimal first ++ mark ∷ decimal second)) ≡ second)
+    → (number_in (front mark (decimal first ++ mark ∷ decimal second)) ≡ first)
+    × (number_in (back mark (decimal first ++ mark ∷ decimal second)) ≡ second)
 two_again mark first second p q none =
     let lacks = decimal-Lacks mark first (omega arith) none in (
-      ap number_of (front_again mark (decimal first) (decimal second) lacks) ∙ number_again first p,
-      ap number_of (back_again mark (decimal first) (decimal second) lacks) ∙ number_again second q,
+      ap number_in (front_again mark (decimal first) (decimal second) lacks) ∙ number_again 128 first p (omega arith),
+      ap number_in (back_again mark (decimal first) (decimal second) lacks) ∙ number_again 128 second q (omega arith),
     )
 
 retry_again : (given : Retry) → FitsRetry given → retry_in (retry_rest given) ≡ given
 unfolding retry_in retry_of
-retry_again (retry.NoLease end) fits = ap retry.NoLease (number_again end (omega arith))
+retry_again (retry.NoLease end) fits = ap retry.NoLease (number_again 128 end (omega arith) (omega arith))
 retry_again (retry.NoMajority have need) (p, q) =
     let both = two_again 47 have need (omega arith) (omega arith) (λ low. omega arith) in
-    ap (λ (n : ℕ). retry.NoMajority n (number_of (back 47 (decimal have ++ 47 ∷ decimal need)))) both.0
+    ap (λ (n : ℕ). retry.NoMajority n (number_in (back 47 (decimal have ++ 47 ∷ decimal need)))) both.0
     ∙ ap (λ (n : ℕ). retry.NoMajority have n) both.1
 retry_again (retry.Elsewhere node end) (p, q) =
     let both = two_again 58 node.0 end (omega arith) (omega arith) (λ low. omega arith) in
-    ap (λ (n : ℕ). retry.Elsewhere (node_of n) (number_of (back 58 (decimal node.0 ++ 58 ∷ decimal end)))) both.0
+    ap (λ (n : ℕ). retry.Elsewhere (node_of n) (number_in (back 58 (decimal node.0 ++ 58 ∷ decimal end)))) both.0
     ∙ ap (λ (n : ℕ). retry.Elsewhere node n) both.1
 retry_again retry.Silent fits = refl
 
@@ -143,10 +147,10 @@ answered_again given fits =
           omega (arith, length-append (decimal given.node.0) (retry_text given.outcome));
       again =
           ap answered_in text
-          ∙ ap (λ (n : List ℕ). let a : Answered = record { node = node_of (number_of n); outcome = retry_in (back 61 (decimal given.node.0 ++ 61 ∷ retry_rest given.outcome)) } in a)
+          ∙ ap (λ (n : List ℕ). let a : Answered = record { node = node_of (number_in n); outcome = retry_in (back 61 (decimal given.node.0 ++ 61 ∷ retry_rest given.outcome)) } in a)
           (front_again 61 (decimal given.node.0) (retry_rest given.outcome) lacks)
           ∙ ap (λ (n : ℕ). let a : Answered = record { node = node_of n; outcome = retry_in (back 61 (decimal given.node.0 ++ 61 ∷ retry_rest given.outcome)) } in a)
-          (number_again given.node.0 (omega arith))
+          (number_again 128 given.node.0 (omega arith) (omega arith))
           ∙ ap (λ (rest : List ℕ). let a : Answered = record { node = given.node; outcome = retry_in rest } in a)
           (back_again 61 (decimal given.node.0) (retry_rest given.outcome) lacks)
           ∙ ap (λ (r : Retry). let a : Answered = record { node = given.node; outcome = r } in a) (retry_again given.outcome fits.gave);

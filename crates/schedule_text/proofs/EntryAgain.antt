@@ -1,6 +1,6 @@
 -- An entry that was written is read, so no two are spelled alike.
 use Rattle.std.proofs.Common.{◌≡◌, ℕ, ◌*◌, ◌^◌, ◌<◌, ◌≤◌, if◌then◌else◌, ◌==◌, Option, List, [], ◌∷◌, Some, None, refl, sym, ap, subst, ◌∙◌, arith}
-use Rattle.std.specs.Prelude.{codes}
+use Rattle.std.specs.Prelude.{codes, option_map}
 use Rattle.std.specs.List.{AllByRecursion}
 use Rattle.std.specs.Str.{bytes_eq}
 use Rattle.std.specs.Fmt.{decimal}
@@ -28,7 +28,7 @@ use Rattle.schedule_text.specs.LineText.{IsPlace, IsCall}
 use Rattle.schedule_text.specs.CallText.{call_name, call_words, node_words, file_words}
 use Rattle.schedule_text.specs.OutcomeText.{denial_number, ask_refusal_words, answer_words, outcome_words}
 use Rattle.schedule_text.specs.EntryText.{update_words, halt_word, entry_words, entry_text, IsFileEnd, IsEntry}
-use Rattle.schedule_text.specs.Reading.{◌>>=◌, first_word, other_words, number_at, bytes_of}
+use Rattle.schedule_text.specs.Reading.{first_word, other_words, number_at, bytes_of}
 use Rattle.schedule_text.specs.LineReading.{node_of, members_at}
 use Rattle.schedule_text.proofs.AnswersAgain.{answers_in, answers_again}
 use Rattle.schedule_text.proofs.ManyAgain.{members_again}
@@ -38,35 +38,34 @@ use Rattle.schedule_text.proofs.WordsAgain.{IsWord, IsWord-tested, number_at_aga
 -- Readers, of what stands behind the name of an entry.
 
 times_in : List ℕ → Option Entry
-times_in words = do
-  lease ← number_at 64 words
-  drift ← number_at 64 lease.1
-  Some (entry.Times lease.0 drift.0)
+times_in words =
+    let lease = number_at 64 words in
+    let drift = number_at 64 lease.1 in
+    Some (entry.Times lease.0 drift.0)
 
 file_in : List ℕ → Option Entry
-file_in words = do
-  number ← number_at 64 words
-  stripe ← number_at 32 (other_words number.1)
-  nodes ← members_at stripe.1
-  Some (entry.File number.0 (kept_on stripe.0 nodes))
+file_in words =
+    let number = number_at 64 words in
+    let stripe = number_at 32 (other_words number.1) in
+    option_map (λ nodes. entry.File number.0 (kept_on stripe.0 nodes)) (members_at stripe.1)
 
 clock_in : List ℕ → Option Entry
-clock_in words = do
-  node ← number_at 32 words
-  clock ← number_at 64 node.1
-  Some (entry.Clock (node_of node.0) clock.0)
+clock_in words =
+    let node = number_at 32 words in
+    let clock = number_at 64 node.1 in
+    Some (entry.Clock (node_of node.0) clock.0)
 
 tick_in : List ℕ → Option Entry
-tick_in words = do
-  count ← number_at 64 words
-  Some (entry.Tick count.0)
+tick_in words =
+    let count = number_at 64 words in
+    Some (entry.Tick count.0)
 
 up_in : List ℕ → Option Entry
-up_in words = do
-  node ← number_at 32 words
-  boot ← number_at 64 node.1
-  clock ← number_at 64 boot.1
-  Some (entry.Up (node_of node.0) (record { 0 = boot.0 }) clock.0)
+up_in words =
+    let node = number_at 32 words in
+    let boot = number_at 64 node.1 in
+    let clock = number_at 64 boot.1 in
+    Some (entry.Up (node_of node.0) (record { 0 = boot.0 }) clock.0)
 
 halt_of : List ℕ → Option Halt
 halt_of word =
@@ -76,69 +75,67 @@ halt_of word =
     else Some halt.Cut
 
 down_in : List ℕ → Option Entry
-down_in words = do
-  node ← number_at 32 words
-  clock ← number_at 64 node.1
-  how ← halt_of (first_word clock.1)
-  Some (entry.Down (node_of node.0) clock.0 how)
+down_in words =
+    let node = number_at 32 words in
+    let clock = number_at 64 node.1 in
+    option_map (λ how. entry.Down (node_of node.0) clock.0 how) (halt_of (first_word clock.1))
 
 call_of : List ℕ → ℕ → ℕ → ℕ → List ℕ → Option Call
 call_of name file object at words =
-    if bytes_eq name (codes "read") then (do
-      len ← number_at 32 words
-      Some (call.Read file object at len.0))
+    if bytes_eq name (codes "read") then (
+    let len = number_at 32 words in
+    Some (call.Read file object at len.0))
     else Some (call.Write file object at (bytes_of (first_word words)))
 
 call_on : List ℕ → ℕ → List ℕ → Option Call
 call_on name file words =
-    if bytes_eq name (codes "truncate") then (do
-      size ← number_at 64 words
-      epoch ← number_at 64 size.1
-      Some (call.Truncate file size.0 epoch.0))
-    else (do
-      object ← number_at 64 words
-      at ← number_at 32 object.1
-      call_of name file object.0 at.0 at.1)
+    if bytes_eq name (codes "truncate") then (
+    let size = number_at 64 words in
+    let epoch = number_at 64 size.1 in
+    Some (call.Truncate file size.0 epoch.0))
+    else (
+    let object = number_at 64 words in
+    let at = number_at 32 object.1 in
+    call_of name file object.0 at.0 at.1)
 
 call_in : List ℕ → List ℕ → Option Call
-call_in name words = do
-  file ← number_at 64 words
-  call_on name file.0 file.1
+call_in name words =
+    let file = number_at 64 words in
+    call_on name file.0 file.1
 
 begin_in : List ℕ → Option Entry
-begin_in words = do
-  client ← number_at 32 words
-  number ← number_at 64 client.1
-  made ← call_in (first_word number.1) (other_words number.1)
-  Some (entry.Begin (node_of client.0) number.0 made)
+begin_in words =
+    let client = number_at 32 words in
+    let number = number_at 64 client.1 in
+    option_map (λ made. entry.Begin (node_of client.0) number.0 made) (call_in (first_word number.1) (other_words number.1))
 
 held_in : List ℕ → Option Entry
-held_in words = do
-  node ← number_at 32 words
-  file ← number_at 64 node.1
-  end ← number_at 64 file.1
-  Some (entry.Held (node_of node.0) file.0 end.0)
+held_in words =
+    let node = number_at 32 words in
+    let file = number_at 64 node.1 in
+    let end = number_at 64 file.1 in
+    Some (entry.Held (node_of node.0) file.0 end.0)
 
 id_of : ℕ → ℕ → OpId
 id_of client number = record { client = node_of client; number = number }
 
 update_in : (NodeId → ℕ → ℕ → OpId → Entry) → List ℕ → Option Entry
-update_in made words = do
-  node ← number_at 32 words
-  file ← number_at 64 node.1
-  count ← number_at 64 file.1
-  client ← number_at 32 count.1
-  number ← number_at 64 client.1
-  Some (made (node_of node.0) file.0 count.0 (id_of client.0 number.0))
+update_in made words =
+    let node = number_at 32 words in
+    let file = number_at 64 node.1 in
+    let count = number_at 64 file.1 in
+    let client = number_at 32 count.1 in
+    let number = number_at 64 client.1 in
+    Some (made (node_of node.0) file.0 count.0 (id_of client.0 number.0))
 
 answer_in : List ℕ → Option Entry
-answer_in words = do
-  node ← number_at 32 words
-  file ← number_at 64 node.1
-  client ← number_at 32 file.1
-  number ← number_at 64 client.1
-  count ← number_at 64 number.1
-  Some (entry.Answer (node_of node.0) file.0 (id_of client.0 number.0) count.0 (bytes_of (first_word count.1)))
+answer_in words =
+    let node = number_at 32 words in
+    let file = number_at 64 node.1 in
+    let client = number_at 32 file.1 in
+    let number = number_at 64 client.1 in
+    let count = number_at 64 number.1 in
+    Some (entry.Answer (node_of node.0) file.0 (id_of client.0 number.0) count.0 (bytes_of (first_word count.1)))
 
 denial_of : ℕ → Denial
 denial_of number =
@@ -159,26 +156,23 @@ refusal_of name value =
 refusal_in : List ℕ → List ℕ → Option AskRefusal
 refusal_in name words =
     if bytes_eq name (codes "clientsfull") then Some refusal.ClientsFull
-    else (do
-      value ← number_at 64 words
-      refusal_of name value.0)
+    else (
+    let value = number_at 64 words in
+    refusal_of name value.0)
 
 outcome_in : List ℕ → List ℕ → Option Outcome
 outcome_in name words =
-    if bytes_eq name (codes "ok") then (do
-      count ← number_at 64 words
-      Some (outcome.Ok count.0 (bytes_of (first_word count.1))))
+    if bytes_eq name (codes "ok") then (
+    let count = number_at 64 words in
+    Some (outcome.Ok count.0 (bytes_of (first_word count.1))))
     else if bytes_eq name (codes "retry") then Some (outcome.Retry (answers_in words))
-    else (do
-      why ← refusal_in name words
-      Some (outcome.Refused why))
+    else option_map (λ why. outcome.Refused why) (refusal_in name words)
 
 done_in : List ℕ → Option Entry
-done_in words = do
-  client ← number_at 32 words
-  number ← number_at 64 client.1
-  ended ← outcome_in (first_word number.1) (other_words number.1)
-  Some (entry.Done (node_of client.0) number.0 ended)
+done_in words =
+    let client = number_at 32 words in
+    let number = number_at 64 client.1 in
+    option_map (λ ended. entry.Done (node_of client.0) number.0 ended) (outcome_in (first_word number.1) (other_words number.1))
 
 entry_of : List ℕ → List ℕ → Option Entry
 entry_of name words =

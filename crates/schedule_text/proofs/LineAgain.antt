@@ -16,8 +16,8 @@ use Rattle.time_line.specs.Bounds.{FitsCall}
 use Rattle.schedule_text.specs.LineText.{line_text, line_words, IsLine, IsPlace, IsCall}
 use Rattle.schedule_text.specs.CallText.{call_name, call_words, node_words, file_words}
 use Rattle.schedule_text.specs.Reading.{first_word, other_words}
-use Rattle.schedule_text.specs.LineReading.{times_at, osd_at, client_at, file_at, start_at, stop_at, crash_at, cut_at, clock_at, tick_at, wake_at, read_at, truncate_at, aim_at, write_place, write_at, deliver_at, drop_at, settle_at, node_line, timed_line, named_line, line_at}
-use Rattle.schedule_text.proofs.ManyAgain.{members_again}
+use Rattle.schedule_text.specs.LineReading.{times_at, osd_at, client_at, file_at, start_at, stop_at, crash_at, cut_at, clock_at, tick_at, wake_at, read_at, truncate_at, aim_at, write_at, deliver_at, drop_at, settle_at, node_line, timed_line, named_line, line_at}
+use Rattle.schedule_text.proofs.ManyAgain.{node_at_again, members_again}
 use Rattle.schedule_text.proofs.WordsAgain.{number_at_again, first_again, others_again, hex-IsWord, hex_again, pair-IsWord, byte_again}
 
 abbrev IsRead : Line → Type 0
@@ -30,28 +30,28 @@ times_again lease drift p q =
 
 osd_again : (node : NodeId) → node.0 < 2 ^ 32 → IsRead (line.Osd node)
 unfolding line_text line_words line_at named_line timed_line node_line osd_at first_word other_words
-osd_again node p = rw (number_at_again 32 node.0 [] p (omega arith)) refl
+osd_again node p = rw (node_at_again node [] p) refl
 
 client_again : (node : NodeId) (clock : ℕ) → node.0 < 2 ^ 32 → clock < 2 ^ 64 → IsRead (line.Client node clock)
 unfolding line_text line_words line_at named_line timed_line node_line client_at first_word other_words
 client_again node clock p q =
-    rw (number_at_again 32 node.0 (decimal clock ∷ []) p (omega arith), number_at_again 64 clock [] q (omega arith)) refl
+    rw (node_at_again node (decimal clock ∷ []) p, number_at_again 64 clock [] q (omega arith)) refl
 
 start_again : (node : NodeId) (clock : ℕ) → node.0 < 2 ^ 32 → clock < 2 ^ 64 → IsRead (line.Start node clock)
 unfolding line_text line_words line_at named_line timed_line node_line start_at first_word other_words
 start_again node clock p q =
-    rw (number_at_again 32 node.0 (decimal clock ∷ []) p (omega arith), number_at_again 64 clock [] q (omega arith)) refl
+    rw (node_at_again node (decimal clock ∷ []) p, number_at_again 64 clock [] q (omega arith)) refl
 
 stop_again : (node : NodeId) → node.0 < 2 ^ 32 → IsRead (line.Stop node)
 unfolding line_text line_words line_at named_line timed_line node_line stop_at first_word other_words
-stop_again node p = rw (number_at_again 32 node.0 [] p (omega arith)) refl
+stop_again node p = rw (node_at_again node [] p) refl
 
 -- first_word stays as it is here, so the byte is passed by lemma
 crash_words_again : (node : NodeId) (device_call fill : ℕ) → node.0 < 2 ^ 32 → device_call < 2 ^ 8 → fill < 256 → crash_at (spaced (decimal node.0 ∷ decimal device_call ∷ hex_pair fill ∷ [])) ≡ Some (line.Crash node device_call fill)
 unfolding crash_at
 crash_words_again node device_call fill p q r =
     rw (
-      number_at_again 32 node.0 (decimal device_call ∷ hex_pair fill ∷ []) p (omega arith),
+      node_at_again node (decimal device_call ∷ hex_pair fill ∷ []) p,
       number_at_again 8 device_call (hex_pair fill ∷ []) q (omega arith),
       first_again (hex_pair fill) [] (pair-IsWord fill r),
       byte_again fill r,
@@ -64,16 +64,16 @@ crash_again node device_call fill p q r = crash_words_again node device_call fil
 cut_again : (node : NodeId) (count : ℕ) → node.0 < 2 ^ 32 → count < 2 ^ 128 → IsRead (line.Cut node count)
 unfolding line_text line_words line_at named_line timed_line cut_at first_word other_words
 cut_again node count p q =
-    rw (number_at_again 32 node.0 (decimal count ∷ []) p (omega arith), number_at_again 128 count [] q q) refl
+    rw (node_at_again node (decimal count ∷ []) p, number_at_again 128 count [] q (omega arith)) refl
 
 clock_again : (node : NodeId) (clock : ℕ) → node.0 < 2 ^ 32 → clock < 2 ^ 64 → IsRead (line.Clock node clock)
 unfolding line_text line_words line_at named_line timed_line clock_at first_word other_words
 clock_again node clock p q =
-    rw (number_at_again 32 node.0 (decimal clock ∷ []) p (omega arith), number_at_again 64 clock [] q (omega arith)) refl
+    rw (node_at_again node (decimal clock ∷ []) p, number_at_again 64 clock [] q (omega arith)) refl
 
 wake_again : (node : NodeId) → node.0 < 2 ^ 32 → IsRead (line.Wake node)
 unfolding line_text line_words line_at named_line timed_line wake_at first_word other_words
-wake_again node p = rw (number_at_again 32 node.0 [] p (omega arith)) refl
+wake_again node p = rw (node_at_again node [] p) refl
 
 tick_again : (count : ℕ) → count < 2 ^ 64 → IsRead (line.Tick count)
 unfolding line_text line_words line_at named_line timed_line tick_at first_word other_words
@@ -81,15 +81,15 @@ tick_again count p = rw (number_at_again 64 count [] p (omega arith)) refl
 
 deliver_again : (number : ℕ) → number < 2 ^ 128 → IsRead (line.Deliver number)
 unfolding line_text line_words line_at named_line deliver_at first_word other_words
-deliver_again number p = rw (number_at_again 128 number [] p p) refl
+deliver_again number p = rw (number_at_again 128 number [] p (omega arith)) refl
 
 drop_again : (number : ℕ) → number < 2 ^ 128 → IsRead (line.Drop number)
 unfolding line_text line_words line_at named_line drop_at first_word other_words
-drop_again number p = rw (number_at_again 128 number [] p p) refl
+drop_again number p = rw (number_at_again 128 number [] p (omega arith)) refl
 
 settle_again : (count : ℕ) → count < 2 ^ 128 → IsRead (line.Settle count)
 unfolding line_text line_words line_at named_line settle_at first_word other_words
-settle_again count p = rw (number_at_again 128 count [] p p) refl
+settle_again count p = rw (number_at_again 128 count [] p (omega arith)) refl
 
 -- where a replicated file lies that these OSDs keep
 abbrev pub kept_on : ℕ → List NodeId → Location
@@ -114,7 +114,7 @@ read_again : (client : NodeId) (file object at len : ℕ) → client.0 < 2 ^ 32 
 unfolding line_text line_words call_name call_words line_at named_line read_at first_word other_words
 read_again client file object at len p q r s t =
     rw (
-      number_at_again 32 client.0 (decimal file ∷ decimal object ∷ decimal at ∷ decimal len ∷ []) p (omega arith),
+      node_at_again client (decimal file ∷ decimal object ∷ decimal at ∷ decimal len ∷ []) p,
       number_at_again 64 file (decimal object ∷ decimal at ∷ decimal len ∷ []) q (omega arith),
       number_at_again 64 object (decimal at ∷ decimal len ∷ []) r (omega arith),
       number_at_again 32 at (decimal len ∷ []) s (omega arith),
@@ -125,7 +125,7 @@ truncate_again : (client : NodeId) (file size epoch : ℕ) → client.0 < 2 ^ 32
 unfolding line_text line_words call_name call_words line_at named_line truncate_at first_word other_words
 truncate_again client file size epoch p q r s =
     rw (
-      number_at_again 32 client.0 (decimal file ∷ decimal size ∷ decimal epoch ∷ []) p (omega arith),
+      node_at_again client (decimal file ∷ decimal size ∷ decimal epoch ∷ []) p,
       number_at_again 64 file (decimal size ∷ decimal epoch ∷ []) q (omega arith),
       number_at_again 64 size (decimal epoch ∷ []) r (omega arith),
       number_at_again 64 epoch [] s (omega arith),
@@ -135,16 +135,16 @@ aim_again : (client : NodeId) (file : ℕ) (node : NodeId) → client.0 < 2 ^ 32
 unfolding line_text line_words line_at named_line aim_at first_word other_words
 aim_again client file node p q r =
     rw (
-      number_at_again 32 client.0 (decimal file ∷ decimal node.0 ∷ []) p (omega arith),
+      node_at_again client (decimal file ∷ decimal node.0 ∷ []) p,
       number_at_again 64 file (decimal node.0 ∷ []) q (omega arith),
-      number_at_again 32 node.0 [] r (omega arith),
+      node_at_again node [] r,
     ) refl
 
-write_words_again : (client : NodeId) (file object at : ℕ) (bytes : List ℕ) → client.0 < 2 ^ 32 → file < 2 ^ 64 → object < 2 ^ 64 → at < 2 ^ 32 → AreBytes bytes → write_at (spaced (decimal client.0 ∷ call_words (call.Write file object at bytes))) ≡ Some (line.Call client (call.Write file object at bytes))
-unfolding write_at write_place call_words
+write_words_again : (client : NodeId) (file object at : ℕ) (bytes : List ℕ) → client.0 < 2 ^ 32 → file < 2 ^ 64 → object < 2 ^ 64 → at < 2 ^ 32 → AreBytes bytes → write_at (spaced (decimal client.0 ∷ call_words (call.Write file object at bytes))) ≡ line.Call client (call.Write file object at bytes)
+unfolding write_at call_words
 write_words_again client file object at bytes p q r s fits =
     rw (
-      number_at_again 32 client.0 (decimal file ∷ decimal object ∷ decimal at ∷ hex_of bytes ∷ []) p (omega arith),
+      node_at_again client (decimal file ∷ decimal object ∷ decimal at ∷ hex_of bytes ∷ []) p,
       number_at_again 64 file (decimal object ∷ decimal at ∷ hex_of bytes ∷ []) q (omega arith),
       number_at_again 64 object (decimal at ∷ hex_of bytes ∷ []) r (omega arith),
       number_at_again 32 at (hex_of bytes ∷ []) s (omega arith),
@@ -154,7 +154,7 @@ write_words_again client file object at bytes p q r s fits =
 
 write_again : (client : NodeId) (file object at : ℕ) (bytes : List ℕ) → client.0 < 2 ^ 32 → file < 2 ^ 64 → object < 2 ^ 64 → at < 2 ^ 32 → AreBytes bytes → IsRead (line.Call client (call.Write file object at bytes))
 unfolding line_text line_words call_name line_at first_word other_words
-write_again client file object at bytes p q r s fits = write_words_again client file object at bytes p q r s fits
+write_again client file object at bytes p q r s fits = ap Some (write_words_again client file object at bytes p q r s fits)
 
 pub place_of : (version : ℕ) (kind : Kind) (stripe : ℕ) (members : List NodeId) → version ≡ 1 → kind ≡ Replicated
     → (let location : Location = record { version = version; kind = kind; stripe = stripe; members = members } in location) ≡ kept_on stripe members

@@ -1,5 +1,5 @@
 -- A list that was written in words is read.
-use Rattle.std.proofs.Common.{◌≡◌, ℕ, zero, suc, ◌<◌, ◌≤◌, true, leb, ◌&&◌, List, [], ◌∷◌, length, map, min, Some, refl, ap, ◌∙◌, arith, length-append}
+use Rattle.std.proofs.Common.{◌≡◌, ℕ, zero, suc, ◌<◌, ◌≤◌, true, leb, ◌&&◌, List, [], ◌∷◌, length, map, Some, refl, ap, ◌∙◌, arith, length-append}
 use Rattle.std.specs.Prelude.{nat_lt}
 use Rattle.std.specs.List.{AllByRecursion, list_all}
 use Rattle.std.specs.Fmt.{decimal}
@@ -11,7 +11,7 @@ use Rattle.xt_base.specs.Limits.{FitsNode, FitsMembers}
 use Rattle.schedule_text.specs.Words.{behind, spaced}
 use Rattle.schedule_text.specs.CallText.{node_words}
 use Rattle.schedule_text.specs.Reading.{first_word, other_words, each_word}
-use Rattle.schedule_text.specs.LineReading.{node_in, as_members, members_at}
+use Rattle.schedule_text.specs.LineReading.{node_in, node_at, as_members, members_at}
 use Rattle.schedule_text.proofs.WordsAgain.{IsWord, both_are, decimal-IsWord, number_again, first_again, others_again}
 
 -- there is one word more, or none
@@ -80,10 +80,15 @@ node_again node small =
     record {
       is_word = decimal-IsWord node.0 (omega arith);
       some = (decimal_is_IsNumeral_wide node.0 (omega arith)).0.0;
-      again =
-          let e : min node.0 4294967295 ≡ node.0 = omega arith in
-          rw (number_again node.0 (omega arith), e) refl;
+      again = rw (number_again 32 node.0 small (omega arith)) refl;
     }
+
+-- a node that was written is read
+pub node_at_again : (node : NodeId) (words : List (List ℕ)) → FitsNode node → node_at (spaced (decimal node.0 ∷ words)) ≡ (node, spaced words)
+unfolding node_at
+node_at_again node words small =
+    let w = decimal-IsWord node.0 (omega arith) in
+    rw (first_again (decimal node.0) words w, others_again (decimal node.0) words w, number_again 32 node.0 small (omega arith)) refl
 
 nodes_are : (nodes : List NodeId) → AllByRecursion FitsNode nodes → AllByRecursion (IsReadAgain node_in (λ n. decimal n.0)) nodes
 nodes_are [] all = tt

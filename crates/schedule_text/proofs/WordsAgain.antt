@@ -4,7 +4,7 @@ use Rattle.std.specs.Prelude.{◌==◌}
 use Rattle.std.specs.List.{position_or_len, fold}
 use Rattle.std.specs.Fmt.{decimal}
 use Rattle.std.specs.Str.Parse.{AllDigits}
-use Rattle.std.proofs.lemmas.Bool.{lt-ltb, ltb-true, ne_eqb}
+use Rattle.std.proofs.lemmas.Bool.{ltb-true, ne_eqb}
 use Rattle.std.proofs.lemmas.List.{take_at, append-nil}
 use Rattle.std.proofs.Math.Seq.{drop-append-add, take-length}
 use Rattle.std.proofs.Math.ListN.{drop_of_length-le}
@@ -61,9 +61,9 @@ decimal-IsWord n wide = words (decimal n) (decimal_is_IsNumeral_wide n wide).0.1
     words [] d = tt
     words (c ∷ cs) d = (omega (arith, digit_from_value c d.0), words cs d.1)
 
-pub number_again : (n : ℕ) → n < 2 ^ 128 → number_of (decimal n) ≡ n
+pub number_again : (bits n : ℕ) → n < 2 ^ bits → n < 10 ^ 64 → number_of bits (decimal n) ≡ n
 unfolding number_of
-number_again n small = decimal_by_steps_wide (λ m digits. m < 2 ^ 128 → fold with_digit 0 digits ≡ m) (λ m one below. omega arith) (λ m digits large before below. let e = before (omega arith) in rw (fold-append with_digit 0 digits ((48 + m % 10) ∷ []), e) (omega arith)) n (omega arith) small
+number_again bits n small wide = decimal_by_steps_wide (λ m digits. m < 2 ^ bits → fold (with_digit bits) 0 digits ≡ m) (λ m one below. omega arith) (λ m digits large before below. let e = before (omega arith) in rw (fold-append (with_digit bits) 0 digits ((48 + m % 10) ∷ []), e) (omega arith)) n wide small
 
 -- the first of these words, and the others
 pub first_again : (word : List ℕ) (words : List (List ℕ)) → IsWord word → first_word (spaced (word ∷ words)) ≡ word
@@ -79,12 +79,11 @@ others_again word (next ∷ words) w =
     rw (take_word word (spaced (next ∷ words)) w) (drop-append-add word (32 ∷ spaced (next ∷ words)) 1)
 
 -- a number that was written is read
-pub number_at_again : (bits n : ℕ) (words : List (List ℕ)) → n < 2 ^ bits → n < 2 ^ 128 → number_at bits (spaced (decimal n ∷ words)) ≡ Some (n, spaced words)
+pub number_at_again : (bits n : ℕ) (words : List (List ℕ)) → n < 2 ^ bits → n < 10 ^ 64 → number_at bits (spaced (decimal n ∷ words)) ≡ (n, spaced words)
 unfolding number_at
-number_at_again bits n words small read =
-    let w = decimal-IsWord n (omega arith) in
-    let t = lt-ltb n (2 ^ bits) small in
-    rw (first_again (decimal n) words w, others_again (decimal n) words w, number_again n read, t) refl
+number_at_again bits n words small wide =
+    let w = decimal-IsWord n wide in
+    rw (first_again (decimal n) words w, others_again (decimal n) words w, number_again bits n small wide) refl
 
 -- a hex digit is no space, and stands for its number
 digit_above : (n : ℕ) → n < 16 → 32 < hex_digit n

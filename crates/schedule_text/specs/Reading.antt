@@ -1,10 +1,6 @@
 -- how a line is read: loosely, since its spelling is compared with it afterwards
-use Rattle.std.specs.Prelude.{ℕ, zero, suc, List, [], ◌∷◌, ◌+◌, ◌-◌, ◌*◌, ◌%◌, ◌^◌, ◌==◌, min, nat_lt, if◌then◌else◌, Option, Some, None, option_and_then}
+use Rattle.std.specs.Prelude.{ℕ, zero, suc, List, [], ◌∷◌, ◌+◌, ◌-◌, ◌*◌, ◌%◌, ◌^◌, ◌==◌, min, nat_lt, if◌then◌else◌, Option, Some, None}
 use Rattle.std.specs.List.{fold, before_first, after_first}
-
-infixl 10 ◌>>=◌
-abbrev pub ◌>>=◌ : {A B : Type 0} → Option A → (A → Option B) → Option B
-o >>= f = option_and_then f o
 
 -- the bytes before the first space
 unfoldable pub first_word : List ℕ → List ℕ
@@ -14,17 +10,17 @@ first_word bytes = before_first (λ byte. byte == 32) bytes
 unfoldable pub other_words : List ℕ → List ℕ
 other_words bytes = after_first (λ byte. byte == 32) bytes
 
--- a number with a digit behind it, or the greatest number that is read
-abbrev pub with_digit : ℕ → ℕ → ℕ
-with_digit number byte = min (min (number * 10) (2 ^ 128 - 1) + (byte - 48)) (2 ^ 128 - 1)
+-- a number with a digit behind it, or the greatest one below 2 to the power of `bits`
+abbrev pub with_digit : ℕ → ℕ → ℕ → ℕ
+with_digit bits number byte = min (min (number * 10) (2 ^ bits - 1) + (byte - 48)) (2 ^ bits - 1)
 
--- the number that digits spell
-unfoldable pub number_of : List ℕ → ℕ
-number_of word = fold with_digit 0 word
+-- the number that digits spell, or the greatest one below 2 to the power of `bits`
+unfoldable pub number_of : ℕ → List ℕ → ℕ
+number_of bits word = fold (with_digit bits) 0 word
 
--- a number below 2 to the power of `bits`, and the words behind it
-unfoldable pub number_at : ℕ → List ℕ → Option (ℕ × List ℕ)
-number_at bits words = if nat_lt (number_of (first_word words)) (2 ^ bits) then Some (number_of (first_word words), other_words words) else None
+-- the number of the first word, and the words behind it
+unfoldable pub number_at : ℕ → List ℕ → ℕ × List ℕ
+number_at bits words = (number_of bits (first_word words), other_words words)
 
 -- what the first words say, at most so many of them, each read by itself
 unfoldable pub each_word : {A : Type 0} → (List ℕ → A) → ℕ → List ℕ → List A

@@ -206,12 +206,15 @@ fn push_entry_line(out: &mut Vec<u8>, entry: &Entry) -> Result<(), OutOfMemory>
     Ok(())
 }
 
+/// The bytes that most entries need, at most.
+const ENTRY_BYTES: usize = 64;
+
 /// The entries, a line feed behind each.
 #[tactic(auto, using(crate::proofs::Trace::entry_step, crate::proofs::Trace::no_entries))]
 pub fn print_entries(alloc: Global, entries: &[Entry]) -> Result<Octets, OutOfMemory>
     ensures { IfOk result (λ text. text ≡ trace_text entries.now) }
 {
-    let mut out = Vec::new(alloc);
+    let mut out = Vec::with_capacity(alloc, entries.len().saturating_mul(ENTRY_BYTES))?;
     for entry in entries {
         push_entry_line(&mut out, entry)?;
     }

@@ -1,40 +1,39 @@
-ghost use Rattle.std.specs.Prelude.{◌≡◌, IfOk, MatchOption, Some, None};
-ghost use Rattle.schedule_text.specs.LineReading.{times_at, osd_at, client_at, file_at, start_at, stop_at, crash_at, cut_at, clock_at, tick_at, wake_at, read_at, truncate_at, aim_at, write_place, write_at, deliver_at, drop_at, settle_at, node_line, timed_line, named_line, line_at};
+ghost use Rattle.std.specs.Prelude.{◌≡◌, IfOk};
+ghost use Rattle.schedule_text.specs.LineReading.{times_at, osd_at, client_at, file_at, start_at, stop_at, crash_at, cut_at, clock_at, tick_at, wake_at, read_at, truncate_at, aim_at, write_at, deliver_at, drop_at, settle_at, node_line, timed_line, named_line, line_at};
 
-use crate::nodes::members_at;
+use crate::nodes::{members_at, node_at};
 use crate::words::{byte_of, bytes_of, cut, u8_at, u32_at, u64_at, u128_at};
 use std::alloc::Global;
 use time_line::Line;
-use xt_base::{Call, Kind, Location, NodeId, OutOfMemory};
+use xt_base::{Call, Kind, Location, OutOfMemory};
 
 /// `times L E`
 #[tactic(auto, unfolding(crate::specs::LineReading::times_at))]
-pub(crate) fn times(words: &[u8]) -> Option<Line>
+pub(crate) fn times(words: &[u8]) -> Line
     ensures { result ≡ times_at words.now }
 {
-    let (lease, words) = u64_at(words)?;
-    let (drift, _) = u64_at(words)?;
-    Some(Line::Times { lease, drift })
+    let (lease, words) = u64_at(words);
+    let (drift, _) = u64_at(words);
+    Line::Times { lease, drift }
 }
 
 /// `osd N`
 #[tactic(auto, unfolding(crate::specs::LineReading::osd_at))]
-pub(crate) fn osd(words: &[u8]) -> Option<Line>
+pub(crate) fn osd(words: &[u8]) -> Line
     ensures { result ≡ osd_at words.now }
 {
-    let (node, _) = u32_at(words)?;
-    Some(Line::Osd { node: NodeId(node) })
+    let (node, _) = node_at(words);
+    Line::Osd { node }
 }
 
 /// `client N CLOCK`
 #[tactic(auto, unfolding(crate::specs::LineReading::client_at))]
-pub(crate) fn client(words: &[u8]) -> Option<Line>
+pub(crate) fn client(words: &[u8]) -> Line
     ensures { result ≡ client_at words.now }
 {
-    let (node, words) = u32_at(words)?;
-    let (clock, _) = u64_at(words)?;
-    let node = NodeId(node);
-    Some(Line::Client { node, clock })
+    let (node, words) = node_at(words);
+    let (clock, _) = u64_at(words);
+    Line::Client { node, clock }
 }
 
 /// `file F rep STRIPE NODE ..`
@@ -42,9 +41,9 @@ pub(crate) fn client(words: &[u8]) -> Option<Line>
 pub(crate) fn file(words: &[u8]) -> Option<Line>
     ensures { result ≡ file_at words.now }
 {
-    let (number, words) = u64_at(words)?;
+    let (number, words) = u64_at(words);
     let (_, words) = cut(words);
-    let (stripe, words) = u32_at(words)?;
+    let (stripe, words) = u32_at(words);
     let location = Location {
         version: 1,
         kind: Kind::Replicated,
@@ -56,22 +55,21 @@ pub(crate) fn file(words: &[u8]) -> Option<Line>
 
 /// `start N CLOCK`
 #[tactic(auto, unfolding(crate::specs::LineReading::start_at))]
-pub(crate) fn start(words: &[u8]) -> Option<Line>
+pub(crate) fn start(words: &[u8]) -> Line
     ensures { result ≡ start_at words.now }
 {
-    let (node, words) = u32_at(words)?;
-    let (clock, _) = u64_at(words)?;
-    let node = NodeId(node);
-    Some(Line::Start { node, clock })
+    let (node, words) = node_at(words);
+    let (clock, _) = u64_at(words);
+    Line::Start { node, clock }
 }
 
 /// `stop N`
 #[tactic(auto, unfolding(crate::specs::LineReading::stop_at))]
-pub(crate) fn stop(words: &[u8]) -> Option<Line>
+pub(crate) fn stop(words: &[u8]) -> Line
     ensures { result ≡ stop_at words.now }
 {
-    let (node, _) = u32_at(words)?;
-    Some(Line::Stop { node: NodeId(node) })
+    let (node, _) = node_at(words);
+    Line::Stop { node }
 }
 
 /// `crash N K BYTE`
@@ -79,126 +77,138 @@ pub(crate) fn stop(words: &[u8]) -> Option<Line>
 pub(crate) fn crash(words: &[u8]) -> Option<Line>
     ensures { result ≡ crash_at words.now }
 {
-    let (node, words) = u32_at(words)?;
-    let (call, words) = u8_at(words)?;
+    let (node, words) = node_at(words);
+    let (call, words) = u8_at(words);
     let (digits, _) = cut(words);
     let fill = byte_of(digits)?;
-    let node = NodeId(node);
     Some(Line::Crash { node, call, fill })
 }
 
 /// `cut N COUNT`
 #[tactic(auto, unfolding(crate::specs::LineReading::cut_at))]
-pub(crate) fn cut_line(words: &[u8]) -> Option<Line>
+pub(crate) fn cut_line(words: &[u8]) -> Line
     ensures { result ≡ cut_at words.now }
 {
-    let (node, words) = u32_at(words)?;
-    let (count, _) = u128_at(words)?;
-    let node = NodeId(node);
-    Some(Line::Cut { node, count })
+    let (node, words) = node_at(words);
+    let (count, _) = u128_at(words);
+    Line::Cut { node, count }
 }
 
 /// `clock N VALUE`
 #[tactic(auto, unfolding(crate::specs::LineReading::clock_at))]
-pub(crate) fn clock(words: &[u8]) -> Option<Line>
+pub(crate) fn clock(words: &[u8]) -> Line
     ensures { result ≡ clock_at words.now }
 {
-    let (node, words) = u32_at(words)?;
-    let (clock, _) = u64_at(words)?;
-    let node = NodeId(node);
-    Some(Line::Clock { node, clock })
+    let (node, words) = node_at(words);
+    let (clock, _) = u64_at(words);
+    Line::Clock { node, clock }
 }
 
 /// `tick COUNT`
 #[tactic(auto, unfolding(crate::specs::LineReading::tick_at))]
-pub(crate) fn tick(words: &[u8]) -> Option<Line>
+pub(crate) fn tick(words: &[u8]) -> Line
     ensures { result ≡ tick_at words.now }
 {
-    let (count, _) = u64_at(words)?;
-    Some(Line::Tick { count })
+    let (count, _) = u64_at(words);
+    Line::Tick { count }
 }
 
 /// `wake N`
 #[tactic(auto, unfolding(crate::specs::LineReading::wake_at))]
-pub(crate) fn wake(words: &[u8]) -> Option<Line>
+pub(crate) fn wake(words: &[u8]) -> Line
     ensures { result ≡ wake_at words.now }
 {
-    let (node, _) = u32_at(words)?;
-    Some(Line::Wake { node: NodeId(node) })
+    let (node, _) = node_at(words);
+    Line::Wake { node }
 }
 
 /// `read C F OBJ AT LEN`
 #[tactic(auto, unfolding(crate::specs::LineReading::read_at))]
-pub(crate) fn read(words: &[u8]) -> Option<Line>
+pub(crate) fn read(words: &[u8]) -> Line
     ensures { result ≡ read_at words.now }
 {
-    let (client, words) = u32_at(words)?;
-    let (file, words) = u64_at(words)?;
-    let (object, words) = u64_at(words)?;
-    let (at, words) = u32_at(words)?;
-    let (len, _) = u32_at(words)?;
+    let (client, words) = node_at(words);
+    let (file, words) = u64_at(words);
+    let (object, words) = u64_at(words);
+    let (at, words) = u32_at(words);
+    let (len, _) = u32_at(words);
     let call = Call::Read {
         file,
         object,
         at,
         len,
     };
-    let client = NodeId(client);
-    Some(Line::Call { client, call })
+    Line::Call { client, call }
+}
+
+/// `write C F OBJ AT HEX`
+#[tactic(auto, unfolding(crate::specs::LineReading::write_at))]
+pub(crate) fn write(alloc: Global, words: &[u8]) -> Result<Line, OutOfMemory>
+    ensures { IfOk result (λ line. line ≡ write_at words.now) }
+{
+    let (client, words) = node_at(words);
+    let (file, words) = u64_at(words);
+    let (object, words) = u64_at(words);
+    let (at, words) = u32_at(words);
+    let (digits, _) = cut(words);
+    let call = Call::Write {
+        file,
+        object,
+        at,
+        bytes: bytes_of(alloc, digits)?,
+    };
+    Ok(Line::Call { client, call })
 }
 
 /// `truncate C F SIZE EPOCH`
 #[tactic(auto, unfolding(crate::specs::LineReading::truncate_at))]
-pub(crate) fn truncate(words: &[u8]) -> Option<Line>
+pub(crate) fn truncate(words: &[u8]) -> Line
     ensures { result ≡ truncate_at words.now }
 {
-    let (client, words) = u32_at(words)?;
-    let (file, words) = u64_at(words)?;
-    let (size, words) = u64_at(words)?;
-    let (epoch, _) = u64_at(words)?;
+    let (client, words) = node_at(words);
+    let (file, words) = u64_at(words);
+    let (size, words) = u64_at(words);
+    let (epoch, _) = u64_at(words);
     let call = Call::Truncate { file, size, epoch };
-    let client = NodeId(client);
-    Some(Line::Call { client, call })
+    Line::Call { client, call }
 }
 
 /// `aim C F N`
 #[tactic(auto, unfolding(crate::specs::LineReading::aim_at))]
-pub(crate) fn aim(words: &[u8]) -> Option<Line>
+pub(crate) fn aim(words: &[u8]) -> Line
     ensures { result ≡ aim_at words.now }
 {
-    let (client, words) = u32_at(words)?;
-    let (file, words) = u64_at(words)?;
-    let (node, _) = u32_at(words)?;
-    let client = NodeId(client);
-    let node = NodeId(node);
-    Some(Line::Aim { client, file, node })
+    let (client, words) = node_at(words);
+    let (file, words) = u64_at(words);
+    let (node, _) = node_at(words);
+    Line::Aim { client, file, node }
 }
 
 /// `deliver M`
 #[tactic(auto, unfolding(crate::specs::LineReading::deliver_at))]
-pub(crate) fn deliver(words: &[u8]) -> Option<Line>
+pub(crate) fn deliver(words: &[u8]) -> Line
     ensures { result ≡ deliver_at words.now }
 {
-    let (number, _) = u128_at(words)?;
-    Some(Line::Deliver { number })
+    let (number, _) = u128_at(words);
+    Line::Deliver { number }
 }
 
 /// `drop M`
 #[tactic(auto, unfolding(crate::specs::LineReading::drop_at))]
-pub(crate) fn drop_line(words: &[u8]) -> Option<Line>
+pub(crate) fn drop_line(words: &[u8]) -> Line
     ensures { result ≡ drop_at words.now }
 {
-    let (number, _) = u128_at(words)?;
-    Some(Line::Drop { number })
+    let (number, _) = u128_at(words);
+    Line::Drop { number }
 }
 
 /// `settle COUNT`
 #[tactic(auto, unfolding(crate::specs::LineReading::settle_at))]
-pub(crate) fn settle(words: &[u8]) -> Option<Line>
+pub(crate) fn settle(words: &[u8]) -> Line
     ensures { result ≡ settle_at words.now }
 {
-    let (count, _) = u128_at(words)?;
-    Some(Line::Settle { count })
+    let (count, _) = u128_at(words);
+    Line::Settle { count }
 }
 
 /// A line of this name, of those that set the times, declare, start or stop.
@@ -207,17 +217,17 @@ pub(crate) fn node_line(name: &[u8], words: &[u8]) -> Option<Line>
     ensures { result ≡ node_line name.now words.now }
 {
     if name == b"times".as_slice() {
-        times(words)
+        Some(times(words))
     } else if name == b"osd".as_slice() {
-        osd(words)
+        Some(osd(words))
     } else if name == b"client".as_slice() {
-        client(words)
+        Some(client(words))
     } else if name == b"file".as_slice() {
         file(words)
     } else if name == b"start".as_slice() {
-        start(words)
+        Some(start(words))
     } else if name == b"stop".as_slice() {
-        stop(words)
+        Some(stop(words))
     } else {
         None
     }
@@ -231,13 +241,13 @@ pub(crate) fn timed_line(name: &[u8], words: &[u8]) -> Option<Line>
     if name == b"crash".as_slice() {
         crash(words)
     } else if name == b"cut".as_slice() {
-        cut_line(words)
+        Some(cut_line(words))
     } else if name == b"clock".as_slice() {
-        clock(words)
+        Some(clock(words))
     } else if name == b"tick".as_slice() {
-        tick(words)
+        Some(tick(words))
     } else if name == b"wake".as_slice() {
-        wake(words)
+        Some(wake(words))
     } else {
         node_line(name, words)
     }
@@ -249,51 +259,20 @@ pub(crate) fn named_line(name: &[u8], words: &[u8]) -> Option<Line>
     ensures { result ≡ named_line name.now words.now }
 {
     if name == b"read".as_slice() {
-        read(words)
+        Some(read(words))
     } else if name == b"truncate".as_slice() {
-        truncate(words)
+        Some(truncate(words))
     } else if name == b"aim".as_slice() {
-        aim(words)
+        Some(aim(words))
     } else if name == b"deliver".as_slice() {
-        deliver(words)
+        Some(deliver(words))
     } else if name == b"drop".as_slice() {
-        drop_line(words)
+        Some(drop_line(words))
     } else if name == b"settle".as_slice() {
-        settle(words)
+        Some(settle(words))
     } else {
         timed_line(name, words)
     }
-}
-
-/// The client, the file, the object and the place of a write, and the words behind them.
-#[tactic(auto, unfolding(crate::specs::LineReading::write_place))]
-pub(crate) fn write_place(words: &[u8]) -> Option<(NodeId, u64, u64, u32, &[u8])>
-    ensures { MatchOption result (write_place words.now ≡ None)
-        (λ x. write_place words.now ≡ Some (x.0, x.1, x.2, x.3, x.4.now)) }
-{
-    let (client, words) = u32_at(words)?;
-    let (file, words) = u64_at(words)?;
-    let (object, words) = u64_at(words)?;
-    let (at, words) = u32_at(words)?;
-    Some((NodeId(client), file, object, at, words))
-}
-
-/// `write C F OBJ AT HEX`
-#[tactic(auto, unfolding(crate::specs::LineReading::write_at))]
-pub(crate) fn write(alloc: Global, words: &[u8]) -> Result<Option<Line>, OutOfMemory>
-    ensures { IfOk result (λ found. found ≡ write_at words.now) }
-{
-    let Some((client, file, object, at, words)) = write_place(words) else {
-        return Ok(None);
-    };
-    let (digits, _) = cut(words);
-    let call = Call::Write {
-        file,
-        object,
-        at,
-        bytes: bytes_of(alloc, digits)?,
-    };
-    Ok(Some(Line::Call { client, call }))
 }
 
 /// The line that the bytes spell, if they spell one. Others may give a line too.
@@ -303,7 +282,7 @@ pub(crate) fn loose_line(alloc: Global, bytes: &[u8]) -> Result<Option<Line>, Ou
 {
     let (name, words) = cut(bytes);
     if name == b"write".as_slice() {
-        write(alloc, words)
+        Ok(Some(write(alloc, words)?))
     } else {
         Ok(named_line(name, words))
     }

@@ -115,7 +115,8 @@ fn is_spelled(alloc: Global, line: &Line, bytes: &[u8], first: bool) -> Result<b
     if !is_line(first, line) {
         return Ok(false);
     }
-    let text = print_line(alloc, line)?;
+    let mut text = Vec::with_capacity(alloc, bytes.len())?;
+    push_line(&mut text, line)?;
     Ok(text.as_slice() == bytes)
 }
 

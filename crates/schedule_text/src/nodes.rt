@@ -1,15 +1,25 @@
-//! The members of a file, as the words of a line number them.
+//! Nodes and the members of a file, as the words of a line number them.
 ghost use Rattle.std.specs.Prelude.{◌≡◌, ◌≤◌, length, take};
-ghost use Rattle.schedule_text.specs.LineReading.{node_in, nodes_of, as_members, members_at};
+ghost use Rattle.schedule_text.specs.LineReading.{node_in, node_at, nodes_of, as_members, members_at};
 
-use crate::words::{cut, number_of};
+use crate::words::{cut, u32_of};
 use xt_base::{Members, NodeId};
 
 /// The node that a word numbers, or the greatest one.
 fn node_in(word: &[u8]) -> NodeId
     ensures { result ≡ node_in word.now }
 {
-    NodeId(number_of(word).min(u128::from(u32::MAX)) as u32)
+    NodeId(u32_of(word))
+}
+
+/// The node that the first word numbers, or the greatest one, and the other words.
+#[tactic(auto, unfolding(crate::specs::LineReading::node_at))]
+pub(crate) fn node_at(words: &[u8]) -> (NodeId, &[u8])
+    ensures node { result.0 ≡ (node_at words.now).0 }
+    ensures rest { result.1.now ≡ (node_at words.now).1 }
+{
+    let (word, rest) = cut(words);
+    (node_in(word), rest)
 }
 
 /// Puts the nodes that the words number into the places, as many as there are: how many it puts.

@@ -1,4 +1,4 @@
-ghost use Rattle.std.specs.Prelude.{◌≡◌, ◌==◌, IfOk, MatchOption, Some, None};
+ghost use Rattle.std.specs.Prelude.{◌≡◌, ◌==◌, IfOk};
 ghost use Rattle.std.specs.List.{position};
 ghost use Rattle.schedule_text.specs.Reading.{first_word, other_words, number_of, number_at, digit_of, byte_of, bytes_of};
 
@@ -24,10 +24,46 @@ pub(crate) fn cut(words: &[u8]) -> (&[u8], &[u8])
     }
 }
 
-/// The number that digits spell. Another word gives some number.
+/// The number that digits spell, or the greatest below 2^8. Another word gives some number.
 #[tactic(auto, unfolding(crate::specs::Reading::number_of))]
-pub(crate) fn number_of(word: &[u8]) -> u128
-    ensures { result ≡ number_of word.now }
+pub(crate) fn u8_of(word: &[u8]) -> u8
+    ensures { result ≡ number_of 8 word.now }
+{
+    word.iter().fold(0, |number: u8, byte| {
+        number
+            .saturating_mul(10)
+            .saturating_add(byte.saturating_sub(b'0'))
+    })
+}
+
+/// The number that digits spell, or the greatest below 2^32. Another word gives some number.
+#[tactic(auto, unfolding(crate::specs::Reading::number_of))]
+pub(crate) fn u32_of(word: &[u8]) -> u32
+    ensures { result ≡ number_of 32 word.now }
+{
+    word.iter().fold(0, |number: u32, byte| {
+        number
+            .saturating_mul(10)
+            .saturating_add(u32::from(byte.saturating_sub(b'0')))
+    })
+}
+
+/// The number that digits spell, or the greatest below 2^64. Another word gives some number.
+#[tactic(auto, unfolding(crate::specs::Reading::number_of))]
+pub(crate) fn u64_of(word: &[u8]) -> u64
+    ensures { result ≡ number_of 64 word.now }
+{
+    word.iter().fold(0, |number: u64, byte| {
+        number
+            .saturating_mul(10)
+            .saturating_add(u64::from(byte.saturating_sub(b'0')))
+    })
+}
+
+/// The number that digits spell, or the greatest below 2^128. Another word gives some number.
+#[tactic(auto, unfolding(crate::specs::Reading::number_of))]
+pub(crate) fn u128_of(word: &[u8]) -> u128
+    ensures { result ≡ number_of 128 word.now }
 {
     word.iter().fold(0, |number: u128, byte| {
         number
@@ -36,47 +72,44 @@ pub(crate) fn number_of(word: &[u8]) -> u128
     })
 }
 
-/// The first word's number, where it is below 2^128, and the other words.
+/// The first word's number, or the greatest below 2^8, and the other words.
 #[tactic(auto, unfolding(crate::specs::Reading::number_at))]
-pub(crate) fn u128_at(words: &[u8]) -> Option<(u128, &[u8])>
-    ensures { MatchOption result (number_at 128 words.now ≡ None)
-        (λ x. number_at 128 words.now ≡ Some (x.0, x.1.now)) }
+pub(crate) fn u8_at(words: &[u8]) -> (u8, &[u8])
+    ensures number { result.0 ≡ (number_at 8 words.now).0 }
+    ensures rest { result.1.now ≡ (number_at 8 words.now).1 }
 {
     let (word, rest) = cut(words);
-    Some((number_of(word), rest))
+    (u8_of(word), rest)
 }
 
-/// The first word's number, where it is below 2^64, and the other words.
+/// The first word's number, or the greatest below 2^32, and the other words.
 #[tactic(auto, unfolding(crate::specs::Reading::number_at))]
-pub(crate) fn u64_at(words: &[u8]) -> Option<(u64, &[u8])>
-    ensures { MatchOption result (number_at 64 words.now ≡ None)
-        (λ x. number_at 64 words.now ≡ Some (x.0, x.1.now)) }
+pub(crate) fn u32_at(words: &[u8]) -> (u32, &[u8])
+    ensures number { result.0 ≡ (number_at 32 words.now).0 }
+    ensures rest { result.1.now ≡ (number_at 32 words.now).1 }
 {
     let (word, rest) = cut(words);
-    let number = u64::try_from(number_of(word)).ok()?;
-    Some((number, rest))
+    (u32_of(word), rest)
 }
 
-/// The first word's number, where it is below 2^32, and the other words.
+/// The first word's number, or the greatest below 2^64, and the other words.
 #[tactic(auto, unfolding(crate::specs::Reading::number_at))]
-pub(crate) fn u32_at(words: &[u8]) -> Option<(u32, &[u8])>
-    ensures { MatchOption result (number_at 32 words.now ≡ None)
-        (λ x. number_at 32 words.now ≡ Some (x.0, x.1.now)) }
+pub(crate) fn u64_at(words: &[u8]) -> (u64, &[u8])
+    ensures number { result.0 ≡ (number_at 64 words.now).0 }
+    ensures rest { result.1.now ≡ (number_at 64 words.now).1 }
 {
     let (word, rest) = cut(words);
-    let number = u32::try_from(number_of(word)).ok()?;
-    Some((number, rest))
+    (u64_of(word), rest)
 }
 
-/// The first word's number, where it is below 2^8, and the other words.
+/// The first word's number, or the greatest below 2^128, and the other words.
 #[tactic(auto, unfolding(crate::specs::Reading::number_at))]
-pub(crate) fn u8_at(words: &[u8]) -> Option<(u8, &[u8])>
-    ensures { MatchOption result (number_at 8 words.now ≡ None)
-        (λ x. number_at 8 words.now ≡ Some (x.0, x.1.now)) }
+pub(crate) fn u128_at(words: &[u8]) -> (u128, &[u8])
+    ensures number { result.0 ≡ (number_at 128 words.now).0 }
+    ensures rest { result.1.now ≡ (number_at 128 words.now).1 }
 {
     let (word, rest) = cut(words);
-    let number = u8::try_from(number_of(word)).ok()?;
-    Some((number, rest))
+    (u128_of(word), rest)
 }
 
 /// What a hex digit stands for. Another byte stands for some number.

@@ -1,10 +1,3 @@
-pub mod Below
 pub mod Calling
-pub mod Pages
-pub mod Parsing
-pub mod Putting
-pub mod Removing
-pub mod Rooted
-pub mod Sound
-pub mod Taking
-pub mod Walking
+pub mod Moves
+pub mod Placing

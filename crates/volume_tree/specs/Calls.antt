@@ -1,14 +1,17 @@
 -- what a call on the volumes gives
-use Rattle.std.specs.Prelude.{◌≡◌, Option, None, Result, Ok, Err, List}
+use Rattle.std.specs.Prelude.{◌≡◌, ◌<◌, ◌^◌, Option, None, Result, Ok, Err}
 use Rattle.xt_base.specs.declared.meta.MetaRefusal.{MetaRefusal}
 use Rattle.xt_base.specs.declared.meta.MetaRefusal.TheVariants as refusal
 use Rattle.xt_base.specs.declared.meta.MetaAnswer.{MetaAnswer}
 use Rattle.xt_base.specs.declared.meta.MetaAnswer.TheVariants as answer
+use Rattle.xt_base.specs.declared.meta.MetaReq.{MetaReq}
+use Rattle.xt_base.specs.declared.meta.MetaReq.TheVariants as ask
+use Rattle.volume_rows.specs.declared.Granting.{Granting}
 use Rattle.volume_tree.specs.declared.TreeErr.{TreeErr}
 use Rattle.volume_tree.specs.declared.TreeErr.TheVariants as failed
-use Rattle.volume_tree.specs.Paths.{Path}
-use Rattle.volume_tree.specs.Rows.{Volumes}
-use Rattle.volume_tree.specs.Requests.{Outcome}
+use Rattle.volume_rows.specs.Paths.{Path}
+use Rattle.volume_rows.specs.Rows.{Volumes}
+use Rattle.volume_rows.specs.Requests.{Outcome}
 
 -- an answer, with a refusal as an error
 abbrev pub in_result : MetaAnswer → Result MetaAnswer MetaRefusal
@@ -29,3 +32,14 @@ Comes (Err failed.OutOfMemory) old new outcome = new ≡ old
 abbrev pub IsBadPath : TreeErr → Option Path → Type 0
 IsBadPath (failed.Refused why) path = (why ≡ refusal.NameBad) × (path ≡ None)
 IsBadPath failed.OutOfMemory path = Unit {0}
+
+-- A grant gives what is granted, or its refusal, and changes nothing. Where no memory is left, or no epoch, it gives neither.
+abbrev pub Grants : Result Granting TreeErr → Result Granting MetaRefusal → Type 0
+Grants (Ok granting) granted = Ok granting ≡ granted
+Grants (Err (failed.Refused why)) granted = Err why ≡ granted
+Grants (Err failed.OutOfMemory) granted = Unit {0}
+
+-- a Create has a number left for its file
+abbrev pub HasNumber : Volumes → MetaReq → Type 0
+HasNumber volumes (ask.Create path mode kind n stripe) = volumes.next < 2 ^ 62
+HasNumber volumes _ = Unit {0}

@@ -1,71 +1,15 @@
-//! Volumes: directories and files under their paths, whose they are, and who may do what with them.
+//! What the metadata server does with its volumes.
 //!
-//! The definitions have all volumes as one flat list of rows, each with its whole path, and say what comes of each request to
-//! the metadata server, with each refusal in its order. `Tree` keeps them as a tree of names (`Node`), which goes down the names
-//! of a path alone, and its calls equal those on the flat list; a refusal, and want of memory, change nothing.
+//! `Tree` keeps them as a tree of names, which goes down the names of a path alone, and its calls equal those on the flat list of
+//! rows; a refusal, and want of memory, change nothing.
 #![tactic(auto)]
 
-mod node;
-mod paths;
-mod rights;
+mod requests;
 mod tree;
 
-pub use node::Node;
 use std::alloc::AllocError;
 pub use tree::Tree;
-use xt_base::{FileId, Location, MetaRefusal, SizeMark};
-
-/// What is kept of a file: its number, where its content is, the truncate epoch that was issued last, and its size as it was
-/// reported.
-#[derive(Clone, Copy, PartialEq, Eq)]
-pub struct Stored {
-    pub number: u64,
-    pub location: Location,
-    pub epoch: u64,
-    pub mark: SizeMark,
-}
-
-/// What an entry is.
-#[derive(Clone, Copy, PartialEq, Eq)]
-pub enum Content {
-    Directory,
-    File { stored: Stored },
-}
-
-/// Who asks: a user, and the user's group.
-#[derive(Clone, Copy, PartialEq, Eq)]
-pub struct Asker {
-    pub user: u32,
-    pub group: u32,
-}
-
-/// What stands at a path: whose it is, who may do what with it, and what it is.
-#[derive(Clone, Copy, PartialEq, Eq)]
-pub struct Entry {
-    pub owner: u32,
-    pub group: u32,
-    /// Nine bits: three for the owner, three for the group, three for all others; of each three the first is for reading,
-    /// then writing, then searching.
-    pub mode: u16,
-    pub content: Content,
-}
-
-/// Where a new file's content goes.
-#[derive(Clone, Copy, PartialEq, Eq)]
-pub enum Picked {
-    On { location: Location },
-    /// So many OSDs are there, fewer than the file wants.
-    TooFew { have: u8 },
-}
-
-/// What is granted of a file: where its content is, the truncate epoch of the capability, and its size.
-#[derive(Clone, Copy, PartialEq, Eq)]
-pub struct Granting {
-    pub file: FileId,
-    pub location: Location,
-    pub epoch: u64,
-    pub mark: SizeMark,
-}
+use xt_base::MetaRefusal;
 
 /// Why a call on the volumes changes nothing.
 #[derive(Drop)]
@@ -74,6 +18,9 @@ pub enum TreeErr {
     OutOfMemory,
 }
 
+ghost use Rattle.std.specs.Prelude.{◌≡◌};
+ghost use Rattle.volume_tree.specs.declared.TreeErr.TheVariants.{OutOfMemory};
+
 impl From<AllocError> for TreeErr {
     ghost from_gives = { λ _ e. e ≡ OutOfMemory };
 
@@ -81,16 +28,3 @@ impl From<AllocError> for TreeErr {
         TreeErr::OutOfMemory
     }
 }
-
-ghost use Rattle.std.specs.Prelude.{◌≡◌, replicate};
-ghost use Rattle.volume_tree.specs.declared.TreeErr.TheVariants.{OutOfMemory};
-ghost use Rattle.volume_tree.specs.declared.Picked.TheVariants.{TooFew as too_few};
-ghost use Rattle.volume_tree.specs.Examples.{answers, two_osds, first_steps, first_answers, bad_paths, refused, long_paths, long_answers, renames, renames_answers};
-
-/// What a few requests come to, one after the other.
-pub fn examples()
-    ensures first_ones { answers (too_few 0) first_steps ≡ first_answers }
-    ensures bad_names { answers two_osds bad_paths ≡ replicate 8 refused }
-    ensures long_names { answers two_osds long_paths ≡ long_answers }
-    ensures moves { answers two_osds renames ≡ renames_answers }
-{}

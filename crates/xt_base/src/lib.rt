@@ -28,11 +28,11 @@ pub use file::{
 };
 pub use ids::{Ballot, Boot, Epoch, FileId, Lease, NodeId, OpId, SizeMark, Stamp};
 pub use lists::{Copies, Name, Octets, OutOfMemory, Seq, Words};
-pub use members::{has_node, BadMembers, Members};
+pub use members::{BadMembers, Members, has_node};
 pub use message::{Msg, Msgs, Payload};
 pub use meta::{MetaAnswer, MetaRefusal, MetaReq, Names, RowKind};
 pub use outside::{CallList, Failed};
-pub use record::{FileRow, FileTable, Folded, HeldPairs, HeldSet, Keep, KeepBody, Logged, Record};
+pub use record::{FileRow, FileTable, Folded, HeldPairs, Keep, KeepBody, Logged, Record};
 pub use registry::{RegistryAnswer, RegistryReq, RegistryRow, RegistryRows};
 pub use reply::{Answered, Answers, Denial, Reply, Retry};
 pub use status::{AskRefusal, Limited, Refusal, Rule, Status};

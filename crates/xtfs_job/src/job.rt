@@ -1,7 +1,7 @@
 ghost use Rattle.std.specs.Prelude.{◌≡◌, ◌≢◌, ◌↔◌, IsTrue, codes};
 ghost use Rattle.xt_base.specs.declared.status.Status.TheVariants as status;
 ghost use Rattle.xt_base.specs.Faults.{Rose};
-ghost use Rattle.disk_hull.specs.Room.{journal_overflow};
+ghost use Rattle.node_disks.specs.Room.{journal_overflow};
 ghost use Rattle.schedule_lines.specs.Causes.{HasCause};
 ghost use Rattle.schedule_lines.specs.Putting.{IsFinished};
 ghost use Rattle.schedule_replay.specs.Replay.{IsReplay, Completes};

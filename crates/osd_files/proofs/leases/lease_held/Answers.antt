@@ -1,7 +1,6 @@
-use Rattle.std.proofs.Common.{◌∙◌, ap, sym, ◌≡◌}
+use Rattle.std.proofs.Common.{ap, sym}
 use Rattle.xt_base.specs.declared.ids.FileId.{FileId}
 use Rattle.xt_base.specs.declared.event.Mark.TheVariants as mark
-use Rattle.xt_protocol.specs.declared.Turned.{Turned}
 use Rattle.osd_rows.specs.Turns.{shows}
 use Rattle.osd_rows.specs.FileLeases.{led_on, lease_held}
 use Rattle.osd_rows.specs.FileStates.{FileState, Site, FileStep}
@@ -13,9 +12,9 @@ pub returns : goal.returns
 returns c =
     let old = shown c.args.file.now in
     let end = c.args.end in
+    let number = c.file-number.result.number in
     let led : Site → FileState → FileStep = λ site s. led_on site s s.primary.tenure in
-    let is : c.in_ok-marked.marked ≡ shows (mark.Held old.state.kept.file.number end) =
-    c.in_ok-marked.ensures ∙ ap (λ (f : FileId). shows (mark.Held f.number end)) c.file-number.ensures in
-    joins_on led (λ site s. lease_held site s end) c.args.now old.awake old.state old.state (shown c.led_on.new.file) c.in_ok-marked.marked c.in_ok-led.led c.join.result
-    (λ sealed body. ap (λ (t : Turned). behind_it t (led (site_at old.awake c.args.now sealed body) old.state)) (sym is))
-    c.in_ok-led.ensures c.join.ensures
+    joins_on led (λ site s. lease_held site s end) c.args.now old.awake old.state old.state (shown c.led_on.new.file) (shows (mark.Held number end)) c.in_ok-led.led c.marked_before.result
+    (λ sealed body.
+    ap (λ (f : FileId). behind_it (shows (mark.Held f.number end)) (led (site_at old.awake c.args.now sealed body) old.state)) (sym c.file-number.ensures))
+    c.in_ok-led.ensures c.marked_before.ensures

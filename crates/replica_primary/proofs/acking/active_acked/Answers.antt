@@ -1,22 +1,36 @@
-use Rattle.std.proofs.Common.{◌∙◌, List, ap}
+use Rattle.std.proofs.Common.{◌∙◌, List, ap, sym}
+use Rattle.xt_protocol.specs.declared.Turned.{Turned}
 use Rattle.osd_rows.specs.declared.Peer.{Peer}
-use Rattle.osd_rows.specs.declared.Progress.TheVariants as progress
+use Rattle.osd_rows.specs.PrimaryRows.{goes_on, unmoved}
+use Rattle.replica_primary.specs.Acks.{acked_by}
 use Rattle.replica_primary.specs.Written.{ground}
-use Rattle.replica_primary.specs.Moves.{tenure_of}
-use Rattle.osd_rows.specs.PrimaryRows.{acked_below}
-use Rattle.replica_primary.proofs.Acks.{newly_acked}
+use Rattle.replica_primary.proofs.Acks.{below_acked, issued_acked, newly_told, none_acked}
 use Rattle.replica_primary.proofs.acking.active_acked.Goals as goal
+
+pub returns-in_default : goal.returns-in_default
+returns-in_default c =
+    λ learnt records held.
+    let t = c.args.tenure.now in
+    let g = ground c.args.place.now records c.args.own.now held in
+    ap (λ (u : Turned). goes_on learnt (record { epoch = t.epoch; peers = c.make_current.new.peers; progress = t.progress }) u) c.quiet.ensures
+    ∙ ap (λ (peers : List Peer). unmoved learnt (record { epoch = t.epoch; peers = peers; progress = t.progress })) c.make_current.ensures
+    ∙ none_acked g learnt t.epoch t.peers c.args.from c.args.stamp c.args.newly t.progress c.requires c.in_default.ensures
+
+pub returns-then-is_below : goal.returns-then-is_below
+returns-then-is_below c =
+    λ learnt records held.
+    let t = c.args.tenure.now in
+    let g = ground c.args.place.now records c.args.own.now held in
+    let issued = c.in-Some.issued.now in
+    ap (λ (u : Turned). goes_on learnt (record { epoch = t.epoch; peers = c.make_current.new.peers; progress = t.progress }) u) c.in_ok-sent_to_newly.ensures
+    ∙ ap (λ (peers : List Peer). goes_on learnt (record { epoch = t.epoch; peers = peers; progress = t.progress }) (newly_told g c.args.from c.args.newly issued.update)) c.make_current.ensures
+    ∙ below_acked g learnt t.epoch t.peers c.args.from c.args.stamp c.args.newly t.progress issued c.requires c.in-Some.ensures (sym c.is_below.ensures ∙ c.if-is_below.true)
 
 pub returns : goal.returns
 returns c =
     λ learnt records held.
-    let head = c.args.head in
-    let issued = c.args.issued in
-    let p = progress.Active head issued in
+    let t = c.args.tenure.now in
     let g = ground c.args.place.now records c.args.own.now held in
-    let from = c.args.from in
-    let stamp = c.args.stamp in
-    let newly = c.args.newly in
-    c.in_ok-acked_below.ensures learnt records held
-    ∙ ap (λ (peers : List Peer). acked_below g learnt (tenure_of c.args.epoch peers p) head from stamp newly issued) c.peers_after-peers.ensures
-    ∙ newly_acked g learnt (tenure_of c.args.epoch c.args.peers p) head from stamp newly issued
+    c.in_ok-acked_by.ensures learnt
+    ∙ ap (λ (peers : List Peer). acked_by g.place g.own learnt (record { epoch = t.epoch; peers = peers; progress = t.progress }) c.args.from) c.make_current.ensures
+    ∙ issued_acked g learnt t.epoch t.peers c.args.from c.args.stamp c.args.newly t.progress c.in-Some.issued.now c.requires c.in-Some.ensures (sym c.is_below.ensures ∙ c.if-is_below.false)

@@ -1,14 +1,28 @@
-use Rattle.std.proofs.Common.{◌∙◌, sym}
-use Rattle.osd_rows.specs.PrimaryRows.{target_in}
+use Rattle.std.proofs.Common.{◌∙◌, List, Option, ap, sym}
+use Rattle.xt_protocol.specs.declared.Turned.{Turned}
+use Rattle.xt_base.specs.declared.file.ObjectVersion.{ObjectVersion}
+use Rattle.osd_rows.specs.PrimaryRows.{goes_on, target_in}
 use Rattle.replica_primary.specs.Written.{ground}
-use Rattle.replica_primary.proofs.Hears.{fed_any}
+use Rattle.replica_primary.specs.Moves.{feeds_any}
+use Rattle.replica_primary.proofs.Fed.{none_known}
 use Rattle.replica_primary.proofs.feeding.feeds_any.Goals as goal
 
-pub returns-in_ok-feeds-in-Some-Some-clause-value : goal.returns-in_ok-feeds-in-Some-Some-clause-value
-returns-in_ok-feeds-in-Some-Some-clause-value g c =
+pub returns-in_default-clause-value : goal.returns-in_default-clause-value
+returns-in_default-clause-value g c =
     λ learnt held.
-    let t = c.args.tenure in
-    c.in_ok-feeds-in-Some-Some.ensures.value learnt c.args.own.now held
-    ∙ fed_any (ground c.args.place.now (g.B.Bodies.records c.args.bodies.now) c.args.own.now held) learnt t
-    (target_in c.args.own.now t.epoch t.progress) c.args.known c.in-Some-Some.target c.in-Some-Some.known c.args.from
-    (sym c.in_ok-target.ensures ∙ c.in-Some-Some.is-0) c.in-Some-Some.is-1
+    let t = c.args.tenure.now in
+    let from = c.args.from in
+    let target = target_in c.args.own.now t.epoch t.progress in
+    let stands = ground c.args.place.now (g.B.Bodies.records c.args.bodies.now) c.args.own.now held in
+    ap (λ (u : Turned). goes_on learnt t u) c.quiet.ensures
+    ∙ none_known stands learnt t from target
+    ∙ ap (λ (known : Option (List ObjectVersion)). feeds_any stands learnt t target from known) (sym c.in_default.is)
+
+pub returns-clause-value : goal.returns-clause-value
+returns-clause-value g c =
+    λ learnt held.
+    let t = c.args.tenure.now in
+    let target = target_in c.args.own.now t.epoch t.progress in
+    let stands = ground c.args.place.now (g.B.Bodies.records c.args.bodies.now) c.args.own.now held in
+    c.in_ok-feeds_on.ensures.value learnt held
+    ∙ ap (λ (known : Option (List ObjectVersion)). feeds_any stands learnt t target c.args.from known) (sym c.in-Some.is)

@@ -1,20 +1,25 @@
 use Rattle.std.proofs.Common.{◌∙◌, ℕ, List, ap, sym}
-use Rattle.osd_rows.specs.declared.Progress.{Progress}
-use Rattle.osd_rows.specs.PrimaryRows.{body_fetched, hears_object}
+use Rattle.xt_protocol.specs.declared.Turned.{Turned}
+use Rattle.osd_rows.specs.PrimaryRows.{body_fetched, goes_on}
 use Rattle.replica_primary.specs.Written.{ground}
-use Rattle.replica_primary.proofs.Hears.{asked_object}
+use Rattle.replica_primary.proofs.Hears.{asked_object, other_object}
 use Rattle.replica_primary.proofs.fetching.hears_object.Goals as goal
 
-pub returns-then-is_version-clause-value : goal.returns-then-is_version-clause-value
-returns-then-is_version-clause-value g c =
+pub returns-then-not-is_asked-clause-value : goal.returns-then-not-is_asked-clause-value
+returns-then-not-is_asked-clause-value g c =
     λ learnt.
-    let t = c.args.tenure in
-    let v = c.args.version in
-    let from = c.args.from in
-    let read = c.in-Fetching in
+    let t = c.args.tenure.now in
     let stands = ground c.args.place.now (g.B.Bodies.records c.args.bodies.now) c.args.own.now c.args.held.now in
-    c.in_ok-body_fetched-in-Fetching.ensures.value learnt t.progress
-    ∙ ap (λ (bytes : List ℕ). body_fetched stands learnt t read.chosen read.source read.later v.object v.version bytes) c.in_ok-copy-in-Fetching.ensures
-    ∙ asked_object stands learnt t read.chosen read.source read.asked read.later from v.object v.version c.args.bytes.now c.if-from-source.true
-    (sym c.is_version.ensures ∙ c.if-is_version.true)
-    ∙ ap (λ (p : Progress). hears_object stands learnt t p from v.object v.version c.args.bytes.now) (sym read.is)
+    ap (λ (u : Turned). goes_on learnt t u) c.quiet.ensures
+    ∙ other_object stands learnt t t.progress c.args.from c.args.version c.args.bytes.now (sym c.is_asked.ensures ∙ c.if-not-is_asked.true)
+
+pub returns-clause-value : goal.returns-clause-value
+returns-clause-value g c =
+    λ learnt.
+    let t = c.args.tenure.now in
+    let v = c.args.version in
+    let stands = ground c.args.place.now (g.B.Bodies.records c.args.bodies.now) c.args.own.now c.args.held.now in
+    asked_object stands learnt t t.progress c.args.from v c.args.bytes.now (goes_on learnt c.body_fetched.new.tenure c.in_ok-body_fetched.field-0) (sym c.is_asked.ensures ∙ c.if-not-is_asked.false)
+    (λ chosen source asked later is.
+    c.in_ok-body_fetched.ensures.value learnt chosen source asked later is
+    ∙ ap (λ (bytes : List ℕ). body_fetched stands learnt t chosen source later v.object v.version bytes) c.in_ok-copy.ensures)

@@ -8,7 +8,7 @@ use Rattle.replica_primary.proofs.gathering.chooses.Goals as goal
 pub returns-clause-value : goal.returns-clause-value
 returns-clause-value g c =
     λ learnt held.
-    let t = c.args.tenure in
+    let t = c.args.tenure.now in
     let reports = c.args.reports.now in
     let best = c.index-reports-choose.result in
     let some : 0 < length reports = search rules in

@@ -9,11 +9,13 @@ use Rattle.replica_primary.proofs.gathering.installs.Goals as goal
 
 pub returns-clause-value : goal.returns-clause-value
 returns-clause-value g c =
-    λ learnt held p.
+    λ learnt held.
     let stands = ground_beyond c.args.place.now (g.B.Bodies.records c.args.bodies.now) c.args.fetched.now c.args.own.now held in
-    installed stands learnt c.args.epoch c.args.peers p c.args.chosen c.in_ok-target.target c.in_ok-peers.peers c.in_ok-turned.turned c.new.result
-    c.in_ok-target.ensures c.in_ok-peers.ensures.value
-    (c.in_ok-turned.ensures
-    ∙ ap (λ (peers : List Peer). sends (message stands.place.node stands.place.node (payload.Head stands.place.file c.args.epoch c.in_ok-target.target) ∷ last_to_each stands.place c.args.epoch peers))
+    let target = c.in_ok-target.target in
+    let installing = c.advance.new.tenure in
+    installed stands learnt c.args.tenure.now installing c.args.chosen target c.peers_fed.new.peers c.in_ok-install_sent.field-0 c.new-acked.result
+    c.advance.ensures c.in_ok-target.ensures c.in_ok-peers_fed.ensures.value
+    (c.in_ok-install_sent.ensures
+    ∙ ap (λ (peers : List Peer). sends (message stands.place.node stands.place.node (payload.Head stands.place.file installing.epoch target) ∷ last_to_each stands.place installing.epoch peers))
     c.as_slice.ensures)
-    c.new.ensures
+    c.new-acked.ensures

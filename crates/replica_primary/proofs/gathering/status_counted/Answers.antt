@@ -12,7 +12,7 @@ use Rattle.replica_primary.proofs.gathering.status_counted.Goals as goal
 pub returns-clause-value : goal.returns-clause-value
 returns-clause-value g c =
     λ learnt held.
-    let t = c.args.tenure in
+    let t = c.args.tenure.now in
     let peers = c.as_slice-peers.result.now in
     let majority =
     ap (λ (ps : List Peer). nat_le (majority_among ps) (statuses_counted ps)) (sym c.as_slice-peers.ensures)

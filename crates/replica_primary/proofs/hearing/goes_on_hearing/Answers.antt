@@ -10,21 +10,20 @@ use Rattle.replica_primary.proofs.hearing.goes_on_hearing.Goals as goal
 pub returns-in_ok-body_staged-in-Staged-clause-value : goal.returns-in_ok-body_staged-in-Staged-clause-value
 returns-in_ok-body_staged-in-Staged-clause-value g c =
     λ learnt state is.
-    let t = c.args.tenure in
+    let t = c.args.tenure.now in
     let own = c.args.own.now in
     let from = c.args.from in
-    let told = ap (λ (peers : List Peer). peer_in peers from) c.as_slice.ensures ∙ is in
     let stands = ground c.args.place.now (g.B.Bodies.records c.args.bodies.now) c.args.own.now c.args.held.now in
-    c.in_ok-body_staged-in-Staged.ensures.value learnt c.args.held.now state (c.in_ok-known-in-Staged.ensures state told)
+    c.in_ok-body_staged-in-Staged.ensures.value learnt c.args.held.now state is
     ∙ ap (λ (v : ObjectVersion). body_staged stands learnt t (target_in own t.epoch t.progress) from state v) c.version_of-version-in-Staged.ensures
     ∙ ap (λ (content : Payload). hears_peer stands learnt t from state content) (sym c.in-Staged.is)
 
 pub returns-in_ok-hears_ack-in-Ack-clause-value : goal.returns-in_ok-hears_ack-in-Ack-clause-value
 returns-in_ok-hears_ack-in-Ack-clause-value g c =
     λ learnt state is.
-    let t = c.args.tenure in
+    let t = c.args.tenure.now in
     let from = c.args.from in
-    let told = ap (λ (peers : List Peer). peer_in peers from) c.as_slice-in-Ack.ensures ∙ is in
+    let told = ap (λ (peers : List Peer). peer_in peers from) c.as_slice.ensures ∙ is in
     let stands = ground c.args.place.now (g.B.Bodies.records c.args.bodies.now) c.args.own.now c.args.held.now in
     c.in_ok-hears_ack-in-Ack.ensures learnt (g.B.Bodies.records c.args.bodies.now) c.args.held.now
     ∙ ap (λ (newly : Bool). hears_ack stands learnt t t.progress from newly c.in-Ack.stamp) (c.newly_current-newly.ensures state told)
@@ -33,7 +32,7 @@ returns-in_ok-hears_ack-in-Ack-clause-value g c =
 pub returns-in_ok-peer_behind-in-Behind-clause-value : goal.returns-in_ok-peer_behind-in-Behind-clause-value
 returns-in_ok-peer_behind-in-Behind-clause-value g c =
     λ learnt state is.
-    let t = c.args.tenure in
+    let t = c.args.tenure.now in
     let from = c.args.from in
     let stands = ground c.args.place.now (g.B.Bodies.records c.args.bodies.now) c.args.own.now c.args.held.now in
     c.in_ok-peer_behind-in-Behind.ensures learnt (g.B.Bodies.records c.args.bodies.now) c.args.own.now c.args.held.now state is

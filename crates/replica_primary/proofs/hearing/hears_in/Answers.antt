@@ -13,5 +13,5 @@ returns-in_ok-hears_peer-in-Some-peer_in-clause-value g c =
     let is = ap (λ (peers : List Peer). peer_in peers from) (sym c.as_slice.ensures) ∙ c.in-Some-peer_in.ensures in
     let stands = ground c.args.place.now (g.B.Bodies.records c.args.bodies.now) c.args.own.now c.args.held.now in
     c.in_ok-hears_peer-in-Some-peer_in.ensures.value state is
-    ∙ of_tenure stands c.args.learnt c.args.tenure from (epoch_told c.args.payload.now) c.in-Some.epoch state c.args.payload.now
+    ∙ of_tenure stands c.args.learnt c.args.tenure.now from (epoch_told c.args.payload.now) c.in-Some.epoch state c.args.payload.now
     (sym c.epoch_told.ensures ∙ c.in-Some.is) (sym c.is_epoch.ensures ∙ c.if-not-is_epoch.false) is

@@ -1,12 +1,18 @@
-use Rattle.std.proofs.Common.{◌∙◌, ap, sym}
+use Rattle.std.proofs.Common.{◌∙◌, Some, ap, sym}
 use Rattle.xt_base.specs.declared.message.Payload.{Payload}
 use Rattle.osd_rows.specs.PrimaryRows.{hears_peer}
+use Rattle.replica_primary.specs.declared.moving.Heard.{Heard}
+use Rattle.replica_primary.specs.Moves.{led_by}
 use Rattle.replica_primary.specs.Written.{ground}
+use Rattle.replica_primary.proofs.Hears.{outpromised_by}
 use Rattle.replica_primary.proofs.hearing.hears_peer.Goals as goal
 
-pub returns-in_ok-outpromised-in-Refused-clause-value : goal.returns-in_ok-outpromised-in-Refused-clause-value
-returns-in_ok-outpromised-in-Refused-clause-value g c =
+pub returns-in-Refused-clause-value : goal.returns-in-Refused-clause-value
+returns-in-Refused-clause-value g c =
     λ state is.
+    let t = c.args.tenure.now in
+    let learnt = c.args.learnt in
     let stands = ground c.args.place.now (g.B.Bodies.records c.args.bodies.now) c.args.own.now c.args.held.now in
-    c.in_ok-outpromised-in-Refused.ensures (g.B.Bodies.records c.args.bodies.now) c.args.held.now
-    ∙ ap (λ (content : Payload). hears_peer stands c.args.learnt c.args.tenure c.args.from state content) (sym c.in-Refused.is)
+    ap (λ (h : Heard). led_by stands learnt (Some t) h) c.outpromised.ensures
+    ∙ outpromised_by stands learnt t c.in-Refused.promised
+    ∙ ap (λ (content : Payload). hears_peer stands learnt t c.args.from state content) (sym c.in-Refused.is)

@@ -1,4 +1,4 @@
-use Rattle.disk_hull.specs.Room.{journal_overflow}
+use Rattle.node_disks.specs.Room.{journal_overflow}
 use Rattle.schedule_replay.proofs.Complete.{complete}
 use Rattle.schedule_replay.proofs.replaying.replay.Goals as goal
 

@@ -1,13 +1,16 @@
-use Rattle.std.proofs.Common.{◌∙◌, map, ap, List, ℕ, Bor}
+use Rattle.std.proofs.Common.{◌∙◌, map, ap, subst, refl, List, ℕ, Bor}
 use Rattle.std.specs.Prelude.{Some}
-use Rattle.volume_tree.specs.Paths.{path_in}
-use Rattle.volume_tree.specs.Requests.{has_names, entry_told}
+use Rattle.volume_rows.specs.Paths.{path_in}
+use Rattle.volume_rows.specs.Requests.{has_names, on_path, entry_told}
+use Rattle.volume_rows.specs.Rows.{Volumes}
+use Rattle.volume_tree.specs.Calls.{Comes}
 use Rattle.volume_tree.proofs.Calling.{bad_path, good_path}
 use Rattle.volume_tree.proofs.tree.Tree.stat.Goals as goal
 
 pub returns-in-Ok : goal.returns-in-Ok
 returns-in-Ok c =
-    good_path c.tell.result c.args.self.now c.args.self.now (has_names 1 (path_in c.args.path.now)) (map (λ name. name.now) c.as_slice.result.now) (entry_told c.args.self.now c.args.who) (ap (λ (names : List (Bor (List ℕ))). Some (map (λ name. name.now) names)) c.as_slice.ensures.value ∙ c.in-Ok.ensures.ok) c.tell.ensures
+    subst (λ (v : Volumes). Comes c.tell.result c.args.self.now v (on_path c.args.self.now (has_names 1 (path_in c.args.path.now)) (entry_told c.args.self.now c.args.who))) c.self.view_is (good_path c.tell.result c.self.inside.table c.args.self.now c.self.inside.table (has_names 1 (path_in c.args.path.now)) (map (λ name. name.now) c.as_slice.result.now) (λ v. entry_told v c.args.who) c.self.view_is (ap (λ (names : List (Bor (List ℕ))). Some (map (λ name. name.now) names)) c.as_slice.ensures.value ∙ c.in-Ok.ensures.ok) c.tell.ensures)
 
 pub returns-in-Err : goal.returns-in-Err
-returns-in-Err c = bad_path c.args.self.now c.in-Err.why (has_names 1 (path_in c.args.path.now)) (entry_told c.args.self.now c.args.who) c.in-Err.ensures.err
+returns-in-Err c =
+    bad_path c.args.self.now c.args.self.now c.in-Err.why (has_names 1 (path_in c.args.path.now)) (entry_told c.args.self.now c.args.who) refl c.in-Err.ensures.err

@@ -1,0 +1,3 @@
+pub mod Different
+pub mod Calling
+pub mod Sizes

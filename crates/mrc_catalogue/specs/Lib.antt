@@ -1,0 +1,4 @@
+pub mod Settling
+pub mod Picking
+pub mod Asking
+pub mod Plans

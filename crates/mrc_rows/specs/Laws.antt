@@ -1,0 +1,32 @@
+-- what holds of every outcome
+use Rattle.std.specs.Prelude.{◌≡◌}
+use Rattle.xt_base.specs.declared.meta.MetaReq.{MetaReq}
+use Rattle.xt_base.specs.declared.meta.MetaReq.TheVariants as ask
+use Rattle.xt_base.specs.declared.meta.MetaAnswer.{MetaAnswer}
+use Rattle.xt_base.specs.declared.meta.MetaAnswer.TheVariants as answer
+use Rattle.volume_rows.specs.Rows.{Volumes}
+use Rattle.volume_rows.specs.Requests.{Outcome}
+
+-- a request that changes names, rights or files
+abbrev pub IsChange : MetaReq → Type 0
+IsChange (ask.Mkdir path mode) = Unit {0}
+IsChange (ask.Create path mode kind n stripe) = Unit {0}
+IsChange (ask.Rename from to) = Unit {0}
+IsChange (ask.Unlink path) = Unit {0}
+IsChange (ask.Rmdir path) = Unit {0}
+IsChange (ask.List path after) = ⊥
+IsChange (ask.Stat path) = ⊥
+IsChange (ask.Chmod path mode) = Unit {0}
+IsChange (ask.Grant path want) = ⊥
+IsChange (ask.Report capability mark) = ⊥
+
+-- an answer that is Done, or a refusal behind which the volumes are as they were
+abbrev pub SettlesAs : Volumes → Volumes → MetaAnswer → Type 0
+SettlesAs old new answer.Done = Unit {0}
+SettlesAs old new (answer.Refused why) = new ≡ old
+SettlesAs old new (answer.Names names) = ⊥
+SettlesAs old new (answer.Row kind owner group mode mark) = ⊥
+SettlesAs old new (answer.Granted capability mark) = ⊥
+
+abbrev pub Settles : Volumes → Outcome → Type 0
+Settles volumes outcome = SettlesAs volumes outcome.volumes outcome.answer

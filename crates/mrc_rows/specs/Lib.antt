@@ -1,0 +1,4 @@
+pub mod Requests
+pub mod Steps
+pub mod Laws
+pub mod Examples

@@ -1,0 +1,9 @@
+pub mod Below
+pub mod Grafting
+pub mod Moving
+pub mod Pages
+pub mod Putting
+pub mod Removing
+pub mod Sound
+pub mod Taking
+pub mod Walking

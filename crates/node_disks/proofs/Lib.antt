@@ -1,0 +1,3 @@
+pub mod StoredRecords
+mod Stopping
+mod Rooms

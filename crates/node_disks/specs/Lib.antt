@@ -1,0 +1,4 @@
+pub mod Disks
+pub mod Ends
+pub mod Room
+pub mod Stored

@@ -1,0 +1,18 @@
+-- how much room a node's journal has
+use Rattle.std.specs.Prelude.{ℕ, ◌+◌, nat_lt, if◌then◌else◌, Some, None, List, length}
+use Rattle.xt_base.specs.declared.record.Record.{Record}
+use Rattle.replica_records.specs.RecordText.{record_text}
+use Rattle.xt_journal.specs.Format.{end_of}
+use Rattle.object_store.specs.Texts.{texts_of}
+use Rattle.cluster_runs.specs.NodeSteps.{Room}
+use Rattle.node_disks.specs.declared.TheConstants.{JOURNAL}
+
+-- How long the journal of these records has to be for one more: its end, a gate and a length, the record's payload, and the
+-- next gate.
+unfoldable pub journal_need : List Record → Record → ℕ
+journal_need records rec = end_of (texts_of records) + (6 + length (record_text rec))
+
+-- a record has no room where its journal would pass the limit
+abbrev pub journal_overflow : Room
+journal_overflow records rec =
+    if nat_lt JOURNAL (journal_need records rec) then Some (record { need = journal_need records rec; limit = JOURNAL }) else None

@@ -1,0 +1,13 @@
+//! The records of one node, on a disk in memory that a crash may leave in any allowed state.
+//!
+//! A `NodeStore` shows its records and its disk, and the bytes on the disk stand for exactly these records. An append in which
+//! the node stops stops a disk in that call, and what that disk leaves is what the node has then. A node that starts again reads
+//! what a crash leaves of its disk. A record has no room exactly where the journal would pass `JOURNAL` bytes with it.
+#![tactic(auto)]
+
+mod node_store;
+
+pub use node_store::NodeStore;
+
+/// How long a node's journal may be, in bytes.
+pub const JOURNAL: u64 = 1_073_741_824;

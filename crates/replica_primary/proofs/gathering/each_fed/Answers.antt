@@ -1,0 +1,23 @@
+use Rattle.std.proofs.Common.{◌∙◌, [], List, ap, arith, get_or}
+use Rattle.xt_base.specs.declared.record.Record.{Record}
+use Rattle.osd_rows.specs.declared.Peer.{Peer}
+use Rattle.osd_rows.specs.PrimaryRows.{peer_fed}
+use Rattle.flease_register.proofs.Filled.{map-step-at}
+use Rattle.replica_primary.specs.Moves.{ground_beyond}
+use Rattle.replica_primary.proofs.gathering.each_fed.Goals as goal
+
+pub loop-peer-preserved : goal.loop-peer-preserved
+loop-peer-preserved g c =
+    let records = g.B.Bodies.records in
+    let before = c.loop-peer.invariant in
+    let target = c.args.target.now in
+    let stands = λ (rs : List Record). ground_beyond c.args.place.now rs c.args.fetched.now target [] in
+    let fed = λ (rs : List Record) (p : Peer). let q : Peer = record { node = p.node; state = peer_fed (stands rs) target p.node p.state } in q in
+    record {
+      fed =
+          map-step-at (fed (records c.args.bodies.now)) c.args.peers.now c.loop-peer.peers c.loop-peer.peer-index c.peer-item.result c.peer_fed.new.peer (omega arith) before.fed c.peer-item.is
+          (c.in_ok-peer_fed.ensures.value target []
+          ∙ ap (λ (rs : List Record). fed rs (get_or c.loop-peer.peers c.loop-peer.peer-index c.peer-item.result)) before.same);
+      same = c.in_ok-peer_fed.ensures.reads.same ∙ before.same;
+      sound = c.in_ok-peer_fed.ensures.reads.sound ∙ before.sound;
+    }
