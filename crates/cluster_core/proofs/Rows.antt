@@ -1,23 +1,17 @@
 -- what records within their limits and in their places say of files
-use Rattle.std.proofs.Common.{◌≡◌, ◌==◌, Bool, true, false, cond, if◌then◌else◌, List, [], ◌∷◌, Option, Some, None, refl, arith, ap, sym, ◌∙◌, subst}
+use Rattle.std.proofs.Common.{◌≡◌, Bool, true, false, cond, List, [], ◌∷◌, Option, Some, None, refl, arith, ap, sym, ◌∙◌, subst}
 use Rattle.std.specs.List.{fold, AllByRecursion}
 use Rattle.std.proofs.lemmas.Bool.Decides.{nat_tests}
 use Rattle.xt_base.specs.Limits.{FitsHead, FitsRecord, is_at_most}
 use Rattle.xt_base.specs.declared.ids.FileId.{FileId}
 use Rattle.xt_base.specs.declared.ids.Epoch.{Epoch}
-use Rattle.xt_base.specs.declared.file.ObjectVersion.{ObjectVersion}
-use Rattle.xt_base.specs.declared.file.Update.{Update}
 use Rattle.xt_base.specs.declared.record.FileRow.{FileRow}
 use Rattle.xt_base.specs.declared.record.Folded.{Folded}
 use Rattle.xt_base.specs.declared.record.Record.{Record}
 use Rattle.xt_base.specs.declared.record.Record.TheVariants as kept
-use Rattle.xt_base.specs.declared.TheConstants.{NO_OBJECT}
 use Rattle.xt_protocol.specs.FileIds.{is_file, is_before}
-use Rattle.xt_protocol.specs.Stamps.{with_held}
 use Rattle.xt_protocol.specs.Heads.{new_head, head_after}
-use Rattle.xt_protocol.specs.Folds.{body_of, held_after, row_in, with_row, new_row, row_after, file_of, rows_after, folded_after, nothing_kept, fold_of, IsInPlace, AreInPlace}
-use Rattle.version_lists.specs.Rising.{held_rise}
-use Rattle.version_lists.proofs.HeadLimits.{held_still_rise}
+use Rattle.xt_protocol.specs.Folds.{row_in, with_row, new_row, row_after, file_of, rows_after, folded_after, nothing_kept, fold_of, IsInPlace, AreInPlace}
 use Rattle.record_folds.proofs.FileRows.{rise-with_row}
 use Rattle.osd_files.specs.Whole.{RowRises}
 use Rattle.osd_core.specs.Slots.{AreRows}
@@ -35,7 +29,7 @@ new_fits = record {
 }
 
 new_rises : (file : FileId) → RowRises (new_row file)
-new_rises file = record { head = new_fits; held = refl; list = tt }
+new_rises file = record { head = new_fits; list = tt }
 
 row_rises : (rows : List FileRow) (file : FileId) → AllByRecursion RowRises rows → RowRises (row_in rows file)
 unfolding row_in
@@ -59,20 +53,12 @@ with_row_rises (r ∷ rs) row all is = at (with_row_rises rs row all.1 is) (is_f
 at_most_again : (a b c : Epoch) → is_at_most a b ≡ true → is_at_most b c ≡ true → is_at_most a c ≡ true
 at_most_again a b c one two = grind (arith, nat_tests)
 
-held_again : (held : List ObjectVersion) (update : Update) → held_rise held ≡ true → held_rise (held_after held update) ≡ true
-held_again held update rise = at (update.object == NO_OBJECT)
-  where
-    at : (none : Bool) → held_rise (if none then held else with_held held (body_of update.object update.stamp)) ≡ true
-    at true = rise
-    at false = held_still_rise held (body_of update.object update.stamp) rise
-
 record_rises : (row : FileRow) (rec : Record) (folded : Folded) (file : FileId) → row ≡ row_in folded.files file → file_of rec ≡ Some file → RowRises row → FitsRecord rec → IsInPlace folded rec → RowRises (row_after row rec)
 record_rises row (kept.Promise f epoch) folded file is of_it rises fits place =
     let here : f ≡ file = cc in
     let before : is_at_most row.head.promised epoch ≡ true =
     ap (λ (r : FileRow). is_at_most r.head.promised epoch) (is_row here) ∙ place in
     record {
-      held = rises.held;
       list = rises.list;
       head = record {
         promise = fits.1;
@@ -91,13 +77,13 @@ record_rises row (kept.Update f update) folded file is of_it rises fits place =
     let here : f ≡ file = cc in
     let next : FitsHead (head_after row.head update) =
     subst (λ (r : FileRow). FitsHead (head_after r.head update)) (sym (is ∙ ap (row_in folded.files) (sym here))) place.2 in
-    record { head = next; held = held_again row.held update rises.held; list = rises.list }
+    record { head = next; list = rises.list }
 record_rises row (kept.Stage f object version bytes) folded file is of_it rises fits place =
-    record { head = rises.head; held = held_still_rise row.held (body_of object version) rises.held; list = rises.list }
+    record { head = rises.head; list = rises.list }
 record_rises row (kept.Head f head) folded file is of_it rises fits place =
-    record { head = fits.1; held = rises.held; list = rises.list }
+    record { head = fits.1; list = rises.list }
 record_rises row (kept.View f location) folded file is of_it rises fits place =
-    record { head = rises.head; held = rises.held; list = fits.1.size }
+    record { head = rises.head; list = fits.1.size }
 record_rises row (kept.Boot boot) folded file is of_it rises fits place = absurd (cc)
 record_rises row (kept.Meta from number now nodes request) folded file is of_it rises fits place = absurd (cc)
 

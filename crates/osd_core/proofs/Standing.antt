@@ -286,7 +286,6 @@ new_row_rises file =
             clients = record { few = omega arith; each = tt; rising = refl };
             kept = refl;
           };
-      held = refl;
       list = tt;
     }
 

@@ -16,7 +16,7 @@ use record_folds::new_head;
 use std::alloc::Global;
 use std::mem;
 use step_outputs::quiet;
-use xt_base::{FileId, FileRow, Msg, OutOfMemory, Seq};
+use xt_base::{FileId, FileRow, HeldSet, Msg, OutOfMemory};
 use xt_protocol::Turned;
 
 /// A file at an OSD: what its records say of it, until a message concerns it.
@@ -33,7 +33,7 @@ pub fn new_row(alloc: Global, file: FileId) -> FileRow
     FileRow {
         file,
         head: new_head(alloc),
-        held: Seq::new(alloc),
+        held: HeldSet::new(alloc),
         location: None,
     }
 }

@@ -1,5 +1,5 @@
 -- what always holds of a file at an OSD, and what a file's steps are in the words of its callers
-use Rattle.std.specs.Prelude.{◌≡◌, ℕ, Bool, List, IfSome, IsTrue}
+use Rattle.std.specs.Prelude.{◌≡◌, ℕ, Bool, List, IfSome}
 use Rattle.xt_base.specs.Limits.{FitsHead, FitsStripe}
 use Rattle.xt_base.specs.declared.ids.FileId.{FileId}
 use Rattle.xt_base.specs.declared.ids.Stamp.{Stamp}
@@ -8,7 +8,6 @@ use Rattle.xt_base.specs.declared.message.Payload.{Payload}
 use Rattle.xt_base.specs.declared.message.Payload.TheVariants as payload
 use Rattle.xt_base.specs.declared.record.FileRow.{FileRow}
 use Rattle.xt_protocol.specs.declared.Turned.{Turned}
-use Rattle.version_lists.specs.Rising.{held_rise}
 use Rattle.osd_rows.specs.FileStates.{FileState, Site, FileStep}
 use Rattle.osd_rows.specs.FileSteps.{wake_of_file}
 use Rattle.osd_rows.specs.Overdue.{expired}
@@ -24,10 +23,9 @@ pub record IsWhole (v : FileView) : Type 0 where
   pub asks : AsksAre IsWithinLimits v.state.asks
 
 -- What records say of a file that are within their limits and in their places: the head is within its limits, so that its
--- versions and sessions rise, the held versions rise, and the size of the list's objects is one that a list may have.
+-- versions and sessions rise, and the size of the list's objects is one that a list may have.
 pub record RowRises (row : FileRow) : Type 0 where
   pub head : FitsHead row.head
-  pub held : IsTrue (held_rise row.held)
   pub list : IfSome row.location (λ location. FitsStripe location.stripe)
 
 -- whether the tag of the capability is the key's, where a message is an ask

@@ -1,4 +1,4 @@
-ghost use Rattle.std.specs.Prelude.{◌≡◌, ◌≤◌, ◌+◌, ◌/◌, IfOk, IfNone, IfSome, IsTrue, OnErr, List, None, Some, is_none, is_some};
+ghost use Rattle.std.specs.Prelude.{◌≡◌, ◌≤◌, ◌+◌, ◌/◌, IfOk, IfNone, IfSome, OnErr, List, None, Some, is_none, is_some};
 ghost use Rattle.xt_base.specs.Limits.{FitsStripe};
 ghost use Rattle.osd_invariants.specs.Sound.{IsStored};
 ghost use Rattle.osd_rows.specs.Primaries as rows;
@@ -11,7 +11,7 @@ ghost use Rattle.std.specs.Option.{option_map};
 ghost use Rattle.xt_base.specs.Limits.{FitsOp};
 ghost use Rattle.xt_base.specs.declared.file.FileHead.{FileHead};
 ghost use Rattle.xt_base.specs.declared.file.ObjectVersion.{ObjectVersion};
-ghost use Rattle.version_lists.specs.Rising.{HeadRises, held_rise};
+ghost use Rattle.version_lists.specs.Rising.{HeadRises};
 ghost use Rattle.kept_bodies.specs.KeptBodies.{fault_of, ReadsOnly};
 ghost use Rattle.replica_primary.specs.Written.{ground};
 ghost use Rattle.osd_rows.specs.FileStates.{members_of};
@@ -26,7 +26,7 @@ use std::alloc::Global;
 use std::marker::Model;
 use step_outputs::quiet;
 use xt_base::{
-    FileHead, FileId, HeldPairs, Location, NodeId, Op, OpId, OutOfMemory, Payload, Record, Reply,
+    FileHead, FileId, HeldSet, Location, NodeId, Op, OpId, OutOfMemory, Payload, Record, Reply,
 };
 use xt_protocol::Turned;
 
@@ -276,14 +276,13 @@ impl Lead {
         turn: &Turn<'_>,
         bodies: &mut B,
         own: &FileHead,
-        held: &HeldPairs,
+        held: &HeldSet,
         from: NodeId,
         payload: &Payload,
     ) -> Result<Turned, StepErr>
         requires turn { turn.now.node ≡ self.old.node }
         requires stored { IsStored self.old.location }
         requires own { HeadRises own.now }
-        requires held { IsTrue (held_rise held.now) }
         ensures state { IfOk result (λ led. self.new ≡ record self.old { primary = (hears (ground (place_of self.old) (B.records bodies.old) own.now held.now) self.old.primary from payload.now).primary }) }
         ensures led { IfOk result (λ led. led ≡ (hears (ground (place_of self.old) (B.records bodies.old) own.now held.now) self.old.primary from payload.now).turned) }
         ensures idle { OnErr result (self.new ≡ record self.old { primary = rows.idle self.old.primary }) }

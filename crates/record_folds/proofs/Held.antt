@@ -1,8 +1,8 @@
 -- versions that are held, one after the other
-use Rattle.std.proofs.Common.{◌≡◌, ◌||◌, ◌⊎◌, inl, inr, ◌↔◌, ℕ, zero, suc, ◌+◌, ◌<◌, ◌≤◌, Bool, true, false, IsTrue, List, [], ◌∷◌, length, get_or, refl, ap, sym, subst, ◌∙◌, arith}
-use Rattle.std.proofs.lemmas.Bool.{cases_lt}
+use Rattle.std.proofs.Common.{◌≡◌, ◌==◌, ◌||◌, ◌⊎◌, inl, inr, ◌↔◌, ℕ, zero, suc, ◌+◌, ◌<◌, ◌≤◌, Bool, true, false, IsTrue, List, [], ◌∷◌, length, get_or, refl, ap, sym, subst, ◌∙◌, arith}
+use Rattle.std.proofs.lemmas.Bool.{cases_lt, eqb-true}
 use Rattle.std.proofs.lemmas.List.{get_or_default}
-use Rattle.std.specs.List.{Contains}
+use Rattle.std.specs.List.{All, Contains}
 use Rattle.xt_base.specs.declared.file.ObjectVersion.{ObjectVersion}
 use Rattle.xt_protocol.specs.Stamps.{is_version, has_version}
 use Rattle.xt_protocol.proofs.Stamps.{version-equal, version-itself}
@@ -40,3 +40,11 @@ held_more held versions i e before lt here k d bound = at (cases_lt k i)
     at (inr ge) =
         let same : i ≡ k = omega arith in
         subst (λ j. Contains held (get_or versions j d)) same (subst (λ v. Contains held v) (get_or_default versions i e d lt) here)
+
+-- where nothing is held, that is no version
+pub none_held : (versions : List ObjectVersion) (b : Bool) → b ≡ (length versions == 0) → IsTrue b ↔ All (Contains []) versions
+none_held [] b is = (λ empty k d lt. absurd (omega arith), λ all. is)
+none_held (v ∷ vs) b is = (
+  λ empty. absurd (let no_way : suc (length vs) ≡ 0 = eqb-true (suc (length vs)) 0 (sym is ∙ empty) in cc),
+  λ all. absurd (let found = all 0 v (omega arith) in omega (arith, found.1)),
+)

@@ -3,27 +3,20 @@ use Rattle.std.proofs.Common.{◌≡◌, ◌==◌, ◌↔◌, zero, suc, Bool, t
 use Rattle.std.specs.List.{AllByRecursion, Contains}
 use Rattle.xt_base.specs.Limits.{FitsHead}
 use Rattle.xt_base.specs.declared.ids.FileId.{FileId}
-use Rattle.xt_base.specs.declared.file.ObjectVersion.{ObjectVersion}
 use Rattle.xt_base.specs.declared.file.FileHead.{FileHead}
 use Rattle.xt_base.specs.declared.file.Update.{Update}
 use Rattle.xt_base.specs.declared.record.FileRow.{FileRow}
 use Rattle.xt_base.specs.declared.record.Record.{Record}
 use Rattle.xt_base.specs.declared.record.Record.TheVariants as kept
-use Rattle.xt_base.specs.declared.TheConstants.{NO_OBJECT}
 use Rattle.xt_protocol.specs.FileIds.{is_file, is_before}
-use Rattle.xt_protocol.specs.Stamps.{with_held}
-use Rattle.xt_protocol.specs.Folds.{body_of, held_after, row_in, with_row, new_row, row_after, file_of, rows_after}
-use Rattle.version_lists.specs.Rising.{held_rise}
-use Rattle.version_lists.proofs.HeadLimits.{held_still_rise}
+use Rattle.xt_protocol.specs.Folds.{row_in, with_row, new_row, row_after, file_of, rows_after}
 use Rattle.record_folds.specs.Sound.{FitsLists, FitsFold, IsSoundRow, AreSoundRows}
 use Rattle.record_folds.proofs.FileRows.{rise-with_row}
 use Rattle.record_folds.proofs.AfterUpdate.{lists_after}
 
 pub new_sound : (within : Bool) (file : FileId) → IsSoundRow within (new_row file)
-new_sound within file = record {
-  held = refl;
-  head = λ yes. record { promise = record { place = omega arith; primary = omega arith }; objects = tt; clients = tt; rising = record { versions = refl; sessions = refl } };
-}
+new_sound within file ok =
+    record { promise = record { place = omega arith; primary = omega arith }; objects = tt; clients = tt; rising = record { versions = refl; sessions = refl } }
 
 -- ---- the row of a file
 
@@ -53,13 +46,6 @@ with_row_each P (r ∷ rs) row all is = at (with_row_each P rs row all.1 is) (is
 
 -- ---- a record more
 
-held_still : (held : List ObjectVersion) (update : Update) → held_rise held ≡ true → held_rise (held_after held update) ≡ true
-held_still held update rise = at (update.object == NO_OBJECT)
-  where
-    at : (none : Bool) → held_rise (if none then held else with_held held (body_of update.object update.stamp)) ≡ true
-    at true = rise
-    at false = held_still_rise held (body_of update.object update.stamp) rise
-
 of_head : (head : FileHead) → FitsHead head → FitsLists head
 of_head head fits = record {
   promise = fits.promise;
@@ -70,34 +56,28 @@ of_head head fits = record {
 
 module _ (within after : Bool) (still : IsTrue after → IsTrue within) where
   weaker : (row : FileRow) → IsSoundRow within row → IsSoundRow after row
-  weaker row sound = record { held = sound.held; head = λ yes. sound.head (still yes) }
+  weaker row sound ok = sound (still ok)
 
   each_weaker : (rows : List FileRow) → AllByRecursion (IsSoundRow within) rows → AllByRecursion (IsSoundRow after) rows
   each_weaker [] all = tt
   each_weaker (r ∷ rs) all = (weaker r all.0, each_weaker rs all.1)
 
   row_after_sound : (row : FileRow) (rec : Record) → IsSoundRow within row → (IsTrue after → FitsFold rec) → IsSoundRow after (row_after row rec)
-  row_after_sound row (kept.Promise file epoch) sound fit = record {
-    held = sound.held;
-    head = λ yes. let old = sound.head (still yes) in record {
-      promise = fit yes;
-      objects = old.objects;
-      clients = old.clients;
-      rising = record { versions = old.rising.versions; sessions = old.rising.sessions };
-    };
-  }
-  row_after_sound row (kept.Update file update) sound fit = record {
-    held = held_still row.held update sound.held;
-    head = λ yes. let facts = fit yes in lists_after row.head update (sound.head (still yes)) facts.0 facts.1 facts.2;
-  }
-  row_after_sound row (kept.Stage file object version bytes) sound fit = record {
-    held = held_still_rise row.held (body_of object version) sound.held;
-    head = λ yes. sound.head (still yes);
-  }
-  row_after_sound row (kept.Head file head) sound fit = record { held = sound.held; head = λ yes. of_head head (fit yes) }
-  row_after_sound row (kept.View file location) sound fit = record { held = sound.held; head = λ yes. sound.head (still yes) }
-  row_after_sound row (kept.Boot boot) sound fit = weaker row sound
-  row_after_sound row (kept.Meta from number now nodes request) sound fit = weaker row sound
+  row_after_sound row (kept.Promise file epoch) sound fit ok =
+      let old = sound (still ok) in
+      record {
+        promise = fit ok;
+        objects = old.objects;
+        clients = old.clients;
+        rising = record { versions = old.rising.versions; sessions = old.rising.sessions };
+      }
+  row_after_sound row (kept.Update file update) sound fit ok =
+      let facts = fit ok in lists_after row.head update (sound (still ok)) facts.0 facts.1 facts.2
+  row_after_sound row (kept.Stage file object version bytes) sound fit ok = sound (still ok)
+  row_after_sound row (kept.Head file head) sound fit ok = of_head head (fit ok)
+  row_after_sound row (kept.View file location) sound fit ok = sound (still ok)
+  row_after_sound row (kept.Boot boot) sound fit ok = sound (still ok)
+  row_after_sound row (kept.Meta from number now nodes request) sound fit ok = sound (still ok)
 
   of_file : (rows : List FileRow) (rec : Record) (file : Option FileId) → AreSoundRows within rows → (IsTrue after → FitsFold rec)
       → AreSoundRows after (rows_after rows rec file)
@@ -113,4 +93,4 @@ module _ (within after : Bool) (still : IsTrue after → IsTrue within) where
 pub sound_after : (within after : Bool) (rows : List FileRow) (rec : Record) → (IsTrue after ↔ (IsTrue within × FitsFold rec)) → AreSoundRows within rows
     → AreSoundRows after (rows_after rows rec (file_of rec))
 sound_after within after rows rec still sound =
-    of_file within after (λ yes. (still.0 yes).0) rows rec (file_of rec) sound (λ yes. (still.0 yes).1)
+    of_file within after (λ ok. (still.0 ok).0) rows rec (file_of rec) sound (λ ok. (still.0 ok).1)

@@ -9,7 +9,7 @@ use Rattle.xt_base.specs.declared.record.Record.TheVariants as kept
 use Rattle.xt_base.specs.declared.file.Update.{Update}
 use Rattle.xt_base.specs.declared.TheConstants.{CLIENTS, OBJECTS}
 use Rattle.xt_protocol.specs.Heads.{head_after}
-use Rattle.version_lists.specs.Rising.{HeadRises, held_rise}
+use Rattle.version_lists.specs.Rising.{HeadRises}
 use Rattle.record_folds.specs.RowPlaces.{FilesRise}
 
 -- the head after an update has no version and no session too many
@@ -34,10 +34,9 @@ FitsFold (kept.View file location) = Unit {0}
 FitsFold (kept.Boot boot) = Unit {0}
 FitsFold (kept.Meta from number now nodes request) = Unit {0}
 
--- held versions rise, and the head is such a one where all records were within their limits
-pub record IsSoundRow (within : Bool) (row : FileRow) : Type 0 where
-  pub held : IsTrue (held_rise row.held)
-  pub head : IsTrue within → FitsLists row.head
+-- the head is such a one where all records were within their limits
+abbrev pub IsSoundRow : Bool → FileRow → Type 0
+IsSoundRow within row = IsTrue within → FitsLists row.head
 
 -- the rows of a folding
 pub record AreSoundRows (within : Bool) (rows : List FileRow) : Type 0 where

@@ -10,10 +10,10 @@ use crate::head::{head_after, new_head};
 use crate::order::{are_held, fits_fold, follows_fitting, follows_head};
 use std::alloc::Global;
 use std::marker::Model;
-use version_lists::put_held;
+use version_lists::hold;
 use xt_base::{
-    Boot, Copies, Epoch, FileHead, FileId, FileRow, FileTable, Folded, NO_OBJECT, ObjectVersion,
-    OutOfMemory, Record, Seq, Stamp, Update,
+    Boot, Copies, Epoch, FileHead, FileId, FileRow, FileTable, Folded, HeldSet, NO_OBJECT,
+    ObjectVersion, OutOfMemory, Record, Seq, Stamp, Update,
 };
 use xt_wire::is_at_most;
 
@@ -51,7 +51,7 @@ fn new_row(alloc: Global, file: FileId) -> FileRow
     FileRow {
         file,
         head: new_head(alloc),
-        held: Seq::new(alloc),
+        held: HeldSet::new(alloc),
         location: None,
     }
 }
@@ -71,11 +71,11 @@ fn take_update(
     if within {
         return version_lists::take_update(&mut row.head, &mut row.held, update);
     }
-    row.held.items.reserve(1)?;
-    row.head = head_after(alloc, &row.head, update)?;
+    let head = head_after(alloc, &row.head, update)?;
     if update.object != NO_OBJECT {
-        put_held(&mut row.held.items, body_of(update.object, update.stamp));
+        hold(&mut row.held, body_of(update.object, update.stamp))?;
     }
+    row.head = head;
     Ok(())
 }
 
@@ -107,8 +107,7 @@ fn change_row(
             version,
             ..
         } => {
-            row.held.items.reserve(1)?;
-            put_held(&mut row.held.items, body_of(*object, *version));
+            hold(&mut row.held, body_of(*object, *version))?;
         }
         Record::Head { head, .. } => row.head = head.copy(alloc)?,
         Record::View { location, .. } => row.location = Some(*location),
@@ -265,8 +264,8 @@ impl Folding {
         ensures { IsTrue result ↔ All (Contains (row_in self.now.files file.now).held) head.now.versions }
     {
         match row_of(self.folded.files.as_slice(), file) {
-            Some(row) => are_held(row.held.as_slice(), head.versions.as_slice()),
-            None => are_held(&[], head.versions.as_slice()),
+            Some(row) => are_held(&row.held, head.versions.as_slice()),
+            None => head.versions.as_slice().is_empty(),
         }
     }
 

@@ -3,15 +3,15 @@ ghost use Rattle.std.specs.List.{All, AllByRecursion};
 ghost use Rattle.xt_base.specs.Limits.{is_at_most, rise, FitsEpoch, FitsStamp, FitsOpId, FitsMark, FitsVersion, FitsSession, FitsVersions, FitsSessions, FitsHead, FitsUpdate, IsObjectOrNone};
 ghost use Rattle.xt_protocol.specs.Heads.{first_epoch};
 ghost use Rattle.xt_protocol.specs.Folds.{FollowsHead};
-ghost use Rattle.version_lists.specs.Rising.{HeadRises, held_rise};
+ghost use Rattle.version_lists.specs.Rising.{HeadRises};
 ghost use Rattle.record_folds.specs.Sound.{FitsFold, FitsLists, HasRoomFor};
 
 use crate::head::{head_after, plain_stamp};
 use std::alloc::Global;
-use version_lists::{is_held, sessions_after, versions_after};
+use version_lists::{holds, sessions_after, versions_after};
 use xt_base::{
-    CLIENTS, COUNTS, Epoch, FileHead, NO_OBJECT, OBJECTS, ObjectVersion, OpId, OutOfMemory, Record,
-    Session, SizeMark, Stamp, Update,
+    CLIENTS, COUNTS, Epoch, FileHead, HeldSet, NO_OBJECT, OBJECTS, ObjectVersion, OpId,
+    OutOfMemory, Record, Session, SizeMark, Stamp, Update,
 };
 use xt_wire::{clients_rise, is_at_most, objects_rise};
 
@@ -173,20 +173,18 @@ pub(crate) fn follows_fitting(head: &FileHead, update: &Update) -> bool
 }
 
 /// Whether a version is held.
-fn holds(held: &[ObjectVersion], version: ObjectVersion) -> bool
-    requires { IsTrue (held_rise held.now) }
+fn is_held(held: &HeldSet, version: ObjectVersion) -> bool
     ensures { IsTrue result ↔ Contains held.now version }
 {
-    is_held(held, version)
+    holds(held, version)
 }
 
 /// Whether each of the versions is held.
-pub(crate) fn are_held(held: &[ObjectVersion], versions: &[ObjectVersion]) -> bool
-    requires { IsTrue (held_rise held.now) }
+pub(crate) fn are_held(held: &HeldSet, versions: &[ObjectVersion]) -> bool
     ensures { IsTrue result ↔ All (Contains held.now) versions.now }
 {
     for version in versions {
-        if !holds(held, *version) {
+        if !is_held(held, *version) {
             return false;
         }
     }

@@ -1,4 +1,4 @@
-ghost use Rattle.std.specs.Prelude.{◌≡◌, ℕ, List, None, Some, IfOk, IsTrue};
+ghost use Rattle.std.specs.Prelude.{◌≡◌, ℕ, List, None, Some, IfOk};
 ghost use Rattle.xt_base.specs.declared.ids.FileId.{FileId};
 ghost use Rattle.xt_base.specs.declared.file.FileHead.{FileHead};
 ghost use Rattle.xt_base.specs.declared.file.ObjectVersion.{ObjectVersion};
@@ -10,7 +10,6 @@ ghost use Rattle.osd_rows.specs.PrimaryRows as rows;
 ghost use Rattle.osd_rows.specs.PrimaryRows.{goes_on};
 ghost use Rattle.osd_rows.specs.ReplicaRows.{stage_record};
 ghost use Rattle.kept_bodies.specs.KeptBodies.{fault_of, ReadsOnly};
-ghost use Rattle.version_lists.specs.Rising.{held_rise};
 ghost use Rattle.replica_primary.specs.Written.{ground};
 ghost use Rattle.replica_primary.specs.Moves.{ground_beyond, is_asked, kept_of, led_by, source_in};
 
@@ -22,20 +21,21 @@ use osd_rows::{Place, Progress, Tenure};
 use std::alloc::Global;
 use std::mem;
 use step_outputs::quiet;
-use version_lists::{is_held, is_version};
-use xt_base::{Copies, FileHead, FileId, NodeId, ObjectVersion, Octets, OutOfMemory, Record};
+use version_lists::{holds, is_version};
+use xt_base::{
+    Copies, FileHead, FileId, HeldSet, NodeId, ObjectVersion, Octets, OutOfMemory, Record,
+};
 use xt_protocol::Turned;
 
 /// A fetched body, unless it is held.
-fn unless_held(held: &[ObjectVersion], body: FetchedBody) -> Option<FetchedBody>
-    requires { IsTrue (held_rise held.now) }
+fn unless_held(held: &HeldSet, body: FetchedBody) -> Option<FetchedBody>
     ensures { (file : FileId) → kept_of file result ≡ stage_record file held.now body.object body.version body.bytes }
 {
     let version = ObjectVersion {
         object: body.object,
         version: body.version,
     };
-    if is_held(held, version) {
+    if holds(held, version) {
         return None;
     }
     Some(body)
@@ -93,10 +93,9 @@ fn body_fetched<B: Bodies>(
     place: &Place,
     tenure: &mut Tenure,
     own: &FileHead,
-    held: &[ObjectVersion],
+    held: &HeldSet,
     body: FetchedBody,
 ) -> Result<Turned, StepErr>
-    requires { IsTrue (held_rise held.now) }
     ensures value { IfOk result (λ turned. (learnt : ℕ) (chosen : FileHead) (source : NodeId) (asked : ObjectVersion) (later : List ObjectVersion) → tenure.old.progress ≡ progress.Fetching chosen source asked later → goes_on learnt tenure.new turned ≡ rows.body_fetched (ground place.now (B.records bodies.old) own.now held.now) learnt tenure.old chosen source later body.object body.version body.bytes) }
     ensures reads { ReadsOnly B.records B.fault_count bodies.old bodies.new (fault_of result) }
 {
@@ -124,12 +123,11 @@ pub fn hears_object<B: Bodies>(
     place: &Place,
     tenure: &mut Tenure,
     own: &FileHead,
-    held: &[ObjectVersion],
+    held: &HeldSet,
     from: NodeId,
     version: ObjectVersion,
     bytes: &Octets,
 ) -> Result<Turned, StepErr>
-    requires { IsTrue (held_rise held.now) }
     ensures value { IfOk result (λ turned. (learnt : ℕ) → goes_on learnt tenure.new turned ≡ rows.hears_object (ground place.now (B.records bodies.old) own.now held.now) learnt tenure.old tenure.old.progress from version.object version.version bytes.now) }
     ensures reads { ReadsOnly B.records B.fault_count bodies.old bodies.new (fault_of result) }
 {

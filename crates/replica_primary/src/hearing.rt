@@ -10,7 +10,7 @@ ghost use Rattle.osd_rows.specs.PrimaryRows as rows;
 ghost use Rattle.osd_rows.specs.PrimaryRows.{goes_on};
 ghost use Rattle.osd_rows.specs.Turns.{message, quiet, sends};
 ghost use Rattle.kept_bodies.specs.KeptBodies.{fault_of, ReadsOnly};
-ghost use Rattle.version_lists.specs.Rising.{HeadRises, held_rise};
+ghost use Rattle.version_lists.specs.Rising.{HeadRises};
 ghost use Rattle.replica_primary.specs.Committed.{CommittedUnder};
 ghost use Rattle.replica_primary.specs.declared.moving.Heard.TheVariants as heard;
 ghost use Rattle.replica_primary.specs.Written.{ground};
@@ -28,7 +28,7 @@ use osd_rows::{Peer, PeerState, Peers, Place, PrimaryState, Tenure};
 use std::alloc::Global;
 use step_outputs::{message, quiet, sends_one};
 use version_lists::{is_earlier, is_epoch};
-use xt_base::{Epoch, FileHead, NodeId, ObjectVersion, OutOfMemory, Payload, Stamp};
+use xt_base::{Epoch, FileHead, HeldSet, NodeId, ObjectVersion, OutOfMemory, Payload, Stamp};
 use xt_protocol::Turned;
 
 /// Whether nothing is known of this peer.
@@ -170,12 +170,11 @@ fn goes_on_hearing<B: Bodies>(
     place: &Place,
     tenure: &mut Tenure,
     own: &FileHead,
-    held: &[ObjectVersion],
+    held: &HeldSet,
     from: NodeId,
     payload: &Payload,
 ) -> Result<Turned, StepErr>
-    requires rising { IsTrue (held_rise held.now) }
-    requires goes { IsTrue (keeps_tenure payload.now) }
+    requires { IsTrue (keeps_tenure payload.now) }
     ensures value { IfOk result (λ turned. (learnt : ℕ) (state : PeerState) → peer_in tenure.old.peers from ≡ Some state → goes_on learnt tenure.new turned ≡ rows.hears_peer (ground place.now (B.records bodies.old) own.now held.now) learnt tenure.old from state payload.now) }
     ensures reads { ReadsOnly B.records B.fault_count bodies.old bodies.new (fault_of result) }
 {
@@ -219,11 +218,10 @@ fn hears_peer<B: Bodies>(
     learnt: u64,
     tenure: &mut Tenure,
     own: &FileHead,
-    held: &[ObjectVersion],
+    held: &HeldSet,
     from: NodeId,
     payload: &Payload,
 ) -> Result<Heard, StepErr>
-    requires { IsTrue (held_rise held.now) }
     ensures value { IfOk result (λ heard. (state : PeerState) → peer_in tenure.old.peers from ≡ Some state → led_by (ground place.now (B.records bodies.old) own.now held.now) learnt (Some tenure.new) heard ≡ rows.hears_peer (ground place.now (B.records bodies.old) own.now held.now) learnt tenure.old from state payload.now) }
     ensures reads { ReadsOnly B.records B.fault_count bodies.old bodies.new (fault_of result) }
 {
@@ -254,11 +252,10 @@ pub fn hears_in<B: Bodies>(
     learnt: u64,
     tenure: &mut Tenure,
     own: &FileHead,
-    held: &[ObjectVersion],
+    held: &HeldSet,
     from: NodeId,
     payload: &Payload,
 ) -> Result<Heard, StepErr>
-    requires { IsTrue (held_rise held.now) }
     ensures value { IfOk result (λ heard. led_by (ground place.now (B.records bodies.old) own.now held.now) learnt (Some tenure.new) heard ≡ rows.hears_in (ground place.now (B.records bodies.old) own.now held.now) learnt (Some tenure.old) from payload.now) }
     ensures reads { ReadsOnly B.records B.fault_count bodies.old bodies.new (fault_of result) }
 {
@@ -284,11 +281,10 @@ fn hears_under<B: Bodies>(
     learnt: u64,
     tenure: &mut Option<Tenure>,
     own: &FileHead,
-    held: &[ObjectVersion],
+    held: &HeldSet,
     from: NodeId,
     payload: &Payload,
 ) -> Result<Heard, StepErr>
-    requires { IsTrue (held_rise held.now) }
     ensures value { IfOk result (λ heard. led_by (ground place.now (B.records bodies.old) own.now held.now) learnt tenure.new heard ≡ rows.hears_in (ground place.now (B.records bodies.old) own.now held.now) learnt tenure.old from payload.now) }
     ensures reads { ReadsOnly B.records B.fault_count bodies.old bodies.new (fault_of result) }
 {
@@ -335,11 +331,10 @@ pub fn hears<B: Bodies>(
     place: &Place,
     primary: &mut PrimaryState,
     own: &FileHead,
-    held: &[ObjectVersion],
+    held: &HeldSet,
     from: NodeId,
     payload: &Payload,
 ) -> Result<Turned, StepErr>
-    requires { IsTrue (held_rise held.now) }
     ensures row { IfOk result (λ turned. record { primary = primary.new; turned = turned } ≡ rows.hears (ground place.now (B.records bodies.old) own.now held.now) primary.old from payload.now) }
     ensures rises { OnOk result (HeadRises own.now → CommittedUnder primary.old.tenure → CommittedUnder primary.new.tenure) }
     ensures kept { OnErr result (primary.new.learnt ≡ primary.old.learnt) }

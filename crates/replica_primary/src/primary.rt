@@ -1,4 +1,4 @@
-ghost use Rattle.std.specs.Prelude.{◌≡◌, List, None, Some, MatchOption, IfOk, IfNone, IsTrue, OnErr};
+ghost use Rattle.std.specs.Prelude.{◌≡◌, List, None, Some, MatchOption, IfOk, IfNone, OnErr};
 ghost use Rattle.osd_rows.specs.Primaries as rows;
 ghost use Rattle.osd_rows.specs.PrimaryRows.{epoch_drawn, hears};
 ghost use Rattle.osd_rows.specs.Serving.{reads, wakes, writes};
@@ -6,7 +6,7 @@ ghost use Rattle.xt_base.specs.declared.file.FileHead.{FileHead};
 ghost use Rattle.xt_base.specs.declared.file.ObjectVersion.{ObjectVersion};
 ghost use Rattle.xt_base.specs.Limits.{FitsOp, FitsStripe};
 ghost use Rattle.kept_bodies.specs.KeptBodies.{fault_of, ReadsOnly};
-ghost use Rattle.version_lists.specs.Rising.{HeadRises, held_rise};
+ghost use Rattle.version_lists.specs.Rising.{HeadRises};
 ghost use Rattle.replica_primary.specs.Written.{ground};
 ghost use Rattle.replica_primary.specs.Phases.{phase_in, phase_of};
 ghost use Rattle.std.specs.Option.{option_map};
@@ -23,9 +23,7 @@ use osd_rows::{Peer, PeerState, Place, PrimaryState, Progress, Tenure};
 use std::alloc::Global;
 use std::marker::Model;
 use step_outputs::quiet;
-use xt_base::{
-    FileHead, FileId, HeldPairs, Members, NodeId, Op, OpId, OutOfMemory, Payload, Reply,
-};
+use xt_base::{FileHead, FileId, HeldSet, Members, NodeId, Op, OpId, OutOfMemory, Payload, Reply};
 use xt_protocol::Turned;
 
 /// The primary of one file at one node. Contracts see where it stands and its state.
@@ -226,13 +224,12 @@ impl Primary {
         turn: &Turn<'_>,
         bodies: &mut B,
         own: &FileHead,
-        held: &HeldPairs,
+        held: &HeldSet,
         from: NodeId,
         payload: &Payload,
     ) -> Result<Turned, StepErr>
         requires turn { turn.now.node ≡ self.old.place.node }
         requires own { HeadRises own.now }
-        requires held { IsTrue (held_rise held.now) }
         ensures state { IfOk result (λ led. self.new ≡ record self.old { state = (hears (ground self.old.place (B.records bodies.old) own.now held.now) self.old.state from payload.now).primary }) }
         ensures led { IfOk result (λ led. led ≡ (hears (ground self.old.place (B.records bodies.old) own.now held.now) self.old.state from payload.now).turned) }
         ensures idle { OnErr result (self.new ≡ record self.old { state = rows.idle self.old.state }) }
@@ -241,16 +238,7 @@ impl Primary {
         let _turn = turn;
         let (alloc, place) = (self.alloc, &self.place);
         let state = &mut self.state;
-        match hears(
-            bodies,
-            alloc,
-            place,
-            state,
-            own,
-            held.as_slice(),
-            from,
-            payload,
-        ) {
+        match hears(bodies, alloc, place, state, own, held, from, payload) {
             Ok(turned) => Ok(turned),
             Err(error) => {
                 self.state.tenure = None;

@@ -92,10 +92,5 @@ update_fits head update fits new le test =
       kept = le;
     }
 
--- the held bodies still rise
-pub held_up : (held : List ObjectVersion) (update : Update) → held_rise held ≡ true → held_rise (held_after held update) ≡ true
-held_up held update up =
-    when (λ (vs : List ObjectVersion). held_rise vs ≡ true) (update.object == NO_OBJECT) _ _ (λ none. up) (λ some. held_still_rise held (body_of update.object update.stamp) up)
-
 pub head_rises : (head : FileHead) → FitsHead head → HeadRises head
 head_rises head fits = record { versions = fits.objects.rising; sessions = fits.clients.rising }

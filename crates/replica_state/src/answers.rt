@@ -8,15 +8,13 @@ ghost use Rattle.osd_rows.specs.declared.Acted.{Acted};
 ghost use Rattle.xt_base.specs.declared.message.Payload.TheVariants as payload;
 ghost use Rattle.osd_rows.specs.ReplicaRows.{unanswered, only, after_record, refused, behind, as_promised, staged, stage_record, first_missing, head_offered, headed, head_fits, update_offered, updated};
 ghost use Rattle.xt_protocol.specs.Heads.{head_after};
-ghost use Rattle.version_lists.specs.Rising.{HeadRises, held_rise};
+ghost use Rattle.version_lists.specs.Rising.{HeadRises};
 
 use osd_rows::Acted;
 use std::alloc::Global;
-use version_lists::{
-    is_below, is_earlier, is_epoch, is_held, put_held, sessions_after, versions_after,
-};
+use version_lists::{hold, holds, is_below, is_earlier, is_epoch, sessions_after, versions_after};
 use xt_base::{
-    CLIENTS, COUNTS, Copies, Epoch, FileHead, FileId, HeldPairs, OBJECTS, ObjectVersion, Octets,
+    CLIENTS, COUNTS, Copies, Epoch, FileHead, FileId, HeldSet, OBJECTS, ObjectVersion, Octets,
     OutOfMemory, Payload, Record, Stamp, Update,
 };
 
@@ -114,15 +112,14 @@ pub fn plain_status(
     })
 }
 
-/// The first of the versions that isn't held. The held ones are searched by halves.
-pub fn first_missing(held: &[ObjectVersion], wanted: &[ObjectVersion]) -> Option<ObjectVersion>
-    requires { IsTrue (held_rise held.now) }
+/// The first of the versions that isn't held.
+pub fn first_missing(held: &HeldSet, wanted: &[ObjectVersion]) -> Option<ObjectVersion>
     ensures { result ≡ first_missing held.now wanted.now }
 {
     wanted
         .iter()
         .copied()
-        .find(|version| !is_held(held, *version))
+        .find(|version| !holds(held, *version))
 }
 
 /// Whether the head after an update is within the limits of what can be kept and sent.
@@ -155,11 +152,10 @@ fn turned_away(file: &FileId, own: &FileHead, epoch: Epoch) -> Option<Acted>
 fn head_declined(
     file: &FileId,
     own: &FileHead,
-    held: &[ObjectVersion],
+    held: &HeldSet,
     epoch: Epoch,
     head: &FileHead,
 ) -> Option<Acted>
-    requires { IsTrue (held_rise held.now) }
     ensures row { head_offered file.now own.now held.now epoch head.now ≡ unwrap_or result (after_record (kept.Head file.now head.now) (payload.Ack file.now head.now.stamp)) }
     ensures unkept { IfSome result (λ acted. acted.rec ≡ None) }
 {
@@ -180,11 +176,10 @@ fn head_declined(
 pub fn head_turned_away(
     file: &FileId,
     own: &FileHead,
-    held: &[ObjectVersion],
+    held: &HeldSet,
     epoch: Epoch,
     head: &FileHead,
 ) -> Option<Acted>
-    requires { IsTrue (held_rise held.now) }
     ensures row { headed file.now own.now held.now epoch head.now ≡ unwrap_or result (after_record (kept.Head file.now head.now) (payload.Ack file.now head.now.stamp)) }
     ensures unkept { IfSome result (λ acted. acted.rec ≡ None) }
 {
@@ -245,34 +240,19 @@ pub fn body_turned_away(file: &FileId, own: &FileHead, epoch: Epoch) -> Option<A
     turned_away(file, own, epoch)
 }
 
-/// Holds a version from now on. Where memory runs out, the held bodies are as they were.
-#[tactic(auto, using(version_lists::proofs::HeadLimits::held_still_rise))]
-pub fn hold(held: &mut HeldPairs, body: ObjectVersion) -> Result<(), OutOfMemory>
-    requires { IsTrue (held_rise held.old) }
-    ensures held { OnOk result (held.new ≡ with_held held.old body) }
-    ensures same { OnErr result (held.new ≡ held.old) }
-    ensures rising { IsTrue (held_rise held.new) }
-{
-    held.items.reserve(1)?;
-    put_held(&mut held.items, body);
-    Ok(())
-}
-
 /// Holds a body that isn't held yet, and gives its record. Where memory runs out, the held bodies are as they were.
 pub fn hold_body(
     alloc: Global,
     file: &FileId,
-    held: &mut HeldPairs,
+    held: &mut HeldSet,
     body: ObjectVersion,
     bytes: &Octets,
 ) -> Result<Option<Record>, OutOfMemory>
-    requires { IsTrue (held_rise held.old) }
     ensures rec { IfOk result (λ rec. rec ≡ stage_record file.now held.old body.object body.version bytes.now) }
     ensures held { IfOk result (λ rec. MatchOption rec (held.new ≡ held.old) (λ _. held.new ≡ with_held held.old body)) }
     ensures same { OnErr result (held.new ≡ held.old) }
-    ensures rising { IsTrue (held_rise held.new) }
 {
-    if is_held(held.as_slice(), body) {
+    if holds(held, body) {
         return Ok(None);
     }
     let bytes = bytes.copy(alloc)?;

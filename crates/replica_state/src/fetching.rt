@@ -1,13 +1,12 @@
-ghost use Rattle.std.specs.Prelude.{◌≡◌, IfOk, IsTrue};
+ghost use Rattle.std.specs.Prelude.{◌≡◌, IfOk};
 ghost use Rattle.xt_protocol.specs.SeenBodies.{body_by};
 ghost use Rattle.osd_rows.specs.ReplicaRows.{fetched_from};
 ghost use Rattle.kept_bodies.specs.KeptBodies.{fault_of, ReadsOnly};
-ghost use Rattle.version_lists.specs.Rising.{held_rise};
 
 use kept_bodies::{Bodies, StepErr, seen};
 use std::alloc::Global;
-use version_lists::is_held;
-use xt_base::{Epoch, FileId, HeldPairs, ObjectVersion, Payload, Stamp};
+use version_lists::holds;
+use xt_base::{Epoch, FileId, HeldSet, ObjectVersion, Payload, Stamp};
 
 /// Fetched from: the body of a version that is held, whatever is promised; one that isn't held is missing.
 #[tactic(auto, unfolding(osd_rows::specs::ReplicaRows::fetched_from))]
@@ -15,18 +14,17 @@ pub fn fetched_from<B: Bodies>(
     alloc: Global,
     bodies: &mut B,
     file: &FileId,
-    held: &HeldPairs,
+    held: &HeldSet,
     epoch: &Epoch,
     object: u64,
     version: &Stamp,
 ) -> Result<Payload, StepErr>
-    requires { IsTrue (held_rise held.now) }
     ensures row { IfOk result (λ answer. answer ≡ fetched_from file.now held.now (body_by (B.records bodies.old) file.now) epoch.now object version.now) }
     ensures reads { ReadsOnly B.records B.fault_count bodies.old bodies.new (fault_of result) }
 {
     let (file, epoch, version) = (*file, *epoch, *version);
     let asked = ObjectVersion { object, version };
-    if !is_held(held.as_slice(), asked) {
+    if !holds(held, asked) {
         return Ok(Payload::Missing {
             file,
             epoch,

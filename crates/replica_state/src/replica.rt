@@ -1,21 +1,20 @@
-ghost use Rattle.std.specs.Prelude.{◌≡◌, IfOk, OnOk, OnErr, IsTrue};
+ghost use Rattle.std.specs.Prelude.{◌≡◌, IfOk, OnOk, OnErr};
 ghost use Rattle.xt_base.specs.Limits.{FitsEpoch, FitsHead, FitsUpdate};
 ghost use Rattle.xt_protocol.specs.Folds.{row_after};
 ghost use Rattle.osd_rows.specs.ReplicaRows.{kept_after, gathered, staged, headed, updated};
-ghost use Rattle.version_lists.specs.Rising.{held_rise};
 ghost use Rattle.replica_state.specs.Kept.{kept_row, IsNotable};
 
 use crate::answers::{
-    acknowledgement, after_record, body_turned_away, head_turned_away, hold, hold_body, only,
+    acknowledgement, after_record, body_turned_away, head_turned_away, hold_body, only,
     plain_status, promised_status, refused, update_turned_away,
 };
 use osd_rows::Acted;
 use std::alloc::Global;
 use std::marker::Model;
-use version_lists::{is_earlier, take_update};
+use version_lists::{hold, is_earlier, take_update};
 use xt_base::{
-    Copies, Epoch, FileHead, FileId, HeldPairs, ObjectVersion, Octets, OutOfMemory, Payload,
-    Record, Stamp, Update,
+    Copies, Epoch, FileHead, FileId, HeldSet, ObjectVersion, Octets, OutOfMemory, Payload, Record,
+    Stamp, Update,
 };
 
 /// A replica of one file. Contracts see what is kept of the file, without where its content is kept.
@@ -24,27 +23,25 @@ pub struct Replica {
     alloc: Global,
     file: FileId,
     head: FileHead,
-    held: HeldPairs,
+    held: HeldSet,
 }
 
 impl Model for Replica {
-    ghost use Rattle.std.specs.Prelude.{IsTrue, None};
+    ghost use Rattle.std.specs.Prelude.{None};
     ghost use Rattle.xt_base.specs.declared.record.FileRow.{FileRow};
     ghost use Rattle.xt_base.specs.Limits.{FitsHead};
-    ghost use Rattle.version_lists.specs.Rising.{held_rise};
 
     ghost Value = { FileRow };
 
     ghost view = { λ r. record { file = r.file; head = r.head; held = r.held; location = None } };
 
-    ghost invariant = { λ r. FitsHead r.head × IsTrue (held_rise r.held) };
+    ghost invariant = { λ r. FitsHead r.head };
 }
 
 impl Replica {
     /// The replica that keeps this head and holds these bodies, as records within their limits and in their places fold.
-    pub fn new(alloc: Global, file: FileId, head: FileHead, held: HeldPairs) -> Replica
-        requires fits { FitsHead head }
-        requires rising { IsTrue (held_rise held) }
+    pub fn new(alloc: Global, file: FileId, head: FileHead, held: HeldSet) -> Replica
+        requires { FitsHead head }
         ensures { result ≡ kept_row file head held }
     {
         Replica {
@@ -71,9 +68,8 @@ impl Replica {
     }
 
     /// The bodies that it holds.
-    pub fn held(&self) -> &HeldPairs
-        ensures value { result.now ≡ self.now.held }
-        ensures rising { IsTrue (held_rise result.now) }
+    pub fn held(&self) -> &HeldSet
+        ensures { result.now ≡ self.now.held }
     {
         &self.held
     }
@@ -138,7 +134,7 @@ impl Replica {
         ensures same { OnErr result (self.new ≡ self.old) }
     {
         let file = self.file;
-        match head_turned_away(&file, &self.head, self.held.as_slice(), *epoch, head) {
+        match head_turned_away(&file, &self.head, &self.held, *epoch, head) {
             Some(acted) => Ok(acted),
             None => {
                 let rec = Record::Head {
@@ -152,7 +148,7 @@ impl Replica {
     }
 
     /// Update taken: the next update of the promised epoch changes the head, and its body is held.
-    #[tactic(auto, using(crate::proofs::HeadFits::update_fits, crate::proofs::HeadFits::held_up))]
+    #[tactic(auto, using(crate::proofs::HeadFits::update_fits))]
     pub fn on_update(&mut self, update: &Update) -> Result<Acted, OutOfMemory>
         requires { FitsUpdate update.now }
         ensures row { IfOk result (λ acted. acted ≡ updated self.old.file self.old.head update.now) }

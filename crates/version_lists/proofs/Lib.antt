@@ -2,3 +2,4 @@ pub mod Puts
 pub mod HeldVersions
 pub mod HeadRows
 pub mod HeadLimits
+pub mod HeldSets

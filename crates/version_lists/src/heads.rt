@@ -2,12 +2,12 @@ ghost use Rattle.std.specs.Prelude.{◌≡◌, ◌≤◌, IsTrue, OnOk, OnErr, m
 ghost use Rattle.xt_base.specs.Limits.{rise};
 ghost use Rattle.xt_protocol.specs.Heads.{head_after};
 ghost use Rattle.xt_protocol.specs.Folds.{held_after};
-ghost use Rattle.version_lists.specs.Rising.{HeadRises, held_rise};
+ghost use Rattle.version_lists.specs.Rising.{HeadRises};
 
-use crate::held::put_held;
+use crate::held::hold;
 use crate::sessions::{put_session, sessions_with};
 use crate::versions::{drop_versions, objects_below, put_version, versions_with};
-use xt_base::{FileHead, HeldPairs, NO_OBJECT, ObjectVersion, OutOfMemory, Session, Update};
+use xt_base::{FileHead, HeldSet, NO_OBJECT, ObjectVersion, OutOfMemory, Session, Update};
 
 /// The session that an update makes its client's last one.
 fn session_made(update: &Update) -> Session
@@ -54,11 +54,10 @@ pub fn sessions_after(head: &FileHead, update: &Update) -> usize
 /// What an update makes of a head and of the held bodies, in place. Where memory runs out, both are as they were.
 pub fn take_update(
     head: &mut FileHead,
-    held: &mut HeldPairs,
+    held: &mut HeldSet,
     update: &Update,
 ) -> Result<(), OutOfMemory>
-    requires head_rises { HeadRises head.old }
-    requires held_rise { IsTrue (held_rise held.old) }
+    requires { HeadRises head.old }
     ensures head { OnOk result (head.new ≡ head_after head.old update.now) }
     ensures held { OnOk result (held.new ≡ held_after held.old update.now) }
     ensures same_head { OnErr result (head.new ≡ head.old) }
@@ -66,14 +65,14 @@ pub fn take_update(
 {
     let versions = &mut head.versions.items;
     let sessions = &mut head.sessions.items;
-    let held = &mut held.items;
     versions.reserve(1)?;
     sessions.reserve(1)?;
-    held.reserve(1)?;
+    if update.object != NO_OBJECT {
+        hold(held, version_made(update))?;
+    }
     drop_versions(versions, update.drop_from);
     if update.object != NO_OBJECT {
         put_version(versions, version_made(update));
-        put_held(held, version_made(update));
     }
     put_session(sessions, session_made(update));
     head.stamp = update.stamp;

@@ -1,9 +1,9 @@
-ghost use Rattle.std.specs.Prelude.{◌≡◌, ◌≤◌, ◌<◌, IsTrue, vec_len, vec_capacity};
+ghost use Rattle.std.specs.Prelude.{◌≡◌, ◌≤◌, IsTrue, OnOk, OnErr};
 ghost use Rattle.xt_protocol.specs.Stamps.{has_version, with_held};
 ghost use Rattle.version_lists.specs.Rising.{held_rise, IsHeldPlace};
 
 use crate::orders::{comes_before, is_version};
-use xt_base::ObjectVersion;
+use xt_base::{HeldSet, ObjectVersion, OutOfMemory};
 
 /// Whether each of these versions comes before the next one.
 pub fn held_rise(versions: &[ObjectVersion]) -> bool
@@ -54,13 +54,18 @@ pub fn is_held(held: &[ObjectVersion], version: ObjectVersion) -> bool
     }
 }
 
-/// Puts a version into its place among those that are held, each once. It takes no memory.
-pub fn put_held(held: &mut Vec<ObjectVersion>, version: ObjectVersion)
-    requires rising { IsTrue (held_rise held.old.items) }
-    requires room { vec_len held.old < vec_capacity held.old }
-    ensures { held.new.items ≡ with_held held.old.items version }
+/// Whether a version is held.
+pub fn holds(held: &HeldSet, version: ObjectVersion) -> bool
+    ensures { result ≡ has_version held.now version }
 {
-    if let Err(place) = held_place(held.as_slice(), version) {
-        held.insert(place, version).unwrap();
-    }
+    held.versions.contains(&version)
+}
+
+/// Holds a version from now on. Where memory runs out, the held ones are as they were.
+pub fn hold(held: &mut HeldSet, version: ObjectVersion) -> Result<(), OutOfMemory>
+    ensures held { OnOk result (held.new ≡ with_held held.old version) }
+    ensures same { OnErr result (held.new ≡ held.old) }
+{
+    let _is_new = held.versions.insert(version)?;
+    Ok(())
 }

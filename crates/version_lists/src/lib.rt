@@ -11,7 +11,7 @@ mod sessions;
 mod versions;
 
 pub use heads::{sessions_after, take_update, update_head, versions_after};
-pub use held::{has_version, held_rise, is_held, put_held};
+pub use held::{has_version, held_rise, hold, holds, is_held};
 pub use orders::{comes_before, is_below, is_earlier, is_epoch, is_stamp, is_version};
 pub use sessions::{put_session, session_of};
 pub use versions::{drop_versions, objects_below, put_version, version_of};

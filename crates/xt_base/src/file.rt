@@ -92,7 +92,7 @@ impl Copies for Update {
 }
 
 /// An object and the stamp of the update that made its bytes.
-#[derive(Clone, Copy, PartialEq, Eq)]
+#[derive(Clone, Copy, PartialEq, Eq, PartialOrd, Ord)]
 pub struct ObjectVersion {
     pub object: u64,
     pub version: Stamp,

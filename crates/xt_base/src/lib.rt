@@ -32,7 +32,7 @@ pub use members::{BadMembers, Members, has_node};
 pub use message::{Msg, Msgs, Payload};
 pub use meta::{MetaAnswer, MetaRefusal, MetaReq, Names, RowKind};
 pub use outside::{CallList, Failed};
-pub use record::{FileRow, FileTable, Folded, HeldPairs, Keep, KeepBody, Logged, Record};
+pub use record::{FileRow, FileTable, Folded, HeldPairs, HeldSet, Keep, KeepBody, Logged, Record};
 pub use registry::{RegistryAnswer, RegistryReq, RegistryRow, RegistryRows};
 pub use reply::{Answered, Answers, Denial, Reply, Retry};
 pub use status::{AskRefusal, Limited, Refusal, Rule, Status};

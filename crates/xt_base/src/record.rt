@@ -5,6 +5,8 @@ use crate::members::Members;
 use crate::meta::MetaReq;
 use crate::registry::RegistryReq;
 use std::alloc::Global;
+use std::collections::BTreeSet;
+use std::marker::Model;
 
 /// A recorded request of the MRC or the DIR.
 #[derive(Drop)]
@@ -130,28 +132,44 @@ impl Copies for Record {
     }
 }
 
-/// The bodies that a replica holds, by object and version.
+/// Versions of objects, each once.
 pub type HeldPairs = Seq<ObjectVersion>;
+
+/// The bodies that a replica holds, rising by object, then version. Contracts see the list.
+#[derive(Drop)]
+pub struct HeldSet {
+    pub versions: BTreeSet<ObjectVersion>,
+}
+
+impl Model for HeldSet {
+    ghost use Rattle.std.specs.Prelude.{List};
+    ghost use Rattle.xt_base.specs.declared.file.ObjectVersion.{ObjectVersion};
+
+    ghost Value = { List ObjectVersion };
+
+    ghost view = { λ h. h.versions.keys };
+}
+
+impl HeldSet {
+    ghost use Rattle.std.specs.Prelude.{◌≡◌, []};
+
+    /// Nothing is held.
+    pub fn new(alloc: Global) -> HeldSet
+        ensures { result ≡ [] }
+    {
+        HeldSet {
+            versions: BTreeSet::new(alloc),
+        }
+    }
+}
 
 /// What a node's records say of one file.
 #[derive(Drop)]
 pub struct FileRow {
     pub file: FileId,
     pub head: FileHead,
-    pub held: HeldPairs,
+    pub held: HeldSet,
     pub location: Option<Location>,
-}
-
-impl Copies for FileRow {
-    fn copy(&self, alloc: Global) -> Result<FileRow, OutOfMemory> {
-        let held = self.held.copy(alloc)?;
-        Ok(FileRow {
-            file: self.file,
-            head: self.head.copy(alloc)?,
-            held,
-            location: self.location,
-        })
-    }
 }
 
 /// What a node's records say of its files, rising by file.
@@ -162,15 +180,6 @@ pub type FileTable = Seq<FileRow>;
 pub struct Folded {
     pub boot: Boot,
     pub files: FileTable,
-}
-
-impl Copies for Folded {
-    fn copy(&self, alloc: Global) -> Result<Folded, OutOfMemory> {
-        Ok(Folded {
-            boot: self.boot,
-            files: self.files.copy(alloc)?,
-        })
-    }
 }
 
 /// A body that is to be kept.

@@ -39,6 +39,6 @@ returns-clause-row g c =
           (ap (λ (n : NodeId). by n f.replica.file f.replica.head f.replica.held) (sym f.node)
           ∙ ap (λ (x : FileId). by f.lead.node x f.replica.head f.replica.held) (sym f.file)
           ∙ ap (λ (h : FileHead). by f.lead.node f.lead.file h f.replica.held) (sym c.head.ensures.value)
-          ∙ ap (λ (vs : List ObjectVersion). by f.lead.node f.lead.file own vs) (sym c.held.ensures.value))
+          ∙ ap (λ (vs : List ObjectVersion). by f.lead.node f.lead.file own vs) (sym c.held.ensures))
           c.in_ok-turned.ensures.state c.in_ok-turned.ensures.led (c.in_ok-note.ensures.ok f.lead.location);
     }

@@ -4,4 +4,4 @@ use Rattle.record_folds.proofs.order.are_held.Goals as goal
 pub loop-version-preserved : goal.loop-version-preserved
 loop-version-preserved c =
     held_more c.args.held.now c.args.versions.now c.loop-version.version-index _ c.loop-version.invariant c.loop-version-test.true
-    (c.holds.ensures.0 c.if-not-holds.false)
+    (c.is_held.ensures.0 c.if-not-is_held.false)
