@@ -1,6 +1,6 @@
 -- what the calls on the volumes say of an outcome
 use Rattle.std.proofs.Common.{◌≡◌, ◌∙◌, refl, sym, subst}
-use Rattle.std.specs.Prelude.{Result, Ok, Err}
+use Rattle.std.specs.Prelude.{Ok, Err}
 use Rattle.xt_base.specs.declared.meta.MetaRefusal.{MetaRefusal}
 use Rattle.xt_base.specs.declared.meta.MetaAnswer.{MetaAnswer}
 use Rattle.xt_base.specs.declared.meta.MetaAnswer.TheVariants as answer

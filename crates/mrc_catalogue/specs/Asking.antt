@@ -1,10 +1,7 @@
 -- a request that comes to a server, in the words of the step
 use Rattle.std.specs.Prelude.{ℕ, ◌≤◌, ◌<◌, ◌^◌, List, length, Option, IsTrue}
-use Rattle.xt_base.specs.Limits.{FitsPayload}
 use Rattle.xt_base.specs.MemberList.{are_distinct}
 use Rattle.xt_base.specs.declared.ids.NodeId.{NodeId}
-use Rattle.xt_base.specs.declared.event.Event.{Event}
-use Rattle.xt_base.specs.declared.event.Event.TheVariants as event
 use Rattle.kept_answers.specs.Standings.{with_answer}
 use Rattle.volume_rows.specs.Requests.{Outcome}
 use Rattle.mrc_rows.specs.Requests.{outcome_of, with_sizes}
@@ -23,12 +20,6 @@ pub record IsServer (key : List ℕ) (osds : List NodeId) (clock : ℕ) : Type 0
 
 abbrev pub IsSite : Site → Type 0
 IsSite site = IsServer site.key.now site.osds.now site.clock
-
--- what a message that is delivered says is within its limits
-abbrev pub FitsContent : Event → Type 0
-FitsContent (event.Deliver msg) = FitsPayload msg.payload
-FitsContent event.Wake = Unit {0}
-FitsContent (event.Call call) = Unit {0}
 
 -- a server at a site
 abbrev pub server_at : Site → Catalogue → MrcState

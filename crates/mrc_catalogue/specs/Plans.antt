@@ -1,5 +1,5 @@
 -- what is to come of a fresh request
-use Rattle.std.specs.Prelude.{◌≡◌, ℕ, Bool, true, false, ◌&&◌, Option, None, Result, List}
+use Rattle.std.specs.Prelude.{◌≡◌, ℕ, true, false, ◌&&◌, Option, None, Result, List}
 use Rattle.std.specs.Option.{is_some}
 use Rattle.xt_base.specs.declared.ids.NodeId.{NodeId}
 use Rattle.xt_base.specs.declared.meta.MetaReq.{MetaReq}

@@ -1,6 +1,5 @@
 ghost use Rattle.std.specs.Prelude.{◌≡◌, ◌≤◌, ◌<◌, false, length, OnOk, OnErr, IfOk, Some};
 ghost use Rattle.indexmap.specs.IndexMap.{spare};
-ghost use Rattle.xt_base.specs.Limits.{FitsRecord};
 ghost use Rattle.xt_base.specs.declared.meta.MetaReq.TheVariants as ask;
 ghost use Rattle.kept_answers.specs.Standings.{standing_of};
 ghost use Rattle.volume_rows.specs.Paths.{path_in};
@@ -10,9 +9,9 @@ ghost use Rattle.volume_rows.specs.Grants.{sizes_in};
 ghost use Rattle.volume_rows.specs.declared.Picked.TheVariants.{TooFew};
 ghost use Rattle.volume_tree.specs.Calls.{Comes};
 ghost use Rattle.mrc_rows.specs.Requests as rows;
-ghost use Rattle.mrc_rows.specs.Laws.{IsChange, Settles};
+ghost use Rattle.mrc_rows.specs.Laws.{IsChange, Settles, files_made};
 ghost use Rattle.mrc_rows.specs.Steps.{empty_catalogue, after_record};
-ghost use Rattle.mrc_catalogue.specs.Picking.{WantsSome};
+ghost use Rattle.mrc_catalogue.specs.Picking.{WantsSome, CanTake};
 ghost use Rattle.mrc_catalogue.specs.Settling.{answer_of, IsSettled};
 ghost use Rattle.mrc_catalogue.specs.Asking.{IsSite, outcome_at, after_asking, after_meta_at, after_setting};
 
@@ -201,6 +200,16 @@ impl Catalogue {
         self.tree.sizes(file)
     }
 
+    /// The files that were ever made, by rising number, each with the clock at which it was unlinked, if it was.
+    pub fn files(&self, alloc: Global) -> Result<Vec<(FileId, Option<u64>)>, OutOfMemory>
+        ensures { IfOk result (λ files. files.items ≡ files_made self.now.made) }
+    {
+        self.made
+            .iter()
+            .map(|(_, made)| (made.file, made.unlinked))
+            .collect(alloc)
+    }
+
     /// The file that a request makes or unlinks.
     fn subject(&self, alloc: Global, request: &MetaReq) -> Result<Option<FileId>, OutOfMemory>
         ensures { IfOk result (λ file. file ≡ rows.subject_of self.now.volumes request.now) }
@@ -287,7 +296,7 @@ impl Catalogue {
     pub fn take(&mut self, alloc: Global, key: &[u8], rec: &Record) -> Result<(), OutOfMemory>
         requires some { 1 ≤ length key.now }
         requires short { length key.now ≤ 64 }
-        requires fit { FitsRecord rec.now }
+        requires can { CanTake rec.now }
         ensures ok { OnOk result (self.new ≡ after_record key.now self.old rec.now) }
         ensures err { OnErr result (self.new ≡ self.old) }
     {

@@ -19,7 +19,7 @@ use Rattle.volume_rows.specs.declared.Picked.TheVariants as place
 use Rattle.volume_rows.specs.Paths.{Path, path_in}
 use Rattle.volume_rows.specs.Rows.{Row, Volumes, entry_at, with_row, without_row, renamed, page_of}
 use Rattle.volume_rows.specs.Rights.{reading, rule_of_read, first_of, ancestors, absent, there, directory, file, allowed, owned, parent_writable, empty, same_volume, outside}
-use Rattle.volume_rows.specs.Requests.{Outcome, refused, done, tells, after_tests, has_names, on_path, on_paths, made, new_file, file_placed, row_told, mode_put, directory_made, file_made, path_renamed, file_unlinked, directory_removed, entry_told, names_listed, mode_set, applied}
+use Rattle.volume_rows.specs.Requests.{Outcome, done, tells, after_tests, has_names, on_path, on_paths, made, file_placed, row_told, mode_put, directory_made, file_made, path_renamed, file_unlinked, directory_removed, entry_told, names_listed, mode_set, applied}
 use Rattle.kept_answers.specs.Standings.{with_answer}
 use Rattle.mrc_rows.specs.Laws.{IsChange, SettlesAs, Settles}
 use Rattle.capabilities.specs.Denials.{denial_of}
@@ -49,10 +49,10 @@ mode_settle volumes path mode None = refl
 mode_settle volumes path mode (Some entry) = tt
 
 -- the tests of each request, in order
-abbrev making : Asker → List Row → Path → Option MetaRefusal
+abbrev pub making : Asker → List Row → Path → Option MetaRefusal
 making who rows path = first_of (ancestors who rows path ∷ absent (entry_at rows path) ∷ parent_writable who rows path ∷ [])
 
-abbrev renaming : Asker → List Row → Path → Path → Option MetaRefusal
+abbrev pub renaming : Asker → List Row → Path → Path → Option MetaRefusal
 renaming who rows from to =
     first_of
     (ancestors who rows from ∷ same_volume from to ∷ there (entry_at rows from) ∷ outside from to ∷ ancestors who rows to ∷ absent (entry_at rows to)
@@ -60,18 +60,18 @@ renaming who rows from to =
     ∷ parent_writable who rows to
     ∷ [])
 
-abbrev unlinking : Asker → List Row → Path → Option MetaRefusal
+abbrev pub unlinking : Asker → List Row → Path → Option MetaRefusal
 unlinking who rows path =
     first_of (ancestors who rows path ∷ there (entry_at rows path) ∷ file (entry_at rows path) ∷ parent_writable who rows path ∷ [])
 
-abbrev removing : Asker → List Row → Path → Option MetaRefusal
+abbrev pub removing : Asker → List Row → Path → Option MetaRefusal
 removing who rows path =
     first_of (ancestors who rows path ∷ there (entry_at rows path) ∷ directory (entry_at rows path) ∷ empty rows path ∷ parent_writable who rows path ∷ [])
 
-abbrev setting : Asker → List Row → Path → Option MetaRefusal
+abbrev pub setting : Asker → List Row → Path → Option MetaRefusal
 setting who rows path = first_of (ancestors who rows path ∷ there (entry_at rows path) ∷ owned who (entry_at rows path) ∷ [])
 
-abbrev listing : Asker → List Row → Path → Option MetaRefusal
+abbrev pub listing : Asker → List Row → Path → Option MetaRefusal
 listing who rows path =
     first_of
     (ancestors who rows path ∷ there (entry_at rows path) ∷ directory (entry_at rows path) ∷ allowed who reading rule_of_read (entry_at rows path) ∷ [])

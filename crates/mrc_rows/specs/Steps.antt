@@ -5,7 +5,6 @@ use Rattle.xt_base.specs.declared.ids.NodeId.{NodeId}
 use Rattle.xt_base.specs.declared.meta.MetaReq.{MetaReq}
 use Rattle.xt_base.specs.declared.meta.MetaAnswer.{MetaAnswer}
 use Rattle.xt_base.specs.declared.registry.RegistryRow.{RegistryRow}
-use Rattle.xt_base.specs.declared.registry.RegistryAnswer.{RegistryAnswer}
 use Rattle.xt_base.specs.declared.registry.RegistryAnswer.TheVariants as told
 use Rattle.xt_base.specs.declared.message.Payload.{Payload}
 use Rattle.xt_base.specs.declared.message.Payload.TheVariants as payload

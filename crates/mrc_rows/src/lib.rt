@@ -20,7 +20,7 @@ ghost use Rattle.volume_rows.specs.Rows.{Volumes};
 ghost use Rattle.volume_rows.specs.Requests.{applied};
 ghost use Rattle.mrc_rows.specs.Requests.{outcome_of};
 ghost use Rattle.mrc_rows.specs.Steps.{Catalogue, MrcState, after_request, catalogue_of, step_of_mrc};
-ghost use Rattle.mrc_rows.specs.Laws.{IsChange, Settles};
+ghost use Rattle.mrc_rows.specs.Laws.{IsChange, RiseFrom, Settles, files_made};
 
 use xt_base::{FileId, SizeMark};
 
@@ -57,6 +57,11 @@ pub fn a_refusal_changes_nothing_else()
         (outcome_of key catalogue.volumes who now nodes request).answer ≡ Refused why →
         after_request key catalogue client number now nodes who request
         ≡ record catalogue { clients = with_answer catalogue.clients client number (Refused why) } }
+{}
+
+/// The numbers of the files that were ever made rise, from the first one on: no number is given twice.
+pub fn made_files_rise()
+    ensures { (key : List ℕ) (records : List Record) → RiseFrom 1000000 (files_made (catalogue_of key records).made) }
 {}
 
 /// A request that changes names, rights or files is done, or refused without a change.
