@@ -1,0 +1,22 @@
+-- what is within the limits of its fields can be handled
+use Rattle.xt_base.specs.Limits.{FitsMetaReq, FitsPayload, FitsRecord}
+use Rattle.xt_base.specs.declared.meta.MetaReq.{MetaReq}
+use Rattle.xt_base.specs.declared.meta.MetaReq.TheVariants as ask
+use Rattle.xt_base.specs.declared.message.Payload.{Payload}
+use Rattle.xt_base.specs.declared.message.Payload.TheVariants as payload
+use Rattle.xt_base.specs.declared.record.Logged.TheVariants as logged
+use Rattle.xt_base.specs.declared.record.Record.{Record}
+use Rattle.xt_base.specs.declared.record.Record.TheVariants as kept
+use Rattle.mrc_catalogue.specs.Picking.{WantsSome, CanHear, CanTake}
+
+wants : (request : MetaReq) → FitsMetaReq request → WantsSome request
+wants (ask.Create path mode kind n stripe) fits = (fits.2, fits.3)
+wants _ fits = tt
+
+pub can_hear : (content : Payload) → FitsPayload content → CanHear content
+can_hear (payload.Meta number user group request) fits = wants request fits.3
+can_hear _ fits = tt
+
+pub can_take : (rec : Record) → FitsRecord rec → CanTake rec
+can_take (kept.Meta client number now nodes (logged.Meta user group request)) fits = (fits.2, wants request fits.4.2)
+can_take _ fits = tt
