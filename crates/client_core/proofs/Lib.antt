@@ -1,3 +1,2 @@
-pub mod Acted
-pub mod Files
-pub mod Left
+pub mod Done
+pub mod Answered

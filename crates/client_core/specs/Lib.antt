@@ -1,2 +1,5 @@
-pub mod Views
+pub mod Holding
+pub mod Requests
 pub mod Rows
+pub mod Views
+pub mod Answered

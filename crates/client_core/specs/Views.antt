@@ -1,43 +1,36 @@
 -- a client, as contracts see it, and how they say that what it does is a row
-use Rattle.std.specs.Prelude.{ℕ, Bool, false, ◌≡◌, ◌==◌, ◌&&◌, Option, Some, None}
+use Rattle.std.specs.Prelude.{ℕ, ◌≡◌, Option, Some, None}
 use Rattle.xt_base.specs.TimeSettings.{TimeSettings}
 use Rattle.xt_base.specs.declared.ids.NodeId.{NodeId}
 use Rattle.xt_protocol.specs.declared.Turned.{Turned}
-use Rattle.cluster_runs.specs.declared.RunningCall.{RunningCall}
-use Rattle.cluster_runs.specs.declared.ClientState.{ClientState}
 use Rattle.cluster_runs.specs.Steps.{Step, stays}
-use Rattle.cluster_runs.specs.Clients.{ClientSite, was_tried}
+use Rattle.cluster_runs.specs.Clients.{ClientSite}
+use Rattle.client_core.specs.declared.requests.MadeCall.{MadeCall}
+use Rattle.client_core.specs.Rows.{WholeClient, at_clock}
 
 -- which node it is, the times that it goes by, and its state
 pub record ClientView : Type 0 where
   pub node : NodeId
   pub times : TimeSettings
-  pub state : ClientState
+  pub state : WholeClient
 
 -- the client at a moment
 abbrev pub site_at : ClientView → ℕ → ClientSite
 site_at client now = record { node = client.node; times = client.times; now = now }
 
--- its state once this is the clock that it used last
-abbrev pub at_clock : ClientView → ℕ → ClientState
-at_clock client now = record client.state { last = now }
+-- what a client does is this step: it has the step's state then, and gives what the step gives
+abbrev pub Does : Step WholeClient → ClientView → ClientView → Turned → Type 0
+Does step old new turned = (new ≡ record old { state = step.state }) × (turned ≡ step.turned)
 
--- what a client does at a clock is this row: it has the row's state then, and gives what the row gives
-abbrev pub Acts : (ClientSite → ClientState → Step ClientState) → ℕ → ClientView → ClientView → Turned → Type 0
-Acts row now old new turned =
-    let step = row (site_at old now) (at_clock old now) in
-    (new ≡ record old { state = step.state }) × (turned ≡ step.turned)
+-- what a client does at a clock is this row
+abbrev pub Acts : (ClientSite → WholeClient → Step WholeClient) → ℕ → ClientView → ClientView → Turned → Type 0
+Acts row now old new turned = Does (row (site_at old now) (at_clock old.state now)) old new turned
 
--- a row of the running call; nothing comes of it where none runs
-abbrev pub where_running : (RunningCall → Step ClientState) → ClientState → Option RunningCall → Step ClientState
-where_running row client None = stays ClientState client
-where_running row client (Some call) = row call
+-- a row of the last call; nothing comes of it where none was made
+abbrev pub where_made : (MadeCall → Step WholeClient) → WholeClient → Option MadeCall → Step WholeClient
+where_made row client None = stays WholeClient client
+where_made row client (Some made) = row made
 
--- what a client does at a clock is this row of its running call
-abbrev pub CallActs : (ClientSite → ClientState → RunningCall → Step ClientState) → ℕ → ClientView → ClientView → Turned → Type 0
-CallActs row now old new turned = Acts (λ site client. where_running (row site client) client client.running) now old new turned
-
--- whether a reply of this number, from this node, is one that the running call waits for
-abbrev pub awaits : Option RunningCall → NodeId → ℕ → Bool
-awaits None from number = false
-awaits (Some call) from number = number == call.number && was_tried call.tried from
+-- what a client does at a clock is this row of its last call
+abbrev pub CallActs : (ClientSite → WholeClient → MadeCall → Step WholeClient) → ℕ → ClientView → ClientView → Turned → Type 0
+CallActs row now old new turned = Acts (λ site client. where_made (row site client) client client.made) now old new turned

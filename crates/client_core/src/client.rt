@@ -1,462 +1,981 @@
-ghost use Rattle.std.specs.Prelude.{◌≡◌, ◌<◌, ◌+◌, ◌^◌, [], Some, None, IsSome, is_some, IfOk, OnOk, OnErr};
-ghost use Rattle.cluster_runs.specs.declared.RunningCall.{RunningCall};
-ghost use Rattle.cluster_runs.specs.declared.ClientState.{ClientState};
+ghost use Rattle.std.specs.Prelude.{◌≡◌, ◌<◌, ◌^◌, ◌↔◌, [], None, Some, IsSome, IsTrue, not, ◌&&◌, IfOk, OnOk, OnErr, Err};
+ghost use Rattle.std.specs.Option.{option_copied, option_map};
+ghost use Rattle.xt_base.specs.declared.TheConstants.{COUNTS};
 ghost use Rattle.cluster_runs.specs.Steps.{stays};
-ghost use Rattle.cluster_runs.specs.Clients as rows;
-ghost use Rattle.client_core.specs.Views.{Acts, CallActs};
+ghost use Rattle.cluster_runs.specs.Clients.{aimed, raised, knows, known_in};
+ghost use Rattle.client_core.specs.declared.requests.MadeCall.{MadeCall};
+ghost use Rattle.client_core.specs.Holding.{holds, held_of};
+ghost use Rattle.client_core.specs.Requests.{request_of, is_ready};
+ghost use Rattle.client_core.specs.Rows as rows;
+ghost use Rattle.client_core.specs.Views.{Does, Acts, CallActs, where_made};
+ghost use Rattle.client_core.specs.Answered.{is_answered, is_done};
 
-use crate::asking::{asks, begins, ends, first_target, gives, turn_to};
-use crate::known::{KnownFiles, aimed, raised};
-use crate::tried::{answers_in, next_target, was_tried, with_outcome};
-use cluster_runs::{KnownFile, RunningCall, Tried};
+use crate::ends::outcome_of;
+use crate::holding::HeldFiles;
+use crate::requests::{CallResult, MadeCall, Request, Stage, request_of};
+use crate::striped::{bytes_shown, next_asked, was_asked};
+use replica_client::{ReplicaClient, begins, ends, gives};
 use std::alloc::Global;
 use std::marker::Model;
-use step_outputs::{quiet, sends};
+use step_outputs::{message, quiet, sends_one};
 use xt_base::{
-    AskRefusal, COUNTS, Call, Capability, Copies, Event, FileId, NodeId, Octets, Op, OutOfMemory,
-    Outcome, Payload, Reply, Retry, Seq, Times,
+    Answered, AskRefusal, COUNTS, Call, Capability, Copies, Event, FileId, MetaAnswer, NodeId,
+    Octets, Op, OutOfMemory, Outcome, Payload, RegistryAnswer, Reply, Retry, Seq, SizeMark, Times,
 };
 use xt_protocol::Turned;
 
-/// A client: its calls on replicated files, one at a time. Contracts see which node it is, its times and its state.
+/// Why a call isn't made.
+#[derive(Clone, Copy, PartialEq, Eq)]
+pub enum CallErr {
+    /// A call runs.
+    Busy,
+    /// The last call didn't end as one that may be made again.
+    NoCall,
+    OutOfMemory,
+}
+
+/// A client. Contracts see which node it is, its times and its state.
 #[derive(Drop)]
 pub struct Client {
     alloc: Global,
-    node: NodeId,
-    times: Times,
-    last: u64,
-    next: u64,
-    running: Option<RunningCall>,
-    files: KnownFiles,
+    replicas: ReplicaClient,
+    held: HeldFiles,
+    made: Option<MadeCall>,
 }
 
 impl Model for Client {
-    ghost use Rattle.std.specs.Prelude.{◌<◌, ◌^◌};
+    ghost use Rattle.std.specs.Prelude.{◌≡◌, None};
     ghost use Rattle.client_core.specs.Views.{ClientView};
 
     ghost Value = { ClientView };
 
     ghost view = { λ c. record {
-      node = c.node;
-      times = c.times;
-      state = record { last = c.last; next = c.next; running = c.running; files = c.files };
+      node = c.replicas.node;
+      times = c.replicas.times;
+      state = record { replicas = c.replicas.state; held = c.held; made = c.made };
     } };
 
-    ghost invariant = { λ c. c.last < 2 ^ 62 };
+    ghost invariant = { λ c. c.replicas.ended ≡ None };
+}
+
+/// The mark of an Ok that comes; any other event tells of no byte.
+fn mark_told(ev: &Event) -> SizeMark
+    ensures { result ≡ rows.mark_told ev.now }
+{
+    match ev {
+        Event::Deliver(msg) => mark_in(&msg.payload),
+        Event::Wake | Event::Call(_) => SizeMark { epoch: 0, size: 0 },
+    }
+}
+
+/// The mark of an Ok.
+fn mark_in(payload: &Payload) -> SizeMark
+    ensures { result ≡ rows.mark_in payload.now }
+{
+    match payload {
+        Payload::Reply { reply, .. } => mark_of(reply),
+        _ => SizeMark { epoch: 0, size: 0 },
+    }
+}
+
+/// The mark of an Ok.
+fn mark_of(reply: &Reply) -> SizeMark
+    ensures { result ≡ rows.mark_of reply.now }
+{
+    match reply {
+        Reply::Ok { mark, .. } => *mark,
+        _ => SizeMark { epoch: 0, size: 0 },
+    }
+}
+
+/// The last call is so far.
+fn set_stage(made: &mut Option<MadeCall>, stage: Stage)
+    requires { IsSome made.old }
+    ensures { (call : MadeCall) → made.old ≡ Some call → made.new ≡ Some (record call { stage = stage }) }
+{
+    let Some(call) = made else { unreachable!() };
+    call.stage = stage;
 }
 
 impl Client {
-    /// A client that has made no call: the number of its first one, and what its clock reads.
-    pub fn new(alloc: Global, node: NodeId, times: Times, first: u64, now: u64) -> Client
-        requires { now < 2 ^ 62 }
-        ensures { result ≡
-            record { node = node; times = times; state = record { last = now; next = first; running = None; files = [] } } }
+    /// A client that has made no call and used no clock. Its first call has the number `first`.
+    pub fn new(alloc: Global, node: NodeId, times: Times, first: u64) -> Client
+        ensures { result ≡ record {
+          node = node;
+          times = times;
+          state = record { replicas = record { last = 0; next = first; running = None; files = [] }; held = []; made = None };
+        } }
     {
         Client {
             alloc,
-            node,
-            times,
-            last: now,
-            next: first,
-            running: None,
-            files: KnownFiles::new(alloc),
+            replicas: ReplicaClient::new(alloc, node, times, first, 0),
+            held: HeldFiles::new(alloc),
+            made: None,
         }
     }
 
-    /// Makes a call under a capability; what it does to the file is `op`. It is marked, and asks its first target. Without a
-    /// number left nothing comes of it. It takes the place of a call that runs, so make one where none does.
-    pub fn call(
-        &mut self,
-        now: u64,
-        capability: Capability,
-        call: &Call,
-        op: Op,
-    ) -> Result<Turned, OutOfMemory>
-        requires { now < 2 ^ 62 }
+    /// Makes a call. A call on a file goes under the capability that is held for it. It takes the next number and is marked, and
+    /// asks its first node; without a number left nothing comes of it. `Busy` exactly where a call runs.
+    pub fn call(&mut self, now: u64, call: &Call) -> Result<Turned, CallErr>
+        requires clock { now < 2 ^ 62 }
+        requires held { IsTrue (is_ready self.old.state.held call.now) }
         ensures step { IfOk result (λ turned.
-            rows.call_of_client self.old.node self.old.times self.old.state now capability call.now op
-            ≡ record { state = self.new.state; turned = turned }) }
-        ensures same { IfOk result (λ turned. (self.new.node ≡ self.old.node) × (self.new.times ≡ self.old.times)) }
+            Does (rows.called self.old.node self.old.times self.old.state now call.now) self.old self.new turned) }
+        ensures busy { (result ≡ Err CallErr.Busy) ↔ IsTrue (rows.is_busy self.old.state.made) }
+        ensures made { (result ≡ Err CallErr.NoCall) → ⊥ }
         ensures err { OnErr result (self.new ≡ self.old) }
     {
-        let now = now.max(self.last);
-        if self.next >= COUNTS {
-            return Ok(self.stay(now));
+        if self.is_busy() {
+            return Err(CallErr::Busy);
         }
-        self.begin(now, capability, call, op)
+        match self.begin(now, call) {
+            Ok(turned) => Ok(turned),
+            Err(_) => Err(CallErr::OutOfMemory),
+        }
     }
 
-    /// The step on an event at a reading of the clock.
+    /// Makes the last call again, under the number that it had and without a mark. `Busy` exactly where a call runs; else `NoCall`
+    /// exactly where the last call didn't end as one that may be made again.
+    pub fn again(&mut self, now: u64) -> Result<Turned, CallErr>
+        requires { now < 2 ^ 62 }
+        ensures step { IfOk result (λ turned.
+            Does (rows.called_again self.old.node self.old.times self.old.state now) self.old self.new turned) }
+        ensures busy { (result ≡ Err CallErr.Busy) ↔ IsTrue (rows.is_busy self.old.state.made) }
+        ensures none { (result ≡ Err CallErr.NoCall) ↔
+            IsTrue (not (rows.is_busy self.old.state.made) && not (rows.may_repeat self.old.state.made)) }
+        ensures err { OnErr result (self.new ≡ self.old) }
+    {
+        if self.is_busy() {
+            return Err(CallErr::Busy);
+        }
+        if !self.may_repeat() {
+            return Err(CallErr::NoCall);
+        }
+        match self.repeat(now) {
+            Ok(turned) => Ok(turned),
+            Err(_) => Err(CallErr::OutOfMemory),
+        }
+    }
+
+    /// The step on an event at a reading of the clock. An Ok that the call waits for ends it in this step.
     pub fn step(&mut self, now: u64, ev: &Event) -> Result<Turned, OutOfMemory>
         requires { now < 2 ^ 62 }
         ensures step { IfOk result (λ turned.
-            rows.step_of_client self.old.node self.old.times self.old.state now ev.now
-            ≡ record { state = self.new.state; turned = turned }) }
-        ensures same { IfOk result (λ turned. (self.new.node ≡ self.old.node) × (self.new.times ≡ self.old.times)) }
+            Does (rows.stepped self.old.node self.old.times self.old.state now ev.now) self.old self.new turned) }
+        ensures answered { IfOk result (λ turned.
+            IsTrue (is_answered self.old.state ev.now) → IsTrue (is_done (rows.result_in self.new.state.made))) }
         ensures err { OnErr result (self.new ≡ self.old) }
     {
-        let now = now.max(self.last);
-        self.handle(now, ev)
+        self.go_on(now, ev)
     }
 
-    /// Its truncate epoch for a file is at least this one.
-    pub fn raise(&mut self, file: &FileId, epoch: u64) -> Result<(), OutOfMemory>
-        ensures ok { OnOk result (self.new ≡ record self.old { state = rows.knows self.old.state file.now (rows.raised epoch) }) }
-        ensures err { OnErr result (self.new ≡ self.old) }
+    /// Whether what a call uses is held: the capability of its file.
+    pub fn is_ready(&self, call: &Call) -> bool
+        ensures { result ≡ is_ready self.now.state.held call.now }
     {
-        let known = raised(&self.files.file(file), epoch);
-        self.files.put(known)
-    }
-
-    /// Its first target for a file is this member.
-    pub fn aim(&mut self, file: &FileId, node: NodeId) -> Result<(), OutOfMemory>
-        ensures ok { OnOk result (self.new ≡ record self.old { state = rows.knows self.old.state file.now (rows.aimed node) }) }
-        ensures err { OnErr result (self.new ≡ self.old) }
-    {
-        let known = aimed(&self.files.file(file), node);
-        self.files.put(known)
-    }
-
-    /// Its truncate epoch for a file.
-    pub fn epoch(&self, file: &FileId) -> u64
-        ensures { result ≡ (rows.known_in self.now.state.files file.now).epoch }
-    {
-        self.files.file(file).epoch
-    }
-
-    /// Whether a call runs.
-    pub fn is_busy(&self) -> bool
-        ensures { result ≡ is_some self.now.state.running }
-    {
-        self.running.is_some()
+        match call {
+            Call::Read { file, .. }
+            | Call::Write { file, .. }
+            | Call::Truncate { file, .. }
+            | Call::Report { file, .. } => self.held.get(*file).is_some(),
+            Call::Meta { .. } | Call::Registry { .. } => true,
+        }
     }
 
     /// The number of its next call. From 2^62 on it makes none.
     pub fn next(&self) -> u64
-        ensures { result ≡ self.now.state.next }
+        ensures { result ≡ self.now.state.replicas.next }
     {
-        self.next
+        self.replicas.next()
     }
 
-    /// Nothing comes of an event.
-    fn stay(&mut self, now: u64) -> Turned
-        requires { now < 2 ^ 62 }
-        ensures { Acts (λ site client. stays ClientState client) now self.old self.new result }
+    /// The capability that is held for the file of this number.
+    pub fn held(&self, file: u64) -> Option<&Capability>
+        ensures { option_copied result ≡ option_map (λ held. held.capability) (held_of self.now.state.held file) }
     {
-        self.last = now;
-        quiet(self.alloc)
-    }
-
-    /// The call that runs.
-    fn running(&self) -> &RunningCall
-        requires { IsSome self.now.state.running }
-        ensures { self.now.state.running ≡ Some result.now }
-    {
-        let Some(call) = &self.running else {
-            unreachable!()
-        };
-        call
-    }
-
-    /// A call takes the next number, is marked, and asks its first target.
-    fn begin(
-        &mut self,
-        now: u64,
-        capability: Capability,
-        call: &Call,
-        op: Op,
-    ) -> Result<Turned, OutOfMemory>
-        requires clock { now < 2 ^ 62 }
-        requires left { self.old.state.next < 2 ^ 62 }
-        ensures row { IfOk result (λ turned.
-            Acts (λ site client. rows.begins_call site client capability call.now op) now self.old self.new turned) }
-        ensures err { OnErr result (self.new ≡ self.old) }
-    {
-        let known = self.files.file(&capability.file);
-        let target = first_target(&capability.location.members, known.target);
-        let number = self.next;
-        let mut tried = Seq::new(self.alloc);
-        tried.push(Tried {
-            node: target,
-            outcome: None,
-        })?;
-        let marks = begins(self.alloc, number, call)?;
-        let outs = asks(self.alloc, self.node, target, number, &capability, &op)?;
-        self.last = now;
-        self.next = number + 1;
-        self.running = Some(RunningCall {
-            number,
-            capability,
-            op,
-            target,
-            deadline: now + self.times.lease(),
-            tried,
-        });
-        Ok(gives(outs, marks))
-    }
-
-    /// An event is handled.
-    fn handle(&mut self, now: u64, ev: &Event) -> Result<Turned, OutOfMemory>
-        requires { now < 2 ^ 62 }
-        ensures row { IfOk result (λ turned. Acts (λ site client. rows.event_comes site client ev.now) now self.old self.new turned) }
-        ensures err { OnErr result (self.new ≡ self.old) }
-    {
-        match ev {
-            Event::Deliver(msg) => self.hear(now, msg.from, &msg.payload),
-            Event::Wake => self.wake(now),
-            Event::Call(_) => Ok(self.stay(now)),
+        match self.held.get(file) {
+            None => None,
+            Some(held) => Some(&held.capability),
         }
     }
 
-    /// A message comes. Replies alone count.
-    fn hear(&mut self, now: u64, from: NodeId, payload: &Payload) -> Result<Turned, OutOfMemory>
-        requires { now < 2 ^ 62 }
-        ensures row { IfOk result (λ turned.
-            Acts (λ site client. rows.message_comes site client from payload.now) now self.old self.new turned) }
-        ensures err { OnErr result (self.new ≡ self.old) }
+    /// Whether a call runs.
+    pub fn is_busy(&self) -> bool
+        ensures { result ≡ rows.is_busy self.now.state.made }
     {
-        let Payload::Reply { number, reply, .. } = payload else {
-            return Ok(self.stay(now));
-        };
-        self.hear_reply(now, from, *number, reply)
+        match &self.made {
+            None => false,
+            Some(made) => !matches!(made.stage, Stage::Ended { .. }),
+        }
     }
 
-    /// A reply counts where it is to the running call, from a member that was asked.
-    fn hear_reply(
+    /// Whether its last call ended as one that may be made again.
+    pub fn may_repeat(&self) -> bool
+        ensures { result ≡ rows.may_repeat self.now.state.made }
+    {
+        match self.result() {
+            Some(CallResult::Retry { .. }) => true,
+            _ => false,
+        }
+    }
+
+    /// How its last call ended: None before the first call, and while one runs.
+    pub fn result(&self) -> Option<&CallResult>
+        ensures { option_map (λ how. how.now) result ≡ rows.result_in self.now.state.made }
+    {
+        match &self.made {
+            None => None,
+            Some(made) => match &made.stage {
+                Stage::Ended { result } => Some(result),
+                Stage::OnReplicas | Stage::Waiting { .. } => None,
+            },
+        }
+    }
+
+    /// Holds a capability for later calls on its file, and joins the mark with what is known of its size.
+    pub fn hold(&mut self, capability: &Capability, mark: SizeMark) -> Result<(), OutOfMemory>
+        ensures ok { OnOk result (self.new ≡ record self.old { state = record self.old.state { held = holds self.old.state.held capability.now mark } }) }
+        ensures err { OnErr result (self.new ≡ self.old) }
+    {
+        self.held.hold(capability, mark)
+    }
+
+    /// Its first target for a replicated file is this member.
+    pub fn aim(&mut self, file: &FileId, node: NodeId) -> Result<(), OutOfMemory>
+        ensures ok { OnOk result (self.new ≡ record self.old { state = record self.old.state { replicas = knows self.old.state.replicas file.now (aimed node) } }) }
+        ensures err { OnErr result (self.new ≡ self.old) }
+    {
+        self.replicas.aim(file, node)
+    }
+
+    /// Its truncate epoch for a file is at least this one.
+    pub fn raise(&mut self, file: &FileId, epoch: u64) -> Result<(), OutOfMemory>
+        ensures ok { OnOk result (self.new ≡ record self.old { state = record self.old.state { replicas = knows self.old.state.replicas file.now (raised epoch) } }) }
+        ensures err { OnErr result (self.new ≡ self.old) }
+    {
+        self.replicas.raise(file, epoch)
+    }
+
+    /// Its truncate epoch for a file: the greatest one that it was told, and 0 before.
+    pub fn epoch(&self, file: &FileId) -> u64
+        ensures { result ≡ (known_in self.now.state.replicas.files file.now).epoch }
+    {
+        self.replicas.epoch(file)
+    }
+
+    /// Nothing comes of an event, but that the clock was used.
+    fn stay(&mut self, now: u64) -> Turned
+        requires { now < 2 ^ 62 }
+        ensures { Acts (λ site client. stays rows.WholeClient client) now self.old self.new result }
+    {
+        self.replicas.pass(now);
+        quiet(self.alloc)
+    }
+
+    /// The last call asks this node.
+    fn ask_made(&mut self, now: u64, target: NodeId) -> Result<Turned, OutOfMemory>
+        requires { now < 2 ^ 62 }
+        ensures row { IfOk result (λ turned.
+            CallActs (λ site client made. rows.asks_node site client made.number made.request target) now self.old self.new turned) }
+        ensures err { OnErr result (self.new ≡ self.old) }
+    {
+        let Some(made) = &self.made else {
+            return Ok(self.stay(now));
+        };
+        let content = made.request.payload(self.alloc, made.number)?;
+        let turned = sends_one(self.alloc, message(self.replicas.node(), target, content))?;
+        let deadline = self.replicas.deadline(now);
+        self.replicas.pass(now);
+        set_stage(&mut self.made, Stage::Waiting { target, deadline });
+        Ok(turned)
+    }
+
+    /// The last call ends so.
+    fn end(&mut self, now: u64, how: CallResult) -> Result<Turned, OutOfMemory>
+        requires { now < 2 ^ 62 }
+        ensures row { IfOk result (λ turned. CallActs (λ site client made. rows.ends client made how) now self.old self.new turned) }
+        ensures err { OnErr result (self.new ≡ self.old) }
+    {
+        let Some(made) = &self.made else {
+            return Ok(self.stay(now));
+        };
+        let outcome = outcome_of(self.alloc, &how)?;
+        let marks = ends(self.alloc, made.number, outcome)?;
+        self.replicas.pass(now);
+        set_stage(&mut self.made, Stage::Ended { result: how });
+        Ok(gives(Seq::new(self.alloc), marks))
+    }
+
+    /// The node that is asked doesn't do it, and nobody else may.
+    fn give_up(&mut self, now: u64, target: NodeId, how: Retry) -> Result<Turned, OutOfMemory>
+        requires { now < 2 ^ 62 }
+        ensures row { IfOk result (λ turned.
+            CallActs (λ site client made. rows.gives_up client made target how) now self.old self.new turned) }
+        ensures err { OnErr result (self.new ≡ self.old) }
+    {
+        let mut answers = Seq::new(self.alloc);
+        answers.push(Answered {
+            node: target,
+            outcome: how,
+        })?;
+        self.end(now, CallResult::Retry { answers })
+    }
+
+    /// The next member is asked, if there is one; else the call ends so.
+    fn ask_or_end(
         &mut self,
         now: u64,
+        next: Option<NodeId>,
+        how: CallResult,
+    ) -> Result<Turned, OutOfMemory>
+        requires { now < 2 ^ 62 }
+        ensures row { IfOk result (λ turned.
+            CallActs (λ site client made. rows.asks_or_ends site client made next how) now self.old self.new turned) }
+        ensures err { OnErr result (self.new ≡ self.old) }
+    {
+        match next {
+            Some(next) => self.ask_made(now, next),
+            None => self.end(now, how),
+        }
+    }
+
+    /// The last call ends so, and a capability is held from now on.
+    fn end_holding(
+        &mut self,
+        now: u64,
+        how: CallResult,
+        capability: &Capability,
+        mark: SizeMark,
+    ) -> Result<Turned, OutOfMemory>
+        requires { now < 2 ^ 62 }
+        ensures row { IfOk result (λ turned.
+            CallActs (λ site client made. rows.ends (record client { held = holds client.held capability.now mark }) made how)
+            now self.old self.new turned) }
+        ensures err { OnErr result (self.new ≡ self.old) }
+    {
+        let Some(made) = &self.made else {
+            return Ok(self.stay(now));
+        };
+        let outcome = outcome_of(self.alloc, &how)?;
+        let marks = ends(self.alloc, made.number, outcome)?;
+        self.held.hold(capability, mark)?;
+        self.replicas.pass(now);
+        set_stage(&mut self.made, Stage::Ended { result: how });
+        Ok(gives(Seq::new(self.alloc), marks))
+    }
+
+    /// The last call is refused for its truncate epoch. The file's is at least the told one.
+    fn end_raising(&mut self, now: u64, file: &FileId, epoch: u64) -> Result<Turned, OutOfMemory>
+        requires { now < 2 ^ 62 }
+        ensures row { IfOk result (λ turned.
+            CallActs (λ site client made.
+            rows.ends (record client { replicas = knows client.replicas file.now (raised epoch) }) made
+            (CallResult.Refused (AskRefusal.OldEpoch epoch)))
+            now self.old self.new turned) }
+        ensures err { OnErr result (self.new ≡ self.old) }
+    {
+        let Some(made) = &self.made else {
+            return Ok(self.stay(now));
+        };
+        let how = CallResult::Refused {
+            reply: AskRefusal::OldEpoch { epoch },
+        };
+        let outcome = outcome_of(self.alloc, &how)?;
+        let marks = ends(self.alloc, made.number, outcome)?;
+        self.replicas.raise(file, epoch)?;
+        self.replicas.pass(now);
+        set_stage(&mut self.made, Stage::Ended { result: how });
+        Ok(gives(Seq::new(self.alloc), marks))
+    }
+
+    /// Ok from the present target of an operation on a striped file.
+    fn serve(
+        &mut self,
+        now: u64,
+        target: NodeId,
         from: NodeId,
-        number: u64,
+        count: u64,
+        mark: SizeMark,
+        bytes: &Octets,
+    ) -> Result<Turned, OutOfMemory>
+        requires { now < 2 ^ 62 }
+        ensures row { IfOk result (λ turned.
+            CallActs (λ site client made.
+            rows.where_striped (rows.striped_ok site client made target from count mark bytes.now) client made.request)
+            now self.old self.new turned) }
+        ensures err { OnErr result (self.new ≡ self.old) }
+    {
+        let Some(made) = &self.made else {
+            return Ok(self.stay(now));
+        };
+        let Request::Striped { capability, op } = &made.request else {
+            return Ok(self.stay(now));
+        };
+        if from.0 != target.0 {
+            return Ok(self.stay(now));
+        }
+        let file = capability.file.number;
+        let location = &capability.location;
+        let all = self.held.mark_with(file, mark);
+        let bytes = bytes_shown(self.alloc, all.size, location.stripe, op, bytes.as_slice())?;
+        let next = next_asked(&location.members, op, target);
+        let how = CallResult::Ok {
+            count,
+            mark: all,
+            bytes,
+        };
+        let turned = self.ask_or_end(now, next, how)?;
+        self.held.join(file, mark);
+        Ok(turned)
+    }
+
+    /// The present target of an operation on a striped file turns it away; others do nothing.
+    fn turn_away(
+        &mut self,
+        now: u64,
+        target: NodeId,
+        from: NodeId,
+        how: Retry,
+    ) -> Result<Turned, OutOfMemory>
+        requires { now < 2 ^ 62 }
+        ensures row { IfOk result (λ turned.
+            CallActs (λ site client made.
+            rows.where_striped (λ capability asked. rows.striped_away client made target from how) client made.request)
+            now self.old self.new turned) }
+        ensures err { OnErr result (self.new ≡ self.old) }
+    {
+        let Some(made) = &self.made else {
+            return Ok(self.stay(now));
+        };
+        let Request::Striped { .. } = &made.request else {
+            return Ok(self.stay(now));
+        };
+        if from.0 == target.0 {
+            return self.give_up(now, target, how);
+        }
+        Ok(self.stay(now))
+    }
+
+    /// An operation on a striped file is refused by a member that was asked.
+    fn refuse(
+        &mut self,
+        now: u64,
+        target: NodeId,
+        from: NodeId,
+        why: AskRefusal,
+    ) -> Result<Turned, OutOfMemory>
+        requires { now < 2 ^ 62 }
+        ensures row { IfOk result (λ turned.
+            CallActs (λ site client made.
+            rows.where_striped (rows.striped_refused rows.learns_nothing client made target from why) client made.request)
+            now self.old self.new turned) }
+        ensures err { OnErr result (self.new ≡ self.old) }
+    {
+        let Some(made) = &self.made else {
+            return Ok(self.stay(now));
+        };
+        let Request::Striped { capability, op } = &made.request else {
+            return Ok(self.stay(now));
+        };
+        if was_asked(&capability.location.members, op, target, from) {
+            return self.end(now, CallResult::Refused { reply: why });
+        }
+        Ok(self.stay(now))
+    }
+
+    /// An operation on a striped file is refused for its truncate epoch by a member that was asked.
+    fn refuse_epoch(
+        &mut self,
+        now: u64,
+        target: NodeId,
+        from: NodeId,
+        epoch: u64,
+    ) -> Result<Turned, OutOfMemory>
+        requires { now < 2 ^ 62 }
+        ensures row { IfOk result (λ turned.
+            CallActs (λ site client made.
+            rows.where_striped (rows.striped_refused (rows.learns_epoch epoch) client made target from (AskRefusal.OldEpoch epoch))
+            client made.request)
+            now self.old self.new turned) }
+        ensures err { OnErr result (self.new ≡ self.old) }
+    {
+        let Some(made) = &self.made else {
+            return Ok(self.stay(now));
+        };
+        let Request::Striped { capability, op } = &made.request else {
+            return Ok(self.stay(now));
+        };
+        if was_asked(&capability.location.members, op, target, from) {
+            let file = capability.file;
+            return self.end_raising(now, &file, epoch);
+        }
+        Ok(self.stay(now))
+    }
+
+    /// A reply to an operation on a striped file.
+    fn take_reply(
+        &mut self,
+        now: u64,
+        target: NodeId,
+        from: NodeId,
         reply: &Reply,
     ) -> Result<Turned, OutOfMemory>
         requires { now < 2 ^ 62 }
         ensures row { IfOk result (λ turned.
-            Acts (λ site client. rows.reply_comes site client client.running from number reply.now) now self.old self.new turned) }
-        ensures err { OnErr result (self.new ≡ self.old) }
-    {
-        let Some(call) = &self.running else {
-            return Ok(self.stay(now));
-        };
-        if number == call.number && was_tried(call.tried.as_slice(), from) {
-            return self.take_reply(now, from, reply);
-        }
-        Ok(self.stay(now))
-    }
-
-    /// Some time has passed: a target whose deadline has come is silent.
-    fn wake(&mut self, now: u64) -> Result<Turned, OutOfMemory>
-        requires { now < 2 ^ 62 }
-        ensures row { IfOk result (λ turned. Acts (λ site client. rows.wakes site client client.running) now self.old self.new turned) }
-        ensures err { OnErr result (self.new ≡ self.old) }
-    {
-        let Some(call) = &self.running else {
-            return Ok(self.stay(now));
-        };
-        if call.deadline <= now {
-            return self.turn_away(now, Retry::Silent);
-        }
-        Ok(self.stay(now))
-    }
-
-    /// The reply of a member that was asked ends the call, or turns it away.
-    fn take_reply(&mut self, now: u64, from: NodeId, reply: &Reply) -> Result<Turned, OutOfMemory>
-        requires clock { now < 2 ^ 62 }
-        requires runs { IsSome self.old.state.running }
-        ensures row { IfOk result (λ turned.
-            CallActs (λ site client call. rows.answered site client call from reply.now) now self.old self.new turned) }
+            CallActs (λ site client made. rows.reply_comes site client made target from reply.now) now self.old self.new turned) }
         ensures err { OnErr result (self.new ≡ self.old) }
     {
         match reply {
-            Reply::Ok { count, bytes, .. } => self.serve(now, from, *count, bytes),
-            Reply::NoLease { end } => self.turn_away_by(now, from, Retry::NoLease { end: *end }),
+            Reply::Ok { count, mark, bytes } => {
+                self.serve(now, target, from, *count, *mark, bytes)
+            }
+            Reply::NoLease { end } => {
+                self.turn_away(now, target, from, Retry::NoLease { end: *end })
+            }
             Reply::NoMajority { have, need } => {
                 let how = Retry::NoMajority {
                     have: *have,
                     need: *need,
                 };
-                self.turn_away_by(now, from, how)
+                self.turn_away(now, target, from, how)
             }
             Reply::Elsewhere { node, end } => {
                 let how = Retry::Elsewhere {
                     node: *node,
                     end: *end,
                 };
-                self.turn_away_by(now, from, how)
+                self.turn_away(now, target, from, how)
             }
-            Reply::Denied { rule } => self.refuse(now, AskRefusal::Denied { rule: *rule }),
-            Reply::OldList { version } => self.refuse(
-                now,
-                AskRefusal::OldList { version: *version },
-            ),
-            Reply::OldEpoch { epoch } => self.refuse_epoch(now, *epoch),
-            Reply::TooFar { object } => self.refuse(now, AskRefusal::TooFar { object: *object }),
-            Reply::ClientsFull => self.refuse(now, AskRefusal::ClientsFull),
+            Reply::Denied { rule } => {
+                self.refuse(now, target, from, AskRefusal::Denied { rule: *rule })
+            }
+            Reply::OldList { version } => {
+                let why = AskRefusal::OldList { version: *version };
+                self.refuse(now, target, from, why)
+            }
+            Reply::OldEpoch { epoch } => self.refuse_epoch(now, target, from, *epoch),
+            Reply::TooFar { object } => {
+                let why = AskRefusal::TooFar { object: *object };
+                self.refuse(now, target, from, why)
+            }
+            Reply::ClientsFull => self.refuse(now, target, from, AskRefusal::ClientsFull),
         }
     }
 
-    /// The call was served. The member that served it is kept as the first target.
-    fn serve(
-        &mut self,
-        now: u64,
-        from: NodeId,
-        count: u64,
-        bytes: &Octets,
-    ) -> Result<Turned, OutOfMemory>
-        requires clock { now < 2 ^ 62 }
-        requires runs { IsSome self.old.state.running }
-        ensures row { IfOk result (λ turned.
-            CallActs (λ site client call.
-            rows.ends_call (rows.knows client call.capability.file (rows.aimed from)) call (Outcome.Ok count bytes.now))
-            now self.old self.new turned) }
-        ensures err { OnErr result (self.new ≡ self.old) }
-    {
-        let file = self.running().capability.file;
-        let known = aimed(&self.files.file(&file), from);
-        let bytes = bytes.copy(self.alloc)?;
-        self.end_knowing(now, known, Outcome::Ok { count, bytes })
-    }
-
-    /// The call is refused.
-    fn refuse(&mut self, now: u64, refusal: AskRefusal) -> Result<Turned, OutOfMemory>
-        requires clock { now < 2 ^ 62 }
-        requires runs { IsSome self.old.state.running }
-        ensures row { IfOk result (λ turned.
-            CallActs (λ site client call. rows.ends_call client call (Outcome.Refused refusal)) now self.old self.new turned) }
-        ensures err { OnErr result (self.new ≡ self.old) }
-    {
-        self.end(now, Outcome::Refused { refusal })
-    }
-
-    /// The call is refused for its truncate epoch. The file's is at least the told one.
-    fn refuse_epoch(&mut self, now: u64, epoch: u64) -> Result<Turned, OutOfMemory>
-        requires clock { now < 2 ^ 62 }
-        requires runs { IsSome self.old.state.running }
-        ensures row { IfOk result (λ turned.
-            CallActs (λ site client call.
-            rows.ends_call (rows.knows client call.capability.file (rows.raised epoch)) call
-            (Outcome.Refused (AskRefusal.OldEpoch epoch)))
-            now self.old self.new turned) }
-        ensures err { OnErr result (self.new ≡ self.old) }
-    {
-        let file = self.running().capability.file;
-        let known = raised(&self.files.file(&file), epoch);
-        let refusal = AskRefusal::OldEpoch { epoch };
-        self.end_knowing(now, known, Outcome::Refused { refusal })
-    }
-
-    /// The present target turns the call away; other members do nothing.
-    fn turn_away_by(&mut self, now: u64, from: NodeId, how: Retry) -> Result<Turned, OutOfMemory>
-        requires clock { now < 2 ^ 62 }
-        requires runs { IsSome self.old.state.running }
-        ensures row { IfOk result (λ turned.
-            CallActs (λ site client call. rows.turned_away_by site client call from how) now self.old self.new turned) }
-        ensures err { OnErr result (self.new ≡ self.old) }
-    {
-        let target = self.running().target;
-        if from.0 != target.0 {
-            return Ok(self.stay(now));
-        }
-        self.turn_away(now, how)
-    }
-
-    /// The present target has this outcome: the next member is asked, and with none left the call ends.
-    fn turn_away(&mut self, now: u64, how: Retry) -> Result<Turned, OutOfMemory>
-        requires clock { now < 2 ^ 62 }
-        requires runs { IsSome self.old.state.running }
-        ensures row { IfOk result (λ turned.
-            CallActs (λ site client call. rows.turned_away site client call how) now self.old self.new turned) }
-        ensures err { OnErr result (self.new ≡ self.old) }
-    {
-        let call = self.running();
-        let members = call.capability.location.members;
-        let tried = with_outcome(self.alloc, call.tried.as_slice(), call.target, &how)?;
-        match next_target(tried.as_slice(), &members, &how) {
-            Some(target) => self.ask(now, target, tried),
-            None => self.give_up(now, &tried),
-        }
-    }
-
-    /// The call asks this member, behind those that were tried.
-    fn ask(
+    /// A reply of a file's member comes.
+    fn hear_reply(
         &mut self,
         now: u64,
         target: NodeId,
-        mut tried: Seq<Tried>,
+        from: NodeId,
+        number: u64,
+        reply: &Reply,
     ) -> Result<Turned, OutOfMemory>
-        requires clock { now < 2 ^ 62 }
-        requires runs { IsSome self.old.state.running }
+        requires { now < 2 ^ 62 }
         ensures row { IfOk result (λ turned.
-            CallActs (λ site client call. rows.asks site client (record call { tried = tried }) target) now self.old self.new turned) }
+            CallActs (λ site client made. rows.reply_heard site client made target from number reply.now) now self.old self.new turned) }
         ensures err { OnErr result (self.new ≡ self.old) }
     {
-        tried.push(Tried {
-            node: target,
-            outcome: None,
-        })?;
-        let call = self.running();
-        let outs = asks(
-            self.alloc,
-            self.node,
-            target,
-            call.number,
-            &call.capability,
-            &call.op,
-        )?;
-        let deadline = now + self.times.lease();
-        turn_to(&mut self.running, target, deadline, tried);
-        self.last = now;
-        Ok(sends(self.alloc, outs))
+        let Some(made) = &self.made else {
+            return Ok(self.stay(now));
+        };
+        if number == made.number {
+            return self.take_reply(now, target, from, reply);
+        }
+        Ok(self.stay(now))
     }
 
-    /// Each member was tried: the call ends, and may be made again.
-    fn give_up(&mut self, now: u64, tried: &Seq<Tried>) -> Result<Turned, OutOfMemory>
-        requires clock { now < 2 ^ 62 }
-        requires runs { IsSome self.old.state.running }
+    /// The metadata server answers the last call.
+    fn take_meta(&mut self, now: u64, answer: &MetaAnswer) -> Result<Turned, OutOfMemory>
+        requires { now < 2 ^ 62 }
         ensures row { IfOk result (λ turned.
-            CallActs (λ site client call.
-            rows.ends_call client call (Outcome.Retry (rows.answers_in tried.now call.capability.location.members)))
-            now self.old self.new turned) }
+            CallActs (λ site client made. rows.meta_comes client made answer.now made.request) now self.old self.new turned) }
         ensures err { OnErr result (self.new ≡ self.old) }
     {
-        let members = self.running().capability.location.members;
-        let answers = answers_in(self.alloc, tried.as_slice(), members.as_slice())?;
-        self.end(now, Outcome::Retry { answers })
+        let Some(made) = &self.made else {
+            return Ok(self.stay(now));
+        };
+        let Request::Meta { .. } = &made.request else {
+            return Ok(self.stay(now));
+        };
+        let how = CallResult::Meta {
+            answer: answer.copy(self.alloc)?,
+        };
+        match answer {
+            MetaAnswer::Granted { capability, mark } => {
+                self.end_holding(now, how, capability, *mark)
+            }
+            MetaAnswer::Done
+            | MetaAnswer::Refused { .. }
+            | MetaAnswer::Names { .. }
+            | MetaAnswer::Row { .. } => self.end(now, how),
+        }
     }
 
-    /// The call ends so.
-    fn end(&mut self, now: u64, outcome: Outcome) -> Result<Turned, OutOfMemory>
-        requires clock { now < 2 ^ 62 }
-        requires runs { IsSome self.old.state.running }
-        ensures row { IfOk result (λ turned.
-            CallActs (λ site client call. rows.ends_call client call outcome) now self.old self.new turned) }
-        ensures err { OnErr result (self.new ≡ self.old) }
-    {
-        let number = self.running().number;
-        let marks = ends(self.alloc, number, outcome)?;
-        self.running = None;
-        self.last = now;
-        Ok(gives(Seq::new(self.alloc), marks))
-    }
-
-    /// The call ends so, and this is known of a file from now on.
-    fn end_knowing(
+    /// An answer of the metadata server comes.
+    fn hear_meta(
         &mut self,
         now: u64,
-        known: KnownFile,
-        outcome: Outcome,
+        target: NodeId,
+        from: NodeId,
+        number: u64,
+        answer: &MetaAnswer,
     ) -> Result<Turned, OutOfMemory>
-        requires clock { now < 2 ^ 62 }
-        requires runs { IsSome self.old.state.running }
+        requires { now < 2 ^ 62 }
         ensures row { IfOk result (λ turned.
-            CallActs (λ site client call. rows.ends_call (record client { files = rows.with_known client.files known }) call outcome)
-            now self.old self.new turned) }
+            CallActs (λ site client made. rows.meta_heard client made target from number answer.now) now self.old self.new turned) }
         ensures err { OnErr result (self.new ≡ self.old) }
     {
-        let number = self.running().number;
-        let marks = ends(self.alloc, number, outcome)?;
-        self.files.put(known)?;
-        self.running = None;
-        self.last = now;
-        Ok(gives(Seq::new(self.alloc), marks))
+        let Some(made) = &self.made else {
+            return Ok(self.stay(now));
+        };
+        if number == made.number && from.0 == target.0 {
+            return self.take_meta(now, answer);
+        }
+        Ok(self.stay(now))
+    }
+
+    /// The directory service answers the last call.
+    fn take_registry(&mut self, now: u64, answer: &RegistryAnswer) -> Result<Turned, OutOfMemory>
+        requires { now < 2 ^ 62 }
+        ensures row { IfOk result (λ turned.
+            CallActs (λ site client made. rows.registry_comes client made answer.now made.request) now self.old self.new turned) }
+        ensures err { OnErr result (self.new ≡ self.old) }
+    {
+        let Some(made) = &self.made else {
+            return Ok(self.stay(now));
+        };
+        let Request::Registry { .. } = &made.request else {
+            return Ok(self.stay(now));
+        };
+        let how = CallResult::Registry {
+            answer: answer.copy(self.alloc)?,
+        };
+        self.end(now, how)
+    }
+
+    /// An answer of the directory service comes.
+    fn hear_registry(
+        &mut self,
+        now: u64,
+        target: NodeId,
+        from: NodeId,
+        number: u64,
+        answer: &RegistryAnswer,
+    ) -> Result<Turned, OutOfMemory>
+        requires { now < 2 ^ 62 }
+        ensures row { IfOk result (λ turned.
+            CallActs (λ site client made. rows.registry_heard client made target from number answer.now) now self.old self.new turned) }
+        ensures err { OnErr result (self.new ≡ self.old) }
+    {
+        let Some(made) = &self.made else {
+            return Ok(self.stay(now));
+        };
+        if number == made.number && from.0 == target.0 {
+            return self.take_registry(now, answer);
+        }
+        Ok(self.stay(now))
+    }
+
+    /// A message comes while the last call waits.
+    fn hear(
+        &mut self,
+        now: u64,
+        target: NodeId,
+        from: NodeId,
+        payload: &Payload,
+    ) -> Result<Turned, OutOfMemory>
+        requires { now < 2 ^ 62 }
+        ensures row { IfOk result (λ turned.
+            CallActs (λ site client made. rows.message_comes site client made target from payload.now) now self.old self.new turned) }
+        ensures err { OnErr result (self.new ≡ self.old) }
+    {
+        match payload {
+            Payload::Reply { number, reply, .. } => {
+                self.hear_reply(now, target, from, *number, reply)
+            }
+            Payload::MetaReply { number, answer } => {
+                self.hear_meta(now, target, from, *number, answer)
+            }
+            Payload::RegistryReply { number, answer } => {
+                self.hear_registry(now, target, from, *number, answer)
+            }
+            _ => Ok(self.stay(now)),
+        }
+    }
+
+    /// Some time has passed: a node whose deadline has come is silent.
+    fn wake(&mut self, now: u64, target: NodeId, deadline: u64) -> Result<Turned, OutOfMemory>
+        requires { now < 2 ^ 62 }
+        ensures row { IfOk result (λ turned.
+            CallActs (λ site client made. rows.wakes site client made target deadline) now self.old self.new turned) }
+        ensures err { OnErr result (self.new ≡ self.old) }
+    {
+        if deadline <= now {
+            return self.give_up(now, target, Retry::Silent);
+        }
+        Ok(self.stay(now))
+    }
+
+    /// An event is handled while the last call waits.
+    fn handle(
+        &mut self,
+        now: u64,
+        target: NodeId,
+        deadline: u64,
+        ev: &Event,
+    ) -> Result<Turned, OutOfMemory>
+        requires { now < 2 ^ 62 }
+        ensures row { IfOk result (λ turned.
+            CallActs (λ site client made. rows.event_comes site client made target deadline ev.now) now self.old self.new turned) }
+        ensures err { OnErr result (self.new ≡ self.old) }
+    {
+        match ev {
+            Event::Deliver(msg) => self.hear(now, target, msg.from, &msg.payload),
+            Event::Wake => self.wake(now, target, deadline),
+            Event::Call(_) => Ok(self.stay(now)),
+        }
+    }
+
+    /// Nothing comes of a reading of the clock, but that it was used.
+    fn pass(&mut self, now: u64) -> Turned
+        requires { now < 2 ^ 62 }
+        ensures { Does (rows.passes self.old.state now) self.old self.new result }
+    {
+        let clock = self.replicas.clock(now);
+        self.stay(clock)
+    }
+
+    /// A call begins where none runs.
+    fn begin(&mut self, now: u64, call: &Call) -> Result<Turned, OutOfMemory>
+        requires { now < 2 ^ 62 }
+        ensures step { IfOk result (λ turned.
+            Does (rows.called self.old.node self.old.times self.old.state now call.now) self.old self.new turned) }
+        ensures err { OnErr result (self.new ≡ self.old) }
+    {
+        if self.replicas.next() >= COUNTS {
+            return Ok(self.pass(now));
+        }
+        self.begin_numbered(now, call)
+    }
+
+    /// A call begins with a number left.
+    fn begin_numbered(&mut self, now: u64, call: &Call) -> Result<Turned, OutOfMemory>
+        requires clock { now < 2 ^ 62 }
+        requires left { self.old.state.replicas.next < 2 ^ 62 }
+        ensures step { IfOk result (λ turned.
+            Does
+            (rows.asked_for self.old.node self.old.times self.old.state now call.now (request_of self.old.state.held call.now))
+            self.old self.new turned) }
+        ensures err { OnErr result (self.new ≡ self.old) }
+    {
+        match request_of(self.alloc, &self.held, call)? {
+            None => Ok(self.pass(now)),
+            Some(request) => self.begin_request(now, call, request),
+        }
+    }
+
+    /// A call that asks this begins.
+    fn begin_request(
+        &mut self,
+        now: u64,
+        call: &Call,
+        request: Request,
+    ) -> Result<Turned, OutOfMemory>
+        requires clock { now < 2 ^ 62 }
+        requires left { self.old.state.replicas.next < 2 ^ 62 }
+        ensures step { IfOk result (λ turned.
+            Does (rows.request_begins self.old.node self.old.times self.old.state now call.now request) self.old self.new turned) }
+        ensures err { OnErr result (self.new ≡ self.old) }
+    {
+        match &request {
+            Request::Replicated { capability, op } => {
+                let op = op.copy(self.alloc)?;
+                self.begin_replicated(now, call, capability, op)
+            }
+            Request::Striped { .. } | Request::Meta { .. } | Request::Registry { .. } => {
+                let clock = self.replicas.clock(now);
+                self.begin_waiting(clock, call, request)
+            }
+        }
+    }
+
+    /// A call on a replicated file begins.
+    fn begin_replicated(
+        &mut self,
+        now: u64,
+        call: &Call,
+        capability: &Capability,
+        op: Op,
+    ) -> Result<Turned, OutOfMemory>
+        requires { now < 2 ^ 62 }
+        ensures step { IfOk result (λ turned.
+            Does
+            (rows.request_begins self.old.node self.old.times self.old.state now call.now (Request.Replicated capability.now op))
+            self.old self.new turned) }
+        ensures err { OnErr result (self.new ≡ self.old) }
+    {
+        let number = self.replicas.next();
+        let asked = op.copy(self.alloc)?;
+        let turned = self.replicas.call(now, *capability, call, asked)?;
+        self.made = Some(MadeCall {
+            number,
+            request: Request::Replicated {
+                capability: *capability,
+                op,
+            },
+            stage: Stage::OnReplicas,
+        });
+        Ok(turned)
+    }
+
+    /// A call that isn't on a replicated file takes the next number, is marked, and asks its first node.
+    fn begin_waiting(
+        &mut self,
+        now: u64,
+        call: &Call,
+        request: Request,
+    ) -> Result<Turned, OutOfMemory>
+        requires clock { now < 2 ^ 62 }
+        requires left { self.old.state.replicas.next < 2 ^ 62 }
+        ensures row { IfOk result (λ turned.
+            Acts (λ site client. rows.begins site client call.now request) now self.old self.new turned) }
+        ensures err { OnErr result (self.new ≡ self.old) }
+    {
+        let number = self.replicas.next();
+        let target = request.first_asked();
+        let marks = begins(self.alloc, number, call)?;
+        let content = request.payload(self.alloc, number)?;
+        let asked = sends_one(self.alloc, message(self.replicas.node(), target, content))?;
+        let deadline = self.replicas.deadline(now);
+        self.replicas.pass(now);
+        self.replicas.take_number();
+        self.made = Some(MadeCall {
+            number,
+            request,
+            stage: Stage::Waiting { target, deadline },
+        });
+        Ok(gives(asked.outs, marks))
+    }
+
+    /// The last call is made again.
+    fn repeat(&mut self, now: u64) -> Result<Turned, OutOfMemory>
+        requires { now < 2 ^ 62 }
+        ensures step { IfOk result (λ turned.
+            Does (rows.called_again self.old.node self.old.times self.old.state now) self.old self.new turned) }
+        ensures err { OnErr result (self.new ≡ self.old) }
+    {
+        self.repeat_made(now)
+    }
+
+    /// The last call asks its first node once more.
+    fn repeat_made(&mut self, now: u64) -> Result<Turned, OutOfMemory>
+        requires { now < 2 ^ 62 }
+        ensures step { IfOk result (λ turned.
+            Does (rows.repeated self.old.node self.old.times self.old.state now self.old.state.made) self.old self.new turned) }
+        ensures err { OnErr result (self.new ≡ self.old) }
+    {
+        let Some(made) = &self.made else {
+            return Ok(self.pass(now));
+        };
+        match &made.request {
+            Request::Replicated { capability, op } => {
+                let (number, capability) = (made.number, *capability);
+                let op = op.copy(self.alloc)?;
+                self.repeat_replicated(now, number, &capability, op)
+            }
+            Request::Striped { .. } | Request::Meta { .. } | Request::Registry { .. } => {
+                let target = made.request.first_asked();
+                let clock = self.replicas.clock(now);
+                self.ask_made(clock, target)
+            }
+        }
+    }
+
+    /// A call on a replicated file is made again.
+    fn repeat_replicated(
+        &mut self,
+        now: u64,
+        number: u64,
+        capability: &Capability,
+        op: Op,
+    ) -> Result<Turned, OutOfMemory>
+        requires { now < 2 ^ 62 }
+        ensures step { IfOk result (λ turned.
+            Does
+            (rows.request_again self.old.node self.old.times self.old.state now number (Request.Replicated capability.now op))
+            self.old self.new turned) }
+        ensures err { OnErr result (self.new ≡ self.old) }
+    {
+        let asked = op.copy(self.alloc)?;
+        let turned = self.replicas.again(now, number, *capability, asked)?;
+        self.made = Some(MadeCall {
+            number,
+            request: Request::Replicated {
+                capability: *capability,
+                op,
+            },
+            stage: Stage::OnReplicas,
+        });
+        Ok(turned)
+    }
+
+    /// The last call goes on by an event.
+    fn go_on(&mut self, now: u64, ev: &Event) -> Result<Turned, OutOfMemory>
+        requires { now < 2 ^ 62 }
+        ensures step { IfOk result (λ turned.
+            Does (rows.goes_on_with self.old.node self.old.times self.old.state now ev.now self.old.state.made)
+            self.old self.new turned) }
+        ensures err { OnErr result (self.new ≡ self.old) }
+    {
+        let Some(made) = &self.made else {
+            return Ok(self.pass(now));
+        };
+        match made.stage {
+            Stage::OnReplicas => self.step_replicas(now, ev),
+            Stage::Waiting { target, deadline } => {
+                let clock = self.replicas.clock(now);
+                self.handle(clock, target, deadline, ev)
+            }
+            Stage::Ended { .. } => Ok(self.pass(now)),
+        }
+    }
+
+    /// A step of the call on a replicated file that runs.
+    fn step_replicas(&mut self, now: u64, ev: &Event) -> Result<Turned, OutOfMemory>
+        requires { now < 2 ^ 62 }
+        ensures step { IfOk result (λ turned.
+            Does
+            (rows.replicas_step self.old.node self.old.times self.old.state now ev.now)
+            self.old self.new turned) }
+        ensures err { OnErr result (self.new ≡ self.old) }
+    {
+        let told = mark_told(ev);
+        let turned = self.replicas.step(now, ev)?;
+        if let Some(outcome) = self.replicas.take_ended() {
+            self.end_replicated(told, outcome);
+        }
+        Ok(turned)
+    }
+
+    /// The call on a replicated file has ended so, and an Ok told this mark.
+    fn end_replicated(&mut self, told: SizeMark, outcome: Outcome)
+        ensures { self.new ≡ record self.old { state = rows.behind self.old.state self.old.state.made told (Some outcome) } }
+    {
+        let Some(made) = &self.made else {
+            return;
+        };
+        let file = made.request.file();
+        let how = match outcome {
+            Outcome::Ok { count, bytes } => {
+                let mark = self.held.mark_with(file, told);
+                self.held.join(file, told);
+                CallResult::Ok { count, mark, bytes }
+            }
+            Outcome::Retry { answers } => CallResult::Retry { answers },
+            Outcome::Refused { refusal } => CallResult::Refused { reply: refusal },
+            Outcome::Meta { .. } | Outcome::Registry { .. } => return,
+        };
+        set_stage(&mut self.made, Stage::Ended { result: how });
     }
 }

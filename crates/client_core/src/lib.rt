@@ -1,13 +1,16 @@
-//! A client: its calls on replicated files, one at a time.
+//! A client: its calls on replicated and striped files, to the metadata server and to the directory service, one at a time.
 //!
-//! Each step equals the definitions of `cluster_runs` (`call_of_client`, `step_of_client`): a call asks one member after the
-//! other until one answers, and ends by a retry only once each was asked. Want of memory is all that a step may answer beside
-//! that, and then the client is as it was. Clocks are in milliseconds, below 2^62.
+//! Each step equals the definitions in `specs/` (`called`, `called_again`, `stepped`), in which a call on a replicated file is
+//! one of `replica_client`. It keeps what it holds of files, the call that it made last and how that ended. Want of memory
+//! leaves it as it was. Clocks are in milliseconds, below 2^62.
 #![tactic(auto)]
 
-mod asking;
 mod client;
-mod known;
-mod tried;
+mod ends;
+mod holding;
+mod requests;
+mod striped;
 
-pub use client::Client;
+pub use client::{CallErr, Client};
+pub use holding::HeldFile;
+pub use requests::{CallResult, MadeCall, Request, Stage};

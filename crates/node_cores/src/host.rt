@@ -11,11 +11,11 @@ ghost use Rattle.node_cores.specs.Hosts.{host_ticked, node_of};
 ghost use Rattle.node_cores.specs.Turns.{Handles, Calls, moment_of};
 
 use crate::running::{Core, Moment, Running};
-use client_core::Client;
 use cluster_runs::Role;
 use disk_model::Stop;
 use kept_bodies::Bodies;
 use osd_core::Osd;
+use replica_client::ReplicaClient;
 use std::alloc::Global;
 use std::marker::Model;
 use xt_base::{Boot, Call, Event, Folded, Location, NodeId, Op, OutOfMemory, Times};
@@ -73,7 +73,7 @@ impl Host {
         requires { clock < 2 ^ 62 }
         ensures { result ≡ record { id = id; role = Role.Client; times = times; up = Some (runs first_boot clock (client (new_client clock))) } }
     {
-        let core = Core::Client(Client::new(alloc, id, times, 1, clock));
+        let core = Core::Client(ReplicaClient::new(alloc, id, times, 1, clock));
         Host {
             id,
             role: Role::Client,

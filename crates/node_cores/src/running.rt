@@ -7,10 +7,10 @@ ghost use Rattle.node_cores.specs.Hosts.{node_of};
 ghost use Rattle.node_cores.specs.Turns.{IsCoreStep, IsCoreCall, call_step, is_calling};
 
 use crate::calls::{declared_capability, declared_file};
-use client_core::Client;
 use disk_model::Stop;
 use kept_bodies::Bodies;
 use osd_core::Osd;
+use replica_client::ReplicaClient;
 use std::alloc::AllocError;
 use xt_base::{Boot, Call, Event, Location, NodeId, Op, OutOfMemory};
 use xt_protocol::Turned;
@@ -19,7 +19,7 @@ use xt_protocol::Turned;
 #[derive(Drop)]
 pub enum Core {
     Osd(Osd),
-    Client(Client),
+    Client(ReplicaClient),
 }
 
 /// A running node.
@@ -44,7 +44,7 @@ pub struct Moment {
 }
 
 /// The truncate epoch under which a client makes a call on a file.
-fn epoch_of(client: &Client, number: u64, call: &Call) -> u64
+fn epoch_of(client: &ReplicaClient, number: u64, call: &Call) -> u64
     ensures { result ≡ epoch_of client.now.state (declared_file number) call.now }
 {
     match call {
@@ -55,7 +55,7 @@ fn epoch_of(client: &Client, number: u64, call: &Call) -> u64
 
 /// A client makes a call on a declared file.
 fn called(
-    client: &mut Client,
+    client: &mut ReplicaClient,
     clock: u64,
     call: &Call,
     number: u64,

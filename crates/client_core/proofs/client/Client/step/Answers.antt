@@ -1,21 +1,28 @@
-use Rattle.std.proofs.Common.{◌≡◌, ◌∙◌, ap, max}
 use Rattle.std.proofs.lemmas.Result.{IfOk-weaker}
-use Rattle.xt_protocol.specs.declared.Turned.{Turned}
-use Rattle.cluster_runs.specs.Steps.{Step}
-use Rattle.cluster_runs.specs.declared.ClientState.{ClientState}
-use Rattle.cluster_runs.specs.Clients.{step_of_client, event_comes}
-use Rattle.client_core.specs.Views.{ClientView, Acts}
-use Rattle.client_core.proofs.Acted.{Row, event_is}
+use Rattle.std.proofs.Common.{IsTrue}
+use Rattle.client_core.specs.Rows.{goes_on_with, stepped, result_in}
+use Rattle.client_core.specs.Views.{Does}
+use Rattle.client_core.specs.Answered.{is_answered, is_done}
+use Rattle.client_core.proofs.Done.{stepped_is}
+use Rattle.client_core.proofs.Answered.{answered_by}
 use Rattle.client_core.proofs.client.Client.step.Goals as goal
 
 pub returns-clause-step : goal.returns-clause-step
 returns-clause-step c =
     let old = c.args.self.now in
-    let new = c.handle.new.self in
-    let row : Row = λ site client. event_comes site client c.args.ev.now in
-    let step : Turned → Step ClientState = λ turned. record { state = new.state; turned = turned } in
-    IfOk-weaker c.handle.result (λ turned. Acts row c.max-now.result old new turned)
-    (λ turned. step_of_client old.node old.times old.state c.args.now c.args.ev.now ≡ step turned)
-    (λ turned. event_is c.args.now c.max-now.result c.args.ev.now old new turned
-    (c.max-now.ensures ∙ ap (λ (v : ClientView). max c.args.now v.state.last) c.self.view_is))
-    c.handle.ensures.row
+    let new = c.go_on.new.self in
+    let happens = c.args.ev.now in
+    IfOk-weaker c.go_on.result
+    (λ turned. Does (goes_on_with old.node old.times old.state c.args.now happens old.state.made) old new turned)
+    (λ turned. Does (stepped old.node old.times old.state c.args.now happens) old new turned)
+    (λ turned. stepped_is old new c.args.now happens turned) c.go_on.ensures.step
+
+pub returns-clause-answered : goal.returns-clause-answered
+returns-clause-answered c =
+    let old = c.args.self.now in
+    let new = c.go_on.new.self in
+    let happens = c.args.ev.now in
+    IfOk-weaker c.go_on.result
+    (λ turned. Does (goes_on_with old.node old.times old.state c.args.now happens old.state.made) old new turned)
+    (λ turned. IsTrue (is_answered old.state happens) → IsTrue (is_done (result_in new.state.made)))
+    (λ turned. answered_by old new c.args.now happens turned) c.go_on.ensures.step

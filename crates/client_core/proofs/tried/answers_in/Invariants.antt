@@ -1,6 +1,0 @@
-use Rattle.std.proofs.Common.{◌≡◌, take}
-use Rattle.cluster_runs.specs.Clients.{answers_in}
-use Rattle.client_core.proofs.tried.answers_in.Given as goal
-
-abbrev pub invariant-loop-node : goal.invariant-loop-node
-invariant-loop-node l = l.answers ≡ answers_in l.tried (take l.node-index l.members)
