@@ -1,4 +1,3 @@
-pub mod Committed
 pub mod PrimaryViews
 pub mod Phases
 pub mod Written

@@ -14,12 +14,13 @@ ghost use Rattle.replica_primary.specs.PrimaryViews.{chosen_by, rests_by};
 
 use crate::drawing::epoch_drawn;
 use crate::hearing::hears;
-use crate::serving::{Written, put_issued, read_served, writes};
+use crate::serving::{Written, put_issued, writes};
 use crate::waking::wakes;
 use flease_lease::Turn;
 use kept_bodies::{Bodies, StepErr};
 use osd_peers::{peer_in, statuses_counted};
 use osd_rows::{Peer, PeerState, Place, PrimaryState, Progress, Tenure};
+use osd_writes::reads_under;
 use std::alloc::Global;
 use std::marker::Model;
 use step_outputs::quiet;
@@ -53,7 +54,7 @@ impl Model for Primary {
     ghost view = { λ p. record { place = p.place; state = p.state } };
 
     ghost use Rattle.xt_base.specs.Limits.{FitsStripe};
-    ghost use Rattle.replica_primary.specs.Committed.{CommittedUnder};
+    ghost use Rattle.osd_writes.specs.Committed.{CommittedUnder};
 
     ghost invariant = { λ p. FitsStripe p.place.stripe × CommittedUnder p.state.tenure };
 }
@@ -177,15 +178,7 @@ impl Primary {
         ensures reads { ReadsOnly B.records B.fault_count bodies.old bodies.new (fault_of result) }
     {
         let _turn = turn;
-        match &self.state.tenure {
-            Some(
-                Tenure {
-                    progress: Progress::Active { committed, .. },
-                    ..
-                },
-            ) => Ok(Some(read_served(bodies, self.alloc, &self.place, committed, op)?)),
-            _ => Ok(None),
-        }
+        reads_under(bodies, self.alloc, &self.place, &self.state.tenure, op)
     }
 
     /// A write or truncation: repeated, older, refused, or issued. None, with nothing changed, where another one is issued, and

@@ -2,30 +2,28 @@ ghost use Rattle.std.specs.Prelude.{◌≡◌, ◌∷◌, ◌≤◌, ◌&&◌, �
 ghost use Rattle.xt_base.specs.declared.file.ObjectVersion.{ObjectVersion};
 ghost use Rattle.xt_base.specs.declared.file.FileHead.{FileHead};
 ghost use Rattle.xt_base.specs.declared.record.Record.{Record};
-ghost use Rattle.xt_base.specs.declared.reply.Reply.TheVariants as reply;
 ghost use Rattle.xt_base.specs.declared.event.Mark.TheVariants as mark;
 ghost use Rattle.xt_base.specs.declared.message.Payload.TheVariants as payload;
 ghost use Rattle.xt_base.specs.Limits.{FitsOp};
-ghost use Rattle.xt_protocol.specs.SeenBodies.{body_by};
 ghost use Rattle.osd_rows.specs.declared.Progress.TheVariants as progress;
 ghost use Rattle.osd_rows.specs.Turns.{to_each};
-ghost use Rattle.osd_rows.specs.Writes.{bytes_shown, standing};
+ghost use Rattle.osd_rows.specs.Writes.{standing};
 ghost use Rattle.osd_rows.specs.PrimaryRows.{goes_on};
 ghost use Rattle.osd_rows.specs.Primaries.{is_current};
 ghost use Rattle.osd_rows.specs.Serving as rows;
 ghost use Rattle.kept_bodies.specs.KeptBodies.{fault_of, ReadsOnly};
 ghost use Rattle.version_lists.specs.Rising.{HeadRises};
-ghost use Rattle.replica_primary.specs.Committed.{CommittedRises, CommittedUnder};
+ghost use Rattle.osd_writes.specs.Committed.{CommittedRises, CommittedUnder};
 ghost use Rattle.replica_primary.specs.Written.{ground, tenure_after, led_of, led_under, with_issued, under_issued};
 
 use kept_bodies::{Bodies, StepErr};
 use osd_rows::{IssuedUpdate, Nodes, Peer, PeerState, Place, PrimaryState, Progress, Tenure};
-use osd_writes::{Standing, bytes_shown, standing_of, update_of};
+use osd_writes::{Standing, standing_of, update_of};
 use std::alloc::Global;
 use step_outputs::{answers, message, quiet, tells};
 use xt_base::{
     COUNTS, Copies, FileHead, FileId, Mark, Msgs, NodeId, OBJECTS, Octets, Op, OpId, OutOfMemory,
-    Payload, Reply, Seq, Stamp, Update,
+    Payload, Seq, Stamp, Update,
 };
 use xt_protocol::Turned;
 
@@ -34,26 +32,6 @@ use xt_protocol::Turned;
 pub struct Written {
     pub issued: Option<Update>,
     pub turned: Turned,
-}
-
-/// Read served: what the committed head shows, its count and its mark.
-pub fn read_served<B: Bodies>(
-    bodies: &mut B,
-    alloc: Global,
-    place: &Place,
-    head: &FileHead,
-    op: &Op,
-) -> Result<Reply, StepErr>
-    requires { HeadRises head.now }
-    ensures value { IfOk result (λ answer. answer ≡ reply.Ok head.now.stamp.count head.now.mark (bytes_shown place.now.stripe (body_by (B.records bodies.old) place.now.file) head.now op.now)) }
-    ensures reads { ReadsOnly B.records B.fault_count bodies.old bodies.new (fault_of result) }
-{
-    let bytes = bytes_shown(bodies, alloc, &place.file, place.stripe, head, op)?;
-    Ok(Reply::Ok {
-        count: head.stamp.count,
-        mark: head.mark,
-        bytes,
-    })
 }
 
 /// Whether an update goes to this peer besides the own node.
