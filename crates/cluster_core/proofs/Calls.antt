@@ -15,9 +15,9 @@ use Rattle.cluster_runs.specs.Lines.{calls, core_calls, location_of, operation_o
 use Rattle.world_hull.specs.declared.errors.WorldErr.{WorldErr}
 use Rattle.node_cores.specs.Turns.{call_step}
 use Rattle.cluster_fits.specs.Fits.{FitsRunning, FitsTurned, FitsCalling}
-use Rattle.cluster_core.specs.Nodes.{NodesView, IsAt, IsPlace, NodeCalls}
-use Rattle.cluster_core.specs.Standing.{Working, IsStepped}
-use Rattle.cluster_core.proofs.Endings.{at_again}
+use Rattle.world_nodes.specs.Nodes.{NodesView, IsAt, IsPlace, NodeCalls}
+use Rattle.step_endings.specs.Steps.{Working, IsStepped}
+use Rattle.step_endings.proofs.Endings.{at_again}
 use Rattle.cluster_core.proofs.FirstSteps.{found_at}
 use Rattle.cluster_core.proofs.Events.{took_ends, one_node}
 

@@ -25,15 +25,15 @@ use Rattle.cluster_runs.specs.NodeSteps.{Room, Cause, came_to, Doing, halted}
 use Rattle.cluster_runs.specs.Lines.{does, tells, declares, runs, first_boot, changed, stops, crashes, cuts, reads_clock, aims, ticked, first_step}
 use Rattle.node_cores.specs.declared.running.Moment.{Moment}
 use Rattle.node_cores.specs.Turns.{moment_of}
-use Rattle.cluster_core.specs.Nodes.{NodesView, IsAt, IsPlace, ChangesUp}
-use Rattle.cluster_core.specs.Standing.{Working, WentOn, IsUntold, Tells, limit_of, cause_of}
+use Rattle.world_nodes.specs.Nodes.{NodesView, IsAt, IsPlace, ChangesUp}
+use Rattle.step_endings.specs.Steps.{Working, WentOn, IsUntold, Tells, limit_of, cause_of}
 use Rattle.world_hull.specs.declared.errors.WorldErr.{WorldErr}
 use Rattle.world_hull.specs.declared.errors.WorldErr.TheVariants as error
 use Rattle.xt_base.specs.declared.status.Limited.{Limited}
 use Rattle.xt_base.specs.TimeSettings.{TimeSettings}
 use Rattle.std.proofs.Common.{IfOk}
-use Rattle.cluster_core.proofs.Endings.{stepped_ok}
-use Rattle.cluster_core.proofs.Changes.{same_there}
+use Rattle.step_endings.proofs.Endings.{stepped_ok}
+use Rattle.world_nodes.proofs.Changes.{same_there}
 
 -- what is so of a state is so of its view
 pub from_view : (was self new : Working) (f : Doing → Result Doing Cause) → was ≡ self → (f was.doing ≡ Ok new.doing) × WentOn was new → (f self.doing ≡ Ok new.doing) × WentOn self new

@@ -1,10 +1,4 @@
-pub mod Hosts
-pub mod Changes
-pub mod Ticks
 pub mod Rows
-pub mod Endings
-pub mod Giving
-pub mod Given
 pub mod Turns
 pub mod FirstSteps
 pub mod Starting

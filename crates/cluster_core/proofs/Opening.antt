@@ -16,7 +16,7 @@ use Rattle.cluster_runs.specs.Rules.{refusal, if_so, no_client, node_twice, drif
 use Rattle.cluster_runs.specs.NodeSteps.{Room, Cause, Doing, event_comes}
 use Rattle.cluster_runs.specs.Lines.{calls, delivers, no_longer_pending, first_step}
 use Rattle.world_hull.specs.declared.errors.WorldErr.{WorldErr}
-use Rattle.cluster_core.specs.Standing.{Working, IsStepped}
+use Rattle.step_endings.specs.Steps.{Working, IsStepped}
 
 not_so : (broken : Bool) (rule : Rule) → if_so broken rule ≡ None → broken ≡ false
 not_so true rule is = absurd (cc)

@@ -11,7 +11,8 @@ use Rattle.time_line.specs.Bounds.{AreLines, FitsLine, FitsLater, sets_times}
 use Rattle.cluster_runs.specs.Runs.{with_line, after, after_refusal, run_of, IsPartOf}
 use Rattle.world_hull.specs.declared.errors.WorldErr.{WorldErr}
 use Rattle.world_hull.specs.declared.errors.WorldErr.TheVariants as error
-use Rattle.cluster_core.specs.Standing.{Standing, Working, HasRun, IsLeft, IsRefused, MayStand, begun_with}
+use Rattle.step_endings.specs.Steps.{Working}
+use Rattle.cluster_core.specs.Standing.{Standing, HasRun, IsLeft, IsRefused, MayStand, begun_with}
 use Rattle.cluster_core.proofs.Turns.{none_yet}
 use Rattle.cluster_core.proofs.Whole.{begins_in, done_is}
 

@@ -21,10 +21,10 @@ use Rattle.world_hull.specs.Appends.{kept_by}
 use Rattle.world_hull.specs.declared.hull.Kept.{Kept}
 use Rattle.world_hull.specs.declared.errors.WorldErr.{WorldErr}
 use Rattle.world_hull.specs.declared.errors.WorldErr.TheVariants as error
-use Rattle.cluster_core.specs.Nodes.{NodesView, IsAt, IsPlace, Changes, kept_when}
-use Rattle.cluster_core.specs.Standing.{Tells, cause_of}
-use Rattle.cluster_core.specs.Endings.{boot_behind}
-use Rattle.cluster_core.proofs.Endings.{twice, at_again}
+use Rattle.world_nodes.specs.Nodes.{NodesView, IsAt, IsPlace, Changes, kept_when}
+use Rattle.step_endings.specs.Steps.{Tells, cause_of}
+use Rattle.cluster_core.specs.Boots.{boot_behind}
+use Rattle.step_endings.proofs.Endings.{twice, at_again}
 use Rattle.cluster_core.proofs.FirstSteps.{found_at}
 
 pub start_nowhere : (room : Room) (d : Doing) (id : NodeId) (clock : ℕ) → node_in d.world.nodes id.0 ≡ None → first_step room d (line.Start id clock) ≡ Ok d

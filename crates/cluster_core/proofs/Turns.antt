@@ -5,7 +5,8 @@ use Rattle.xt_base.specs.declared.event.Event.TheVariants as event
 use Rattle.cluster_fits.specs.Fits.{FitsWorld, FitsAt}
 use Rattle.world_hull.specs.declared.errors.WorldErr.{WorldErr}
 use Rattle.world_hull.specs.declared.errors.WorldErr.TheVariants as error
-use Rattle.cluster_core.specs.Standing.{Working, WentOn, IsUntold, IsLeftIn, Tells, TellsEnd, IsStepped, IsTurned, HasEnded, AllFit, cause_of}
+use Rattle.step_endings.specs.Steps.{Working, WentOn, IsUntold, Tells, IsStepped, cause_of}
+use Rattle.cluster_core.specs.Standing.{IsLeftIn, TellsEnd, IsTurned, HasEnded, AllFit}
 use Rattle.cluster_runs.specs.World.{World}
 use Rattle.cluster_runs.specs.NodeSteps.{Room, Cause, came_to, has_no_room, Doing, event_comes}
 use Rattle.cluster_runs.specs.Lines.{Next, finished, opens, goes_on, ends, went, settles, works_on, next_step, steps, so_far}
@@ -65,10 +66,6 @@ next_is_own room d m rest is = ap (works_on room d) is
 next_is_settle : (room : Room) (d : Doing) → d.own ≡ [] → next_step room (goes_on d) ≡ settles room d d.left
 unfolding next_step
 next_is_settle room d is = ap (works_on room d) is
-
-pub nothing_left : (xs ys : List Msg) → xs ≡ ys → ys ≡ drop 1 xs → xs ≡ []
-nothing_left [] ys is rest = refl
-nothing_left (x ∷ xs) ys is rest = absurd (let e : suc (length xs) ≡ length xs = ap length (is ∙ rest) in omega arith)
 
 pub turn_settles : (room : Room) (was self now new : Working) (r : Result Bool WorldErr) → was ≡ self → was.doing.own ≡ [] → now ≡ was → IsTurned now (settles room now.doing now.doing.left) new r
     → IsTurned self (next_step room (goes_on self.doing)) new r

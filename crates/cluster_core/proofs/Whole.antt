@@ -8,7 +8,8 @@ use Rattle.cluster_runs.specs.Lines.{Next, finished, opens, goes_on, ends, begin
 use Rattle.world_hull.specs.declared.errors.WorldErr.{WorldErr}
 use Rattle.world_hull.specs.declared.errors.WorldErr.TheVariants as error
 use Rattle.cluster_fits.specs.Fits.{FitsAt, FitsWorld}
-use Rattle.cluster_core.specs.Standing.{Working, WentOn, IsUntold, IsLeftIn, Tells, IsTurned, HasEnded, HasRun, AllFit, begun_with, cause_of}
+use Rattle.step_endings.specs.Steps.{Working, WentOn, IsUntold, Tells, cause_of}
+use Rattle.cluster_core.specs.Standing.{IsLeftIn, IsTurned, HasEnded, HasRun, AllFit, begun_with}
 use Rattle.cluster_core.proofs.Turns.{none_yet, steps-add, done_longer, ended_longer, one_more, went_further, has_ended}
 
 opens_one : (room : Room) (l : Line) (w : World) → steps 1 room (opens l w) ≡ went w (first_step room (record { world = w; own = []; left = 0 }) l)

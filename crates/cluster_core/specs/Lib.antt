@@ -1,4 +1,2 @@
-pub mod Nodes
-pub mod Clocks
 pub mod Standing
-pub mod Endings
+pub mod Boots

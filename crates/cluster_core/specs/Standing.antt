@@ -1,13 +1,8 @@
 -- a world that is run by code, and what a line makes of it
-use Rattle.std.specs.Prelude.{ℕ, Bool, true, false, ◌≡◌, ◌≤◌, ◌-◌, ◌⊎◌, ◌∷◌, ◌++◌, [], List, Option, Some, None, Result, Ok, Err}
-use Rattle.xt_base.specs.declared.TheConstants.{COUNTS}
-use Rattle.xt_base.specs.declared.status.Limited.{Limited}
-use Rattle.xt_base.specs.declared.status.Limited.TheVariants as limited
+use Rattle.std.specs.Prelude.{ℕ, Bool, true, false, ◌≡◌, ◌≤◌, ◌⊎◌, ◌∷◌, ◌++◌, [], List, Option, Some, None, Result, Ok, Err}
 use Rattle.xt_base.specs.TimeSettings.{AreTimes}
-use Rattle.time_line.specs.declared.TheConstants.{LINES, LINE_BYTES}
 use Rattle.time_line.specs.declared.line.Line.{Line}
 use Rattle.time_line.specs.declared.line.Line.TheVariants as line
-use Rattle.cluster_runs.specs.declared.TheConstants.{MESSAGES, MESSAGE_BYTES, NODES}
 use Rattle.cluster_runs.specs.World.{World}
 use Rattle.cluster_runs.specs.Rules.{refusal}
 use Rattle.cluster_runs.specs.NodeSteps.{Room, Cause, came_to, has_no_room, Doing}
@@ -15,18 +10,13 @@ use Rattle.cluster_runs.specs.Lines.{Next, finished, goes_on, ends, begins, step
 use Rattle.time_line.specs.Bounds.{AreLines, FitsLine}
 use Rattle.cluster_runs.specs.Runs.{with_line, run_of, IsPartOf}
 use Rattle.cluster_fits.specs.Fits.{FitsAt}
+use Rattle.step_endings.specs.Steps.{Working, IsUntold, WentOn, limit_of}
 use Rattle.world_hull.specs.declared.errors.WorldErr.{WorldErr}
 use Rattle.world_hull.specs.declared.errors.WorldErr.TheVariants as error
 
 -- a world, and whether a line of it ended early: then it takes no line again
 pub record Standing : Type 0 where
   pub world : World
-  pub ended : Bool
-
--- a line at work, that line where it isn't among the world's lines yet, and whether one ended early
-pub record Working : Type 0 where
-  pub doing : Doing
-  pub begun : List Line
   pub ended : Bool
 
 -- a world between two lines
@@ -36,47 +26,6 @@ resting w = record { doing = record { world = w; own = []; left = 0 }; begun = [
 -- Until a line ends early, the world is the run of its lines, each of which is within its limits.
 abbrev pub IsRunSoFar : Room → Standing → Type 0
 IsRunSoFar room s = s.ended ≡ false → (s.world ≡ run_of room s.world.lines) × AreLines s.world.lines
-
--- the value that a limited count may not pass
-abbrev pub limit_of : Limited → ℕ
-limit_of limited.Lines = LINES
-limit_of limited.Line = LINE_BYTES
-limit_of limited.Nodes = NODES
-limit_of limited.Messages = MESSAGES
-limit_of limited.Bytes = MESSAGE_BYTES
-limit_of limited.Boots = COUNTS - 1
-limit_of limited.Numbers = COUNTS - 1
-
--- ---- how steps end
-
--- the entries and the lines are as before
-pub record IsUntold (old new : Working) : Type 0 where
-  pub entries : new.doing.world.entries ≡ old.doing.world.entries
-  pub lines : new.doing.world.lines ≡ old.doing.world.lines
-  pub begun : new.begun ≡ old.begun
-  pub ended : new.ended ≡ old.ended
-
--- an error tells of this cause; want of memory may come for any, and no rule is broken within a line
-abbrev pub Tells : Option Cause → WorldErr → Type 0
-Tells cause (error.Illegal rule) = ⊥
-Tells cause (error.Limit what limit) = (cause ≡ Some (came_to what)) × (limit ≡ limit_of what)
-Tells cause (error.Full need limit) = cause ≡ Some (has_no_room (record { need = need; limit = limit }))
-Tells cause error.OutOfMemory = Unit {0}
-
--- why a step isn't finished, if it isn't
-abbrev pub cause_of : Result Doing Cause → Option Cause
-cause_of (Ok d) = None
-cause_of (Err cause) = Some cause
-
--- the line at work went on, and nothing else changed
-pub record WentOn (old new : Working) : Type 0 where
-  pub rest : new ≡ record old { doing = new.doing }
-  pub lines : new.doing.world.lines ≡ old.doing.world.lines
-
--- The step is done; or it isn't finished, and nothing is told of it.
-abbrev pub IsStepped : {T : Type 0} → Working → Result Doing Cause → Working → Result T WorldErr → Type 0
-IsStepped old stepped new (Ok value) = (stepped ≡ Ok new.doing) × WentOn old new
-IsStepped old stepped new (Err e) = Tells (cause_of stepped) e × IsUntold old new
 
 -- the line ended early in this world, and an error tells why
 abbrev pub TellsEnd : Next → World → WorldErr → Type 0

@@ -4,10 +4,7 @@
 //! or the full journal that it came to. It stands over any `Hull`, which keeps the nodes' records and carries their messages.
 #![tactic(auto)]
 
-mod clocks;
-mod entries;
 mod lines;
-mod nodes;
 mod state;
 mod world;
 

@@ -16,7 +16,7 @@ use Rattle.cluster_runs.specs.Rules.{refusal}
 use Rattle.cluster_runs.specs.NodeSteps.{Room, Cause, came_to, has_no_room}
 use Rattle.cluster_runs.specs.Lines.{finished, ends, done}
 use Rattle.cluster_runs.specs.Runs.{after, run_of, IsPartOf}
-use Rattle.cluster_core.specs.Standing.{limit_of}
+use Rattle.step_endings.specs.Steps.{limit_of}
 use Rattle.schedule_lines.specs.Fronts.{IsFrontOf}
 use Rattle.schedule_lines.specs.NextLine.{ended, StopsReading}
 

@@ -4,14 +4,14 @@ use Rattle.time_line.specs.declared.line.Line.TheVariants as line
 use Rattle.cluster_core.proofs.FirstSteps.{stayed, at_view, crash_nowhere, crash_planned}
 use Rattle.std.proofs.Common.{ℕ, subst}
 use Rattle.cluster_runs.specs.Lines.{crashes}
-use Rattle.cluster_core.specs.Nodes.{ChangesUp}
+use Rattle.world_nodes.specs.Nodes.{ChangesUp}
 use Rattle.cluster_core.proofs.state.State.plan_crash.Goals as goal
 
 pub returns-in-Some-clause-step : goal.returns-in-Some-clause-step
 returns-in-Some-clause-step g c =
     at_view _ _ (λ (d : Doing). first_step g.H.Hull.overflow d (line.Crash c.args.node c.args.call c.args.fill)) _ c.self.view_is
     (crash_planned g.H.Hull.overflow _ c.args.node c.args.call c.args.fill c.in-Some.place c.plan_crash.new.self c.in-Some.ensures
-    (subst (λ (k : ℕ). ChangesUp c.self.inside.nodes c.in-Some.place (crashes k c.args.fill) c.plan_crash.new.self) c.from-call.ensures c.plan_crash.ensures))
+    (subst (λ (k : ℕ). ChangesUp c.self.inside.stepper.nodes c.in-Some.place (crashes k c.args.fill) c.plan_crash.new.self) c.from-call.ensures c.plan_crash.ensures))
 
 pub returns-in_default-clause-step : goal.returns-in_default-clause-step
 returns-in_default-clause-step g c =

@@ -1,6 +1,6 @@
 use Rattle.std.proofs.Common.{ap, ◌∙◌}
 use Rattle.cluster_runs.specs.Rules.{refusal}
-use Rattle.cluster_core.specs.Standing.{Working}
+use Rattle.step_endings.specs.Steps.{Working}
 use Rattle.cluster_core.proofs.FirstSteps.{start_rule, clock_rule}
 use Rattle.cluster_core.proofs.state.State.refusal.Goals as goal
 

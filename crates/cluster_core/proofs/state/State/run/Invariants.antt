@@ -1,6 +1,6 @@
 use Rattle.std.proofs.Common.{◌≡◌, ◌*◌}
 use Rattle.cluster_runs.specs.Lines.{goes_on, steps}
-use Rattle.cluster_core.specs.Standing.{WentOn}
+use Rattle.step_endings.specs.Steps.{WentOn}
 use Rattle.cluster_core.proofs.state.State.run.Given as goal
 
 abbrev pub invariant-loop-event : goal.invariant-loop-event

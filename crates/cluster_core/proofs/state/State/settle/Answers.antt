@@ -1,7 +1,7 @@
 use Rattle.std.proofs.Common.{[], sym, subst}
 use Rattle.cluster_fits.specs.Fits.{FitsWorld}
 use Rattle.cluster_fits.proofs.Coming.{delivered}
-use Rattle.cluster_core.specs.Standing.{Working}
+use Rattle.step_endings.specs.Steps.{Working}
 use Rattle.cluster_core.proofs.state.State.settle.Goals as goal
 
 pub deliver-requires-clause-fits : goal.deliver-requires-clause-fits

@@ -10,8 +10,8 @@ use Rattle.cluster_runs.specs.Lines.{first_step, runs, osd_starting}
 use Rattle.time_line.specs.declared.entry.Entry.{Entry}
 use Rattle.time_line.specs.declared.entry.Entry.TheVariants as entry
 use Rattle.cluster_runs.specs.NodeSteps.{Doing}
-use Rattle.cluster_core.specs.Nodes.{NodesView, IsAt}
-use Rattle.cluster_core.specs.Standing.{Working, Tells, cause_of}
+use Rattle.world_nodes.specs.Nodes.{NodesView, IsAt}
+use Rattle.step_endings.specs.Steps.{Working, Tells, cause_of}
 use Rattle.cluster_core.proofs.Rows.{rows_are}
 use Rattle.cluster_core.proofs.FirstSteps.{from_view, stayed, limit_said, found_at}
 use Rattle.cluster_core.proofs.Starting.{start_nowhere, behind_is, start_passed, start_full, started_at, start_done}
@@ -38,24 +38,24 @@ start-requires-clause-rows g c =
     subst (λ (f : Folded). AreRows f.files) (sym (c.in_ok-folded.ensures.said c.in-Some.ensures.0 c.in-Some.ensures.1))
     (rows_are c.in-Some.ensures.0.kept
     (c.requires.kept c.in-Some.ensures.0
-    (sym (ap (λ (x : Working). node_in x.doing.world.nodes c.args.node.0) c.self.view_is) ∙ found_at c.self.inside.nodes.nodes c.args.node c.in-Some.place c.in-Some.ensures.0 c.in-Some.ensures.1 c.in-Some.ensures.2)))
+    (sym (ap (λ (x : Working). node_in x.doing.world.nodes c.args.node.0) c.self.view_is) ∙ found_at c.self.inside.stepper.nodes.nodes c.args.node c.in-Some.place c.in-Some.ensures.0 c.in-Some.ensures.1 c.in-Some.ensures.2)))
 
-pub returns-in_err-append : goal.returns-in_err-append
-returns-in_err-append g c =
-    let p = err_from_is_err_and c.from_residual-in_err-append.result c.from_residual-in_err-append.ensures.1 in
+pub returns-in_err-keep_boot : goal.returns-in_err-keep_boot
+returns-in_err-keep_boot g c =
+    let p = err_from_is_err_and c.from_residual-in_err-keep_boot.result c.from_residual-in_err-keep_boot.ensures.1 in
     rw (p.1, p.2) (
-      subst (λ (x : Working). Tells (cause_of (first_step g.H.Hull.overflow x.doing (line.Start c.args.node c.args.clock))) c.in_err-append.field-0.0) c.self.view_is
-          (start_full g.H.Hull.overflow _ c.args.node c.args.clock c.in-Some.place c.in-Some.ensures Kept c.in-Some-next_boot.boot c.in_err-append.field-0.0 (behind_is c.in_ok-folded.folded _ c.next_boot.result _ (c.in_ok-folded.ensures.said c.in-Some.ensures.0 c.in-Some.ensures.1) c.next_boot.ensures c.in-Some-next_boot.is) c.in_err-append.ensures.error
-          (c.in_err-append.ensures.room _ (started_at g.H.Hull.overflow (record {
+      subst (λ (x : Working). Tells (cause_of (first_step g.H.Hull.overflow x.doing (line.Start c.args.node c.args.clock))) c.in_err-keep_boot.field-0.0) c.self.view_is
+          (start_full g.H.Hull.overflow _ c.args.node c.args.clock c.in-Some.place c.in-Some.ensures Kept c.in-Some-next_boot.boot c.in_err-keep_boot.field-0.0 (behind_is c.in_ok-folded.folded _ c.next_boot.result _ (c.in_ok-folded.ensures.said c.in-Some.ensures.0 c.in-Some.ensures.1) c.next_boot.ensures c.in-Some-next_boot.is) c.in_err-keep_boot.ensures.error
+          (c.in_err-keep_boot.ensures.room _ (started_at g.H.Hull.overflow (record {
             world = record {
-              times = c.self.inside.nodes.times;
-              nodes = c.self.inside.nodes.nodes;
+              times = c.self.inside.stepper.nodes.times;
+              nodes = c.self.inside.stepper.nodes.nodes;
               files = c.self.inside.files;
-              sent = c.self.inside.sent;
-              entries = c.self.inside.entries.items;
+              sent = c.self.inside.stepper.sent;
+              entries = c.self.inside.stepper.entries.items;
               lines = take c.self.inside.shown c.self.inside.lines.items;
             };
-            own = c.self.inside.own.items;
+            own = c.self.inside.stepper.own;
             left = c.self.inside.left;
           }) c.args.node c.args.clock c.in-Some.place c.in-Some.ensures c.in-Some-next_boot.boot c.start.new.self (subst
           (λ (v : NodesView). c.start.new.self ≡ record v { nodes = with_node v.nodes (record c.in-Some.ensures.0 { up = Some (runs c.in-Some-next_boot.boot c.args.clock (osd (osd_starting v.times c.in-Some.ensures.0 c.in-Some-next_boot.boot c.args.clock))) }) })
@@ -72,17 +72,17 @@ returns-in_err-append g c =
 pub returns : goal.returns
 returns g c =
     from_view _ _ _ (λ (d : Doing). first_step g.H.Hull.overflow d (line.Start c.args.node c.args.clock)) c.self.view_is (
-      start_done g.H.Hull.overflow _ c.args.node c.args.clock c.in-Some.place c.in-Some.ensures c.in-Some-next_boot.boot c.start.new.self c.append.new.self c.in_ok-append.field-0 _ (behind_is c.in_ok-folded.folded _ c.next_boot.result _ (c.in_ok-folded.ensures.said c.in-Some.ensures.0 c.in-Some.ensures.1) c.next_boot.ensures c.in-Some-next_boot.is)
-          (c.in_ok-append.ensures.room _ (started_at g.H.Hull.overflow (record {
+      start_done g.H.Hull.overflow _ c.args.node c.args.clock c.in-Some.place c.in-Some.ensures c.in-Some-next_boot.boot c.start.new.self c.keep_boot.new.nodes c.in_ok-keep_boot.field-0 _ (behind_is c.in_ok-folded.folded _ c.next_boot.result _ (c.in_ok-folded.ensures.said c.in-Some.ensures.0 c.in-Some.ensures.1) c.next_boot.ensures c.in-Some-next_boot.is)
+          (c.in_ok-keep_boot.ensures.room _ (started_at g.H.Hull.overflow (record {
             world = record {
-              times = c.self.inside.nodes.times;
-              nodes = c.self.inside.nodes.nodes;
+              times = c.self.inside.stepper.nodes.times;
+              nodes = c.self.inside.stepper.nodes.nodes;
               files = c.self.inside.files;
-              sent = c.self.inside.sent;
-              entries = c.self.inside.entries.items;
+              sent = c.self.inside.stepper.sent;
+              entries = c.self.inside.stepper.entries.items;
               lines = take c.self.inside.shown c.self.inside.lines.items;
             };
-            own = c.self.inside.own.items;
+            own = c.self.inside.stepper.own;
             left = c.self.inside.left;
           }) c.args.node c.args.clock c.in-Some.place c.in-Some.ensures c.in-Some-next_boot.boot c.start.new.self (subst
           (λ (v : NodesView). c.start.new.self ≡ record v { nodes = with_node v.nodes (record c.in-Some.ensures.0 { up = Some (runs c.in-Some-next_boot.boot c.args.clock (osd (osd_starting v.times c.in-Some.ensures.0 c.in-Some-next_boot.boot c.args.clock))) }) })
@@ -92,7 +92,7 @@ returns g c =
           (λ (v : NodesView). c.start.new.self ≡ record v { nodes = with_node v.nodes (record c.in-Some.ensures.0 { up = Some (runs c.in-Some-next_boot.boot c.args.clock (osd (osd_starting v.times c.in-Some.ensures.0 c.in-Some-next_boot.boot c.args.clock))) }) })
           c.in_ok-folded.ensures.same
           (c.in_ok-start.ensures c.in-Some.ensures.0 (subst (λ (v : NodesView). IsAt v.nodes c.in-Some.place c.in-Some.ensures.0) (sym c.in_ok-folded.ensures.same) c.in-Some.ensures.1) (c.in_ok-folded.ensures.said c.in-Some.ensures.0 c.in-Some.ensures.1)))
-          c.in_ok-append.ensures.done.0 c.in_ok-append.ensures.done.1
+          c.in_ok-keep_boot.ensures.done.0 c.in_ok-keep_boot.ensures.done.1
           (c.in_ok-push.ensures.items ∙ ap (λ (es : List Entry). es ++ entry.Up c.args.node c.in-Some-next_boot.boot c.args.clock ∷ []) c.reserve.ensures.items),
       record { rest = refl; lines = refl },
     )

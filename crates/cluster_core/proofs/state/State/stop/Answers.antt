@@ -2,8 +2,8 @@ use Rattle.cluster_runs.specs.Lines.{first_step}
 use Rattle.cluster_runs.specs.NodeSteps.{Doing}
 use Rattle.time_line.specs.declared.line.Line.TheVariants as line
 use Rattle.cluster_core.proofs.FirstSteps.{from_view, stayed, stop_nowhere, stop_down, stop_told}
-use Rattle.std.proofs.Common.{ap, sym, ◌∙◌}
-use Rattle.cluster_core.specs.Standing.{Working}
+use Rattle.std.proofs.Common.{take, drop, ap, sym, ◌∙◌}
+use Rattle.step_endings.specs.Steps.{Working, Around, working}
 use Rattle.cluster_core.proofs.state.State.stop.Goals as goal
 
 pub returns-in_default : goal.returns-in_default
@@ -16,6 +16,13 @@ returns-in_default-moment g c =
 
 pub returns : goal.returns
 returns g c =
+    let around : Around = record {
+      files = c.self.inside.files;
+      lines = take c.self.inside.shown c.self.inside.lines.items;
+      left = c.self.inside.left;
+      begun = drop c.self.inside.shown c.self.inside.lines.items;
+      ended = c.self.inside.ended;
+    } in
     from_view _ _ _ (λ (d : Doing). first_step g.H.Hull.overflow d (line.Stop c.args.node)) c.self.view_is
-    (stop_told g.H.Hull.overflow _ c.halt.new.self c.args.node c.in-Some.place c.in-Some.ensures c.in-Some-moment.moment _ (λ node at. sym c.in-Some-moment.is ∙ c.moment.ensures.moment node at) c.in_ok-push.ensures.items
-    (ap (λ (x : Working). x.doing.own) c.self.view_is ∙ c.requires) (c.halt.ensures c.in-Some.ensures.0 c.in-Some.ensures.1))
+    (stop_told g.H.Hull.overflow _ (working around c.halt.new.self) c.args.node c.in-Some.place c.in-Some.ensures c.in-Some-moment.moment _ (λ node at. sym c.in-Some-moment.is ∙ c.moment.ensures.moment node at) c.in_ok-push.ensures.items
+    (ap (λ (x : Working). x.doing.own) c.self.view_is ∙ c.requires) (c.halt.ensures around c.in-Some.ensures.0 c.in-Some.ensures.1))

@@ -1,6 +1,6 @@
 use Rattle.std.proofs.Common.{◌≡◌}
 use Rattle.cluster_runs.specs.Lines.{goes_on, steps}
-use Rattle.cluster_core.specs.Standing.{WentOn}
+use Rattle.step_endings.specs.Steps.{WentOn}
 use Rattle.cluster_core.proofs.state.State.turns.Given as goal
 
 abbrev pub invariant-loop-made : goal.invariant-loop-made

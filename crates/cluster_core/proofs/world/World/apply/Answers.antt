@@ -3,7 +3,8 @@ use Rattle.std.proofs.lemmas.Result.{err_from_is_err_and}
 use Rattle.time_line.specs.Bounds.{AreLines}
 use Rattle.cluster_runs.specs.Runs.{run_of}
 use Rattle.world_hull.specs.declared.errors.WorldErr.{WorldErr}
-use Rattle.cluster_core.specs.Standing.{Standing, Working, HasRun, MayStand}
+use Rattle.step_endings.specs.Steps.{Working}
+use Rattle.cluster_core.specs.Standing.{Standing, HasRun, MayStand}
 use Rattle.cluster_core.proofs.Runs.{may_stand, refused_is, unfinished_is, finished_run}
 use Rattle.cluster_core.proofs.world.World.apply.Goals as goal
 

@@ -1,7 +1,7 @@
 use Rattle.std.proofs.Common.{◌≡◌, sym, subst}
 use Rattle.time_line.specs.Bounds.{AreLines}
 use Rattle.cluster_runs.specs.Runs.{run_of}
-use Rattle.cluster_core.specs.Standing.{Working}
+use Rattle.step_endings.specs.Steps.{Working}
 use Rattle.cluster_core.proofs.Runs.{no_run}
 use Rattle.cluster_core.proofs.world.World.new.Goals as goal
 

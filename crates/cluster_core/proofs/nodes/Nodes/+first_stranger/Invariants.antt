@@ -1,5 +1,0 @@
-use Rattle.std.proofs.Common.{length}
-use Rattle.cluster_core.proofs.nodes.Nodes.+first_stranger.Given as goal
-
-abbrev pub decreases-first_stranger : goal.decreases-first_stranger
-decreases-first_stranger g l = length l.members.now

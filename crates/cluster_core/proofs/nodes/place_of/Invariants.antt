@@ -1,6 +1,0 @@
-use Rattle.std.proofs.Common.{◌≡◌, false, take}
-use Rattle.cluster_core.specs.Nodes.{has_host}
-use Rattle.cluster_core.proofs.nodes.place_of.Given as goal
-
-abbrev pub invariant-loop-place : goal.invariant-loop-place
-invariant-loop-place l = has_host (take l.place l.hosts) l.id.0 ≡ false

@@ -1,8 +1,0 @@
-use Rattle.std.proofs.Common.{refl}
-use Rattle.cluster_core.proofs.Given.{give_done}
-use Rattle.cluster_core.proofs.state.State.give.Goals as goal
-
-pub returns : goal.returns
-returns g c = λ node at.
-    give_done g.H.Hull.overflow _ c.args.self.now _ c.args.place node c.id-node.result c.args.rec.now c.args.outs.now c.test_limits.result c.keep.new.self c.send.new.nodes c.send.new.sent
-    c.self.view_is at c.id-node.ensures.id c.in_ok-keep.ensures.done c.in_ok-keep.ensures.room c.in_ok-send.ensures.same c.in_ok-send.ensures.sent c.test_limits.ensures refl

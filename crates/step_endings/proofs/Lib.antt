@@ -1,0 +1,4 @@
+pub mod Endings
+pub mod Giving
+pub mod Given
+pub mod Ways

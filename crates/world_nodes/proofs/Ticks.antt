@@ -1,0 +1,88 @@
+-- the clocks of all nodes
+use Rattle.std.proofs.Common.{◌≡◌, ℕ, ◌+◌, ◌<◌, Bool, true, false, cond, Option, Some, None, List, [], ◌∷◌, ◌++◌, map, length, take, drop, refl, ap, sym, ◌∙◌, subst, arith}
+use Rattle.std.specs.Prelude.{nat_le, nat_lt, ◌==◌}
+use Rattle.std.specs.Option.{IfSome}
+use Rattle.std.specs.List.{AllByRecursion}
+use Rattle.std.proofs.lemmas.Bool.Decides.{nat_tests}
+use Rattle.std.proofs.lemmas.List.{take_at}
+use Rattle.xt_base.specs.TimeSettings.{TimeSettings}
+use Rattle.xt_base.specs.declared.ids.NodeId.{NodeId}
+use Rattle.xt_base.specs.declared.record.Record.{Record}
+use Rattle.xt_base.specs.declared.TheConstants.{COUNTS}
+use Rattle.cluster_runs.specs.World.{Node, Running}
+use Rattle.cluster_runs.specs.Rules.{Reading, lesser, reading_where, least_where, end_named, clock_ends}
+use Rattle.cluster_runs.specs.Lines.{ticked}
+use Rattle.node_cores.specs.Hosts.{HostView, node_of, host_ticked}
+use Rattle.world_nodes.specs.Nodes.{NodesView, nodes_of, has_host, AreDistinct, AreHosts, MayTick}
+
+no_reading : (found : Option Reading) → end_named found ≡ None → found ≡ None
+no_reading None is = refl
+no_reading (Some r) is = absurd (cc)
+
+both_none : (a b : Option Reading) → lesser a b ≡ None → (a ≡ None) × (b ≡ None)
+both_none None b is = (refl, is)
+both_none (Some a) None is = absurd (cc)
+both_none (Some a) (Some b) is = absurd (at (nat_lt b.node.0 a.node.0) is)
+  where
+    at : (less : Bool) → cond less (Some b) (Some a) ≡ None → ⊥
+    at true e = cc
+    at false e = cc
+
+may_each : (kept : ℕ → List Record) (hosts : List HostView) (count : ℕ) → least_where (λ (id : NodeId) (clock : ℕ). nat_le COUNTS (clock + count)) (nodes_of kept hosts) ≡ None
+    → AllByRecursion (MayTick count) hosts
+unfolding least_where
+may_each kept [] count is = tt
+may_each kept (h ∷ hs) count is =
+    let parts = both_none (reading_where (λ (id : NodeId) (clock : ℕ). nat_le COUNTS (clock + count)) h.id h.up) _ is in
+    (at h.up parts.0, may_each kept hs count parts.1)
+  where
+    below : (a b : ℕ) → nat_le a b ≡ false → b < a
+    below a b e = grind (arith, nat_tests)
+
+    clear : (b : Bool) (r : Reading) → cond b (Some r) None ≡ None → b ≡ false
+    clear true r e = absurd (cc)
+    clear false r e = refl
+
+    at : (up : Option Running) → reading_where (λ (id : NodeId) (clock : ℕ). nat_le COUNTS (clock + count)) h.id up ≡ None → IfSome up (λ (r : Running). r.clock + count < COUNTS)
+    at None e = tt
+    at (Some r) e = below COUNTS (r.clock + count) (clear _ _ e)
+
+-- no clock would reach the end
+pub may_tick : (kept : ℕ → List Record) (times : TimeSettings) (hosts : List HostView) (self : NodesView) (count : ℕ) → record { times = times; nodes = nodes_of kept hosts } ≡ self
+    → clock_ends count self.nodes ≡ None → AllByRecursion (MayTick count) hosts
+may_tick kept times hosts self count is none = may_each kept hosts count (no_reading _ (ap (λ (v : NodesView). clock_ends count v.nodes) is ∙ none))
+
+same_host : (count : ℕ) (hosts : List HostView) (id : ℕ) → has_host (map (host_ticked count) hosts) id ≡ has_host hosts id
+same_host count [] id = refl
+same_host count (h ∷ hs) id = ap (λ (b : Bool). cond (h.id.0 == id) true b) (same_host count hs id)
+
+distinct_still : (count : ℕ) (hosts : List HostView) → AreDistinct hosts → AreDistinct (map (host_ticked count) hosts)
+distinct_still count [] apart = tt
+distinct_still count (h ∷ hs) apart = (same_host count hs h.id.0 ∙ apart.0, distinct_still count hs apart.1)
+
+timed_still : (count : ℕ) (times : TimeSettings) (hosts : List HostView) → AllByRecursion (λ (h : HostView). h.times ≡ times) hosts → AllByRecursion (λ (h : HostView). h.times ≡ times) (map (host_ticked count) hosts)
+timed_still count times [] all = tt
+timed_still count times (h ∷ hs) all = (all.0, timed_still count times hs all.1)
+
+nodes_ticked : (kept : ℕ → List Record) (count : ℕ) (hosts : List HostView) → nodes_of kept (map (host_ticked count) hosts) ≡ map (ticked count) (nodes_of kept hosts)
+nodes_ticked kept count [] = refl
+nodes_ticked kept count (h ∷ hs) = ap (λ (ns : List Node). ticked count (node_of (kept h.id.0) h) ∷ ns) (nodes_ticked kept count hs)
+
+-- the nodes behind a tick
+pub ticked_hosts : (kept : ℕ → List Record) (times : TimeSettings) (hosts after : List HostView) (self : NodesView) (count : ℕ) → AreHosts kept times hosts
+    → record { times = times; nodes = nodes_of kept hosts } ≡ self → after ≡ map (host_ticked count) hosts
+    → AreHosts kept times after × (record { times = times; nodes = nodes_of kept after } ≡ record self { nodes = map (ticked count) self.nodes })
+ticked_hosts kept times hosts after self count are is_self is = (
+  subst (AreHosts kept times) (sym is) (record {
+    distinct = distinct_still count hosts are.distinct;
+    timed = timed_still count times hosts are.timed;
+    others = λ id none. are.others id (sym (same_host count hosts id) ∙ none);
+  }),
+  ap (λ (hs : List HostView). record { times = times; nodes = nodes_of kept hs }) is
+      ∙ ap (λ (ns : List Node). record { times = times; nodes = ns }) (nodes_ticked kept count hosts)
+      ∙ ap (λ (v : NodesView). record v { nodes = map (ticked count) v.nodes }) is_self,
+)
+
+-- a slice that was changed as a whole
+pub all_new : (new items : List HostView) (len : ℕ) → length new ≡ len → take len (new ++ drop (length new) items) ≡ new
+all_new new items len is = take_at new (drop (length new) items) len is

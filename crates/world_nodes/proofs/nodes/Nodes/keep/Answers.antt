@@ -1,0 +1,11 @@
+use Rattle.std.proofs.Common.{◌≡◌, Option, sym, subst}
+use Rattle.xt_base.specs.declared.record.Record.{Record}
+use Rattle.cluster_runs.specs.World.{with_node}
+use Rattle.cluster_runs.specs.NodeSteps.{one_more}
+use Rattle.world_nodes.proofs.Changes.{same_there}
+use Rattle.world_nodes.proofs.nodes.Nodes.keep.Goals as goal
+
+pub returns-in-None-clause-done : goal.returns-in-None-clause-done
+returns-in-None-clause-done g c = λ node at.
+    subst (λ (rec : Option Record). c.args.self.now ≡ record c.args.self.now { nodes = with_node c.args.self.now.nodes (record node { kept = one_more node.kept rec }) })
+    (sym c.in-None.is) (same_there c.args.self.now c.args.place node at)

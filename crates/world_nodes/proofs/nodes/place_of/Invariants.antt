@@ -1,0 +1,6 @@
+use Rattle.std.proofs.Common.{◌≡◌, false, take}
+use Rattle.world_nodes.specs.Nodes.{has_host}
+use Rattle.world_nodes.proofs.nodes.place_of.Given as goal
+
+abbrev pub invariant-loop-place : goal.invariant-loop-place
+invariant-loop-place l = has_host (take l.place l.hosts) l.id.0 ≡ false

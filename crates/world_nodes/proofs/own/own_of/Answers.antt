@@ -1,0 +1,10 @@
+use Rattle.std.proofs.Common.{rules, ◌==◌, ap, ◌∙◌}
+use Rattle.std.proofs.lemmas.Fn.{filter_same}
+use Rattle.xt_base.specs.declared.message.Msg.{Msg}
+use Rattle.cluster_runs.specs.NodeSteps.{to_itself}
+use Rattle.world_nodes.proofs.own.own_of.Goals as goal
+
+pub returns : goal.returns
+returns c =
+    filter_same _ (λ (m : Msg). m.to.0 == c.args.node.0) _ (λ x b f' k. search rules) _ _ c.retain.ensures.filtered
+    ∙ ap (to_itself c.args.node) c.outs.view_is

@@ -1,0 +1,106 @@
+ghost use Rattle.std.specs.Prelude.{◌≡◌, ◌<◌, [], Some, None, is_some, length};
+ghost use Rattle.std.specs.Option.{option_map};
+ghost use Rattle.cluster_runs.specs.World.{Node, node_in};
+ghost use Rattle.node_cores.specs.Turns.{moment_of};
+ghost use Rattle.world_nodes.specs.Nodes.{NodesView, IsAt, IsPlace, IsHostPlace};
+
+mod changes;
+mod records;
+mod rules;
+
+use node_cores::{Host, Moment};
+use std::alloc::Global;
+use std::marker::Model;
+use world_hull::Hull;
+use xt_base::{NodeId, Times};
+
+/// The declared nodes over a hull, which keeps their records. Contracts see the times and the nodes of a world.
+#[derive(Drop)]
+pub struct Nodes<H: Hull> {
+    times: Times,
+    hosts: Vec<Host>,
+    hull: H,
+}
+
+impl<H: Hull> Model for Nodes<H> {
+    ghost use Rattle.world_nodes.specs.Nodes.{NodesView, AreHosts, nodes_of};
+
+    ghost Value = { NodesView };
+
+    ghost view = { λ n. record { times = n.times; nodes = nodes_of (H.kept n.hull) n.hosts.items } };
+
+    ghost invariant = { λ n. AreHosts (H.kept n.hull) n.times n.hosts.items };
+}
+
+impl<H: Hull> Nodes<H> {
+    /// No node is declared, over a hull that keeps no record.
+    pub fn new(alloc: Global, hull: H) -> Nodes<H>
+        requires { H.kept hull ≡ λ _. [] }
+        ensures { result ≡ record { times = record { lease = 14000; drift = 1000 }; nodes = [] } }
+    {
+        Nodes {
+            times: Times::new(Times::DEFAULT_LEASE, Times::DEFAULT_DRIFT).unwrap(),
+            hosts: Vec::new(alloc),
+            hull,
+        }
+    }
+
+    /// How many there are.
+    pub fn len(&self) -> usize
+        ensures { result ≡ length self.now.nodes }
+    {
+        self.hosts.len()
+    }
+
+    /// Sets the lease length and the drift, before a node is declared.
+    pub fn set_times(&mut self, times: Times)
+        requires { self.old.nodes ≡ [] }
+        ensures { self.new ≡ record self.old { times = times } }
+    {
+        self.times = times;
+    }
+
+    /// Where the node of this id stands.
+    pub fn find(&self, id: NodeId) -> Option<usize>
+        ensures { IsPlace self.now.nodes id result }
+    {
+        place_of(self.hosts.as_slice(), id)
+    }
+
+    /// Whether a node of this id is declared.
+    pub fn is_declared(&self, id: NodeId) -> bool
+        ensures { result ≡ is_some (node_in self.now.nodes id.0) }
+    {
+        self.find(id).is_some()
+    }
+
+    /// The id of the node at a place.
+    pub fn id(&self, place: usize) -> NodeId
+        requires { place < length self.now.nodes }
+        ensures id { (node : Node) → IsAt self.now.nodes place node → result ≡ node.id }
+        ensures there { (node : Node) × IsAt self.now.nodes place node }
+    {
+        self.hosts[place].id()
+    }
+
+    /// What the clock of the node at a place reads, and what is planned for it, where it runs.
+    pub fn moment(&self, place: usize) -> Option<Moment>
+        requires { place < length self.now.nodes }
+        ensures moment { (node : Node) → IsAt self.now.nodes place node → result ≡ option_map moment_of node.up }
+        ensures there { (node : Node) × IsAt self.now.nodes place node }
+    {
+        self.hosts[place].moment()
+    }
+}
+
+/// Where the first of these nodes that has this id stands.
+fn place_of(hosts: &[Host], id: NodeId) -> Option<usize>
+    ensures { IsHostPlace hosts.now id result }
+{
+    for (place, host) in hosts.iter().enumerate() {
+        if host.id().0 == id.0 {
+            return Some(place);
+        }
+    }
+    None
+}

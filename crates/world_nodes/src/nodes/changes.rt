@@ -1,0 +1,143 @@
+//! What changes the declared nodes.
+ghost use Rattle.std.specs.Prelude.{◌≡◌, ◌<◌, ◌^◌, ◌++◌, ◌∷◌, [], Some, None, IfOk, IfSome, OnOk, OnErr, length, map};
+ghost use Rattle.std.specs.List.{AllByRecursion};
+ghost use Rattle.cluster_runs.specs.World.{Node, client, osd, node_in};
+ghost use Rattle.cluster_runs.specs.declared.Role.TheVariants as role;
+ghost use Rattle.cluster_runs.specs.Clients.{new_client};
+ghost use Rattle.cluster_runs.specs.Rules.{clock_ends};
+ghost use Rattle.cluster_runs.specs.Lines.{runs, first_boot, crashes, cuts, reads_clock, aims, ticked};
+ghost use Rattle.node_cores.specs.Hosts.{host_ticked};
+ghost use Rattle.node_cores.specs.Turns.{Handles};
+ghost use Rattle.cluster_fits.specs.Fits.{FitsContent};
+ghost use Rattle.world_nodes.specs.Nodes.{IsAt, Changes, ChangesUp, NodeHandles, NodeCalls, MayTick};
+
+use crate::nodes::Nodes;
+use disk_model::Stop;
+use node_cores::{Host, HullBodies};
+use std::alloc::Global;
+use world_hull::Hull;
+use xt_base::{Call, Event, Location, NodeId, Op, OutOfMemory};
+use xt_protocol::Turned;
+
+impl<H: Hull> Nodes<H> {
+    /// Declares an OSD of an id of its own, which doesn't run.
+    pub fn declare_osd(&mut self, id: NodeId) -> Result<(), OutOfMemory>
+        requires { node_in self.old.nodes id.0 ≡ None }
+        ensures { OnOk result (self.new ≡ record self.old { nodes = self.old.nodes ++ record { id = id; role = role.Osd; kept = []; up = None } ∷ [] }) }
+    {
+        self.hosts.push(Host::osd(id, self.times))?;
+        Ok(())
+    }
+
+    /// Declares a client of an id of its own, which runs for good.
+    pub fn declare_client(
+        &mut self,
+        alloc: Global,
+        id: NodeId,
+        clock: u64,
+    ) -> Result<(), OutOfMemory>
+        requires own { node_in self.old.nodes id.0 ≡ None }
+        requires clock { clock < 2 ^ 62 }
+        ensures { OnOk result (self.new ≡ record self.old { nodes = self.old.nodes ++ record { id = id; role = role.Client; kept = []; up = Some (runs first_boot clock (client (new_client clock))) } ∷ [] }) }
+    {
+        self.hosts.push(Host::client(alloc, id, self.times, clock))?;
+        Ok(())
+    }
+
+    /// The node at a place stops.
+    pub fn stop(&mut self, place: usize)
+        requires { place < length self.old.nodes }
+        ensures { Changes self.old place (λ node. record node { up = None }) self.new }
+    {
+        self.hosts[place].stop();
+    }
+
+    /// The next append of the node at a place stops so.
+    pub fn plan_crash(&mut self, place: usize, stop: Stop)
+        requires { place < length self.old.nodes }
+        ensures { ChangesUp self.old place (crashes stop.call stop.fill) self.new }
+    {
+        self.hosts[place].plan_crash(stop);
+    }
+
+    /// The next step of the node at a place that sends stops behind so many messages.
+    pub fn plan_cut(&mut self, place: usize, count: u128)
+        requires { place < length self.old.nodes }
+        ensures { ChangesUp self.old place (cuts count) self.new }
+    {
+        self.hosts[place].plan_cut(count);
+    }
+
+    /// The clock of the node at a place is set.
+    pub fn set_clock(&mut self, place: usize, clock: u64)
+        requires { place < length self.old.nodes }
+        ensures { ChangesUp self.old place (reads_clock clock) self.new }
+    {
+        self.hosts[place].set_clock(clock);
+    }
+
+    /// The first target of the client at a place for a declared file is this member.
+    pub fn aim(&mut self, place: usize, number: u64, node: NodeId) -> Result<(), OutOfMemory>
+        requires { place < length self.old.nodes }
+        ensures { OnOk result (ChangesUp self.old place (aims number node) self.new) }
+    {
+        self.hosts[place].aim(number, node)
+    }
+
+    /// Every running clock advances.
+    pub fn tick(&mut self, count: u64)
+        requires { clock_ends count self.old.nodes ≡ None }
+        ensures { self.new ≡ record self.old { nodes = map (ticked count) self.old.nodes } }
+    {
+        tick(&mut self.hosts, count);
+    }
+
+    /// An event comes to the node at a place. None where it doesn't run.
+    pub fn handle(&mut self, place: usize, ev: &Event) -> Result<Option<Turned>, OutOfMemory>
+        requires inside { place < length self.old.nodes }
+        requires running { (node : Node) → IsAt self.old.nodes place node → IfSome node.up (λ running. running.clock < 2 ^ 62) }
+        requires fits { FitsContent ev.now }
+        ensures { IfOk result (λ turned. (node : Node) → IsAt self.old.nodes place node → NodeHandles ev.now self.old node self.new turned) }
+    {
+        handle(&mut self.hosts[place], &self.hull, ev)
+    }
+
+    /// The client at a place makes a call on a declared file. None where no client runs.
+    pub fn call(
+        &mut self,
+        place: usize,
+        call: &Call,
+        number: u64,
+        location: &Location,
+        op: Op,
+    ) -> Result<Option<Turned>, OutOfMemory>
+        requires inside { place < length self.old.nodes }
+        requires running { (node : Node) → IsAt self.old.nodes place node → IfSome node.up (λ running. running.clock < 2 ^ 62) }
+        ensures { IfOk result (λ turned. (node : Node) → IsAt self.old.nodes place node → NodeCalls call.now number location.now op self.old node self.new turned) }
+    {
+        self.hosts[place].call(call, number, location, op)
+    }
+}
+
+/// An event comes to a node, whose bodies are those that the hull keeps for it. None where it doesn't run.
+fn handle<H: Hull>(host: &mut Host, hull: &H, ev: &Event) -> Result<Option<Turned>, OutOfMemory>
+    requires running { IfSome host.old.up (λ running. running.clock < 2 ^ 62) }
+    requires fits { FitsContent ev.now }
+    ensures handled { IfOk result (λ turned. Handles (H.kept hull.now host.old.id.0) ev.now host.old host.new turned) }
+    ensures err { OnErr result (host.new ≡ record host.old { up = None }) }
+{
+    let node = host.id();
+    let mut bodies = HullBodies { hull, node };
+    host.handle(&mut bodies, ev)
+}
+
+/// Every running clock advances.
+fn tick(hosts: &mut [Host], count: u64)
+    requires { AllByRecursion (MayTick count) hosts.old }
+    ensures { hosts.new ≡ map (host_ticked count) hosts.old }
+{
+    if let Some((first, rest)) = hosts.split_first_mut() {
+        first.tick(count);
+        tick(rest, count);
+    }
+}
