@@ -208,12 +208,16 @@ impl Host {
         ensures handled { IfOk result (λ turned. Handles (B.records bodies.old) ev.now self.old self.new turned) }
         ensures err { OnErr result (self.new ≡ record self.old { up = None }) }
     {
-        let Some(mut running) = self.up.take() else {
+        let Some(running) = &mut self.up else {
             return Ok(None);
         };
-        let turned = running.core.handle(bodies, running.clock, ev)?;
-        self.up = Some(running);
-        Ok(Some(turned))
+        match running.core.handle(bodies, running.clock, ev) {
+            Ok(turned) => Ok(Some(turned)),
+            Err(error) => {
+                self.up = None;
+                Err(error)
+            }
+        }
     }
 
     /// A client makes a call on a declared file. None where no client runs. Where memory runs out it runs no more.
