@@ -1,8 +1,9 @@
 //! `xt_bench`: does a named piece of work so many times, and prints one line of what it did, for scripts to time.
 //!
 //! The works are `encode` and `decode` of frames, `cut` and `join` of parts, `append` to a journal in memory,
-//! `append-file` to one in a file, `load` of one from a file, and `start` from the records of a file's updates. It is no part
-//! of the system, and promises no more than that it does each round in full, or says which call failed.
+//! `append-file` to one in a file, `load` of one from a file, `start` from the records of a file's updates, and `volume` for
+//! calls on a directory of so many files. It is no part of the system, and promises no more than that it does each round in
+//! full, or says which call failed.
 #![tactic(auto)]
 
 mod done;
@@ -10,6 +11,7 @@ mod frames;
 mod journals;
 mod parts;
 mod starts;
+mod volumes;
 mod work;
 
 use anyhow::{Context, Result};
@@ -37,7 +39,7 @@ fn main(rt: HostRuntime) -> Result<()> {
     }
     let words = words.as_slice();
     let work = Work::of(words).context(
-        "usage: xt_bench encode|decode|cut|join|append SIZE N | append-file SIZE N PATH | load PATH | start N",
+        "usage: xt_bench encode|decode|cut|join|append SIZE N | append-file SIZE N PATH | load PATH | start N | volume CALL FILES N",
     )?;
     tell(&rt, words, work.run(&rt, alloc)?)
 }

@@ -3,6 +3,7 @@ use crate::frames::{decode_times, encode_times};
 use crate::journals::{append_file_times, append_times, load_file};
 use crate::parts::{cut_times, join_times};
 use crate::starts::start_from;
+use crate::volumes::{Errand, run_errands};
 use anyhow::Result;
 use std::alloc::Global;
 use std::rt::Files;
@@ -72,6 +73,11 @@ pub enum Work<'a> {
     Start {
         updates: u32,
     },
+    Volume {
+        errand: Errand,
+        files: u32,
+        times: u32,
+    },
 }
 
 /// The two numbers that these words are.
@@ -85,6 +91,11 @@ impl<'a> Work<'a> {
     /// The work that these words name, if they name one.
     pub fn of(words: &'a [Name]) -> Option<Work<'a>> {
         match words {
+            [volume, errand, files, times] if volume.as_str() == "volume" => Some(Work::Volume {
+                errand: Errand::of(errand.as_str())?,
+                files: files.as_str().parse::<u32>().ok()?,
+                times: times.as_str().parse::<u32>().ok()?,
+            }),
             [task, size, times] => {
                 let task = Task::of(task.as_str())?;
                 let (size, times) = numbers(size, times)?;
@@ -118,6 +129,11 @@ impl<'a> Work<'a> {
             }),
             Work::LoadFile { path } => load_file(rt, alloc, path),
             Work::Start { updates } => start_from(alloc, updates),
+            Work::Volume {
+                errand,
+                files,
+                times,
+            } => run_errands(alloc, errand, files, times),
         }
     }
 }

@@ -1,0 +1,131 @@
+use crate::done::Done;
+use anyhow::{Result, bail};
+use std::alloc::Global;
+use volume_rows::{Asker, Picked};
+use volume_tree::Tree;
+use xt_base::{COUNTS, Kind, Location, Members, Name, NodeId};
+
+/// Who asks.
+const ASKER: Asker = Asker { user: 1, group: 1 };
+
+/// What is done with volumes, so many times.
+#[derive(Clone, Copy, PartialEq, Eq)]
+pub enum Errand {
+    /// Tells a file.
+    Stat,
+    /// Makes a file and takes it out again.
+    Create,
+    /// Grants a file.
+    Grant,
+    /// Lists a page of the directory.
+    List,
+    /// Moves the directory with all its files to another name.
+    Rename,
+}
+
+impl Errand {
+    /// The errand of this name.
+    pub fn of(word: &str) -> Option<Errand> {
+        if word == "stat" {
+            Some(Errand::Stat)
+        } else if word == "create" {
+            Some(Errand::Create)
+        } else if word == "grant" {
+            Some(Errand::Grant)
+        } else if word == "list" {
+            Some(Errand::List)
+        } else if word == "rename" {
+            Some(Errand::Rename)
+        } else {
+            None
+        }
+    }
+
+    /// Runs it once, on the directory `/v/d` with a file `0`; whether it was done.
+    fn run(self, tree: &mut Tree, paths: &Paths) -> bool {
+        match self {
+            Errand::Stat => tree.stat(ASKER, &paths.file).is_ok(),
+            Errand::Create => {
+                create(tree, &paths.new, &paths.pick) && tree.unlink(ASKER, &paths.new).is_ok()
+            }
+            Errand::Grant => tree.grant(ASKER, &paths.file, 3).is_ok(),
+            Errand::List => tree.page(ASKER, &paths.directory, &paths.none).is_ok(),
+            Errand::Rename => {
+                tree.rename(ASKER, &paths.directory, &paths.target).is_ok()
+                    && tree.rename(ASKER, &paths.target, &paths.directory).is_ok()
+            }
+        }
+    }
+}
+
+/// What the errands speak of.
+#[derive(Drop)]
+struct Paths {
+    directory: Name,
+    target: Name,
+    file: Name,
+    new: Name,
+    none: Name,
+    pick: Picked,
+}
+
+/// Makes a file; whether it was made.
+fn create(tree: &mut Tree, path: &Name, pick: &Picked) -> bool {
+    tree.next() < COUNTS && tree.create(ASKER, path, 0o644, pick).is_ok()
+}
+
+/// The paths.
+fn all_paths(alloc: Global) -> Result<Paths> {
+    let Ok(members) = Members::new(&[NodeId(1), NodeId(2), NodeId(3)]) else {
+        bail!("no place for a file");
+    };
+    Ok(Paths {
+        directory: Name::of(alloc, "/v/d")?,
+        target: Name::of(alloc, "/v/e")?,
+        file: Name::of(alloc, "/v/d/0")?,
+        new: Name::of(alloc, "/v/d/new")?,
+        none: Name::of(alloc, "")?,
+        pick: Picked::On {
+            location: Location {
+                version: 1,
+                kind: Kind::Replicated,
+                stripe: 4096,
+                members,
+            },
+        },
+    })
+}
+
+/// A volume with so many files in a directory.
+fn filled(alloc: Global, paths: &Paths, files: u32) -> Result<Tree> {
+    let mut tree = Tree::new(alloc);
+    let volume = Name::of(alloc, "/v")?;
+    if tree.mkdir(ASKER, &volume, 0o755).is_err()
+        || tree.mkdir(ASKER, &paths.directory, 0o755).is_err()
+    {
+        bail!("no directory is made");
+    }
+    for number in 0..files {
+        let path = format!(in alloc; "/v/d/{number}")?;
+        let path = Name::of(alloc, path.as_str())?;
+        if !create(&mut tree, &path, &paths.pick) {
+            bail!("no file {number} is made");
+        }
+    }
+    Ok(tree)
+}
+
+/// Runs an errand so many times over a directory of so many files, and gives how many calls were done.
+pub fn run_errands(alloc: Global, errand: Errand, files: u32, times: u32) -> Result<Done> {
+    let paths = all_paths(alloc)?;
+    let mut tree = filled(alloc, &paths, files)?;
+    for round in 0..times {
+        if !errand.run(&mut tree, &paths) {
+            bail!("round {round} isn't done");
+        }
+    }
+    Ok(Done {
+        pieces: u64::from(times),
+        bytes: 0,
+    })
+}
