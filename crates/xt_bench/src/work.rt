@@ -2,6 +2,7 @@ use crate::done::Done;
 use crate::frames::{decode_times, encode_times};
 use crate::journals::{append_file_times, append_times, load_file};
 use crate::parts::{cut_times, join_times};
+use crate::services::{get_times, tag_times};
 use crate::starts::start_from;
 use crate::volumes::{Errand, run_errands};
 use anyhow::Result;
@@ -22,6 +23,10 @@ pub enum Task {
     Join,
     /// Appends a payload to a journal in memory.
     Append,
+    /// Makes the tag of a message.
+    Tag,
+    /// Asks the directory service for one of so many nodes.
+    Registry,
 }
 
 impl Task {
@@ -37,12 +42,16 @@ impl Task {
             Some(Task::Join)
         } else if word == "append" {
             Some(Task::Append)
+        } else if word == "tag" {
+            Some(Task::Tag)
+        } else if word == "registry" {
+            Some(Task::Registry)
         } else {
             None
         }
     }
 
-    /// Does it on so many bytes, so many times, and gives how many bytes it made or read.
+    /// Does it on so many bytes (or, for the registry, nodes), so many times, and gives how many bytes it made or read.
     fn run(self, alloc: Global, size: usize, times: u32) -> Result<u64> {
         match self {
             Task::Encode => encode_times(alloc, size, times),
@@ -50,6 +59,8 @@ impl Task {
             Task::Cut => cut_times(alloc, size, times),
             Task::Join => join_times(alloc, size, times),
             Task::Append => append_times(alloc, size, times),
+            Task::Tag => tag_times(alloc, size, times),
+            Task::Registry => get_times(alloc, size, times),
         }
     }
 }
