@@ -1,8 +1,15 @@
 //! Tests of a client alone, which is fed with the answers of the others.
 //!
-//! The test is a loop over a table of scenes. The contracts say what each call gives; the values here come from outside, so that
-//! they show that the contracts say what is meant.
+//! A test plays scenes: tables of what happens to the client, and what comes of it. The contracts say what each call gives; the
+//! values here come from outside, so that they show that the contracts say what is meant. Each call, reply, answer and refusal
+//! occurs.
 #![tactic(auto)]
 
 #[cfg(test)]
-mod calls;
+mod replicated;
+#[cfg(test)]
+mod scenes;
+#[cfg(test)]
+mod servers;
+#[cfg(test)]
+mod striped;

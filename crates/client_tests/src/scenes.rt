@@ -1,237 +1,111 @@
-use client_core::{CallErr, Client};
+ghost use Rattle.std.specs.Prelude.{◌<◌, ◌^◌};
+
+use client_core::{CallErr, CallResult, Client};
+use std::alloc::Global;
 use std::process::Abort;
-use std::test::Fail;
 use uuid::Uuid;
 use xt_base::{
-    Answered, COUNTS, Call, Capability, Event, FileId, Kind, Location, Mark, Members, MetaAnswer,
-    MetaReq, Msg, Name, NodeId, Octets, OutOfMemory, Outcome, Payload, RegistryAnswer, RegistryReq,
-    Reply, Retry, SizeMark, Times,
+    Answered, AskRefusal, COUNTS, Call, Capability, Denial, Event, FileId, Kind, Location, Mark,
+    Members, MetaAnswer, MetaRefusal, MetaReq, Msg, Name, NodeId, Octets, Payload, RegistryAnswer,
+    RegistryReq, RegistryRow, Reply, Retry, RowKind, Seq, SizeMark, Times,
 };
 use xt_protocol::Turned;
 
-/// What happens to client 10, whose leases last 1000. It holds the file 1, which has replicas on 1, 2 and 3, and the file 2, which
-/// is striped over them in objects of 1024 bytes and is known to have one byte. A step is the clock and what happens:
-/// - a call: `c` to read three bytes of the object `c` of the file `a`, `t` to truncate the file `a`, `m` to make a directory, `g`
-///   to be granted the file 3, `q` to look up a node, `p` to report the file `a`; `!` the last call again;
-/// - `a` it is aimed at the node `a` for the file 1; `w` some time has passed;
-/// - a reply of the node `a` to the call `b`: `k` Ok with three bytes, count and size `c`; `l` NoLease, `n` NoMajority, `e`
-///   Elsewhere, at node `c`; `o` OldEpoch, `f` ClientsFull; `d` that the directory is made, `h` a grant of the file 3; `v` that the
-///   node is absent.
-/// Then what comes of it, with two numbers: `b` the call begins, and the node is asked, `a` the node is asked, each with the node
-/// and the call's number; with that number the call is `d` done, with ten times the count and how many bytes, `x` refused, `r` may
-/// be made again, with the `code` of the answers, `M` answered by the metadata server, `R` by the directory service; `B` a call
-/// runs, `N` there is none to make again, `U` the file isn't held; `-` nothing.
-type Step = (u32, u8, u32, u64, u64, u8, u64, u64);
+/// What is told where a scene stops that can't go on.
+const OTHERWISE: &str = "a call answers otherwise";
 
-const LAST: u64 = COUNTS - 1;
+/// A call.
+#[derive(Clone, Copy)]
+pub enum Asks {
+    /// So many bytes of an object of a file are read.
+    Read(u64, u64, u32),
+    /// A byte of an object of a file is written.
+    Write(u64, u64),
+    Truncate(u64),
+    Mkdir,
+    Grant,
+    Report(u64),
+    Register,
+}
 
-/// The number of the client's first call, and what happens then.
-const SCENES: [(u64, &[Step]); 14] = [
-    // silent replicas, of which the last one answers
-    (
-        1,
-        &[
-            (1100, b'c', 1, 0, 0, b'b', 1, 1),
-            (1100, b'c', 2, 0, 0, b'B', 0, 0),
-            (2099, b'w', 0, 0, 0, b'-', 0, 0),
-            (2100, b'w', 0, 0, 0, b'a', 2, 1),
-            (3100, b'w', 0, 0, 0, b'a', 3, 1),
-            (3100, b'k', 3, 1, 0, b'd', 1, 3),
-            // the next call begins there
-            (3100, b'c', 1, 0, 0, b'b', 3, 2),
-            (4100, b'w', 0, 0, 0, b'a', 1, 2),
-            (5100, b'w', 0, 0, 0, b'a', 2, 2),
-            (6099, b'w', 0, 0, 0, b'-', 0, 0),
-            (6100, b'w', 0, 0, 0, b'r', 2, 14_24_34),
-            (7100, b'w', 0, 0, 0, b'-', 0, 0),
-        ],
-    ),
-    // silent replicas, and the call made again
-    (
-        1,
-        &[
-            (0, b'!', 0, 0, 0, b'N', 0, 0),
-            (1100, b'c', 1, 0, 0, b'b', 1, 1),
-            (2100, b'w', 0, 0, 0, b'a', 2, 1),
-            (3100, b'w', 0, 0, 0, b'a', 3, 1),
-            (4100, b'w', 0, 0, 0, b'r', 1, 14_24_34),
-            (4100, b'!', 0, 0, 0, b'a', 1, 1),
-            (4100, b'!', 0, 0, 0, b'B', 0, 0),
-            // this try hasn't asked it
-            (4100, b'k', 2, 1, 7, b'-', 0, 0),
-            (4100, b'k', 1, 1, 7, b'd', 1, 73),
-            (4100, b'!', 0, 0, 0, b'N', 0, 0),
-            (4100, b'c', 1, 0, 0, b'b', 1, 2),
-        ],
-    ),
-    // turned away by each member
-    (
-        1,
-        &[
-            (0, b'c', 1, 0, 0, b'b', 1, 1),
-            (0, b'l', 1, 1, 0, b'a', 2, 1),
-            (0, b'n', 2, 1, 0, b'a', 3, 1),
-            // one that was asked isn't asked again
-            (0, b'e', 3, 1, 1, b'r', 1, 11_22_33),
-            (0, b'k', 1, 1, 5, b'-', 0, 0),
-        ],
-    ),
-    // sent on, and answered by one that turned the call away before
-    (
-        1,
-        &[
-            (0, b'c', 1, 0, 0, b'b', 1, 1),
-            (0, b'e', 1, 1, 3, b'a', 3, 1),
-            // no longer the target; of another call; not asked
-            (0, b'l', 1, 1, 0, b'-', 0, 0),
-            (0, b'n', 3, 2, 0, b'-', 0, 0),
-            (0, b'k', 2, 1, 7, b'-', 0, 0),
-            (0, b'e', 3, 1, 9, b'a', 2, 1),
-            (0, b'k', 1, 1, 7, b'd', 1, 73),
-            (0, b'c', 1, 0, 0, b'b', 1, 2),
-            (999, b'n', 1, 2, 0, b'a', 2, 2),
-            // a clock that goes back counts as the last one
-            (0, b'w', 0, 0, 0, b'-', 0, 0),
-            (1998, b'w', 0, 0, 0, b'-', 0, 0),
-            (1999, b'w', 0, 0, 0, b'a', 3, 2),
-        ],
-    ),
-    // refused
-    (
-        1,
-        &[
-            (0, b'c', 1, 0, 0, b'b', 1, 1),
-            (0, b'o', 1, 1, 5, b'x', 1, 0),
-            (0, b'c', 1, 0, 0, b'b', 1, 2),
-            (0, b'f', 1, 2, 0, b'x', 2, 0),
-        ],
-    ),
-    // aimed at a member, and at another node
-    (
-        1,
-        &[
-            (0, b'a', 2, 0, 0, b'-', 0, 0),
-            (0, b'c', 1, 0, 0, b'b', 2, 1),
-            (0, b'l', 2, 1, 0, b'a', 1, 1),
-            (0, b'k', 1, 1, 0, b'd', 1, 3),
-            (0, b'a', 9, 0, 0, b'-', 0, 0),
-            (0, b'c', 1, 0, 0, b'b', 1, 2),
-        ],
-    ),
-    // the last number, of a call on a replicated file and of another one
-    (
-        LAST,
-        &[
-            (0, b'c', 1, 0, 0, b'b', 1, LAST),
-            (0, b'k', 1, LAST, 0, b'd', LAST, 3),
-            (0, b'c', 1, 0, 0, b'-', 0, 0),
-        ],
-    ),
-    (
-        LAST,
-        &[
-            (0, b'm', 0, 0, 0, b'b', 901, LAST),
-            (0, b'd', 901, LAST, 0, b'M', LAST, 0),
-            (0, b'm', 0, 0, 0, b'-', 0, 0),
-        ],
-    ),
-    // a read of a striped file: the object 4 is the second member's, and begins at byte 4096
-    (
-        1,
-        &[
-            (0, b'c', 2, 0, 4, b'b', 2, 1),
-            (0, b'k', 3, 1, 9000, b'-', 0, 0),
-            (0, b'k', 2, 2, 9000, b'-', 0, 0),
-            (0, b'k', 2, 1, 4098, b'd', 1, 40982),
-            // the greatest size that was learnt counts
-            (0, b'c', 2, 0, 4, b'b', 2, 2),
-            (0, b'k', 2, 2, 4097, b'd', 2, 40972),
-            (0, b'c', 2, 0, 4, b'b', 2, 3),
-            (0, b'k', 2, 3, 9000, b'd', 3, 90003),
-            (0, b'c', 2, 0, 9, b'b', 1, 4),
-            (0, b'k', 1, 4, 1, b'd', 4, 10),
-        ],
-    ),
-    // only its owner is asked
-    (
-        1,
-        &[
-            (0, b'c', 2, 0, 1, b'b', 2, 1),
-            (0, b'l', 1, 1, 0, b'-', 0, 0),
-            (0, b'e', 2, 1, 3, b'r', 1, 23),
-            (0, b'!', 0, 0, 0, b'a', 2, 1),
-            (999, b'w', 0, 0, 0, b'-', 0, 0),
-            (1000, b'w', 0, 0, 0, b'r', 1, 24),
-            (1000, b'!', 0, 0, 0, b'a', 2, 1),
-            (1000, b'f', 3, 1, 0, b'-', 0, 0),
-            (1000, b'o', 2, 1, 5, b'x', 1, 0),
-        ],
-    ),
-    // a truncation of a striped file goes through the members
-    (
-        1,
-        &[
-            (0, b't', 2, 0, 0, b'b', 1, 1),
-            (0, b'k', 2, 1, 0, b'-', 0, 0),
-            (0, b'f', 2, 1, 0, b'-', 0, 0),
-            (500, b'k', 1, 1, 1, b'a', 2, 1),
-            (500, b'k', 1, 1, 1, b'-', 0, 0),
-            (1499, b'w', 0, 0, 0, b'-', 0, 0),
-            (1499, b'k', 2, 1, 1, b'a', 3, 1),
-            (1499, b'l', 1, 1, 0, b'-', 0, 0),
-            (1499, b'k', 3, 1, 2, b'd', 1, 23),
-            (1499, b't', 2, 0, 0, b'b', 1, 2),
-            (1499, b'k', 1, 2, 1, b'a', 2, 2),
-            // one that was asked refuses
-            (1499, b'f', 1, 2, 0, b'x', 2, 0),
-            (1499, b't', 2, 0, 0, b'b', 1, 3),
-            (1499, b'k', 1, 3, 1, b'a', 2, 3),
-            (2499, b'w', 0, 0, 0, b'r', 3, 24),
-            (2499, b'!', 0, 0, 0, b'a', 1, 3),
-        ],
-    ),
-    // the metadata server
-    (
-        1,
-        &[
-            (0, b'm', 0, 0, 0, b'b', 901, 1),
-            (0, b'd', 900, 1, 0, b'-', 0, 0),
-            (0, b'd', 901, 2, 0, b'-', 0, 0),
-            (0, b'k', 901, 1, 0, b'-', 0, 0),
-            (0, b'v', 901, 1, 0, b'-', 0, 0),
-            (0, b'd', 901, 1, 0, b'M', 1, 0),
-            (0, b'd', 901, 1, 0, b'-', 0, 0),
-            (0, b'm', 0, 0, 0, b'b', 901, 2),
-            (1000, b'w', 0, 0, 0, b'r', 2, 9014),
-            (1000, b'!', 0, 0, 0, b'a', 901, 2),
-            (1000, b'd', 901, 2, 0, b'M', 2, 0),
-            (1000, b'p', 2, 0, 0, b'b', 901, 3),
-        ],
-    ),
-    // a file is granted, and used
-    (
-        1,
-        &[
-            (0, b'c', 3, 0, 0, b'U', 0, 0),
-            (0, b'g', 0, 0, 0, b'b', 901, 1),
-            (0, b'h', 901, 1, 0, b'M', 1, 0),
-            (0, b'c', 3, 0, 0, b'b', 1, 2),
-        ],
-    ),
-    // the directory service
-    (
-        1,
-        &[
-            (0, b'q', 0, 0, 0, b'b', 900, 1),
-            (0, b'v', 901, 1, 0, b'-', 0, 0),
-            (0, b'v', 900, 1, 0, b'R', 1, 0),
-            (0, b'q', 0, 0, 0, b'b', 900, 2),
-            (1000, b'w', 0, 0, 0, b'r', 2, 9004),
-        ],
-    ),
-];
+/// What an OSD replies.
+#[derive(Clone, Copy)]
+pub enum Says {
+    /// The count, the file's size, and bytes.
+    Ok(u64, u64, &'static [u8]),
+    NoLease,
+    NoMajority,
+    /// This node holds the lease.
+    Elsewhere(u32),
+    Denied,
+    OldList,
+    OldEpoch,
+    TooFar,
+    ClientsFull,
+}
 
-/// A file of the schedule.
+/// What the metadata server answers.
+#[derive(Clone, Copy)]
+pub enum MetaSays {
+    Done,
+    NotFound,
+    Names,
+    Row,
+    /// The file 3, which has a truncate epoch of 7 and a size of 5 under it.
+    Granted,
+}
+
+/// What the directory service answers.
+#[derive(Clone, Copy)]
+pub enum RegistrySays {
+    Done,
+    Changed,
+    Absent,
+    Row,
+    Rows,
+}
+
+/// What happens to the client.
+#[derive(Clone, Copy)]
+pub enum Happens {
+    Call(Asks),
+    /// The last call is made again.
+    Again,
+    /// The client holds a capability of a file, with a truncate epoch and a size under it.
+    Hold(u64, u64, u64),
+    /// It is asked for the capability of a file.
+    Held(u64),
+    /// It is aimed at a node for the file 1.
+    Aim(u32),
+    /// Some time has passed.
+    Wake,
+    /// A node replies to the call of a number, or answers it.
+    Reply(u32, u64, Says),
+    Meta(u32, u64, MetaSays),
+    Registry(u32, u64, RegistrySays),
+}
+
+/// What is seen of the client, in a word and four numbers; 0 stands where it has fewer.
+///
+/// - `nothing`: nothing comes of it.
+/// - `begins`, `asks`: a node is asked in a call, which begins or goes on: the node, and the call's number.
+/// - `reports`: a call reports to the metadata server: its number, the truncate epoch and the size.
+/// - `done`: a call is done: its number, the count, the size that is known of the file, and how many bytes were read.
+/// - `retry`: a call may be made again: its number, and what came of the members, as `answers_shown` has it.
+/// - `refused`, `meta`, `registry`: a call is refused, or a server has answered it: its number, and that of the reply or of the
+///   answer.
+/// - `busy`, `no call`: a call runs; there is none to make again.
+/// - `not held`, `held`: the file isn't held, or is held under a capability of a truncate epoch.
+/// - `otherwise`: no scene has it.
+pub type Sight = (&'static str, u64, u64, u64, u64);
+
+/// The clock, what happens, and what comes of it.
+pub type Step = (u32, Happens, Sight);
+
+/// The number of the first call, and the steps of one client.
+pub type Scene = (u64, &'static [Step]);
+
+/// A file.
 fn file(number: u64) -> FileId {
     FileId {
         volume: Uuid::nil(),
@@ -239,8 +113,9 @@ fn file(number: u64) -> FileId {
     }
 }
 
-/// The capability of a file: the second one is striped.
-fn capability(rt: &impl Abort, number: u64) -> Capability {
+/// The capability of a file, over the members 1, 2 and 3: the file 2 is striped over them in objects of 1024 bytes, the others
+/// are replicated.
+fn capability(members: &Members, number: u64, epoch: u64) -> Capability {
     let kind = if number == 2 {
         Kind::Striped
     } else {
@@ -250,245 +125,417 @@ fn capability(rt: &impl Abort, number: u64) -> Capability {
         file: file(number),
         mode: 2,
         expiry: COUNTS,
-        epoch: 0,
+        epoch,
         location: Location {
             version: 1,
             kind,
             stripe: 1024,
-            members: Members::new(&[NodeId(1), NodeId(2), NodeId(3)])
-                .ok()
-                .expect(rt, "these are members"),
+            members: *members,
         },
         tag: [0; 32],
     }
 }
 
-/// A reply by its letter.
-fn reply(rt: &HostRuntime, letter: u8, value: u64) -> Result<Reply, OutOfMemory> {
-    if letter == b'k' {
-        Ok(Reply::Ok {
-            count: value,
-            mark: SizeMark {
-                epoch: 0,
-                size: value,
+/// A size that no truncation came before.
+fn sized(size: u64) -> SizeMark {
+    SizeMark { epoch: 0, size }
+}
+
+/// The call of the user 1 in the group 1 that asks this.
+fn call(rt: &impl Abort, alloc: Global, asks: &Asks) -> Call {
+    let (user, group) = (1, 1);
+    match asks {
+        Asks::Read(file, object, len) => Call::Read {
+            file: *file,
+            object: *object,
+            at: 0,
+            len: *len,
+        },
+        Asks::Write(file, object) => Call::Write {
+            file: *file,
+            object: *object,
+            at: 0,
+            bytes: Octets::of(alloc, b"a").expect(rt, OTHERWISE),
+        },
+        Asks::Truncate(file) => Call::Truncate {
+            file: *file,
+            size: 0,
+            epoch: 1,
+        },
+        Asks::Mkdir => Call::Meta {
+            user,
+            group,
+            request: MetaReq::Mkdir {
+                path: Name::of(alloc, "/v").expect(rt, OTHERWISE),
+                mode: 493,
             },
-            bytes: Octets::of(rt.alloc(), b"abc")?,
-        })
-    } else if letter == b'l' {
-        Ok(Reply::NoLease { end: value })
-    } else if letter == b'n' {
-        Ok(Reply::NoMajority { have: 1, need: 2 })
-    } else if letter == b'e' {
-        Ok(Reply::Elsewhere {
-            node: NodeId(if value < 9 { value as u32 } else { 9 }),
-            end: 9000,
-        })
-    } else if letter == b'o' {
-        Ok(Reply::OldEpoch { epoch: value })
-    } else {
-        Ok(Reply::ClientsFull)
+        },
+        Asks::Grant => Call::Meta {
+            user,
+            group,
+            request: MetaReq::Grant {
+                path: Name::of(alloc, "/v/a").expect(rt, OTHERWISE),
+                want: 1,
+            },
+        },
+        Asks::Report(file) => Call::Report {
+            user,
+            group,
+            file: *file,
+        },
+        Asks::Register => Call::Registry {
+            request: RegistryReq::Get { node: NodeId(1) },
+        },
     }
 }
 
-/// What comes, by its letter: an answer of a server or a reply.
-fn payload(rt: &HostRuntime, granted: &Capability, step: &Step) -> Result<Payload, OutOfMemory> {
-    let number = step.3;
-    if step.1 == b'd' {
-        return Ok(Payload::MetaReply {
-            number,
-            answer: MetaAnswer::Done,
-        });
+/// What an OSD sends that says this.
+fn reply(rt: &impl Abort, alloc: Global, says: &Says) -> Reply {
+    match says {
+        Says::Ok(count, size, bytes) => Reply::Ok {
+            count: *count,
+            mark: sized(*size),
+            bytes: Octets::of(alloc, bytes).expect(rt, OTHERWISE),
+        },
+        Says::NoLease => Reply::NoLease { end: 9000 },
+        Says::NoMajority => Reply::NoMajority { have: 1, need: 2 },
+        Says::Elsewhere(node) => Reply::Elsewhere {
+            node: NodeId(*node),
+            end: 9000,
+        },
+        Says::Denied => Reply::Denied { rule: Denial::Mode },
+        Says::OldList => Reply::OldList { version: 2 },
+        Says::OldEpoch => Reply::OldEpoch { epoch: 5 },
+        Says::TooFar => Reply::TooFar { object: 4096 },
+        Says::ClientsFull => Reply::ClientsFull,
     }
-    if step.1 == b'h' {
-        return Ok(Payload::MetaReply {
-            number,
-            answer: MetaAnswer::Granted {
-                capability: *granted,
-                mark: SizeMark { epoch: 1, size: 5 },
-            },
-        });
+}
+
+/// What the metadata server sends that says this.
+fn meta_answer(alloc: Global, members: &Members, says: &MetaSays) -> MetaAnswer {
+    match says {
+        MetaSays::Done => MetaAnswer::Done,
+        MetaSays::NotFound => MetaAnswer::Refused {
+            refusal: MetaRefusal::NotFound,
+        },
+        MetaSays::Names => MetaAnswer::Names {
+            names: Seq::new(alloc),
+        },
+        MetaSays::Row => MetaAnswer::Row {
+            kind: RowKind::Directory,
+            owner: 1,
+            group: 1,
+            mode: 493,
+            mark: sized(0),
+        },
+        MetaSays::Granted => MetaAnswer::Granted {
+            capability: capability(members, 3, 7),
+            mark: SizeMark { epoch: 7, size: 5 },
+        },
     }
-    if step.1 == b'v' {
-        return Ok(Payload::RegistryReply {
-            number,
-            answer: RegistryAnswer::Absent,
-        });
+}
+
+/// The row of the node 1.
+fn row(rt: &impl Abort, alloc: Global) -> RegistryRow {
+    RegistryRow {
+        node: NodeId(1),
+        kind: 1,
+        address: Name::of(alloc, "a").expect(rt, OTHERWISE),
+        version: 1,
     }
-    Ok(Payload::Reply {
-        number,
-        file: file(1),
-        reply: reply(rt, step.1, step.4)?,
+}
+
+/// What the directory service sends that says this.
+fn registry_answer(rt: &impl Abort, alloc: Global, says: &RegistrySays) -> RegistryAnswer {
+    match says {
+        RegistrySays::Done => RegistryAnswer::Done { version: 1 },
+        RegistrySays::Changed => RegistryAnswer::Changed { version: 1 },
+        RegistrySays::Absent => RegistryAnswer::Absent,
+        RegistrySays::Row => RegistryAnswer::Row {
+            row: row(rt, alloc),
+        },
+        RegistrySays::Rows => {
+            let mut rows = Seq::new(alloc);
+            rows.push(row(rt, alloc)).expect(rt, OTHERWISE);
+            RegistryAnswer::Rows { rows }
+        }
+    }
+}
+
+/// The answers of the members, each as its node and the number of its reply; 0 where it was silent.
+fn answers_shown(answers: &[Answered]) -> u64 {
+    answers.iter().fold(0u64, |shown, answer| {
+        let how = match answer.outcome {
+            Retry::Silent => 0,
+            Retry::NoLease { .. } => 2,
+            Retry::NoMajority { .. } => 3,
+            Retry::Elsewhere { .. } => 4,
+        };
+        let node = u64::from(answer.node.0);
+        shown
+            .wrapping_mul(100)
+            .wrapping_add(node.wrapping_mul(10).wrapping_add(how))
     })
 }
 
-/// The event of a step that is no call.
-fn event(rt: &HostRuntime, granted: &Capability, step: &Step) -> Result<Event, OutOfMemory> {
-    if step.1 == b'w' {
-        return Ok(Event::Wake);
+/// The number of the reply that refused a call.
+fn refusal_shown(reply: &AskRefusal) -> u8 {
+    match reply {
+        AskRefusal::Denied { .. } => 5,
+        AskRefusal::OldList { .. } => 6,
+        AskRefusal::OldEpoch { .. } => 7,
+        AskRefusal::TooFar { .. } => 8,
+        AskRefusal::ClientsFull => 9,
     }
-    Ok(Event::Deliver(Msg {
-        from: NodeId(step.2),
+}
+
+/// The number of the metadata server's answer.
+fn meta_shown(answer: &MetaAnswer) -> u8 {
+    match answer {
+        MetaAnswer::Done => 0,
+        MetaAnswer::Refused { .. } => 1,
+        MetaAnswer::Names { .. } => 12,
+        MetaAnswer::Row { .. } => 13,
+        MetaAnswer::Granted { .. } => 14,
+    }
+}
+
+/// The number of the directory service's answer.
+fn registry_shown(answer: &RegistryAnswer) -> u8 {
+    match answer {
+        RegistryAnswer::Done { .. } => 0,
+        RegistryAnswer::Changed { .. } => 1,
+        RegistryAnswer::Absent => 2,
+        RegistryAnswer::Row { .. } => 3,
+        RegistryAnswer::Rows { .. } => 4,
+    }
+}
+
+/// How the call of this number ended.
+fn ended(number: u64, how: &CallResult) -> Sight {
+    match how {
+        CallResult::Ok { count, mark, bytes } => {
+            let len = bytes.as_slice().len() as u64;
+            ("done", number, *count, mark.size, len)
+        }
+        CallResult::Retry { answers } => ("retry", number, answers_shown(answers.as_slice()), 0, 0),
+        CallResult::Refused { reply } => ("refused", number, u64::from(refusal_shown(reply)), 0, 0),
+        CallResult::Meta { answer } => ("meta", number, u64::from(meta_shown(answer)), 0, 0),
+        CallResult::Registry { answer } => (
+            "registry",
+            number,
+            u64::from(registry_shown(answer)),
+            0,
+            0,
+        ),
+    }
+}
+
+/// A node is asked in the call of this number; `begins` tells whether that begins.
+fn asks_node(begins: bool, node: NodeId, number: u64) -> Sight {
+    if begins {
+        ("begins", u64::from(node.0), number, 0, 0)
+    } else {
+        ("asks", u64::from(node.0), number, 0, 0)
+    }
+}
+
+/// The metadata server is asked for this.
+fn asks_meta(begins: bool, node: NodeId, number: u64, request: &MetaReq) -> Sight {
+    match request {
+        MetaReq::Report { mark, .. } => ("reports", number, mark.epoch, mark.size, 0),
+        _ => asks_node(begins, node, number),
+    }
+}
+
+/// What a message asks.
+fn asked(begins: bool, msg: &Msg) -> Sight {
+    match &msg.payload {
+        Payload::Ask { number, .. } | Payload::Registry { number, .. } => {
+            asks_node(begins, msg.to, *number)
+        }
+        Payload::Meta {
+            number,
+            request,
+            ..
+        } => asks_meta(begins, msg.to, *number, request),
+        _ => ("otherwise", 0, 0, 0, 0),
+    }
+}
+
+/// What comes of a step, which left the client so: a call that has ended has a result, and one that runs has none.
+fn shown_by(client: &Client, turned: &Turned) -> Sight {
+    let marks = turned.marks.as_slice();
+    if let [Mark::Done { number, .. }] = marks {
+        return match client.result() {
+            Some(result) => ended(*number, result),
+            None => ("otherwise", 0, 0, 0, 0),
+        };
+    }
+    match turned.outs.as_slice() {
+        [] => ("nothing", 0, 0, 0, 0),
+        [msg] if client.result().is_none() => asked(!marks.is_empty(), msg),
+        _ => ("otherwise", 0, 0, 0, 0),
+    }
+}
+
+/// What comes of a call.
+fn called(client: &Client, made: &Result<Turned, CallErr>) -> Sight {
+    match made {
+        Ok(turned) => shown_by(client, turned),
+        Err(CallErr::Busy) => ("busy", 0, 0, 0, 0),
+        Err(CallErr::NoCall) => ("no call", 0, 0, 0, 0),
+        Err(CallErr::OutOfMemory) => ("otherwise", 0, 0, 0, 0),
+    }
+}
+
+/// The client makes this call, if what it uses is held.
+fn makes(rt: &impl Abort, alloc: Global, client: &mut Client, now: u64, asks: &Asks) -> Sight
+    requires { now < 2 ^ 62 }
+{
+    let wanted = call(rt, alloc, asks);
+    if !client.is_ready(&wanted) {
+        return ("not held", 0, 0, 0, 0);
+    }
+    let made = client.call(now, &wanted);
+    called(client, &made)
+}
+
+/// The client makes its last call again.
+fn again(client: &mut Client, now: u64) -> Sight
+    requires { now < 2 ^ 62 }
+{
+    let made = client.again(now);
+    called(client, &made)
+}
+
+/// The client handles this event.
+fn handles(rt: &impl Abort, client: &mut Client, now: u64, event: Event) -> Sight
+    requires { now < 2 ^ 62 }
+{
+    let turned = client.step(now, &event).expect(rt, OTHERWISE);
+    shown_by(client, &turned)
+}
+
+/// The node sends this to the client.
+fn hears(rt: &impl Abort, client: &mut Client, now: u64, from: u32, payload: Payload) -> Sight
+    requires { now < 2 ^ 62 }
+{
+    let msg = Msg {
+        from: NodeId(from),
         to: NodeId(10),
         list: 1,
-        payload: payload(rt, granted, step)?,
-    }))
+        payload,
+    };
+    handles(rt, client, now, Event::Deliver(msg))
 }
 
-/// A call to the metadata server, of the user 1 in the group 1.
-fn meta(request: MetaReq) -> Call {
-    Call::Meta {
-        user: 1,
-        group: 1,
-        request,
-    }
-}
-
-/// The call of a step that is one.
-fn call(rt: &HostRuntime, step: &Step) -> Result<Option<Call>, OutOfMemory> {
-    let file = u64::from(step.2);
-    if step.1 == b'c' {
-        return Ok(Some(Call::Read {
-            file,
-            object: step.4,
-            at: 0,
-            len: 3,
-        }));
-    }
-    if step.1 == b't' {
-        return Ok(Some(Call::Truncate {
-            file,
-            size: 0,
-            epoch: 1,
-        }));
-    }
-    if step.1 == b'm' {
-        let path = Name::of(rt.alloc(), "/v")?;
-        return Ok(Some(meta(MetaReq::Mkdir { path, mode: 493 })));
-    }
-    if step.1 == b'g' {
-        let path = Name::of(rt.alloc(), "/v/a")?;
-        return Ok(Some(meta(MetaReq::Grant { path, want: 1 })));
-    }
-    if step.1 == b'q' {
-        let request = RegistryReq::Get { node: NodeId(1) };
-        return Ok(Some(Call::Registry { request }));
-    }
-    if step.1 == b'p' {
-        return Ok(Some(Call::Report {
-            user: 1,
-            group: 1,
-            file,
-        }));
-    }
-    Ok(None)
-}
-
-/// The answers of the members, each as its node and then 1 NoLease, 2 NoMajority, 3 Elsewhere, 4 silent.
-fn code(answers: &[Answered]) -> u64 {
-    let mut code = 0u64;
-    for answer in answers {
-        let how = match answer.outcome {
-            Retry::NoLease { .. } => 1,
-            Retry::NoMajority { .. } => 2,
-            Retry::Elsewhere { .. } => 3,
-            Retry::Silent => 4,
-        };
-        let node = u64::from(answer.node.0);
-        code = code
-            .wrapping_mul(100)
-            .wrapping_add(node.wrapping_mul(10).wrapping_add(how));
-    }
-    code
-}
-
-/// How a call ended.
-fn ended(number: u64, outcome: &Outcome) -> (u8, u64, u64) {
-    match outcome {
-        Outcome::Ok { count, bytes } => {
-            let len = bytes.as_slice().len() as u64;
-            (b'd', number, count.wrapping_mul(10).wrapping_add(len))
-        }
-        Outcome::Retry { answers } => (b'r', number, code(answers.as_slice())),
-        Outcome::Refused { .. } => (b'x', number, 0),
-        Outcome::Meta { .. } => (b'M', number, 0),
-        Outcome::Registry { .. } => (b'R', number, 0),
+/// What the client holds of a file.
+fn held(client: &Client, number: u64) -> Sight {
+    match client.held(number) {
+        Some(capability) => ("held", capability.epoch, 0, 0, 0),
+        None => ("not held", 0, 0, 0, 0),
     }
 }
 
-/// The number of a call that is sent.
-fn number_of(payload: &Payload) -> u64 {
-    match payload {
-        Payload::Ask { number, .. }
-        | Payload::Meta { number, .. }
-        | Payload::Registry { number, .. } => *number,
-        _ => 0,
-    }
-}
-
-/// What a step shows.
-fn seen(turned: &Turned) -> (u8, u64, u64) {
-    let marks = turned.marks.as_slice();
-    if let [Mark::Done { number, outcome }] = marks {
-        return ended(*number, outcome);
-    }
-    let begins = if marks.is_empty() { b'a' } else { b'b' };
-    if let [msg] = turned.outs.as_slice() {
-        return (begins, u64::from(msg.to.0), number_of(&msg.payload));
-    }
-    (b'-', 0, 0)
-}
-
-/// What a call shows.
-fn shown(called: &Result<Turned, CallErr>) -> (u8, u64, u64) {
-    match called {
-        Ok(turned) => seen(turned),
-        Err(CallErr::Busy) => (b'B', 0, 0),
-        Err(CallErr::NoCall) => (b'N', 0, 0),
-        Err(CallErr::OutOfMemory) => (b'?', 0, 0),
-    }
-}
-
-/// What the client does in a step.
-fn done(
-    rt: &HostRuntime,
+/// What the client does.
+fn does(
+    rt: &impl Abort,
+    alloc: Global,
+    members: &Members,
     client: &mut Client,
-    granted: &Capability,
-    step: &Step,
-) -> Result<(u8, u64, u64), Fail> {
-    let now = u64::from(step.0);
-    if step.1 == b'a' {
-        client.aim(&file(1), NodeId(step.2))?;
-        return Ok((b'-', 0, 0));
-    }
-    if step.1 == b'!' {
-        return Ok(shown(&client.again(now)));
-    }
-    if let Some(call) = call(rt, step)? {
-        if !client.is_ready(&call) {
-            return Ok((b'U', 0, 0));
+    clock: u32,
+    happens: &Happens,
+) -> Sight {
+    let now = u64::from(clock);
+    match happens {
+        Happens::Call(asks) => makes(rt, alloc, client, now, asks),
+        Happens::Again => again(client, now),
+        Happens::Hold(number, epoch, size) => {
+            let (epoch, size) = (*epoch, *size);
+            client
+                .hold(
+                    &capability(members, *number, epoch),
+                    SizeMark { epoch, size },
+                )
+                .expect(rt, OTHERWISE);
+            ("nothing", 0, 0, 0, 0)
         }
-        return Ok(shown(&client.call(now, &call)));
+        Happens::Held(number) => held(client, *number),
+        Happens::Aim(node) => {
+            client.aim(&file(1), NodeId(*node)).expect(rt, OTHERWISE);
+            ("nothing", 0, 0, 0, 0)
+        }
+        Happens::Wake => handles(rt, client, now, Event::Wake),
+        Happens::Reply(from, number, says) => {
+            let (number, file, reply) = (*number, file(1), reply(rt, alloc, says));
+            let payload = Payload::Reply {
+                number,
+                file,
+                reply,
+            };
+            hears(rt, client, now, *from, payload)
+        }
+        Happens::Meta(from, number, says) => {
+            let (number, answer) = (*number, meta_answer(alloc, members, says));
+            hears(
+                rt,
+                client,
+                now,
+                *from,
+                Payload::MetaReply { number, answer },
+            )
+        }
+        Happens::Registry(from, number, says) => {
+            let (number, answer) = (*number, registry_answer(rt, alloc, says));
+            hears(
+                rt,
+                client,
+                now,
+                *from,
+                Payload::RegistryReply { number, answer },
+            )
+        }
     }
-    let turned = client.step(now, &event(rt, granted, step)?)?;
-    Ok(seen(&turned))
 }
 
-/// Each scene shows what it is to.
-#[test]
-fn calls_end_as_they_are_answered(rt: HostRuntime) -> Result<(), Fail> {
-    let times = Times::new(1000, 100).ok().expect(&rt, "these are times");
-    let granted = capability(&rt, 3);
-    for (first, steps) in SCENES {
-        let mut client = Client::new(rt.alloc(), NodeId(10), times, first, 0);
-        for number in 1..3 {
-            client.hold(&capability(&rt, number), SizeMark { epoch: 0, size: 1 })?;
-        }
-        for step in steps {
-            let does = done(&rt, &mut client, &granted, step)?;
-            assert!(rt; does.0 == step.5, "at {}", step.0);
-            assert!(rt; does.1 == step.6, "at {}", step.0);
-            assert!(rt; does.2 == step.7, "at {}", step.0);
-        }
+/// Whether two sights are one.
+fn are_same(one: &Sight, other: &Sight) -> bool {
+    one.0 == other.0 && one.1 == other.1 && one.2 == other.2 && one.3 == other.3 && one.4 == other.4
+}
+
+/// A client that holds the files 1 and 2, which are empty, and whose first call has this number.
+fn client(rt: &impl Abort, alloc: Global, members: &Members, first: u64) -> Client {
+    let times = Times::new(1000, 100).ok().expect(rt, OTHERWISE);
+    let mut client = Client::new(alloc, NodeId(10), times, first);
+    for number in 1..3 {
+        client
+            .hold(&capability(members, number, 0), sized(0))
+            .expect(rt, OTHERWISE);
     }
-    Ok(())
+    client
+}
+
+/// Plays a scene.
+fn play(rt: &impl Abort, alloc: Global, members: &Members, scene: &Scene) {
+    let mut client = client(rt, alloc, members, scene.0);
+    for (clock, happens, wanted) in scene.1 {
+        let shown = does(rt, alloc, members, &mut client, *clock, happens);
+        assert!(rt;
+            are_same(&shown, wanted),
+            "{} where {} is wanted at {clock}",
+            shown.0,
+            wanted.0
+        );
+    }
+}
+
+/// Plays these scenes, each with a client of its own.
+pub fn play_all(rt: &impl Abort, alloc: Global, scenes: &[Scene]) {
+    let members = Members::new(&[NodeId(1), NodeId(2), NodeId(3)])
+        .ok()
+        .expect(rt, OTHERWISE);
+    for scene in scenes {
+        play(rt, alloc, &members, scene);
+    }
 }
