@@ -14,7 +14,7 @@ use Rattle.xt_base.specs.declared.registry.RegistryAnswer.{RegistryAnswer}
 use Rattle.kept_answers.specs.declared.Standing.{Standing}
 use Rattle.kept_answers.specs.declared.Standing.TheVariants as standing
 use Rattle.kept_answers.specs.Standings.{standing_of}
-use Rattle.dir_core.specs.Registry.{outcome_of, is_recorded, is_spent}
+use Rattle.registry_table.specs.Registry.{outcome_of, is_recorded, is_spent}
 use Rattle.dir_core.specs.Steps.{DirState, DirStep, dir_of, after_record, nothing, answered, recorded, fresh, by_standing, told_by, step_of_dir}
 
 -- the state after a step is the one before it with what the record tells

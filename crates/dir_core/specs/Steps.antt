@@ -16,7 +16,7 @@ use Rattle.kept_answers.specs.declared.Kept.{Kept}
 use Rattle.kept_answers.specs.declared.Standing.{Standing}
 use Rattle.kept_answers.specs.declared.Standing.TheVariants as standing
 use Rattle.kept_answers.specs.Standings.{standing_of, with_answer}
-use Rattle.dir_core.specs.Registry.{Rows, outcome_of, is_recorded, is_spent}
+use Rattle.registry_table.specs.Registry.{Rows, outcome_of, is_recorded, is_spent}
 
 -- the state of the directory service: the registry, and for each client its last recorded request's number and answer
 pub record DirState : Type 0 where

@@ -1,28 +1,21 @@
-ghost use Rattle.std.specs.Prelude.{◌≡◌, ◌≤◌, ◌<◌, ◌+◌, ◌^◌, [], ◌∷◌, length, None, IfOk, OnOk, OnErr, Ok, All};
+ghost use Rattle.std.specs.Prelude.{◌≡◌, ◌≤◌, [], ◌∷◌, length, None, IfOk, OnOk, OnErr, Ok, All};
 ghost use Rattle.kept_answers.specs.Standings.{with_answer};
 ghost use Rattle.xt_base.specs.Limits.{FitsRecord};
 ghost use Rattle.capabilities.specs.Stops.{is_stop};
-ghost use Rattle.dir_core.specs.Registry.{row_of, version_in, row_set, row_removed, is_recorded, is_spent, outcome_of};
+ghost use Rattle.registry_table.specs.Registry.{is_recorded, outcome_of};
+ghost use Rattle.registry_table.specs.Plans.{applied};
 ghost use Rattle.dir_core.specs.Steps.{dir_of, after_record, fresh, recorded, record_of, requested, step_of_dir, reply_to};
-ghost use Rattle.dir_core.specs.Plans.{applied, HasRoom};
 
-use crate::registry::{Change, Registered, Registry};
 use capabilities::is_stop;
 use kept_answers::{KeptAnswers, Standing};
+use registry_table::{Plan, Registry};
 use std::alloc::Global;
 use std::marker::Model;
 use xt_base::{
-    COUNTS, Copies, DIR_NODE, Event, Logged, Msg, Name, NodeId, Octets, OutOfMemory, Payload,
-    Record, RegistryAnswer, RegistryReq, Seq,
+    Copies, DIR_NODE, Event, Logged, Msg, NodeId, Octets, OutOfMemory, Payload, Record,
+    RegistryAnswer, RegistryReq, Seq,
 };
 use xt_protocol::Turned;
-
-/// What comes of a request: what it does to the registry, and what is answered.
-#[derive(Drop)]
-pub struct Plan {
-    change: Change,
-    answer: RegistryAnswer,
-}
 
 /// The directory service. Contracts see its secret and its state.
 #[derive(Drop)]
@@ -187,10 +180,10 @@ impl Dir {
         ensures state { OnOk result (self.new ≡ record { secret = self.old.secret; state = (fresh self.old.state client number request.now).dir }) }
         ensures err { OnErr result (self.new ≡ self.old) }
     {
-        if self.is_spent(request) {
+        if self.registry.is_spent(request) {
             return Ok(quiet(alloc));
         }
-        let plan = self.plan(alloc, request)?;
+        let plan = self.registry.plan(alloc, request)?;
         if !is_recorded(request) {
             return answer(alloc, None, client, number, plan.answer);
         }
@@ -217,101 +210,6 @@ impl Dir {
         Ok(turned)
     }
 
-    /// Whether a Set would make a version past the last one.
-    fn is_spent(&self, request: &RegistryReq) -> bool
-        ensures { result ≡ is_spent self.now.state.rows request.now }
-    {
-        match request {
-            RegistryReq::Set { node, expected, .. } => {
-                self.registry.version(*node) == *expected && *expected >= COUNTS - 1
-            }
-            _ => false,
-        }
-    }
-
-    /// Works out what comes of a request.
-    fn plan(&self, alloc: Global, request: &RegistryReq) -> Result<Plan, OutOfMemory>
-        requires { HasRoom self.now.state.rows request.now }
-        ensures { IfOk result (λ plan. record { rows = applied self.now.state.rows plan.change; answer = plan.answer } ≡ outcome_of self.now.state.rows request.now) }
-    {
-        match request {
-            RegistryReq::Set {
-                node,
-                kind,
-                address,
-                expected,
-            } => self.plan_set(alloc, *node, *kind, address, *expected),
-            RegistryReq::Get { node } => Ok(Plan {
-                change: Change::Stay,
-                answer: match self.registry.row(alloc, *node)? {
-                    Some(row) => RegistryAnswer::Row { row },
-                    None => RegistryAnswer::Absent,
-                },
-            }),
-            RegistryReq::List { kind, after } => Ok(Plan {
-                change: Change::Stay,
-                answer: RegistryAnswer::Rows {
-                    rows: self.registry.page(alloc, *kind, *after)?,
-                },
-            }),
-            RegistryReq::Remove { node, expected } => Ok(self.plan_remove(*node, *expected)),
-        }
-    }
-
-    /// Works out what comes of a Set.
-    fn plan_set(
-        &self,
-        alloc: Global,
-        node: NodeId,
-        kind: u8,
-        address: &Name,
-        expected: u64,
-    ) -> Result<Plan, OutOfMemory>
-        requires { version_in (row_of self.now.state.rows node.0) ≡ expected → expected + 1 < 2 ^ 64 }
-        ensures { IfOk result (λ plan. record { rows = applied self.now.state.rows plan.change; answer = plan.answer } ≡ row_set self.now.state.rows node.0 kind address.now expected (version_in (row_of self.now.state.rows node.0))) }
-    {
-        let version = self.registry.version(node);
-        if expected != version {
-            return Ok(Plan {
-                change: Change::Stay,
-                answer: RegistryAnswer::Changed { version },
-            });
-        }
-        let version = version + 1;
-        let row = Registered {
-            kind,
-            address: address.copy(alloc)?,
-            version,
-        };
-        Ok(Plan {
-            change: Change::Put { node, row },
-            answer: RegistryAnswer::Done { version },
-        })
-    }
-
-    /// Works out what comes of a Remove.
-    fn plan_remove(&self, node: NodeId, expected: u64) -> Plan
-        ensures { record { rows = applied self.now.state.rows result.change; answer = result.answer } ≡ row_removed self.now.state.rows node.0 expected (version_in (row_of self.now.state.rows node.0)) }
-    {
-        let version = self.registry.version(node);
-        if version != expected {
-            Plan {
-                change: Change::Stay,
-                answer: RegistryAnswer::Changed { version },
-            }
-        } else if version == 0 {
-            Plan {
-                change: Change::Stay,
-                answer: RegistryAnswer::Absent,
-            }
-        } else {
-            Plan {
-                change: Change::Remove { node },
-                answer: RegistryAnswer::Done { version: 0 },
-            }
-        }
-    }
-
     /// Makes a planned change, and keeps the number and the answer for the client. Nothing changes if memory runs out.
     fn commit(&mut self, client: NodeId, number: u64, plan: Plan) -> Result<(), OutOfMemory>
         ensures ok { OnOk result (self.new ≡ record { secret = self.old.secret; state = record { rows = applied self.old.state.rows plan.change; clients = with_answer self.old.state.clients client number plan.answer } }) }
@@ -336,7 +234,7 @@ impl Dir {
                 request: Logged::Registry { request },
                 ..
             } => {
-                let plan = self.plan(alloc, request)?;
+                let plan = self.registry.plan(alloc, request)?;
                 self.commit(*from, *number, plan)
             }
             _ => Ok(()),

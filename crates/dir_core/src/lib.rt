@@ -6,7 +6,6 @@
 #![tactic(auto)]
 
 mod directory;
-mod registry;
 
 ghost use Rattle.std.specs.Prelude.{◌≡◌, ◌++◌, List};
 ghost use Rattle.std.specs.Option.{option_to_list};
@@ -15,7 +14,6 @@ ghost use Rattle.xt_base.specs.declared.record.Record.{Record};
 ghost use Rattle.dir_core.specs.Steps.{dir_of, step_of_dir};
 
 pub use directory::Dir;
-pub use registry::Registered;
 
 /// The records tell the state: with that of a step behind the earlier ones they tell the state after the step. So a service
 /// that starts from its records goes on where it was.

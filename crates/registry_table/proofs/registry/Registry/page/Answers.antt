@@ -1,6 +1,6 @@
 use Rattle.std.proofs.Common.{◌∙◌, sym}
-use Rattle.dir_core.proofs.Pages.{start, at_end, at_full}
-use Rattle.dir_core.proofs.registry.Registry.page.Goals as goal
+use Rattle.registry_table.proofs.Pages.{start, at_end, at_full}
+use Rattle.registry_table.proofs.registry.Registry.page.Goals as goal
 
 pub loop-node-init : goal.loop-node-init
 loop-node-init c = start c.args.kind c.args.after.0 c.new-page.result c.into_iter-node-iterator.result c.self.inside.rows.entries c.args.self.now c.new-page.ensures (c.into_iter-node-iterator.ensures.into_iter_gives ∙ c.range-node-items.ensures.between tt) c.self.view_is

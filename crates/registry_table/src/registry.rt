@@ -1,7 +1,7 @@
 ghost use Rattle.std.specs.Prelude.{◌≡◌, [], IfOk, OnOk, OnErr};
 ghost use Rattle.std.specs.Option.{option_map};
-ghost use Rattle.dir_core.specs.Registry.{row_of, with_row, without_row, page_of, version_in, shown};
-ghost use Rattle.dir_core.specs.Plans.{applied};
+ghost use Rattle.registry_table.specs.Registry.{row_of, with_row, without_row, page_of, version_in, shown};
+ghost use Rattle.registry_table.specs.Plans.{applied};
 
 use std::alloc::Global;
 use std::collections::BTreeMap;
@@ -36,7 +36,7 @@ pub struct Registry {
 
 impl Model for Registry {
     ghost use Rattle.std.specs.Prelude.{List, ℕ};
-    ghost use Rattle.dir_core.specs.declared.registry.Registered.{Registered};
+    ghost use Rattle.registry_table.specs.declared.registry.Registered.{Registered};
 
     ghost Value = { List (ℕ × Registered) };
 

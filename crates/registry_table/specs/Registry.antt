@@ -9,7 +9,7 @@ use Rattle.xt_base.specs.declared.registry.RegistryReq.TheVariants as wish
 use Rattle.xt_base.specs.declared.registry.RegistryRow.{RegistryRow}
 use Rattle.xt_base.specs.declared.registry.RegistryAnswer.{RegistryAnswer}
 use Rattle.xt_base.specs.declared.registry.RegistryAnswer.TheVariants as told
-use Rattle.dir_core.specs.declared.registry.Registered.{Registered}
+use Rattle.registry_table.specs.declared.registry.Registered.{Registered}
 
 -- the registry: what is registered of each node, rising by node
 abbrev pub Rows : Type 0

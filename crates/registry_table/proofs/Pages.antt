@@ -7,8 +7,8 @@ use Rattle.std.specs.declared.ops.Bound.TheVariants.{Excluded, Unbounded}
 use Rattle.std.proofs.Math.Seq.{take-append_seam}
 use Rattle.std.proofs.lemmas.Grind.{common_steps}
 use Rattle.xt_base.specs.declared.registry.RegistryRow.{RegistryRow}
-use Rattle.dir_core.specs.declared.registry.Registered.{Registered}
-use Rattle.dir_core.specs.Registry.{Rows, shown, is_listed}
+use Rattle.registry_table.specs.declared.registry.Registered.{Registered}
+use Rattle.registry_table.specs.Registry.{Rows, shown, is_listed}
 
 -- whether a row is of a kind
 abbrev pub is_of : ℕ → ℕ × Registered → Bool

@@ -2,9 +2,9 @@
 use Rattle.std.specs.Prelude.{◌≡◌, ◌<◌, ◌+◌, ◌^◌}
 use Rattle.xt_base.specs.declared.registry.RegistryReq.{RegistryReq}
 use Rattle.xt_base.specs.declared.registry.RegistryReq.TheVariants as wish
-use Rattle.dir_core.specs.declared.registry.Change.{Change}
-use Rattle.dir_core.specs.declared.registry.Change.TheVariants as change
-use Rattle.dir_core.specs.Registry.{Rows, row_of, version_in, with_row, without_row}
+use Rattle.registry_table.specs.declared.registry.Change.{Change}
+use Rattle.registry_table.specs.declared.registry.Change.TheVariants as change
+use Rattle.registry_table.specs.Registry.{Rows, row_of, version_in, with_row, without_row}
 
 abbrev pub applied : Rows → Change → Rows
 applied rows change.Stay = rows
