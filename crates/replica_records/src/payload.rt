@@ -12,6 +12,9 @@ use std::alloc::Global;
 use xt_base::{Octets, OutOfMemory, Record};
 use xt_wire::{FieldReader, FieldWriter};
 
+/// Room for most records, in bytes: those with a body make room for it.
+const ROOM: usize = 256;
+
 /// The one spelling of a record within its limits.
 pub fn record_bytes(alloc: Global, rec: &Record) -> Result<Octets, OutOfMemory>
     requires { FitsRecord rec.now }
@@ -19,7 +22,7 @@ pub fn record_bytes(alloc: Global, rec: &Record) -> Result<Octets, OutOfMemory>
     ensures some { IfOk result (λ bytes. 1 ≤ length bytes) }
     ensures short { IfOk result (λ bytes. length bytes < 2 ^ 32) }
 {
-    let mut writer = FieldWriter::new(alloc);
+    let mut writer = FieldWriter::with_capacity(alloc, ROOM)?;
     put_record(&mut writer, rec)?;
     Ok(writer.finish())
 }

@@ -63,7 +63,7 @@ fn entry_of(node: NodeId, mark: Mark) -> Entry
 pub fn entries_of(alloc: Global, node: NodeId, marks: Marks) -> Result<Vec<Entry>, OutOfMemory>
     ensures { IfOk result (λ entries. entries.items ≡ map (entry_of node) marks) }
 {
-    let mut entries = Vec::new(alloc);
+    let mut entries = Vec::with_capacity(alloc, marks.len())?;
     for mark in marks.items {
         entries.push(entry_of(node, mark))?;
     }

@@ -8,6 +8,7 @@ ghost use Rattle.std.specs.Prelude.{◌≡◌, ◌∷◌, ◌++◌, [], IfOk, On
 ghost use Rattle.osd_rows.specs.Turns as rows;
 
 use std::alloc::Global;
+use std::mem;
 use xt_base::{
     Copies, FileId, Mark, Marks, Msg, Msgs, NodeId, Octets, OpId, OutOfMemory, Payload, Record,
     Reply, Seq, SizeMark,
@@ -67,10 +68,11 @@ pub fn sends_one(alloc: Global, message: Msg) -> Result<Turned, OutOfMemory>
 pub fn shows(alloc: Global, mark: Mark) -> Result<Turned, OutOfMemory>
     ensures { IfOk result (λ turned. turned ≡ rows.shows mark) }
 {
+    let marks = one(alloc, mark)?;
     Ok(Turned {
         rec: None,
         outs: Seq::new(alloc),
-        marks: one(alloc, mark)?,
+        marks,
     })
 }
 
@@ -123,17 +125,20 @@ pub fn answers(
 ) -> Result<Turned, OutOfMemory>
     ensures { IfOk result (λ turned. turned ≡ rows.answers node file.now id count mark bytes) }
 {
+    let shown = bytes.copy(alloc)?;
     let told = Mark::Answer {
         file: file.number,
         id,
         count,
-        bytes: bytes.copy(alloc)?,
+        bytes: shown,
     };
+    let marks = one(alloc, told)?;
     let reply = Reply::Ok { count, mark, bytes };
+    let outs = one(alloc, reply_to(node, file, id, reply))?;
     Ok(Turned {
         rec: None,
-        outs: one(alloc, reply_to(node, file, id, reply))?,
-        marks: one(alloc, told)?,
+        outs,
+        marks,
     })
 }
 
@@ -153,26 +158,37 @@ pub fn to_each(
     Ok(outs)
 }
 
-/// Puts these items behind the others.
-fn append<T: Drop>(items: &mut Seq<T>, more: Seq<T>) -> Result<(), OutOfMemory>
-    ensures { OnOk result (items.new ≡ items.old ++ more) }
+/// Takes these items behind the others.
+fn append<T: Drop>(items: &mut Seq<T>, more: &mut Seq<T>) -> Result<(), OutOfMemory>
+    ensures { OnOk result (items.new ≡ items.old ++ more.old) }
 {
-    let mut tail = more.items;
-    items.items.append(&mut tail)?;
+    if items.items.is_empty() {
+        mem::swap(items, more);
+        return Ok(());
+    }
+    items.items.append(&mut more.items)?;
+    Ok(())
+}
+
+/// Takes what the next part of a step gives behind what the first one gave. No two parts of a step make a record.
+pub fn extend(first: &mut Turned, next: &mut Turned) -> Result<(), OutOfMemory>
+    ensures { OnOk result (first.new ≡ rows.joined first.old next.old) }
+{
+    append(&mut first.outs, &mut next.outs)?;
+    append(&mut first.marks, &mut next.marks)?;
+    if first.rec.is_none() {
+        mem::swap(&mut first.rec, &mut next.rec);
+    }
     Ok(())
 }
 
 /// What one part of a step gives, and then what the next one gives. No two parts of a step make a record.
-pub fn join(first: Turned, next: Turned) -> Result<Turned, OutOfMemory>
+pub fn join(mut first: Turned, mut next: Turned) -> Result<Turned, OutOfMemory>
     ensures { IfOk result (λ turned. turned ≡ rows.joined first next) }
 {
-    let mut outs = first.outs;
-    append(&mut outs, next.outs)?;
-    let mut marks = first.marks;
-    append(&mut marks, next.marks)?;
-    let rec = match first.rec {
-        None => next.rec,
-        Some(rec) => Some(rec),
-    };
-    Ok(Turned { rec, outs, marks })
+    let extended = extend(&mut first, &mut next);
+    // what is left of it is empty, and is dropped apart from the ways out
+    drop(next);
+    extended?;
+    Ok(first)
 }

@@ -63,11 +63,11 @@ impl<T> Seq<T> {
 
 impl<T: Copies> Copies for Seq<T> {
     fn copy(&self, alloc: Global) -> Result<Seq<T>, OutOfMemory> {
-        let mut made = Seq::new(alloc);
+        let mut made = Vec::with_capacity(alloc, self.items.len())?;
         for item in self.items.as_slice() {
             made.push(item.copy(alloc)?)?;
         }
-        Ok(made)
+        Ok(Seq { items: made })
     }
 }
 

@@ -1,4 +1,4 @@
-ghost use Rattle.std.specs.Prelude.{◌≡◌, ◌<◌, ◌≤◌, ◌^◌, ◌++◌, [], length, drop, OnOk, OnErr};
+ghost use Rattle.std.specs.Prelude.{◌≡◌, ◌<◌, ◌≤◌, ◌^◌, ◌++◌, [], length, drop, IfOk, OnOk, OnErr};
 ghost use Rattle.xt_fields.specs.BasicFields.{byte_bytes, half_bytes, word_bytes, long_bytes, octets_bytes, text_bytes};
 
 use bytes::BufMut;
@@ -40,6 +40,15 @@ impl FieldWriter {
         FieldWriter {
             bytes: Vec::new(alloc),
         }
+    }
+
+    /// No bytes, with room for so many, so that the first fields move none that were written.
+    pub fn with_capacity(alloc: Global, room: usize) -> Result<FieldWriter, OutOfMemory>
+        ensures { IfOk result (λ writer. writer ≡ []) }
+    {
+        Ok(FieldWriter {
+            bytes: Vec::with_capacity(alloc, room)?,
+        })
     }
 
     /// A number of one byte.

@@ -12,6 +12,9 @@ use xt_base::{Msg, Octets, OutOfMemory};
 use xt_fields::FieldWriter;
 use xt_wire::WriteIds;
 
+/// Room for most frames, in bytes: those of the longer ones make room for themselves.
+const ROOM: usize = 256;
+
 /// What is behind the length.
 fn put_content(writer: &mut FieldWriter, msg: &Msg) -> Result<(), OutOfMemory>
     requires { FitsMessage msg.now }
@@ -31,7 +34,7 @@ pub fn encode(alloc: Global, msg: &Msg) -> Result<Octets, OutOfMemory>
     ensures len { IfOk result (λ frame. length frame ≡ frame_length msg.now) }
     ensures short { IfOk result (λ frame. length frame ≤ FRAME) }
 {
-    let mut writer = FieldWriter::new(alloc);
+    let mut writer = FieldWriter::with_capacity(alloc, ROOM)?;
     // the length is known once the rest is written
     writer.word(0)?;
     put_content(&mut writer, msg)?;
