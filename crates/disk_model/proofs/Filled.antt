@@ -1,8 +1,8 @@
 -- The bytes of a stop in place of what isn't synced.
-use Rattle.std.proofs.Common.{◌≡◌, ◌⊎◌, inl, inr, ⊎_elim, ℕ, ◌<◌, ◌≤◌, Bool, true, false, not, List, length, get_or, sym, ◌∙◌, arith, subst, Result, IfOk, Ok, Err}
+use Rattle.std.proofs.Common.{◌≡◌, ◌⊎◌, inl, inr, ⊎_elim, ℕ, ◌<◌, ◌≤◌, true, false, List, length, get_or, ◌∙◌, arith}
 use Rattle.std.specs.List.{list_any}
 use Rattle.std.proofs.lemmas.Bool.{and_parts, and_cases, not-true, not-false, ltb-true, ltb-false}
-use Rattle.disk_model.specs.Disk.{Kept, IsImage, IsFilled, is_inside, is_synced, reach, greatest_end}
+use Rattle.disk_model.specs.Disk.{Kept, IsImage, IsFilled, is_inside, reach}
 
 pub filled_is_image : (fill : ℕ) (kept : Kept) (image : List ℕ) → IsFilled fill kept image → IsImage kept image
 filled_is_image fill kept image filled = record {
@@ -23,8 +23,3 @@ is_filled fill kept image read far size filled same = record {
   filled = λ k inside unsynced.
       filled k (omega (arith, inside, far)) (⊎_elim (λ past. inl (ltb-false k (length kept.synced) past)) (λ written. inr (not-false _ written)) (and_cases _ _ unsynced));
 }
-
-pub ok_image : {E : Type 0} (kept : Kept) (bytes : List ℕ) (result : Result (List ℕ) E) → IsImage kept kept.read → bytes ≡ kept.read → IfOk result (λ made. made ≡ bytes)
-    → IfOk result (λ image. IsImage kept image)
-ok_image kept bytes (Ok made) read is same = subst (IsImage kept) (sym (same ∙ is)) read
-ok_image kept bytes (Err e) read is same = same

@@ -1,5 +1,5 @@
 -- How the fields of a disk in memory stand for it.
-use Rattle.std.specs.Prelude.{ℕ, ◌+◌, ◌*◌, ◌≤◌, ◌≡◌, true, false, List, [], ◌∷◌, length, take, drop}
+use Rattle.std.specs.Prelude.{◌+◌, ◌*◌, ◌≤◌, ◌≡◌, length, drop}
 use Rattle.std.specs.Vec.{vec_capacity, vec_len}
 use Rattle.disk_model.specs.declared.memory.MemoryDisk.TheInside.{Inside}
 use Rattle.disk_model.specs.Changes.{Memory, memory_kept}
@@ -15,15 +15,13 @@ seen d = record {
   plan = d.plan;
 }
 
--- The content is what the changes made of the first bytes, the marks are those of the last sync that succeeded, and
--- the room is there.
+-- Each piece has its note, the lengths are those of what is kept, the marks are those of the last sync that succeeded,
+-- and the room is there.
 pub record IsConsistent (d : Inside) : Type 0 where
   pub pieces : pieces_length d.notes.items ≡ length d.pieces.items
-  pub content : d.is_copied ≡ true → d.content.items ≡ (memory_kept (seen d)).read
-  pub bare : d.is_copied ≡ false → (d.notes.items ≡ []) × (d.reserved ≡ 0) × (d.room ≡ 0)
+  pub read_length : d.read_length ≡ length (memory_kept (seen d)).read
   pub synced_notes : d.synced_notes ≤ length d.notes.items
   pub written : (memory_kept (seen d)).written ≡ ranges_of (drop d.synced_notes d.notes.items)
   pub synced_length : d.synced_length ≡ length (memory_kept (seen d)).synced
-  pub content_room : d.reserved ≤ vec_capacity d.content
   pub piece_room : vec_len d.pieces + d.room ≤ vec_capacity d.pieces
   pub note_room : 64 * vec_len d.notes + d.room ≤ 64 * vec_capacity d.notes

@@ -8,6 +8,7 @@
 mod disk;
 mod file;
 mod filling;
+mod laying;
 mod memory;
 mod note;
 mod plan;

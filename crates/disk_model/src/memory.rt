@@ -1,9 +1,8 @@
-ghost use Rattle.std.specs.Prelude.{◌≡◌, ◌≤◌, ◌<◌, ◌+◌, ◌-◌, ◌*◌, ◌++◌, ◌∷◌, [], min, IfOk, OnOk, OnErr, is_err, true, IsTrue, length, take, drop, replicate, Option, None, ℕ};
-ghost use Rattle.std.specs.Vec.{vec_capacity, vec_len};
-ghost use Rattle.xt_base.specs.Overlay.{overlay};
+ghost use Rattle.std.specs.Prelude.{◌≡◌, ◌≤◌, ◌+◌, ◌*◌, [], IfOk, length, take, drop};
 
 use crate::Disk;
 use crate::filling::fill_unsynced;
+use crate::laying::lay;
 use crate::note::Note;
 use crate::plan::{Plan, Stop};
 use std::alloc::{AllocError, Global};
@@ -12,16 +11,16 @@ use xt_base::{CallList, Failed, Octets, OutOfMemory};
 
 /// A disk in memory. Its calls fail as planned, and inside the reserved end and room not otherwise.
 ///
-/// It takes memory in `reserve` and `image` alone. A write that fails has put its piece, too.
+/// It takes memory in `reserve`, `image` and `filled` alone. A write that fails has put its piece, too.
 #[derive(Drop)]
 pub struct MemoryDisk {
     alloc: Global,
     first: Octets,
-    /// What a read gives, once the first bytes were copied here.
-    content: Vec<u8>,
-    is_copied: bool,
+    /// What was done since, and the pieces of the writes behind one another. What a read gives is laid from them.
     notes: Vec<Note>,
     pieces: Vec<u8>,
+    /// How many bytes a read gives.
+    read_length: usize,
     /// How many notes there were at the last sync that succeeded, and how many bytes.
     synced_notes: usize,
     synced_length: usize,
@@ -43,7 +42,7 @@ impl Model for MemoryDisk {
 }
 
 impl MemoryDisk {
-    ghost use Rattle.disk_model.specs.Changes.{Memory, memory_kept, IsLeft};
+    ghost use Rattle.disk_model.specs.Changes.{memory_kept, IsLeft};
     ghost use Rattle.disk_model.specs.Disk.{IsImage, IsFilled};
 
     /// A disk with these bytes, all of them synced. `failing` has the numbers of the device calls that are to fail,
@@ -57,16 +56,15 @@ impl MemoryDisk {
           plan = record { failing = failing; stop = stop; calls = 0; changes = 0; faults = 0 };
         } }
     {
-        let synced_length = bytes.as_slice().len();
+        let length = bytes.as_slice().len();
         MemoryDisk {
             alloc,
             first: bytes,
-            content: Vec::new(alloc),
-            is_copied: false,
             notes: Vec::new(alloc),
             pieces: Vec::new(alloc),
+            read_length: length,
             synced_notes: 0,
-            synced_length,
+            synced_length: length,
             reserved: 0,
             room: 0,
             plan: Plan {
@@ -87,7 +85,7 @@ impl MemoryDisk {
     {
         match self.plan.stop {
             Some(stop) => self.filled(stop.fill),
-            None => Octets::of(self.alloc, self.bytes()),
+            None => Ok(Octets::from(self.bytes()?)),
         }
     }
 
@@ -95,21 +93,33 @@ impl MemoryDisk {
     pub fn filled(&self, fill: u8) -> Result<Octets, OutOfMemory>
         ensures filled { IfOk result (λ image. IsFilled fill (memory_kept self.now) image) }
     {
-        let mut bytes = Vec::from_slice(self.alloc, self.bytes())?;
+        let mut bytes = self.bytes()?;
         let (_, notes) = self.notes.as_slice().split_at(self.synced_notes);
         fill_unsynced(bytes.as_mut_slice(), self.synced_length, notes, fill);
         Ok(Octets::from(bytes))
     }
 
     /// The bytes that a read gives.
-    fn bytes(&self) -> &[u8]
-        ensures { result.now ≡ (memory_kept self.now).read }
+    fn bytes(&self) -> Result<Vec<u8>, OutOfMemory>
+        ensures { IfOk result (λ bytes. bytes.items ≡ (memory_kept self.now).read) }
     {
-        if self.is_copied {
-            self.content.as_slice()
-        } else {
-            self.first.as_slice()
-        }
+        let mut bytes = vec![in self.alloc; 0; self.read_length]?;
+        self.lay_from(0, bytes.as_mut_slice());
+        Ok(bytes)
+    }
+
+    /// Lays the bytes that a read gives from a place on into a buffer.
+    fn lay_from(&self, at: usize, buf: &mut [u8])
+        requires { at + length buf.old ≤ length (memory_kept self.now).read }
+        ensures { buf.new ≡ take (length buf.old) (drop at (memory_kept self.now).read) }
+    {
+        lay(
+            buf,
+            at,
+            self.first.as_slice(),
+            self.notes.as_slice(),
+            self.pieces.as_slice(),
+        );
     }
 }
 
@@ -154,25 +164,24 @@ impl Disk for MemoryDisk {
 
     fn length(&mut self) -> Result<u64, Failed> {
         self.plan.look()?;
-        Ok(self.bytes().len() as u64)
+        Ok(self.read_length as u64)
     }
 
     fn read(&mut self, at: u64, buf: &mut [u8]) -> Result<(), Failed> {
         self.plan.look()?;
-        let start = at as usize;
-        buf.copy_from_slice(&self.bytes()[start..start + buf.len()]);
+        self.lay_from(at as usize, buf);
         Ok(())
     }
 
     fn write(&mut self, at: u64, piece: &[u8]) -> Result<(), Failed> {
         let place = at as usize;
-        overwrite(&mut self.content, place, piece);
         let note = Note::Wrote {
             at: place,
             len: piece.len(),
         };
         let _ = self.notes.push(note);
         let _ = self.pieces.extend_from_slice(piece);
+        self.read_length = self.read_length.max(place + piece.len());
         self.room -= piece.len() as u64 + 64;
         self.plan.change()
     }
@@ -181,39 +190,19 @@ impl Disk for MemoryDisk {
         self.plan.change()?;
         let _ = self.notes.push(Note::Synced);
         self.synced_notes = self.notes.len();
-        self.synced_length = self.content.len();
+        self.synced_length = self.read_length;
         self.room -= 64;
         Ok(())
     }
 
     fn reserve(&mut self, end: u64) -> Result<(), OutOfMemory> {
         let room = room_for(end)?;
-        if !self.is_copied {
-            copy_first(&mut self.content, self.first.as_slice(), end as usize)?;
-            self.is_copied = true;
-        }
-        ensure_capacity(&mut self.content, end as usize)?;
         self.notes.reserve((room / 64) as usize + 1)?;
         self.pieces.reserve(room as usize)?;
         self.reserved = self.reserved.max(end);
         self.room = self.room.max(room);
         Ok(())
     }
-}
-
-/// Puts a piece over the bytes from a place on, inside their capacity.
-fn overwrite(content: &mut Vec<u8>, at: usize, piece: &[u8])
-    requires { at + length piece.now ≤ vec_capacity content.old }
-    ensures bytes { content.new.items ≡ overlay content.old.items at piece.now }
-    ensures capacity { vec_capacity content.old ≤ vec_capacity content.new }
-{
-    if content.len() < at {
-        let _ = content.resize(at, 0);
-    }
-    let over = piece.len().min(content.len() - at);
-    let (inside, past) = piece.split_at(over);
-    content.as_mut_slice()[at..at + over].copy_from_slice(inside);
-    let _ = content.extend_from_slice(past);
 }
 
 /// The room that reserving up to this end makes. Past the greatest 64-bit number there is no memory for it.
@@ -224,23 +213,4 @@ fn room_for(end: u64) -> Result<u64, OutOfMemory>
         Some(twice) => twice.checked_add(4096).ok_or(AllocError),
         None => Err(AllocError),
     }
-}
-
-/// Makes a capacity of at least `capacity` bytes.
-fn ensure_capacity(content: &mut Vec<u8>, capacity: usize) -> Result<(), OutOfMemory>
-    ensures bytes { content.new.items ≡ content.old.items }
-    ensures capacity { OnOk result (capacity ≤ vec_capacity content.new) }
-    ensures grows { vec_capacity content.old ≤ vec_capacity content.new }
-{
-    content.reserve(capacity.saturating_sub(content.len()))
-}
-
-/// Copies bytes into an empty vector, with a capacity of at least `capacity` bytes.
-fn copy_first(content: &mut Vec<u8>, first: &[u8], capacity: usize) -> Result<(), OutOfMemory>
-    ensures copied { OnOk result (content.new.items ≡ first.now) }
-    ensures grows { vec_capacity content.old ≤ vec_capacity content.new }
-{
-    content.clear();
-    content.reserve(capacity.max(first.len()))?;
-    content.extend_from_slice(first)
 }

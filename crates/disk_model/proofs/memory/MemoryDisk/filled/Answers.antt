@@ -1,8 +1,8 @@
-use Rattle.std.proofs.Common.{◌≡◌, ◌≤◌, ℕ, List, length, drop, sym, ◌∙◌, ap, arith, subst, get_or, inl, inr, ⊎_elim}
+use Rattle.std.proofs.Common.{◌≡◌, ℕ, List, length, drop, sym, ◌∙◌, ap, arith, get_or, inl, inr, ⊎_elim}
 use Rattle.std.specs.List.{list_any}
 use Rattle.std.proofs.lemmas.List.{take_at}
-use Rattle.disk_model.specs.Disk.{Kept, Range, greatest_end, is_inside, reach, IsImage, IsFilled}
-use Rattle.disk_model.specs.Changes.{Memory, memory_kept}
+use Rattle.disk_model.specs.Disk.{Kept, greatest_end, is_inside}
+use Rattle.disk_model.specs.Changes.{memory_kept}
 use Rattle.disk_model.specs.Laws.{memory_read_is_image, memory_reach}
 use Rattle.disk_model.specs.Memory.{seen}
 use Rattle.disk_model.specs.Notes.{ranges_of}
@@ -13,7 +13,7 @@ same : (c : goal.After-as_mut_slice) → memory_kept (seen c.self.inside) ≡ me
 same c = ap memory_kept c.self.view_is
 
 size : (c : goal.After-as_mut_slice) → length c.as_mut_slice.result.now ≡ length (memory_kept c.args.self.now).read
-size c = ap length (c.as_mut_slice.ensures.value ∙ c.in_ok-bytes.ensures.items ∙ c.bytes.ensures)
+size c = ap length (c.as_mut_slice.ensures.value ∙ c.in_ok-bytes.ensures)
 
 written : (c : goal.After-as_mut_slice) → (memory_kept c.args.self.now).written ≡ ranges_of c.split_at.result.1.now
 written c =
@@ -36,7 +36,7 @@ returns c =
     let keeps : length image ≡ length c.as_mut_slice.result.now = c.fill_unsynced.auto.image in
     let all : length image ≡ c.in_ok-bytes.bytes.len = omega (arith, keeps, ap length c.as_mut_slice.ensures.value, c.in_ok-bytes.bytes.ok.0) in
     let is : c.from.result ≡ image = c.from.ensures ∙ take_at image (drop (length image) c.in_ok-bytes.bytes.items) c.in_ok-bytes.bytes.len all in
-    let read : c.as_mut_slice.result.now ≡ kept.read = c.as_mut_slice.ensures.value ∙ c.in_ok-bytes.ensures.items ∙ c.bytes.ensures in
+    let read : c.as_mut_slice.result.now ≡ kept.read = c.as_mut_slice.ensures.value ∙ c.in_ok-bytes.ensures in
     let synced : c.self.inside.synced_length ≡ length kept.synced = c.self.invariant.synced_length ∙ ap (λ (k : Kept). length k.synced) same_kept in
     let ranges : kept.written ≡ ranges_of c.split_at.result.1.now =
     sym (ap (λ (k : Kept). k.written) same_kept) ∙ c.self.invariant.written

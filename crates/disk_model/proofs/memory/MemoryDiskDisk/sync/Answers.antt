@@ -1,5 +1,5 @@
-use Rattle.std.proofs.Common.{◌≡◌, ◌+◌, ◌<◌, ◌≤◌, ◌++◌, ◌∷◌, [], length, drop, ℕ, List, sym, ◌∙◌, ap, subst, arith, refl, true, false, vec_len, vec_capacity, length-append}
-use Rattle.std.proofs.lemmas.Bool.{cond-true, true_from_ne_false}
+use Rattle.std.proofs.Common.{◌≡◌, ◌+◌, ◌<◌, ◌≤◌, ◌++◌, ◌∷◌, [], length, List, sym, ◌∙◌, ap, subst, arith, vec_len, vec_capacity}
+use Rattle.std.proofs.lemmas.Bool.{cond-true}
 use Rattle.std.proofs.lemmas.List.{drop_all}
 use Rattle.disk_model.specs.declared.note.Note.TheVariants.{Synced}
 use Rattle.disk_model.specs.Disk.{Kept, Elapses, at_rest, after_sync}
@@ -11,9 +11,6 @@ use Rattle.disk_model.proofs.memory.MemoryDiskDisk.sync.Goals as goal
 
 room_left : (c : goal.After-self-3-1) → 64 ≤ c.self.inside.room
 room_left c = omega (arith, c.requires, ap (λ (m : Memory). m.room) c.self.view_is)
-
-is_copied : (c : goal.After-self-3-1) → c.self.inside.is_copied ≡ true
-is_copied c = true_from_ne_false c.self.inside.is_copied (λ bare. omega (arith, room_left c, (c.self.invariant.bare bare).2))
 
 notes : (c : goal.After-self-3-1) → c.push.new.self.items ≡ c.self.inside.notes.items ++ Synced ∷ []
 notes c =
@@ -38,17 +35,14 @@ pub invariant_of-self-2 : goal.invariant_of-self-2
 invariant_of-self-2 c =
     let old = c.self.invariant in
     let all : length c.push.new.self.items ≡ vec_len c.push.new.self = sym c.push.new.self.ok.0 in
-    let bytes = old.content (is_copied c) in
     record {
       pieces = omega (arith, old.pieces, ap pieces_length (notes c), pieces_length-append c.self.inside.notes.items Synced);
-      content = λ copied. bytes ∙ ap (λ (k : Kept). k.read) (sym (kept c));
-      bare = λ bare. absurd (omega (arith, room_left c, (old.bare bare).2));
+      read_length = old.read_length ∙ ap (λ (k : Kept). length k.read) (sym (kept c));
       synced_notes = omega (arith, c.len-self-inside.ensures, all);
       written =
           ap (λ (k : Kept). k.written) (kept c)
           ∙ ap ranges_of (sym (drop_all c.len-self-inside.result c.push.new.self.items (omega (arith, c.len-self-inside.ensures, all))));
-      synced_length = c.len-self-inside-2.ensures ∙ c.self.inside.content.ok.0 ∙ ap length bytes ∙ ap (λ (k : Kept). length k.synced) (sym (kept c));
-      content_room = old.content_room;
+      synced_length = old.read_length ∙ ap (λ (k : Kept). length k.synced) (sym (kept c));
       piece_room = omega (arith, old.piece_room);
       note_room = omega (arith, room_left c, old.note_room, c.push.ensures.capacity, notes_count c);
     }

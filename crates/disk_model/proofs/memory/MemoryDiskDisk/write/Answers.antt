@@ -1,9 +1,9 @@
-use Rattle.std.proofs.Common.{◌≡◌, ◌+◌, ◌<◌, ◌≤◌, ◌++◌, ◌∷◌, [], length, drop, ℕ, List, sym, ◌∙◌, ap, subst, arith, refl, true, false, vec_len, vec_capacity, length-append}
+use Rattle.std.proofs.Common.{◌≡◌, ◌+◌, ◌<◌, ◌≤◌, ◌++◌, ◌∷◌, [], length, drop, ℕ, List, sym, ◌∙◌, ap, subst, arith, vec_len, vec_capacity, length-append}
 use Rattle.std.proofs.lemmas.Bool.{cond-true}
 use Rattle.std.proofs.lemmas.List.{drop-append-le}
-use Rattle.disk_model.specs.declared.note.Note.TheVariants.{Wrote, Synced}
+use Rattle.disk_model.specs.declared.note.Note.TheVariants.{Wrote}
 use Rattle.disk_model.specs.Disk.{Kept, Range, Elapses, at_rest, after_write, range_of}
-use Rattle.xt_base.specs.Overlay.{overlay}
+use Rattle.disk_model.specs.Laws.{length-overlay}
 use Rattle.disk_model.specs.Changes.{Change, Write, Memory, kept_after, memory_kept, MightHaveLeft}
 use Rattle.disk_model.specs.Notes.{changes_of, pieces_length, ranges_of}
 use Rattle.disk_model.specs.Memory.{seen}
@@ -57,9 +57,12 @@ invariant_of-self c =
         ap pieces_length (notes c),
         pieces_length-append c.self.inside.notes.items (Wrote c.args.at (length c.args.piece.now)),
       );
-      content = λ copied.
-          c.overwrite.ensures.bytes ∙ ap (λ (bytes : List ℕ). overlay bytes c.args.at c.args.piece.now) (old.content copied) ∙ ap (λ (k : Kept). k.read) (sym (kept c));
-      bare = λ bare. absurd (omega (arith, room_left c, (old.bare bare).2));
+      read_length = omega (
+        arith,
+        old.read_length,
+        ap (λ (k : Kept). length k.read) (kept c),
+        length-overlay c.args.at c.args.piece.now (memory_kept (seen c.self.inside)).read,
+      );
       synced_notes = omega (arith, old.synced_notes, ap length (notes c), size);
       written =
           ap (λ (k : Kept). k.written) (kept c)
@@ -68,7 +71,6 @@ invariant_of-self c =
           ∙ ap ranges_of (sym (drop-append-le c.self.inside.synced_notes c.self.inside.notes.items (Wrote c.args.at (length c.args.piece.now) ∷ []) old.synced_notes))
           ∙ ap (λ ns. ranges_of (drop c.self.inside.synced_notes ns)) (sym (notes c));
       synced_length = old.synced_length ∙ ap (λ (k : Kept). length k.synced) (sym (kept c));
-      content_room = omega (arith, old.content_room, c.overwrite.ensures.capacity);
       piece_room = omega (arith, room_left c, old.piece_room, c.extend_from_slice.ensures.capacity, pieces_count c);
       note_room = omega (arith, room_left c, old.note_room, c.push.ensures.capacity, notes_count c);
     }
