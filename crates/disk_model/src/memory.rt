@@ -11,12 +11,14 @@ use xt_base::{CallList, Failed, Octets, OutOfMemory};
 
 /// A disk in memory. Its calls fail as planned, and inside the reserved end and room not otherwise.
 ///
-/// It takes memory in `reserve`, `image` and `filled` alone. A write that fails has put its piece, too.
+/// It takes memory in `reserve`, `image` and `filled` alone. A write that fails has put its piece, too. A read, `image`
+/// and `filled` go through the whole record of calls.
 #[derive(Drop)]
 pub struct MemoryDisk {
     alloc: Global,
     first: Octets,
-    /// What was done since, and the pieces of the writes behind one another. What a read gives is laid from them.
+    /// The record of calls since the making, and its pieces behind one another. What a read gives isn't kept: it is laid
+    /// from these and the first bytes.
     notes: Vec<Note>,
     pieces: Vec<u8>,
     /// How many bytes a read gives.
