@@ -101,16 +101,14 @@ slots_wake now awake old new gave files asks turned sealed body are woke files_a
           (ap (λ f. joined (sends (asks_dir awake.node ∷ [])) f) (sym files_are) ∙ ap (λ a. joined a files) (sym asks_are) ∙ sym turned_is);
     }
 
-pub slots_woke : {E : Type 0} (now : ℕ) (awake : Awake) (old before after new : List Slot) (gave : Woken) (files asks : Turned) (r : Result Turned E) → AreSlots awake old → before ≡ old → new ≡ after
-    → ((a : Awake) → AreSound a before → WakesSlots now a before after gave) → files ≡ joined gave.overdue gave.again → asks ≡ sends (asks_dir awake.node ∷ []) → IfOk r (λ turned. turned ≡ joined asks files)
-    → IfOk r (λ turned. (sealed : Capability → Bool) (body : FileId → ℕ → Stamp → List ℕ) → StepsFiles (woken (site_at awake now sealed body)) awake old new turned)
-slots_woke now awake old before after new gave files asks (Ok turned) are before_is new_is woke files_are asks_are turned_is =
-    λ sealed body.
+pub slots_woke : (now : ℕ) (awake : Awake) (old before after new : List Slot) (gave : Woken) (files asks turned : Turned) → AreSlots awake old → before ≡ old → new ≡ after
+    → ((a : Awake) → AreSound a before → WakesSlots now a before after gave) → files ≡ joined gave.overdue gave.again → asks ≡ sends (asks_dir awake.node ∷ []) → turned ≡ joined asks files
+    → (sealed : Capability → Bool) (body : FileId → ℕ → Stamp → List ℕ) → StepsFiles (woken (site_at awake now sealed body)) awake old new turned
+slots_woke now awake old before after new gave files asks turned are before_is new_is woke files_are asks_are turned_is sealed body =
     let sound : AreSound awake before = subst (AreSound awake) (sym before_is) are.each in
     let here = subst (λ b. WakesSlots now awake b after gave) before_is (woke awake sound) in
     subst (λ n. StepsFiles (woken (site_at awake now sealed body)) awake old n turned) (sym new_is)
     (slots_wake now awake old after gave files asks turned sealed body are here files_are asks_are turned_is)
-slots_woke now awake old before after new gave files asks (Err e) are before_is new_is woke files_are asks_are turned_is = turned_is
 
 -- ---- an event
 

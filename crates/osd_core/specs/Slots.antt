@@ -14,6 +14,7 @@ use Rattle.record_folds.specs.RowPlaces.{FilesRise}
 use Rattle.osd_rows.specs.FileStates.{FileState, file_from}
 use Rattle.osd_rows.specs.Overdue.{expired}
 use Rattle.osd_rows.specs.FileSteps.{wake_of_file}
+use Rattle.osd_rows.specs.Turns.{joined}
 use Rattle.osd_rows.specs.OsdSteps.{FilesStep, file_at, with_file, each_file}
 use Rattle.osd_files.specs.Views.{FileView, site_at}
 use Rattle.osd_files.specs.Whole.{RowRises, IsWoken}
@@ -92,6 +93,13 @@ pub record IsMade (file : FileId) (old new : List Slot) (place : ℕ) : Type 0 w
   pub rising : (s : Slot) → id_of s ≡ file → slots_rise (slice_set new place s) ≡ true
   pub sound : (awake : Awake) → AreSound awake old → AreSound awake new
 
+-- a Wake at a slot, whose part stands behind what others gave
+pub record WakesMore (now : ℕ) (old new : Slot) (before after : Woken) : Type 0 where
+  pub next : Woken
+  pub woke : (awake : Awake) → IsSoundSlot awake old → WakesSlot now awake old new next
+  pub overdue : after.overdue ≡ joined before.overdue next.overdue
+  pub again : after.again ≡ joined before.again next.again
+
 -- A Wake of slots, in order: what is overdue at all of them, and then what the rows of a Wake give at all of them.
 pub record WakesSlots (now : ℕ) (awake : Awake) (old new : List Slot) (woken : Woken) : Type 0 where
   pub sound : AreSound awake new
@@ -101,6 +109,12 @@ pub record WakesSlots (now : ℕ) (awake : Awake) (old new : List Slot) (woken :
   pub again : (sealed : Capability → Bool) (body : FileId → ℕ → Stamp → List ℕ)
       → each_file (wake_of_file (site_at awake now sealed body)) (each_file (expired (site_at awake now sealed body)) (states_of awake old)).files
       ≡ record { files = states_of awake new; turned = woken.again }
+
+-- a Wake of slots, whose parts stand behind what was asked
+pub record WakesBehind (now : ℕ) (old new : List Slot) (before after : Turned) : Type 0 where
+  pub woken : Woken
+  pub woke : (awake : Awake) → AreSound awake old → WakesSlots now awake old new woken
+  pub joins : after ≡ joined before (joined woken.overdue woken.again)
 
 -- A step of the files: the slots stay an OSD's, and it is this row on the states of the files.
 pub record StepsFiles (row : List FileState → FilesStep) (awake : Awake) (old new : List Slot) (turned : Turned) : Type 0 where

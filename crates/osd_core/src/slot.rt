@@ -68,7 +68,8 @@ impl Slot {
         if let Slot::Row(row) = self {
             let nothing = new_row(alloc, row.file);
             let row = mem::replace(row, nothing);
-            *self = Slot::File(OsdFile::new(alloc, awake, row));
+            let file = OsdFile::new(alloc, awake, row);
+            drop(mem::replace(self, Slot::File(file)));
         }
     }
 

@@ -1,4 +1,4 @@
-ghost use Rattle.std.specs.Prelude.{◌≡◌, ◌<◌, ◌^◌, ℕ, List, Bool, IfOk, IsTrue};
+ghost use Rattle.std.specs.Prelude.{◌≡◌, ◌<◌, ◌^◌, ℕ, List, Bool, IfOk, OnOk, IsTrue};
 ghost use Rattle.xt_base.specs.Limits.{FitsPayload};
 ghost use Rattle.xt_base.specs.declared.ids.FileId.{FileId};
 ghost use Rattle.xt_base.specs.declared.ids.Stamp.{Stamp};
@@ -6,11 +6,11 @@ ghost use Rattle.xt_base.specs.declared.file.Capability.{Capability};
 ghost use Rattle.xt_protocol.specs.LeaseRows.{Awake};
 ghost use Rattle.xt_protocol.specs.SeenBodies.{body_by};
 ghost use Rattle.kept_bodies.specs.KeptBodies.{fault_of, ReadsOnly};
-ghost use Rattle.osd_rows.specs.Turns.{joined};
+ghost use Rattle.osd_rows.specs.Turns.{joined, quiet};
 ghost use Rattle.osd_rows.specs.OsdSteps.{asks_dir, file_concerned, message_handled, woken};
 ghost use Rattle.osd_files.specs.Views.{site_at};
 ghost use Rattle.osd_files.specs.Whole.{IsSealedBy};
-ghost use Rattle.osd_core.specs.Slots.{slots_rise, slots_from, AreSound, AreSlots, IsSlotPlace, IsMade, WakesSlots, StepsFiles};
+ghost use Rattle.osd_core.specs.Slots.{slots_rise, slots_from, AreSound, AreSlots, IsSlotPlace, IsMade, WakesMore, WakesSlots, WakesBehind, StepsFiles};
 
 use crate::messages::file_concerned;
 use crate::slot::{Slot, new_row, no_news};
@@ -18,7 +18,7 @@ use flease_lease::Awake;
 use kept_bodies::{Bodies, StepErr};
 use osd_files::Woken;
 use std::alloc::Global;
-use step_outputs::{join, message, quiet, sends_one};
+use step_outputs::{extend, message, quiet, sends_one};
 use xt_base::{DIR_NODE, FileId, FileTable, Msg, NodeId, OutOfMemory, Payload, RegistryReq};
 use xt_protocol::Turned;
 
@@ -82,14 +82,42 @@ pub fn take<B: Bodies>(
     slots[place].take(alloc, awake, bodies, now, sealed, msg)
 }
 
-/// What a Wake gave at files, and then at the next one.
-fn woken_more(woken: Woken, next: Woken) -> Result<Woken, OutOfMemory>
-    ensures overdue { IfOk result (λ both. both.overdue ≡ joined woken.overdue next.overdue) }
-    ensures again { IfOk result (λ both. both.again ≡ joined woken.again next.again) }
+/// A Wake at the next file: what it gives stands behind what others gave.
+fn wake_more(alloc: Global, slot: &mut Slot, woken: &mut Woken, now: u64) -> Result<(), OutOfMemory>
+    requires { now < 2 ^ 62 }
+    ensures { OnOk result (WakesMore now slot.old slot.new woken.old woken.new) }
 {
-    let overdue = join(woken.overdue, next.overdue)?;
-    let again = join(woken.again, next.again)?;
-    Ok(Woken { overdue, again })
+    let mut next = slot.wake(alloc, now)?;
+    let taken = take_woken(woken, &mut next);
+    drop(next);
+    taken
+}
+
+/// Takes what a Wake gave at the next file behind what others gave.
+fn take_woken(woken: &mut Woken, next: &mut Woken) -> Result<(), OutOfMemory>
+    ensures overdue { OnOk result (woken.new.overdue ≡ joined woken.old.overdue next.old.overdue) }
+    ensures again { OnOk result (woken.new.again ≡ joined woken.old.again next.old.again) }
+{
+    extend(&mut woken.overdue, &mut next.overdue)?;
+    extend(&mut woken.again, &mut next.again)
+}
+
+/// A Wake at each file, in order: what each gives stands behind what others gave.
+fn wake_all(
+    alloc: Global,
+    slots: &mut [Slot],
+    woken: &mut Woken,
+    now: u64,
+) -> Result<(), OutOfMemory>
+    requires clock { now < 2 ^ 62 }
+    requires overdue { woken.old.overdue ≡ quiet }
+    requires again { woken.old.again ≡ quiet }
+    ensures { OnOk result ((awake : Awake) → AreSound awake slots.old → WakesSlots now awake slots.old slots.new woken.new) }
+{
+    for slot in slots.iter_mut() {
+        wake_more(alloc, slot, woken, now)?;
+    }
+    Ok(())
 }
 
 /// What a Wake gives at each file, in order: what is overdue, and apart from it the rows of a Wake.
@@ -98,11 +126,13 @@ fn wake_each(alloc: Global, slots: &mut [Slot], now: u64) -> Result<Woken, OutOf
     ensures { IfOk result (λ woken. (awake : Awake) → AreSound awake slots.old → WakesSlots now awake slots.old slots.new woken) }
 {
     let mut woken = no_news(alloc);
-    for slot in slots.iter_mut() {
-        let next = slot.wake(alloc, now)?;
-        woken = woken_more(woken, next)?;
+    match wake_all(alloc, slots, &mut woken, now) {
+        Ok(()) => Ok(woken),
+        Err(error) => {
+            drop(woken);
+            Err(error)
+        }
     }
-    Ok(woken)
 }
 
 /// What asks the DIR for the OSDs.
@@ -129,8 +159,33 @@ pub fn wake(
     requires clock { now < 2 ^ 62 }
     ensures { IfOk result (λ turned. (sealed : Capability → Bool) (body : FileId → ℕ → Stamp → List ℕ) → StepsFiles (woken (site_at awake now sealed body)) awake slots.old.items slots.new.items turned) }
 {
-    let woken = wake_each(alloc, slots.as_mut_slice(), now)?;
-    let files = join(woken.overdue, woken.again)?;
-    let asks = sends_one(alloc, asks_dir(awake.node()))?;
-    join(asks, files)
+    let mut turned = sends_one(alloc, asks_dir(awake.node()))?;
+    match wake_behind(alloc, slots.as_mut_slice(), &mut turned, now) {
+        Ok(()) => Ok(turned),
+        Err(error) => Err(error),
+    }
+}
+
+/// A Wake at the files, behind what was asked: what is overdue at each, and then the rows of a Wake.
+fn wake_behind(
+    alloc: Global,
+    slots: &mut [Slot],
+    turned: &mut Turned,
+    now: u64,
+) -> Result<(), OutOfMemory>
+    requires { now < 2 ^ 62 }
+    ensures { OnOk result (WakesBehind now slots.old slots.new turned.old turned.new) }
+{
+    let mut woken = wake_each(alloc, slots, now)?;
+    let taken = take_files(turned, &mut woken);
+    drop(woken);
+    taken
+}
+
+/// Takes what a Wake gave at the files behind what was asked.
+fn take_files(turned: &mut Turned, woken: &mut Woken) -> Result<(), OutOfMemory>
+    ensures { OnOk result (turned.new ≡ joined turned.old (joined woken.old.overdue woken.old.again)) }
+{
+    extend(&mut woken.overdue, &mut woken.again)?;
+    extend(turned, &mut woken.overdue)
 }
