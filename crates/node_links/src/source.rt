@@ -2,7 +2,7 @@ ghost use Rattle.std.specs.Prelude.{◌≡◌, ◌≤◌, ◌+◌, ◌⊎◌, �
 ghost use Rattle.node_links.specs.Streams.{Takes, IsAtEnd, is_named};
 ghost use Rattle.xt_base.specs.Faults.{Rose, fault_count_after};
 
-use std::io::{self, BufRead};
+use std::io::Read;
 use xt_base::{CallList, Failed, Octets};
 
 /// A source of bytes.
@@ -95,13 +95,13 @@ impl Source for MemorySource {
 
 /// The standard input, or another real reader. What it gives isn't told.
 #[derive(Drop)]
-pub struct StdinSource<R: BufRead + Drop> {
+pub struct StdinSource<R: Read + Drop> {
     reader: R,
     faults: u64,
 }
 
-impl<R: BufRead + Drop> StdinSource<R> {
-    /// A source of what the reader gives.
+impl<R: Read + Drop> StdinSource<R> {
+    /// A source of what the reader gives. The reader had better be buffered.
     pub fn new(reader: R) -> StdinSource<R>
         ensures { result.faults ≡ 0 }
     {
@@ -109,18 +109,7 @@ impl<R: BufRead + Drop> StdinSource<R> {
     }
 }
 
-/// Takes the bytes that the reader has at hand, as many as fit, into the front of the buffer, and says how many.
-fn take_ready<R: BufRead>(reader: &mut R, buf: &mut [u8]) -> io::Result<usize>
-    ensures { IfOk result (λ n. n ≤ length buf.old) }
-{
-    let ready = reader.fill_buf()?;
-    let count = ready.len().min(buf.len());
-    buf[..count].copy_from_slice(&ready[..count]);
-    reader.consume(count);
-    Ok(count)
-}
-
-impl<R: BufRead + Drop> Source for StdinSource<R> {
+impl<R: Read + Drop> Source for StdinSource<R> {
     ghost left = { λ _. None };
 
     ghost fails = { λ _ _. false };
@@ -132,7 +121,7 @@ impl<R: BufRead + Drop> Source for StdinSource<R> {
     }
 
     fn take(&mut self, buf: &mut [u8]) -> Result<usize, Failed> {
-        match take_ready(&mut self.reader, buf) {
+        match self.reader.read(buf) {
             Ok(count) => Ok(count),
             Err(_) => {
                 self.faults = self.faults.saturating_add(1);

@@ -1,5 +1,4 @@
-use std::alloc::Global;
-use xt_base::{Call, Copies, Location, NodeId, OutOfMemory};
+use xt_base::{Call, Location, NodeId};
 
 /// A line of a schedule.
 #[derive(Drop)]
@@ -79,56 +78,4 @@ pub enum Line {
     Settle {
         count: u128,
     },
-}
-
-impl Copies for Line {
-    fn copy(&self, alloc: Global) -> Result<Line, OutOfMemory> {
-        Ok(match self {
-            Line::Times { lease, drift } => Line::Times {
-                lease: *lease,
-                drift: *drift,
-            },
-            Line::Osd { node } => Line::Osd { node: *node },
-            Line::Client { node, clock } => Line::Client {
-                node: *node,
-                clock: *clock,
-            },
-            Line::File { number, location } => Line::File {
-                number: *number,
-                location: *location,
-            },
-            Line::Start { node, clock } => Line::Start {
-                node: *node,
-                clock: *clock,
-            },
-            Line::Stop { node } => Line::Stop { node: *node },
-            Line::Crash { node, call, fill } => Line::Crash {
-                node: *node,
-                call: *call,
-                fill: *fill,
-            },
-            Line::Cut { node, count } => Line::Cut {
-                node: *node,
-                count: *count,
-            },
-            Line::Clock { node, clock } => Line::Clock {
-                node: *node,
-                clock: *clock,
-            },
-            Line::Tick { count } => Line::Tick { count: *count },
-            Line::Wake { node } => Line::Wake { node: *node },
-            Line::Call { client, call } => Line::Call {
-                client: *client,
-                call: call.copy(alloc)?,
-            },
-            Line::Aim { client, file, node } => Line::Aim {
-                client: *client,
-                file: *file,
-                node: *node,
-            },
-            Line::Deliver { number } => Line::Deliver { number: *number },
-            Line::Drop { number } => Line::Drop { number: *number },
-            Line::Settle { count } => Line::Settle { count: *count },
-        })
-    }
 }

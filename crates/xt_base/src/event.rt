@@ -105,16 +105,6 @@ pub enum Event {
     Call(Call),
 }
 
-impl Copies for Event {
-    fn copy(&self, alloc: Global) -> Result<Event, OutOfMemory> {
-        Ok(match self {
-            Event::Deliver(msg) => Event::Deliver(msg.copy(alloc)?),
-            Event::Wake => Event::Wake,
-            Event::Call(call) => Event::Call(call.copy(alloc)?),
-        })
-    }
-}
-
 /// What the MRC answered, as a trace shows it.
 #[derive(Drop)]
 pub enum MetaOutcome {
@@ -278,55 +268,6 @@ pub enum Mark {
         number: u64,
         outcome: Outcome,
     },
-}
-
-impl Copies for Mark {
-    fn copy(&self, alloc: Global) -> Result<Mark, OutOfMemory> {
-        Ok(match self {
-            Mark::File { file, location } => Mark::File {
-                file: *file,
-                location: *location,
-            },
-            Mark::Begin { number, call } => Mark::Begin {
-                number: *number,
-                call: call.copy(alloc)?,
-            },
-            Mark::Held { file, end } => Mark::Held {
-                file: *file,
-                end: *end,
-            },
-            Mark::Active { file, count, id } => Mark::Active {
-                file: *file,
-                count: *count,
-                id: *id,
-            },
-            Mark::Issue { file, count, id } => Mark::Issue {
-                file: *file,
-                count: *count,
-                id: *id,
-            },
-            Mark::Commit { file, count, id } => Mark::Commit {
-                file: *file,
-                count: *count,
-                id: *id,
-            },
-            Mark::Answer {
-                file,
-                id,
-                count,
-                bytes,
-            } => Mark::Answer {
-                file: *file,
-                id: *id,
-                count: *count,
-                bytes: bytes.copy(alloc)?,
-            },
-            Mark::Done { number, outcome } => Mark::Done {
-                number: *number,
-                outcome: outcome.copy(alloc)?,
-            },
-        })
-    }
 }
 
 /// The marks of a step, in order.

@@ -1,3 +1,5 @@
+ghost use Rattle.std.specs.Prelude.{◌≡◌, IfOk};
+
 use crate::file::{Capability, Kind};
 use crate::ids::SizeMark;
 use crate::lists::{Copies, Name, OutOfMemory, Seq};
@@ -53,56 +55,65 @@ pub enum MetaReq {
     },
 }
 
+/// Copies of two names.
+fn both(alloc: Global, first: &Name, second: &Name) -> Result<(Name, Name), OutOfMemory>
+    ensures { IfOk result (λ made. (made.0 ≡ first.now) × (made.1 ≡ second.now)) }
+{
+    let first = first.copy(alloc)?;
+    let second = second.copy(alloc)?;
+    Ok((first, second))
+}
+
 impl Copies for MetaReq {
     fn copy(&self, alloc: Global) -> Result<MetaReq, OutOfMemory> {
-        match self {
-            MetaReq::Mkdir { path, mode } => Ok(MetaReq::Mkdir {
+        Ok(match self {
+            MetaReq::Mkdir { path, mode } => MetaReq::Mkdir {
                 path: path.copy(alloc)?,
                 mode: *mode,
-            }),
+            },
             MetaReq::Create {
                 path,
                 mode,
                 kind,
                 n,
                 stripe,
-            } => Ok(MetaReq::Create {
+            } => MetaReq::Create {
                 path: path.copy(alloc)?,
                 mode: *mode,
                 kind: *kind,
                 n: *n,
                 stripe: *stripe,
-            }),
-            MetaReq::Rename { from, to } => Ok(MetaReq::Rename {
-                from: from.copy(alloc)?,
-                to: to.copy(alloc)?,
-            }),
-            MetaReq::Unlink { path } => Ok(MetaReq::Unlink {
+            },
+            MetaReq::Rename { from, to } => {
+                let (from, to) = both(alloc, from, to)?;
+                MetaReq::Rename { from, to }
+            }
+            MetaReq::Unlink { path } => MetaReq::Unlink {
                 path: path.copy(alloc)?,
-            }),
-            MetaReq::Rmdir { path } => Ok(MetaReq::Rmdir {
+            },
+            MetaReq::Rmdir { path } => MetaReq::Rmdir {
                 path: path.copy(alloc)?,
-            }),
-            MetaReq::List { path, after } => Ok(MetaReq::List {
+            },
+            MetaReq::List { path, after } => {
+                let (path, after) = both(alloc, path, after)?;
+                MetaReq::List { path, after }
+            }
+            MetaReq::Stat { path } => MetaReq::Stat {
                 path: path.copy(alloc)?,
-                after: after.copy(alloc)?,
-            }),
-            MetaReq::Stat { path } => Ok(MetaReq::Stat {
-                path: path.copy(alloc)?,
-            }),
-            MetaReq::Chmod { path, mode } => Ok(MetaReq::Chmod {
+            },
+            MetaReq::Chmod { path, mode } => MetaReq::Chmod {
                 path: path.copy(alloc)?,
                 mode: *mode,
-            }),
-            MetaReq::Grant { path, want } => Ok(MetaReq::Grant {
+            },
+            MetaReq::Grant { path, want } => MetaReq::Grant {
                 path: path.copy(alloc)?,
                 want: *want,
-            }),
-            MetaReq::Report { capability, mark } => Ok(MetaReq::Report {
+            },
+            MetaReq::Report { capability, mark } => MetaReq::Report {
                 capability: *capability,
                 mark: *mark,
-            }),
-        }
+            },
+        })
     }
 }
 

@@ -2,10 +2,8 @@ ghost use Rattle.std.specs.Prelude.{◌≡◌};
 ghost use Rattle.xt_base.specs.StatusCode.{code_of};
 
 use crate::ids::NodeId;
-use crate::lists::{Copies, OutOfMemory};
 use crate::meta::MetaRefusal;
 use crate::reply::{Answers, Denial};
-use std::alloc::Global;
 
 /// A rule that a line of a schedule breaks.
 #[derive(Clone, Copy)]
@@ -90,47 +88,6 @@ pub enum Status {
     Damaged { place: u64 },
     Retry { answers: Answers },
     Refused { rule: Refusal },
-}
-
-impl Copies for Status {
-    fn copy(&self, alloc: Global) -> Result<Status, OutOfMemory> {
-        Ok(match self {
-            Status::Done => Status::Done,
-            Status::Usage => Status::Usage,
-            Status::Malformed { line } => Status::Malformed { line: *line },
-            Status::Illegal { line, rule } => Status::Illegal {
-                line: *line,
-                rule: *rule,
-            },
-            Status::DiskFault { count } => Status::DiskFault { count: *count },
-            Status::LinkFault { count } => Status::LinkFault { count: *count },
-            Status::SourceFault { count } => Status::SourceFault { count: *count },
-            Status::SinkFault { count } => Status::SinkFault { count: *count },
-            Status::ClockFault { count } => Status::ClockFault { count: *count },
-            Status::ChildFault { count } => Status::ChildFault { count: *count },
-            Status::TurnsSpent { turns } => Status::TurnsSpent { turns: *turns },
-            Status::OutOfMemory => Status::OutOfMemory,
-            Status::NotOurs { first } => Status::NotOurs { first: *first },
-            Status::Layout { version } => Status::Layout { version: *version },
-            Status::Limit { what, limit } => Status::Limit {
-                what: *what,
-                limit: *limit,
-            },
-            Status::JournalFull { need, limit } => Status::JournalFull {
-                need: *need,
-                limit: *limit,
-            },
-            Status::Broken { clause, entry } => Status::Broken {
-                clause: *clause,
-                entry: *entry,
-            },
-            Status::Damaged { place } => Status::Damaged { place: *place },
-            Status::Retry { answers } => Status::Retry {
-                answers: answers.copy(alloc)?,
-            },
-            Status::Refused { rule } => Status::Refused { rule: *rule },
-        })
-    }
 }
 
 impl Status {
