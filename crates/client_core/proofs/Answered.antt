@@ -1,5 +1,5 @@
 -- a call ends with Ok in the step in which an Ok comes that it waits for
-use Rattle.std.proofs.Common.{◌≡◌, ℕ, ◌==◌, ◌&&◌, refl, sym, subst, Bool, true, false, IsTrue, Option, Some, None, List}
+use Rattle.std.proofs.Common.{ℕ, ◌+◌, ◌==◌, ◌&&◌, refl, sym, subst, Bool, true, false, IsTrue, Option, Some, None, List}
 use Rattle.std.specs.Prelude.{not, is_some}
 use Rattle.xt_base.specs.TimeSettings.{TimeSettings}
 use Rattle.xt_base.specs.declared.ids.NodeId.{NodeId}
@@ -17,8 +17,11 @@ use Rattle.cluster_runs.specs.declared.KnownFile.{KnownFile}
 use Rattle.cluster_runs.specs.declared.RunningCall.{RunningCall}
 use Rattle.cluster_runs.specs.declared.ClientState.{ClientState}
 use Rattle.cluster_runs.specs.Steps.{Step}
-use Rattle.cluster_runs.specs.Clients.{ClientSite, step_of_client}
+use Rattle.cluster_runs.specs.Clients.{step_of_client}
 use Rattle.replica_client.specs.Views.{awaits}
+use Rattle.client_core.specs.declared.progress.Learnt.{Learnt}
+use Rattle.client_core.specs.declared.progress.Learnt.TheVariants as learnt
+use Rattle.client_core.specs.declared.progress.Progress.{Progress}
 use Rattle.client_core.specs.declared.requests.Request.{Request}
 use Rattle.client_core.specs.declared.requests.Request.TheVariants as request
 use Rattle.client_core.specs.declared.requests.CallResult.{CallResult}
@@ -28,7 +31,8 @@ use Rattle.client_core.specs.declared.requests.Stage.TheVariants as stage
 use Rattle.client_core.specs.declared.requests.MadeCall.{MadeCall}
 use Rattle.client_core.specs.Holding.{Held, mark_with}
 use Rattle.client_core.specs.Requests.{next_asked, bytes_shown}
-use Rattle.client_core.specs.Rows.{WholeClient, site_of, at_clock, clock_of, result_in, asks_or_ends, striped_ok, reply_comes, reply_heard, replicas_step, goes_on, goes_on_with}
+use Rattle.client_core.specs.Waiting.{asks_or_ends, reply_comes, reply_to, reply_heard}
+use Rattle.client_core.specs.Rows.{WholeClient, clock_of, result_of, result_in, stage_after, replicas_step, goes_on, goes_on_with}
 use Rattle.xt_protocol.specs.declared.Turned.{Turned}
 use Rattle.client_core.specs.Views.{ClientView, Does}
 use Rattle.client_core.specs.Answered.{waits_last, ok_ends, ok_ends_made, says_ok, is_answered_by, is_answered, is_done}
@@ -41,39 +45,43 @@ both : (a b : Bool) → IsTrue (a && b) → IsTrue a × IsTrue b
 both true b h = (refl, h)
 both false b h = absurd (cc)
 
--- nobody is asked next
-ends_here : (site : ClientSite) (client : WholeClient) (made : MadeCall) (how : CallResult) (next : Option NodeId)
-    → IsTrue (is_done (Some how)) → IsTrue (not (is_some next)) → ends_ok (asks_or_ends site client made next how)
-ends_here site client made how None done last = done
-ends_here site client made how (Some node) done last = absurd (cc)
+-- Beside the replicated files: how far a call is once it has gone on so.
 
--- beside the replicated files
-striped_ends : (site : ClientSite) (client : WholeClient) (made : MadeCall) (target from : NodeId) (count : ℕ) (size : SizeMark) (bytes : List ℕ)
+abbrev goes_ok : ℕ → Stage → Progress → Type 0
+goes_ok deadline s comes = IsTrue (is_done (result_of (stage_after deadline s comes.next)))
+
+-- nobody is asked next
+ends_here : (deadline : ℕ) (s : Stage) (learns : Learnt) (how : CallResult) (next : Option NodeId) → IsTrue (is_done (Some how))
+    → IsTrue (not (is_some next)) → goes_ok deadline s (record { learnt = learns; next = asks_or_ends next how })
+ends_here deadline s learns how None done last = done
+ends_here deadline s learns how (Some node) done last = absurd (cc)
+
+striped_ends : (deadline : ℕ) (s : Stage) (held : Held) (target from : NodeId) (count : ℕ) (size : SizeMark) (bytes : List ℕ)
     (capability : Capability) (asked : Op) → IsTrue (waits_last target from (request.Striped capability asked))
-    → ends_ok (striped_ok site client made target from count size bytes capability asked)
-striped_ends site client made target from count size bytes capability asked waits =
+    → goes_ok deadline s (reply_comes held capability asked target from (reply.Ok count size bytes))
+striped_ends deadline s held target from count size bytes capability asked waits =
     let next : Option NodeId = next_asked capability.location.members asked target in
     let parts = both (from.0 == target.0) (not (is_some next)) waits in
-    let all = mark_with client.held capability.file.number size in
+    let all = mark_with held capability.file.number size in
     rw parts.0
-    (ends_here site client made (result.Ok count all (bytes_shown all.size capability.location.stripe asked bytes)) next refl parts.1)
+    (ends_here deadline s (learnt.Mark capability.file.number size)
+    (result.Ok count all (bytes_shown all.size capability.location.stripe asked bytes)) next refl parts.1)
 
-request_ends : (site : ClientSite) (client : WholeClient) (number : ℕ) (s : Stage) (target from : NodeId) (count : ℕ) (size : SizeMark)
-    (bytes : List ℕ) (asked : Request) → IsTrue (waits_last target from asked)
-    → ends_ok (reply_comes site client (record { number = number; request = asked; stage = s }) target from (reply.Ok count size bytes))
-request_ends site client number s target from count size bytes (request.Striped capability asked) waits =
-    striped_ends site client (record { number = number; request = request.Striped capability asked; stage = s }) target from count size
-    bytes capability asked waits
-request_ends site client number s target from count size bytes (request.Replicated capability asked) waits = absurd (cc)
-request_ends site client number s target from count size bytes (request.Meta user group asked) waits = absurd (cc)
-request_ends site client number s target from count size bytes (request.Registry asked) waits = absurd (cc)
+request_ends : (deadline : ℕ) (s : Stage) (held : Held) (target from : NodeId) (count : ℕ) (size : SizeMark) (bytes : List ℕ)
+    (asked : Request) → IsTrue (waits_last target from asked)
+    → goes_ok deadline s (reply_to held asked target from (reply.Ok count size bytes))
+request_ends deadline s held target from count size bytes (request.Striped capability asked) waits =
+    striped_ends deadline s held target from count size bytes capability asked waits
+request_ends deadline s held target from count size bytes (request.Replicated capability asked) waits = absurd (cc)
+request_ends deadline s held target from count size bytes (request.Meta user group asked) waits = absurd (cc)
+request_ends deadline s held target from count size bytes (request.Registry asked) waits = absurd (cc)
 
-waiting_ends : (site : ClientSite) (client : WholeClient) (made : MadeCall) (target from : NodeId) (number count : ℕ) (size : SizeMark)
-    (bytes : List ℕ) → IsTrue (number == made.number && waits_last target from made.request)
-    → ends_ok (reply_heard site client made target from number (reply.Ok count size bytes))
-waiting_ends site client made target from number count size bytes waits =
+waiting_ends : (deadline : ℕ) (held : Held) (made : MadeCall) (target from : NodeId) (number count : ℕ) (size : SizeMark) (bytes : List ℕ)
+    → IsTrue (number == made.number && waits_last target from made.request)
+    → goes_ok deadline made.stage (reply_heard held made target from number (reply.Ok count size bytes))
+waiting_ends deadline held made target from number count size bytes waits =
     let parts = both (number == made.number) (waits_last target from made.request) waits in
-    rw parts.0 (request_ends site client made.number made.stage target from count size bytes made.request parts.1)
+    rw parts.0 (request_ends deadline made.stage held target from count size bytes made.request parts.1)
 
 -- on a replicated file
 replicas_end : (node : NodeId) (times : TimeSettings) (last next : ℕ) (running : Option RunningCall) (files : List KnownFile) (held : Held)
@@ -98,9 +106,8 @@ stage_ends node times replicas held made reading from to list file number count 
     replicas_end node times replicas.last replicas.next replicas.running replicas.files held made reading from to list file number count
     size bytes waits
 stage_ends node times replicas held made reading from to list file number count size bytes (stage.Waiting target deadline) waits =
-    let client : WholeClient = record { replicas = replicas; held = held; made = Some made } in
-    waiting_ends (site_of node times client reading) (at_clock client (clock_of client reading)) made target from number count size bytes
-    waits
+    let now : ℕ = clock_of (record { replicas = replicas; held = held; made = Some made }) reading in
+    waiting_ends (now + times.lease) held made target from number count size bytes waits
 stage_ends node times replicas held made reading from to list file number count size bytes (stage.Ended how) waits = absurd (cc)
 
 made_ends : (node : NodeId) (times : TimeSettings) (replicas : ClientState) (held : Held) (made : Option MadeCall) (reading : ℕ)

@@ -1,5 +1,6 @@
 pub mod Holding
 pub mod Requests
+pub mod Waiting
 pub mod Rows
 pub mod Views
 pub mod Answered

@@ -19,9 +19,13 @@ use Rattle.xt_base.specs.declared.meta.MetaAnswer.{MetaAnswer}
 use Rattle.xt_base.specs.declared.meta.MetaAnswer.TheVariants as answer
 use Rattle.xt_base.specs.declared.registry.RegistryAnswer.{RegistryAnswer}
 use Rattle.xt_base.specs.declared.registry.RegistryAnswer.TheVariants as listed
+use Rattle.xt_base.specs.declared.event.Mark.TheVariants as mark
+use Rattle.xt_base.specs.declared.message.Msg.{Msg}
 use Rattle.xt_base.specs.declared.message.Payload.{Payload}
 use Rattle.xt_base.specs.declared.message.Payload.TheVariants as payload
 use Rattle.xt_protocol.specs.Objects.{readable}
+use Rattle.xt_protocol.specs.declared.Turned.{Turned}
+use Rattle.osd_rows.specs.Turns.{message}
 use Rattle.cluster_runs.specs.Clients.{first_member}
 use Rattle.cluster_runs.specs.Rules.{called_file}
 use Rattle.client_core.specs.declared.holding.HeldFile.{HeldFile}
@@ -29,6 +33,8 @@ use Rattle.client_core.specs.declared.requests.Request.{Request}
 use Rattle.client_core.specs.declared.requests.Request.TheVariants as request
 use Rattle.client_core.specs.declared.requests.CallResult.{CallResult}
 use Rattle.client_core.specs.declared.requests.CallResult.TheVariants as result
+use Rattle.client_core.specs.declared.requests.Stage.{Stage}
+use Rattle.client_core.specs.declared.requests.Stage.TheVariants as stage
 use Rattle.client_core.specs.Holding.{Held, held_of}
 
 -- What a call asks.
@@ -124,6 +130,19 @@ payload_of number (request.Replicated capability asked) = payload.Ask number cap
 payload_of number (request.Striped capability asked) = payload.Ask number capability asked
 payload_of number (request.Meta user group asked) = payload.Meta number user group asked
 payload_of number (request.Registry asked) = payload.Registry number asked
+
+-- a node asks for this, under this number
+abbrev pub asks : NodeId → ℕ → Request → NodeId → List Msg
+asks node number asked target = message node target (payload_of number asked) ∷ []
+
+-- what a call gives that begins: it is marked, and asks its first node
+abbrev pub begins : NodeId → ℕ → Call → Request → Turned
+begins node number c asked = record { rec = None; outs = asks node number asked (first_asked asked); marks = mark.Begin number c ∷ [] }
+
+-- how far a call is that has asked its first node, which has until the deadline to answer
+abbrev pub first_stage : ℕ → Request → Stage
+first_stage deadline (request.Replicated capability asked) = stage.OnReplicas
+first_stage deadline asked = stage.Waiting (first_asked asked) deadline
 
 -- What a read gives.
 

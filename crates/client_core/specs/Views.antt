@@ -3,8 +3,10 @@ use Rattle.std.specs.Prelude.{ℕ, ◌≡◌, Option, Some, None}
 use Rattle.xt_base.specs.TimeSettings.{TimeSettings}
 use Rattle.xt_base.specs.declared.ids.NodeId.{NodeId}
 use Rattle.xt_protocol.specs.declared.Turned.{Turned}
+use Rattle.cluster_runs.specs.declared.ClientState.{ClientState}
 use Rattle.cluster_runs.specs.Steps.{Step, stays}
 use Rattle.cluster_runs.specs.Clients.{ClientSite}
+use Rattle.replica_client.specs.Views as replica
 use Rattle.client_core.specs.declared.requests.MadeCall.{MadeCall}
 use Rattle.client_core.specs.Rows.{WholeClient, at_clock}
 
@@ -34,3 +36,7 @@ where_made row client (Some made) = row made
 -- what a client does at a clock is this row of its last call
 abbrev pub CallActs : (ClientSite → WholeClient → MadeCall → Step WholeClient) → ℕ → ClientView → ClientView → Turned → Type 0
 CallActs row now old new turned = Acts (λ site client. where_made (row site client) client client.made) now old new turned
+
+-- what the calls on replicated files do is this step
+abbrev pub Starts : Step ClientState → replica.ClientView → replica.ClientView → Turned → Type 0
+Starts step old new turned = (new ≡ record old { state = step.state }) × (turned ≡ step.turned)

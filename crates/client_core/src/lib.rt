@@ -5,11 +5,14 @@
 //! leaves it as it was. Clocks are in milliseconds, below 2^62.
 #![tactic(auto)]
 
+mod calls;
 mod client;
 mod ends;
 mod holding;
+mod progress;
 mod requests;
 mod striped;
+mod waiting;
 
 pub use client::{CallErr, Client};
 pub use holding::HeldFile;

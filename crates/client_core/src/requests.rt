@@ -5,11 +5,14 @@ ghost use Rattle.client_core.specs.Requests as spec;
 
 use crate::holding::HeldFiles;
 use crate::striped::first_of;
+use replica_client::{begins, gives};
 use std::alloc::Global;
+use step_outputs::message;
 use xt_base::{
     Answers, AskRefusal, Call, Capability, Copies, DIR_NODE, Kind, MRC_NODE, MetaAnswer, MetaReq,
-    NodeId, Octets, Op, OutOfMemory, Payload, RegistryAnswer, RegistryReq, SizeMark,
+    Msgs, NodeId, Octets, Op, OutOfMemory, Payload, RegistryAnswer, RegistryReq, Seq, SizeMark,
 };
+use xt_protocol::Turned;
 
 /// What a call asks.
 #[derive(Drop)]
@@ -37,7 +40,6 @@ pub enum Request {
 }
 
 /// How a call ended.
-#[derive(Drop)]
 pub enum CallResult {
     /// The operation is done, or these bytes were read. `mark` is the greatest size mark that was learnt of the file.
     Ok {
@@ -72,11 +74,38 @@ pub enum Stage {
 }
 
 /// The call that a client made last: its number, what it asks, and how far it is.
-#[derive(Drop)]
 pub struct MadeCall {
     pub number: u64,
     pub request: Request,
     pub stage: Stage,
+}
+
+// A derived drop is part of the code of each function that may drop a value, and proved there. These are proved once.
+
+impl Drop for CallResult {
+    fn drop(self) {
+        match self {
+            CallResult::Ok {
+                count: _,
+                mark: _,
+                bytes: _,
+            } => {}
+            CallResult::Retry { answers: _ } => {}
+            CallResult::Refused { reply: _ } => {}
+            CallResult::Meta { answer: _ } => {}
+            CallResult::Registry { answer: _ } => {}
+        }
+    }
+}
+
+impl Drop for MadeCall {
+    fn drop(self) {
+        let MadeCall {
+            number: _,
+            request: _,
+            stage: _,
+        } = self;
+    }
 }
 
 /// An operation on a file, as one of its kind.
@@ -229,5 +258,36 @@ impl Request {
                 request: request.copy(alloc)?,
             }),
         }
+    }
+
+    /// A node asks for it, under this number.
+    pub fn asks(
+        &self,
+        alloc: Global,
+        node: NodeId,
+        number: u64,
+        target: NodeId,
+    ) -> Result<Msgs, OutOfMemory>
+        ensures { IfOk result (λ outs. outs ≡ spec.asks node number self.now target) }
+    {
+        let content = self.payload(alloc, number)?;
+        let mut outs = Seq::new(alloc);
+        outs.push(message(node, target, content))?;
+        Ok(outs)
+    }
+
+    /// A call that asks for it is marked, and asks its first node.
+    pub fn begins(
+        &self,
+        alloc: Global,
+        node: NodeId,
+        number: u64,
+        call: &Call,
+    ) -> Result<Turned, OutOfMemory>
+        ensures { IfOk result (λ turned. turned ≡ spec.begins node number call.now self.now) }
+    {
+        let marks = begins(alloc, number, call)?;
+        let outs = self.asks(alloc, node, number, self.first_asked())?;
+        Ok(gives(outs, marks))
     }
 }

@@ -1,4 +1,4 @@
-use Rattle.std.proofs.Common.{◌∙◌, ◌≤◌, ◌<◌, ℕ, ap, subst}
+use Rattle.std.proofs.Common.{◌∙◌, ◌≤◌, ◌<◌, ℕ, ap, sym, subst, Some, None}
 use Rattle.std.proofs.lemmas.Result.{IfOk-weaker}
 use Rattle.xt_base.specs.declared.TheConstants.{COUNTS}
 use Rattle.client_core.specs.Requests.{request_of}
@@ -13,14 +13,24 @@ returns-then-next-ge-COUNTS-clause-step c =
     call_passes c.args.self.now c.pass.new.self c.args.now c.args.call.now c.pass.result
     (subst Spent (c.next.ensures ∙ ap (λ (v : ClientView). v.state.replicas.next) c.self.view_is) c.if-next-ge-COUNTS.true) c.pass.ensures
 
-pub returns-clause-step : goal.returns-clause-step
-returns-clause-step c =
+pub returns-in-None-clause-step : goal.returns-in-None-clause-step
+returns-in-None-clause-step c =
+    let Left : ℕ → Type 0 = λ n. n < COUNTS in
+    call_asks c.args.self.now c.pass-in-None.new.self c.args.now c.args.call.now c.pass-in-None.result None
+    (subst Left (c.next.ensures ∙ ap (λ (v : ClientView). v.state.replicas.next) c.self.view_is) c.if-next-ge-COUNTS.false)
+    (sym c.in-None.is ∙ c.in_ok-request_of.ensures ∙ ap (λ (v : ClientView). request_of v.state.held c.args.call.now) c.self.view_is)
+    c.pass-in-None.ensures
+
+pub returns-in-Some-clause-step : goal.returns-in-Some-clause-step
+returns-in-Some-clause-step c =
     let Left : ℕ → Type 0 = λ n. n < COUNTS in
     let old = c.args.self.now in
-    let new = c.begin_numbered.new.self in
-    IfOk-weaker c.begin_numbered.result
-    (λ turned. Does (asked_for old.node old.times old.state c.args.now c.args.call.now (request_of old.state.held c.args.call.now)) old new turned)
+    let new = c.begin_request.new.self in
+    let request = c.in-Some.request in
+    IfOk-weaker c.begin_request.result
+    (λ turned. Does (asked_for old.node old.times old.state c.args.now c.args.call.now (Some request)) old new turned)
     (λ turned. Does (called old.node old.times old.state c.args.now c.args.call.now) old new turned)
-    (λ turned. call_asks old new c.args.now c.args.call.now turned
-    (subst Left (c.next.ensures ∙ ap (λ (v : ClientView). v.state.replicas.next) c.self.view_is) c.if-next-ge-COUNTS.false))
-    c.begin_numbered.ensures.step
+    (λ turned. call_asks old new c.args.now c.args.call.now turned (Some request)
+    (subst Left (c.next.ensures ∙ ap (λ (v : ClientView). v.state.replicas.next) c.self.view_is) c.if-next-ge-COUNTS.false)
+    (sym c.in-Some.is ∙ c.in_ok-request_of.ensures ∙ ap (λ (v : ClientView). request_of v.state.held c.args.call.now) c.self.view_is))
+    c.begin_request.ensures.step
