@@ -169,19 +169,15 @@ pub fn start(
         replicas.old replicas.new turned) }
     ensures err { OnErr result (replicas.new ≡ replicas.old) }
 {
-    match request {
-        Request::Replicated { capability, op } => {
-            let op = op.copy(alloc)?;
-            replicas.call(now, *capability, call, op)
-        }
-        Request::Striped { .. } | Request::Meta { .. } | Request::Registry { .. } => {
-            let turned = request.begins(alloc, replicas.node(), replicas.next(), call)?;
-            let clock = replicas.clock(now);
-            replicas.pass(clock);
-            replicas.take_number();
-            Ok(turned)
-        }
-    }
+    let Request::Replicated { capability, op } = request else {
+        let turned = request.begins(alloc, replicas.node(), replicas.next(), call)?;
+        let clock = replicas.clock(now);
+        replicas.pass(clock);
+        replicas.take_number();
+        return Ok(turned);
+    };
+    let op = op.copy(alloc)?;
+    replicas.call(now, *capability, call, op)
 }
 
 /// A call asks its first node once more, under the number that it has.
@@ -198,19 +194,17 @@ pub fn start_again(
         replicas.old replicas.new turned) }
     ensures err { OnErr result (replicas.new ≡ replicas.old) }
 {
-    match &made.request {
-        Request::Replicated { capability, op } => {
-            let op = op.copy(alloc)?;
-            replicas.again(now, made.number, *capability, op)
-        }
-        request @ (Request::Striped { .. } | Request::Meta { .. } | Request::Registry { .. }) => {
-            let target = request.first_asked();
-            let outs = request.asks(alloc, replicas.node(), made.number, target)?;
-            let clock = replicas.clock(now);
-            replicas.pass(clock);
-            Ok(sends(alloc, outs))
-        }
-    }
+    let Request::Replicated { capability, op } = &made.request else {
+        let target = made.request.first_asked();
+        let outs = made
+            .request
+            .asks(alloc, replicas.node(), made.number, target)?;
+        let clock = replicas.clock(now);
+        replicas.pass(clock);
+        return Ok(sends(alloc, outs));
+    };
+    let op = op.copy(alloc)?;
+    replicas.again(now, made.number, *capability, op)
 }
 
 /// How a call on a replicated file ended, by its outcome. The mark of an Ok is joined.
