@@ -1,8 +1,9 @@
-ghost use Rattle.std.specs.Prelude.{◌≡◌, ◌≤◌, ◌<◌, ◌^◌, length, IfOk, OnOk, OnErr, Ok, All};
+ghost use Rattle.std.specs.Prelude.{◌≡◌, ◌≤◌, ◌<◌, ◌^◌, [], length, IfOk, OnOk, OnErr, Ok, All};
 ghost use Rattle.capabilities.specs.Stops.{is_stop};
 ghost use Rattle.osd_rows.specs.OsdSteps.{asks_dir};
 ghost use Rattle.mrc_rows.specs.Laws.{files_made};
 ghost use Rattle.mrc_rows.specs.Steps as steps;
+ghost use Rattle.mrc_rows.specs.Steps.{catalogue_of};
 ghost use Rattle.mrc_catalogue.specs.Asking.{at_clock};
 ghost use Rattle.mrc_catalogue.specs.Picking.{CanHandle, CanHear, CanTake};
 
@@ -55,6 +56,25 @@ fn asks_dir() -> Msg
     message(MRC_NODE, DIR_NODE, Payload::Registry { number: 0, request })
 }
 
+/// Takes what the records tell, one after the other. Where memory runs out, those before that have been taken.
+fn take_all(
+    alloc: Global,
+    catalogue: &mut Catalogue,
+    key: &[u8],
+    records: &[Record],
+) -> Result<(), OutOfMemory>
+    requires empty { catalogue.old ≡ catalogue_of key.now [] }
+    requires some { 1 ≤ length key.now }
+    requires short { length key.now ≤ 64 }
+    requires can { All CanTake records.now }
+    ensures { OnOk result (catalogue.new ≡ catalogue_of key.now records.now) }
+{
+    for rec in records {
+        catalogue.take(alloc, key, rec)?;
+    }
+    Ok(())
+}
+
 impl Mrc {
     /// The server that the records tell, under a key of 1 to 64 bytes, at a clock in milliseconds. It knows no OSDs before the DIR
     /// has told them.
@@ -70,13 +90,17 @@ impl Mrc {
         requires can { All CanTake records.now }
         ensures { IfOk result (λ mrc. mrc ≡ record { secret = key.now; state = steps.mrc_of key.now records.now now }) }
     {
+        let key_octets = Octets::of(alloc, key)?;
         let mut catalogue = Catalogue::new(alloc);
-        for rec in records {
-            catalogue.take(alloc, key, rec)?;
+        let taken = take_all(alloc, &mut catalogue, key, records);
+        if let Err(error) = taken {
+            // by a call, so that it is no part of the way out
+            drop(catalogue);
+            return Err(error);
         }
         Ok(Mrc {
             alloc,
-            key: Octets::of(alloc, key)?,
+            key: key_octets,
             catalogue,
             osds: Vec::new(alloc),
             last: now,

@@ -106,11 +106,19 @@ fn changed(
 {
     let next = catalogue.next();
     let nodes = nodes_for(alloc, site.osds, next, asking.request)?;
-    let rec = record_of(alloc, site, asking, &nodes)?;
-    let marks = marks_on(alloc, next, &place_of(&nodes, asking.request))?;
     let room = Vec::with_capacity(alloc, 1)?;
-    let settled = catalogue.change(alloc, site, asking, &nodes)?;
-    Ok(recorded(alloc, rec, asking, &settled, marks, room))
+    let marks = marks_on(alloc, next, &place_of(&nodes, asking.request))?;
+    let rec = record_of(alloc, site, asking, &nodes)?;
+    match catalogue.change(alloc, site, asking, &nodes) {
+        Ok(settled) => Ok(recorded(alloc, rec, asking, &settled, marks, room)),
+        Err(error) => {
+            // by calls, so that they are no part of the way out
+            drop(rec);
+            drop(marks);
+            drop(room);
+            Err(error)
+        }
+    }
 }
 
 /// Handles a fresh request that is recorded, and sets sizes at most.
@@ -126,11 +134,17 @@ fn sized(
     ensures state { OnOk result (server_at site.now catalogue.new ≡ (fresh_at site.now catalogue.old asking.now).mrc) }
     ensures err { OnErr result (catalogue.new ≡ catalogue.old) }
 {
-    let rec = record_of(alloc, site, asking, &None)?;
     let room = Vec::with_capacity(alloc, 1)?;
-    catalogue.set(asking.client, asking.number, settling)?;
-    let marks = Seq::new(alloc);
-    Ok(recorded(alloc, rec, asking, &settling.settled, marks, room))
+    let rec = record_of(alloc, site, asking, &None)?;
+    match catalogue.set(asking.client, asking.number, settling) {
+        Ok(()) => Ok(recorded(alloc, rec, asking, &settling.settled, Seq::new(alloc), room)),
+        Err(error) => {
+            // by calls, so that they are no part of the way out
+            drop(rec);
+            drop(room);
+            Err(error)
+        }
+    }
 }
 
 /// Handles a request under a number above the client's last recorded one.

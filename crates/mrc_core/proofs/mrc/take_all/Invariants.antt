@@ -1,6 +1,6 @@
 use Rattle.std.proofs.Common.{◌≡◌, take}
 use Rattle.mrc_rows.specs.Steps.{catalogue_of}
-use Rattle.mrc_core.proofs.mrc.Mrc.start.Given as goal
+use Rattle.mrc_core.proofs.mrc.take_all.Given as goal
 
 abbrev pub invariant-loop-rec : goal.invariant-loop-rec
 invariant-loop-rec l = l.catalogue ≡ catalogue_of l.key (take l.rec-index l.records)
