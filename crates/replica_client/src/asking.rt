@@ -34,6 +34,15 @@ pub fn first_target(members: &Members, target: Option<NodeId>) -> NodeId
     }
 }
 
+/// A list of this alone.
+pub fn only<T: Drop>(alloc: Global, item: T) -> Result<Seq<T>, OutOfMemory>
+    ensures { IfOk result (λ items. items ≡ item ∷ []) }
+{
+    let mut items = Seq::new(alloc);
+    items.push(item)?;
+    Ok(items)
+}
+
 /// A call's operation is asked of this member.
 pub fn asks(
     alloc: Global,
@@ -46,34 +55,28 @@ pub fn asks(
     ensures { IfOk result (λ outs. outs ≡
         turns.message node target (payload.Ask number capability.now op.now) ∷ []) }
 {
-    let mut outs = Seq::new(alloc);
     let op = op.copy(alloc)?;
     let payload = Payload::Ask {
         number,
         capability: *capability,
         op,
     };
-    outs.push(message(node, target, payload))?;
-    Ok(outs)
+    only(alloc, message(node, target, payload))
 }
 
 /// A call is marked as begun.
 pub fn begins(alloc: Global, number: u64, call: &Call) -> Result<Marks, OutOfMemory>
     ensures { IfOk result (λ marks. marks ≡ mark.Begin number call.now ∷ []) }
 {
-    let mut marks = Seq::new(alloc);
     let call = call.copy(alloc)?;
-    marks.push(Mark::Begin { number, call })?;
-    Ok(marks)
+    only(alloc, Mark::Begin { number, call })
 }
 
 /// A call is marked as ended.
 pub fn ends(alloc: Global, number: u64, outcome: Outcome) -> Result<Marks, OutOfMemory>
     ensures { IfOk result (λ marks. marks ≡ mark.Done number outcome ∷ []) }
 {
-    let mut marks = Seq::new(alloc);
-    marks.push(Mark::Done { number, outcome })?;
-    Ok(marks)
+    only(alloc, Mark::Done { number, outcome })
 }
 
 /// What a step gives that keeps no record.
@@ -85,6 +88,13 @@ pub fn gives(outs: Msgs, marks: Marks) -> Turned
         outs,
         marks,
     }
+}
+
+/// This call runs, in place of one that ran.
+pub fn run(running: &mut Option<RunningCall>, call: RunningCall)
+    ensures { running.new ≡ Some call }
+{
+    *running = Some(call);
 }
 
 /// The running call asks this member, which has until the deadline to answer.

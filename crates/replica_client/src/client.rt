@@ -3,19 +3,21 @@ ghost use Rattle.cluster_runs.specs.declared.RunningCall.{RunningCall};
 ghost use Rattle.cluster_runs.specs.declared.ClientState.{ClientState};
 ghost use Rattle.cluster_runs.specs.Steps.{stays};
 ghost use Rattle.cluster_runs.specs.Clients as rows;
+ghost use Rattle.osd_rows.specs.Turns as turns;
 ghost use Rattle.replica_client.specs.Views.{Acts, CallActs, ended_by};
 ghost use Rattle.replica_client.specs.Again.{asks_first, again_of_client};
 
-use crate::asking::{asks, begins, ends, first_target, gives, turn_to};
+use crate::asking::{asks, begins, ends, first_target, gives, only, run, turn_to};
 use crate::known::{KnownFiles, aimed, raised};
 use asked_members::{answers_in, next_target, was_tried, with_outcome};
 use cluster_runs::{KnownFile, RunningCall, Tried};
 use std::alloc::Global;
 use std::marker::Model;
+use std::mem;
 use step_outputs::{quiet, sends};
 use xt_base::{
-    AskRefusal, COUNTS, Call, Capability, Copies, Event, FileId, NodeId, Octets, Op, OutOfMemory,
-    Outcome, Payload, Reply, Retry, Seq, Times,
+    AskRefusal, COUNTS, Call, Capability, Copies, Event, FileId, Marks, Msgs, NodeId, Octets, Op,
+    OutOfMemory, Outcome, Payload, Reply, Retry, Seq, Times,
 };
 use xt_protocol::Turned;
 
@@ -111,7 +113,8 @@ impl ReplicaClient {
         ensures err { OnErr result (self.new ≡ self.old) }
     {
         let now = now.max(self.last);
-        self.ask_first(now, number, capability, op)
+        let outs = self.ask_first(now, number, capability, op)?;
+        Ok(sends(self.alloc, outs))
     }
 
     /// The step on an event at a reading of the clock.
@@ -254,42 +257,56 @@ impl ReplicaClient {
     {
         let number = self.next;
         let marks = begins(self.alloc, number, call)?;
-        let asked = self.ask_first(now, number, capability, op)?;
-        self.next = number + 1;
-        Ok(gives(asked.outs, marks))
+        match self.ask_first(now, number, capability, op) {
+            Ok(outs) => {
+                self.next = number + 1;
+                Ok(gives(outs, marks))
+            }
+            Err(error) => {
+                // by a call, so that it is no part of the way out
+                drop(marks);
+                Err(error)
+            }
+        }
     }
 
-    /// A call of this number asks its first target, as one that has asked nobody.
+    /// A call of this number asks its first target, as one that has asked nobody: what it sends.
     fn ask_first(
         &mut self,
         now: u64,
         number: u64,
         capability: Capability,
         op: Op,
-    ) -> Result<Turned, OutOfMemory>
+    ) -> Result<Msgs, OutOfMemory>
         requires { now < 2 ^ 62 }
-        ensures row { IfOk result (λ turned.
-            Acts (λ site client. asks_first site client number capability op) now self.old self.new turned) }
+        ensures row { IfOk result (λ outs.
+            Acts (λ site client. asks_first site client number capability op) now self.old self.new (turns.sends outs)) }
         ensures err { OnErr result (self.new ≡ self.old) }
     {
         let known = self.files.file(&capability.file);
         let target = first_target(&capability.location.members, known.target);
-        let mut tried = Seq::new(self.alloc);
-        tried.push(Tried {
-            node: target,
-            outcome: None,
-        })?;
+        let tried = only(
+            self.alloc,
+            Tried {
+                node: target,
+                outcome: None,
+            },
+        )?;
         let outs = asks(self.alloc, self.node, target, number, &capability, &op)?;
         self.last = now;
-        self.running = Some(RunningCall {
-            number,
-            capability,
-            op,
-            target,
-            deadline: now + self.times.lease(),
-            tried,
-        });
-        Ok(sends(self.alloc, outs))
+        let deadline = now + self.times.lease();
+        run(
+            &mut self.running,
+            RunningCall {
+                number,
+                capability,
+                op,
+                target,
+                deadline,
+                tried,
+            },
+        );
+        Ok(outs)
     }
 
     /// An event is handled.
@@ -531,10 +548,7 @@ impl ReplicaClient {
         let number = self.running().number;
         let ended = outcome.copy(self.alloc)?;
         let marks = ends(self.alloc, number, outcome)?;
-        self.running = None;
-        self.ended = Some(ended);
-        self.last = now;
-        Ok(gives(Seq::new(self.alloc), marks))
+        Ok(self.over(now, ended, marks))
     }
 
     /// The call ends so, and this is known of a file from now on.
@@ -554,10 +568,26 @@ impl ReplicaClient {
         let number = self.running().number;
         let ended = outcome.copy(self.alloc)?;
         let marks = ends(self.alloc, number, outcome)?;
-        self.files.put(known)?;
-        self.running = None;
-        self.ended = Some(ended);
+        if let Err(error) = self.files.put(known) {
+            drop(marks);
+            drop(ended);
+            return Err(error);
+        }
+        Ok(self.over(now, ended, marks))
+    }
+
+    /// The call that ran has ended so, and these marks tell it.
+    fn over(&mut self, now: u64, ended: Outcome, marks: Marks) -> Turned
+        requires { now < 2 ^ 62 }
+        ensures told { result ≡ record { rec = None; outs = []; marks = marks } }
+        ensures state { self.new ≡ record self.old {
+          state = record self.old.state { last = now; running = None };
+          ended = Some ended;
+        } }
+    {
+        drop(self.running.take());
+        drop(mem::replace(&mut self.ended, Some(ended)));
         self.last = now;
-        Ok(gives(Seq::new(self.alloc), marks))
+        gives(Seq::new(self.alloc), marks)
     }
 }
