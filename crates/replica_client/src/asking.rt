@@ -73,9 +73,10 @@ pub fn begins(alloc: Global, number: u64, call: &Call) -> Result<Marks, OutOfMem
 }
 
 /// A call is marked as ended.
-pub fn ends(alloc: Global, number: u64, outcome: Outcome) -> Result<Marks, OutOfMemory>
-    ensures { IfOk result (λ marks. marks ≡ mark.Done number outcome ∷ []) }
+pub fn ends(alloc: Global, number: u64, outcome: &Outcome) -> Result<Marks, OutOfMemory>
+    ensures { IfOk result (λ marks. marks ≡ mark.Done number outcome.now ∷ []) }
 {
+    let outcome = outcome.copy(alloc)?;
     only(alloc, Mark::Done { number, outcome })
 }
 

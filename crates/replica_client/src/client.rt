@@ -1,9 +1,10 @@
-ghost use Rattle.std.specs.Prelude.{◌≡◌, ◌<◌, ◌+◌, ◌^◌, [], Some, None, IsSome, is_some, IfOk, OnOk, OnErr, max};
+ghost use Rattle.std.specs.Prelude.{◌≡◌, ◌<◌, ◌+◌, ◌^◌, ◌∷◌, [], Some, None, IsSome, is_some, IfOk, OnOk, OnErr, max};
 ghost use Rattle.cluster_runs.specs.declared.RunningCall.{RunningCall};
 ghost use Rattle.cluster_runs.specs.declared.ClientState.{ClientState};
 ghost use Rattle.cluster_runs.specs.Steps.{stays};
 ghost use Rattle.cluster_runs.specs.Clients as rows;
 ghost use Rattle.osd_rows.specs.Turns as turns;
+ghost use Rattle.xt_base.specs.declared.event.Mark.TheVariants as mark;
 ghost use Rattle.replica_client.specs.Views.{Acts, CallActs, ended_by};
 ghost use Rattle.replica_client.specs.Again.{asks_first, again_of_client};
 
@@ -49,6 +50,23 @@ impl Model for ReplicaClient {
     } };
 
     ghost invariant = { λ c. c.last < 2 ^ 62 };
+}
+
+/// A call is marked as ended, and this is known of a file from now on.
+fn ends_knowing(
+    alloc: Global,
+    files: &mut KnownFiles,
+    number: u64,
+    known: KnownFile,
+    outcome: &Outcome,
+) -> Result<Marks, OutOfMemory>
+    ensures marks { IfOk result (λ marks. marks ≡ mark.Done number outcome.now ∷ []) }
+    ensures known { OnOk result (files.new ≡ rows.with_known files.old known) }
+    ensures err { OnErr result (files.new ≡ files.old) }
+{
+    let marks = ends(alloc, number, outcome)?;
+    files.put(known)?;
+    Ok(marks)
 }
 
 impl ReplicaClient {
@@ -546,9 +564,14 @@ impl ReplicaClient {
         ensures err { OnErr result (self.new ≡ self.old) }
     {
         let number = self.running().number;
-        let ended = outcome.copy(self.alloc)?;
-        let marks = ends(self.alloc, number, outcome)?;
-        Ok(self.over(now, ended, marks))
+        match ends(self.alloc, number, &outcome) {
+            Ok(marks) => Ok(self.over(now, outcome, marks)),
+            Err(error) => {
+                // by a call, so that it is no part of the way out
+                drop(outcome);
+                Err(error)
+            }
+        }
     }
 
     /// The call ends so, and this is known of a file from now on.
@@ -566,14 +589,14 @@ impl ReplicaClient {
         ensures err { OnErr result (self.new ≡ self.old) }
     {
         let number = self.running().number;
-        let ended = outcome.copy(self.alloc)?;
-        let marks = ends(self.alloc, number, outcome)?;
-        if let Err(error) = self.files.put(known) {
-            drop(marks);
-            drop(ended);
-            return Err(error);
+        match ends_knowing(self.alloc, &mut self.files, number, known, &outcome) {
+            Ok(marks) => Ok(self.over(now, outcome, marks)),
+            Err(error) => {
+                // by a call, so that it is no part of the way out
+                drop(outcome);
+                Err(error)
+            }
         }
-        Ok(self.over(now, ended, marks))
     }
 
     /// The call that ran has ended so, and these marks tell it.
