@@ -210,7 +210,7 @@ fn push_entry_line(out: &mut Vec<u8>, entry: &Entry) -> Result<(), OutOfMemory>
 const ENTRY_BYTES: usize = 64;
 
 /// The entries, a line feed behind each.
-#[tactic(auto, using(crate::proofs::Trace::entry_step, crate::proofs::Trace::no_entries))]
+#[tactic(auto, using(crate::proofs::Trace::no_entries))]
 pub fn print_entries(alloc: Global, entries: &[Entry]) -> Result<Octets, OutOfMemory>
     ensures { IfOk result (λ text. text ≡ trace_text entries.now) }
 {

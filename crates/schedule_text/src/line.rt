@@ -134,11 +134,13 @@ pub fn read_line(alloc: Global, bytes: &[u8], first: bool) -> Result<Line, LineE
     let Some(line) = loose_line(alloc, bytes)? else {
         return Err(LineErr::Malformed);
     };
-    if is_spelled(alloc, &line, bytes, first)? {
-        Ok(line)
-    } else {
-        Err(LineErr::Malformed)
-    }
+    // one way out for all that is refused, since each drops the line
+    let why = match is_spelled(alloc, &line, bytes, first) {
+        Ok(true) => return Ok(line),
+        Ok(false) => LineErr::Malformed,
+        Err(error) => LineErr::from(error),
+    };
+    Err(why)
 }
 
 /// Two lines of the language that are spelled alike are one line.
