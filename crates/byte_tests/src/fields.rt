@@ -3,7 +3,6 @@ use std::test::*;
 use xt_fields::{FieldErr, FieldReader, FieldWriter};
 
 /// A field and its value.
-#[derive(Clone, Copy)]
 enum Field {
     Byte(u8),
     Half(u16),
@@ -14,7 +13,7 @@ enum Field {
 }
 
 /// One field of each kind.
-const FIELDS: [Field; 6] = [
+static FIELDS: [Field; 6] = [
     Field::Byte(1),
     Field::Half(0x0203),
     Field::Word(0x0405_0607),
@@ -24,56 +23,59 @@ const FIELDS: [Field; 6] = [
 ];
 
 /// Their bytes, one field behind the other.
-const BYTES: [u8; 25] = [
+static BYTES: [u8; 25] = [
     1, 2, 3, 4, 5, 6, 7, 8, 9, 10, 11, 12, 13, 14, 15, 0, 0, 0, 2, 97, 98, 0, 2, 0xc3, 0xa9,
 ];
 
-fn write(writer: &mut FieldWriter, field: Field) -> Result<(), Fail> {
+/// Whether this field is written.
+fn writes(writer: &mut FieldWriter, field: &Field) -> bool {
     let written = match field {
-        Field::Byte(value) => writer.byte(value),
-        Field::Half(value) => writer.half(value),
-        Field::Word(value) => writer.word(value),
-        Field::Long(value) => writer.long(value),
+        Field::Byte(value) => writer.byte(*value),
+        Field::Half(value) => writer.half(*value),
+        Field::Word(value) => writer.word(*value),
+        Field::Long(value) => writer.long(*value),
         Field::Octets(value) if value.len() < 9 => writer.octets(value),
         Field::Text(value) if value.len() < 9 => writer.text(value),
-        Field::Octets(_) | Field::Text(_) => Ok(()),
+        Field::Octets(_) | Field::Text(_) => return false,
     };
-    Ok(written?)
+    written.is_ok()
 }
 
 /// Whether this field is read.
-fn reads(reader: &mut FieldReader<'_>, alloc: Global, field: Field) -> bool {
+fn reads(reader: &mut FieldReader<'_>, alloc: Global, field: &Field) -> bool {
     match field {
-        Field::Byte(value) => reader.byte() == Ok(value),
-        Field::Half(value) => reader.half() == Ok(value),
-        Field::Word(value) => reader.word() == Ok(value),
-        Field::Long(value) => reader.long() == Ok(value),
-        Field::Octets(value) => reader
-            .octets(alloc, 2)
-            .is_ok_and(|read| read.as_slice() == value),
-        Field::Text(value) => reader
-            .text(alloc, 2)
-            .is_ok_and(|read| read.as_str() == value),
+        Field::Byte(value) => reader.byte() == Ok(*value),
+        Field::Half(value) => reader.half() == Ok(*value),
+        Field::Word(value) => reader.word() == Ok(*value),
+        Field::Long(value) => reader.long() == Ok(*value),
+        Field::Octets(value) => reads_octets(reader, alloc, value),
+        Field::Text(value) => reads_text(reader, alloc, value),
     }
+}
+
+fn reads_octets(reader: &mut FieldReader<'_>, alloc: Global, value: &[u8]) -> bool {
+    matches!(reader.octets(alloc, 2), Ok(read) if read.as_slice() == value)
+}
+
+fn reads_text(reader: &mut FieldReader<'_>, alloc: Global, value: &str) -> bool {
+    matches!(reader.text(alloc, 2), Ok(read) if read.as_str() == value)
 }
 
 #[test]
-fn fields_are_written_and_read(rt: HostRuntime) -> Result<(), Fail> {
+fn fields_are_written_and_read(rt: HostRuntime) {
     let mut writer = FieldWriter::new(rt.alloc());
-    for field in FIELDS {
-        write(&mut writer, field)?;
+    for field in &FIELDS {
+        assert!(rt; writes(&mut writer, field));
     }
     assert!(rt; writer.finish().as_slice() == BYTES.as_slice());
     let mut reader = FieldReader::new(&BYTES);
-    for field in FIELDS {
+    for field in &FIELDS {
         assert!(rt; reads(&mut reader, rt.alloc(), field));
     }
     assert!(rt; reader.left() == 0);
-    Ok(())
 }
 
 /// The fault of a field that is refused.
-#[derive(Clone, Copy)]
 enum Refused {
     Octets(u32),
     Text(u16),
@@ -81,7 +83,7 @@ enum Refused {
 }
 
 /// Bytes, the field that is refused, with its limit, and why.
-const REFUSED: [(&'static [u8], Refused, FieldErr); 8] = [
+static REFUSED: [(&'static [u8], Refused, FieldErr); 8] = [
     // the limit comes before the end
     (&[0, 0, 0, 3, 9], Refused::Octets(2), FieldErr::Over),
     (&[0, 0, 0, 3, 9], Refused::Octets(3), FieldErr::Short),
@@ -99,19 +101,23 @@ const REFUSED: [(&'static [u8], Refused, FieldErr); 8] = [
 ];
 
 /// Why it is refused.
-fn fault(reader: &mut FieldReader<'_>, alloc: Global, refused: Refused) -> Option<FieldErr> {
+fn fault(reader: &mut FieldReader<'_>, alloc: Global, refused: &Refused) -> Option<FieldErr> {
     match refused {
-        Refused::Octets(limit) => reader.octets(alloc, limit).err(),
-        Refused::Text(limit) => reader.text(alloc, limit).err(),
+        Refused::Octets(limit) => reader.octets(alloc, *limit).err(),
+        Refused::Text(limit) => reader.text(alloc, *limit).err(),
         Refused::Count => reader.count().err(),
     }
 }
 
+/// Whether the field is refused so, and nothing of the bytes is read.
+fn refuses(alloc: Global, bytes: &[u8], refused: &Refused, wanted: FieldErr) -> bool {
+    let mut reader = FieldReader::new(bytes);
+    fault(&mut reader, alloc, refused) == Some(wanted) && reader.left() == bytes.len()
+}
+
 #[test]
 fn fields_are_refused(rt: HostRuntime) {
-    for (bytes, refused, wanted) in REFUSED {
-        let mut reader = FieldReader::new(bytes);
-        assert!(rt; fault(&mut reader, rt.alloc(), refused) == Some(wanted));
-        assert!(rt; reader.left() == bytes.len());
+    for (bytes, refused, wanted) in &REFUSED {
+        assert!(rt; refuses(rt.alloc(), bytes, refused, *wanted));
     }
 }

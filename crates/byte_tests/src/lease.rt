@@ -154,7 +154,7 @@ fn what_is_seen(state: &State) -> Seen {
 }
 
 /// The clock, from whom, what, and the state behind it. Each ends where the next may begin.
-const LIFE: [(u64, u32, Event, Seen); 27] = [
+static LIFE: [(u64, u32, Event, Seen); 27] = [
     // a round that is given up leaves its count
     (5000, 1, Event::Ask, Seen::Asking(1)),
     (5000, 1, Event::Promise(None), Seen::Asking(1)),
@@ -194,25 +194,27 @@ const LIFE: [(u64, u32, Event, Seen); 27] = [
 #[test]
 fn a_lease_lives(rt: HostRuntime) {
     let mut state = State::Free(free(&rt));
-    for (now, from, event, wanted) in LIFE {
-        if now < 10_000 {
-            state = after(&rt, state, now, from, event);
-        }
-        assert!(rt; what_is_seen(&state) == wanted);
+    for (now, from, event, wanted) in &LIFE {
+        assert!(rt; *now < 10_000);
+        state = after(&rt, state, *now, *from, *event);
+        assert!(rt; what_is_seen(&state) == *wanted);
     }
 }
+
+/// A round that is won: from whom, and what.
+static WON: [(u32, Event); 5] = [
+    (1, Event::Ask),
+    (1, Event::Promise(None)),
+    (2, Event::Promise(None)),
+    (1, Event::Accepted),
+    (2, Event::Accepted),
+];
 
 /// The lease of a round that starts at 5000, which ends at 6000.
 fn held(rt: &impl Abort) -> Held {
     let mut state = State::Free(free(rt));
-    for (from, event) in [
-        (1, Event::Ask),
-        (1, Event::Promise(None)),
-        (2, Event::Promise(None)),
-        (1, Event::Accepted),
-        (2, Event::Accepted),
-    ] {
-        state = after(rt, state, 5000, from, event);
+    for (from, event) in &WON {
+        state = after(rt, state, 5000, *from, *event);
     }
     match state {
         State::Held(held) => held,
@@ -248,15 +250,24 @@ fn answer(ballot: Ballot, promises: bool) -> Payload {
 }
 
 /// The lease's end behind an answer of this node to the renewal, at 5501.
-fn end_behind(held: &mut Held, from: u32, payload: &Payload) -> u64 {
+fn end_behind(held: &mut Held, from: u32, ballot: Ballot, promises: bool) -> u64 {
+    let payload = answer(ballot, promises);
     if held.turn(5501).is_some() {
-        held.renewal(5501, NodeId(from), payload);
+        held.renewal(5501, NodeId(from), &payload);
     }
+    drop(payload);
     held.end()
 }
 
+/// Whether the holder acts at this clock.
+fn acts(held: &Held, now: u64) -> bool
+    requires { now < 2 ^ 62 }
+{
+    held.turn(now).is_some()
+}
+
 /// From whom, whether it is a promise, and the lease's end behind it.
-const RENEWED: [(u32, bool, u64); 5] = [
+static RENEWED: [(u32, bool, u64); 5] = [
     (1, true, 6000),
     (2, true, 6000),
     (1, false, 6000),
@@ -268,11 +279,11 @@ const RENEWED: [(u32, bool, u64); 5] = [
 #[test]
 fn a_lease_is_renewed(rt: HostRuntime) {
     let mut held = held(&rt);
-    assert!(rt; held.turn(5899).is_some() && held.turn(5900).is_none());
+    assert!(rt; acts(&held, 5899) && !acts(&held, 5900));
     let ballot = renewing(&mut held, &members(&rt)).expect(&rt, "there is a turn");
     assert!(rt; ballot.count == 2 && held.renewing() == Some(5500));
-    for (from, promises, end) in RENEWED {
-        assert!(rt; end_behind(&mut held, from, &answer(ballot, promises)) == end);
+    for (from, promises, end) in &RENEWED {
+        assert!(rt; end_behind(&mut held, *from, ballot, *promises) == *end);
     }
     assert!(rt; held.renewing().is_none());
 }

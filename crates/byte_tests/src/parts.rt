@@ -1,5 +1,5 @@
 use std::alloc::Global;
-use std::test::Fail;
+use std::test::*;
 use xt_base::{Boot, NodeId, Octets};
 use xt_parts::{JoinErr, Joiner, cut};
 
@@ -10,7 +10,7 @@ const ABC: [u8; 30] = [
 ];
 
 /// Places in the part of `abc`, and a byte for each that makes it no part.
-const CHANGED: [(usize, u8); 11] = [
+static CHANGED: [(usize, u8); 11] = [
     // the version
     (0, 0),
     (0, 2),
@@ -33,7 +33,7 @@ const CHANGED: [(usize, u8); 11] = [
 type Row = (u64, u64, usize, usize, Result<Option<usize>, JoinErr>);
 
 /// Parts that one joiner takes, in order.
-const TAKEN: [Row; 18] = [
+static TAKEN: [Row; 18] = [
     // two parts in order, one of them twice
     (2, 3, 32_769, 0, Ok(None)),
     (2, 3, 32_769, 0, Ok(None)),
@@ -61,11 +61,11 @@ const TAKEN: [Row; 18] = [
 ];
 
 /// The part with this index of a message of so many bytes, of at most 100,000.
-fn part(alloc: Global, boot: u64, number: u64, size: usize, index: usize) -> Result<Octets, Fail> {
-    let message = vec![in alloc; 7u8; size.max(1).min(100_000)]?;
-    let mut parts = cut(alloc, NodeId(1), Boot(boot), number, message.as_slice())?;
+fn part(alloc: Global, boot: u64, number: u64, size: usize, index: usize) -> Option<Octets> {
+    let message = vec![in alloc; 7u8; size.max(1).min(100_000)].ok()?;
+    let mut parts = cut(alloc, NodeId(1), Boot(boot), number, message.as_slice()).ok()?;
     parts.truncate(index.saturating_add(1));
-    Ok(parts.pop().ok_or("there is no such part")?)
+    parts.pop()
 }
 
 /// How many bytes the whole message has that this part gives, if it gives one.
@@ -74,6 +74,14 @@ fn given(joiner: &mut Joiner, part: &[u8]) -> Result<Option<usize>, JoinErr> {
         Ok(Some(whole)) => Ok(Some(whole.bytes.as_slice().len())),
         Ok(None) => Ok(None),
         Err(fault) => Err(fault),
+    }
+}
+
+/// What the part of a row gives to a joiner.
+fn given_by(joiner: &mut Joiner, alloc: Global, row: &Row) -> Result<Option<usize>, JoinErr> {
+    match part(alloc, row.0, row.1, row.2, row.3) {
+        Some(part) => given(joiner, part.as_slice()),
+        None => Err(JoinErr::OutOfMemory),
     }
 }
 
@@ -101,45 +109,56 @@ fn a_message_is_cut_and_joined(rt: HostRuntime) {
 }
 
 #[test]
-fn parts_are_taken(rt: HostRuntime) -> Result<(), Fail> {
+fn parts_are_taken(rt: HostRuntime) {
     let mut joiner = Joiner::new(rt.alloc());
-    for (boot, number, size, index, gives) in TAKEN {
-        let part = part(rt.alloc(), boot, number, size, index)?;
-        assert!(rt; given(&mut joiner, part.as_slice()) == gives);
+    for row in &TAKEN {
+        assert!(rt; given_by(&mut joiner, rt.alloc(), row) == row.4);
     }
-    Ok(())
 }
 
+/// Whether the part of `abc` is none with this byte at this place.
+fn is_refused(joiner: &mut Joiner, place: usize, byte: u8) -> bool {
+    let mut bytes = ABC;
+    if let Some(here) = bytes.get_mut(place) {
+        *here = byte;
+    }
+    given(joiner, &bytes) == Err(JoinErr::BadPart)
+}
+
+/// The part of `abc`, and a byte.
+const LONGER: [u8; 31] = [
+    1, 0, 0, 0, 1, 0, 0, 0, 0, 0, 0, 0, 2, 0, 0, 0, 0, 0, 0, 0, 3, 0, 1, 0, 0, 0, 3, b'a', b'b',
+    b'c', b'd',
+];
+
 #[test]
-fn other_bytes_are_no_part(rt: HostRuntime) -> Result<(), Fail> {
+fn other_bytes_are_no_part(rt: HostRuntime) {
     let mut joiner = Joiner::new(rt.alloc());
     for length in 0..ABC.len() {
         assert!(rt; given(&mut joiner, &ABC[..length]) == Err(JoinErr::BadPart));
     }
-    for (place, byte) in CHANGED {
-        let mut bytes = ABC;
-        if let Some(here) = bytes.get_mut(place) {
-            *here = byte;
-        }
-        assert!(rt; given(&mut joiner, &bytes) == Err(JoinErr::BadPart));
+    for (place, byte) in &CHANGED {
+        assert!(rt; is_refused(&mut joiner, *place, *byte));
     }
-    let mut longer = Vec::from_slice(rt.alloc(), &ABC)?;
-    longer.push(b'd')?;
-    assert!(rt; given(&mut joiner, longer.as_slice()) == Err(JoinErr::BadPart));
-    Ok(())
+    assert!(rt; given(&mut joiner, &LONGER) == Err(JoinErr::BadPart));
 }
+
+/// The second parts of three of them.
+static LATER: [Row; 3] = [
+    (2, 2, 32_769, 1, Ok(Some(32_769))),
+    (2, 65, 32_769, 1, Ok(Some(32_769))),
+    (2, 1, 32_769, 1, Ok(None)),
+];
 
 /// Of 65 messages that have begun, the oldest is forgotten.
 #[test]
-fn drops_the_oldest_of_65(rt: HostRuntime) -> Result<(), Fail> {
+fn drops_the_oldest_of_65(rt: HostRuntime) {
     let mut joiner = Joiner::new(rt.alloc());
     for number in 1..66 {
-        let first = part(rt.alloc(), 2, number, 32_769, 0)?;
-        assert!(rt; given(&mut joiner, first.as_slice()) == Ok(None));
+        let first = (2, number, 32_769, 0, Ok(None));
+        assert!(rt; given_by(&mut joiner, rt.alloc(), &first) == Ok(None));
     }
-    for (number, wanted) in [(2, Some(32_769)), (65, Some(32_769)), (1, None)] {
-        let second = part(rt.alloc(), 2, number, 32_769, 1)?;
-        assert!(rt; given(&mut joiner, second.as_slice()) == Ok(wanted));
+    for row in &LATER {
+        assert!(rt; given_by(&mut joiner, rt.alloc(), row) == row.4);
     }
-    Ok(())
 }

@@ -66,7 +66,7 @@ fn write(round: &mut Round, from: u32, acceptor: &mut Acceptor) -> Came {
 type Exchange = (usize, bool, u32, Came);
 
 /// Node 1 hears of itself, 4 and 5; node 2 of itself, 3 and 4.
-const BEFORE: [Exchange; 8] = [
+static BEFORE: [Exchange; 8] = [
     (0, false, 1, Came::Counted),
     (1, false, 2, Came::Counted),
     (0, false, 4, Came::Counted),
@@ -78,7 +78,7 @@ const BEFORE: [Exchange; 8] = [
 ];
 
 /// With a new boot of node 3. Node 5 reports node 1's lease, and gets no Write.
-const BEHIND: [Exchange; 5] = [
+static BEHIND: [Exchange; 5] = [
     (0, true, 5, Came::Accepted),
     (1, true, 4, Came::Accepted),
     (0, true, 4, Came::Outrun),
@@ -140,9 +140,25 @@ fn nothing_promised(rt: HostRuntime) {
     assert!(rt; matches!(answer, WriteAnswer::Refused { seen } if seen == least));
 }
 
+/// The lease of node 2 that ends so.
+fn lease_until(end: Option<u64>) -> Option<Lease> {
+    let end = end?;
+    Some(Lease {
+        node: NodeId(2),
+        boot: FIRST,
+        end,
+    })
+}
+
+/// Whether a promise with this report is taken, and what it did.
+fn reported(round: &mut Round, now: u64, from: u32, report: Option<Lease>) -> (bool, Came) {
+    let takes = round.takes(now, NodeId(from), report);
+    (takes, promised(round, now, from, report))
+}
+
 /// The clock, who promises, the end of the lease of node 2 that is reported, whether the promise is taken, and what it
 /// did. A report ends the round until its lease is over, and one of the round's own node never does.
-const REPORTS: [(u64, u32, Option<u64>, bool, Came); 4] = [
+static REPORTS: [(u64, u32, Option<u64>, bool, Came); 4] = [
     (1199, 2, Some(1200), true, Came::Ended),
     (1200, 2, Some(1200), true, Came::Counted),
     (1200, 2, None, false, Came::Ignored),
@@ -153,16 +169,9 @@ const REPORTS: [(u64, u32, Option<u64>, bool, Came); 4] = [
 fn reports(rt: HostRuntime) {
     let mut round = round(&rt, 1);
     assert!(rt; round.began() == 1100 && round.times().lease() == 1000);
-    for (now, from, end, takes, came) in REPORTS {
-        let report = end.map(|end| Lease {
-            node: NodeId(2),
-            boot: FIRST,
-            end,
-        });
-        assert!(rt; round.takes(now, NodeId(from), report) == takes);
-        assert!(rt; promised(&mut round, now, from, report) == came);
+    for (now, from, end, takes, came) in &REPORTS {
+        assert!(rt; reported(&mut round, *now, *from, lease_until(*end)) == (*takes, *came));
     }
     let own = Some(round.lease());
-    assert!(rt; round.takes(1200, NodeId(1), own));
-    assert!(rt; promised(&mut round, 1200, 1, own) == Came::Counted);
+    assert!(rt; reported(&mut round, 1200, 1, own) == (true, Came::Counted));
 }
