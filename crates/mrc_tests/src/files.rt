@@ -1,8 +1,9 @@
-use crate::serving::{ASIDE, Ask, Asker, KEPT, Kept, Row, Told, run};
+use crate::serving::{ASIDE, Ask, Asker, KEPT, Kept, OTHERWISE, Row, Told, run};
 use mrc_core::Mrc;
-use std::test::Fail;
+use std::process::Abort;
+use std::test::*;
 use uuid::Uuid;
-use xt_base::{MetaRefusal, NodeId};
+use xt_base::{FileId, MetaRefusal, NodeId};
 
 const ANN: Asker = (1, 1);
 
@@ -68,30 +69,35 @@ static FILES: [(usize, &[(u64, Option<u64>)]); 5] = [
     ),
 ];
 
+/// Whether a file of the volume is the one at this place.
+fn is_at(made: &[(u64, Option<u64>)], place: usize, file: &FileId, at: Option<u64>) -> bool {
+    match made.get(place) {
+        Some((number, unlinked)) => {
+            file.number == *number && at == *unlinked && file.volume == Uuid::from_u128(VOLUME)
+        }
+        None => false,
+    }
+}
+
 /// Whether a server knows these files of the volume.
-fn knows(mrc: &Mrc, made: &[(u64, Option<u64>)]) -> Result<bool, Fail> {
-    let files = mrc.files()?;
-    for (place, (number, unlinked)) in made.iter().enumerate() {
-        match files.get(place) {
-            Some((file, at)) if file.number == *number && at == unlinked => {
-                if file.volume != Uuid::from_u128(VOLUME) {
-                    return Ok(false);
-                }
-            }
-            _ => return Ok(false),
+fn knows(rt: &impl Abort, mrc: &Mrc, made: &[(u64, Option<u64>)]) -> bool {
+    let files = mrc.files().expect(rt, OTHERWISE);
+    for (place, (file, at)) in files.iter().enumerate() {
+        if !is_at(made, place, file, *at) {
+            return false;
         }
     }
-    Ok(files.len() == made.len())
+    files.len() == made.len()
 }
 
 /// The files that were ever made are told, with when they were unlinked.
 #[test]
-fn files_are_told(rt: HostRuntime) -> Result<(), Fail> {
+fn files_are_told(rt: HostRuntime) {
     let all: &[Row] = &STEPS;
-    for (steps, made) in FILES.iter() {
+    for (steps, made) in &FILES {
         assert!(rt; *steps <= all.len());
-        let mrc = run(&rt, &all[..*steps])?;
-        assert!(rt; knows(&mrc, made)?, "after {steps} steps");
+        let mrc = run(&rt, rt.alloc(), &all[..*steps]);
+        assert!(rt; knows(&rt, &mrc, made), "after {steps} steps");
+        drop(mrc);
     }
-    Ok(())
 }

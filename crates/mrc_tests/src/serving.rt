@@ -1,13 +1,16 @@
-ghost use Rattle.std.specs.Prelude.{IfOk};
 ghost use Rattle.mrc_catalogue.specs.Picking.{CanHear, WantsSome};
 
 use mrc_core::Mrc;
-use std::test::Fail;
+use std::alloc::Global;
+use std::process::Abort;
 use xt_base::{
     Capability, Denial, Event, Kind, MRC_NODE, Mark, MetaAnswer, MetaRefusal, MetaReq, Msg, Name,
     NodeId, OutOfMemory, Payload, Record, RegistryAnswer, RegistryRow, RowKind, Seq, SizeMark,
 };
 use xt_protocol::Turned;
+
+/// What is told where a test stops that can't go on.
+pub const OTHERWISE: &str = "a call answers otherwise";
 
 /// The key of the server.
 pub const KEY: [u8; 32] = [0; 32];
@@ -95,48 +98,53 @@ fn asked_at(place: usize, row: &Row) -> Asked<'_> {
 }
 
 /// A path, or a name behind which others are listed.
-fn name(rt: &HostRuntime, text: &str) -> Result<Name, Fail> {
-    Ok(Name::of(rt.alloc(), text)?)
+fn name(rt: &impl Abort, alloc: Global, text: &str) -> Name {
+    Name::of(alloc, text).expect(rt, OTHERWISE)
 }
 
 /// A path of so many names, each so long.
-fn long(rt: &HostRuntime, names: u32, length: u32) -> Result<Name, Fail> {
-    let mut path = String::new(rt.alloc());
+fn long(rt: &impl Abort, alloc: Global, names: u32, length: u32) -> Name {
+    let mut path = String::new(alloc);
     for _ in 0..names {
-        path.push('/')?;
+        path.push('/').expect(rt, OTHERWISE);
         for _ in 0..length {
-            path.push('a')?;
+            path.push('a').expect(rt, OTHERWISE);
         }
     }
-    name(rt, path.as_str())
+    name(rt, alloc, path.as_str())
 }
 
 /// A new file on so many OSDs.
-fn create(path: Name, n: u8) -> Result<MetaReq, Fail>
-    ensures { IfOk result WantsSome }
+fn create(rt: &impl Abort, path: Name, n: u8) -> MetaReq
+    ensures { WantsSome result }
 {
-    if n < 1 || n > 9 {
-        return Err(Fail::new("a file has one to nine replicas"));
-    }
-    Ok(MetaReq::Create {
+    assert!(rt; n >= 1 && n <= 9, "a file has one to nine replicas");
+    MetaReq::Create {
         path,
         mode: 0o644,
         kind: Kind::Replicated,
         n,
         stripe: 131_072,
-    })
+    }
 }
 
-/// A report with a capability, of whose tag these bits are changed.
-fn report(granted: &Option<Capability>, change: u8, mark: SizeMark) -> Result<MetaReq, Fail>
-    ensures { IfOk result WantsSome }
+/// A report of a truncate epoch and a size with a capability, of whose tag these bits are changed.
+fn report(
+    rt: &impl Abort,
+    granted: &Option<Capability>,
+    change: u8,
+    epoch: u64,
+    size: u64,
+) -> MetaReq
+    ensures { WantsSome result }
 {
     let Some(granted) = granted else {
-        return Err(Fail::new("no capability was granted"));
+        panic!(rt; "no capability was granted");
     };
     let mut capability = *granted;
     capability.tag[31] ^= change;
-    Ok(MetaReq::Report { capability, mark })
+    let mark = SizeMark { epoch, size };
+    MetaReq::Report { capability, mark }
 }
 
 /// The path and the second text of a request, which are empty where it has none.
@@ -165,90 +173,83 @@ fn on_two(ask: &Ask, path: Name, other: Name) -> MetaReq
 }
 
 /// A request with one text.
-fn on_one(ask: &Ask, path: Name) -> Result<MetaReq, Fail>
-    ensures { IfOk result WantsSome }
+fn on_one(rt: &impl Abort, ask: &Ask, path: Name) -> MetaReq
+    ensures { WantsSome result }
 {
     match ask {
-        Ask::Mkdir(_, mode) => Ok(MetaReq::Mkdir { path, mode: *mode }),
-        Ask::Create(_, n) => create(path, *n),
-        Ask::Unlink(_) => Ok(MetaReq::Unlink { path }),
-        Ask::Rmdir(_) => Ok(MetaReq::Rmdir { path }),
-        Ask::Chmod(_, mode) => Ok(MetaReq::Chmod { path, mode: *mode }),
-        Ask::Grant(_, want) => Ok(MetaReq::Grant { path, want: *want }),
-        _ => Ok(MetaReq::Stat { path }),
+        Ask::Mkdir(_, mode) => MetaReq::Mkdir { path, mode: *mode },
+        Ask::Create(_, n) => create(rt, path, *n),
+        Ask::Unlink(_) => MetaReq::Unlink { path },
+        Ask::Rmdir(_) => MetaReq::Rmdir { path },
+        Ask::Chmod(_, mode) => MetaReq::Chmod { path, mode: *mode },
+        Ask::Grant(_, want) => MetaReq::Grant { path, want: *want },
+        _ => MetaReq::Stat { path },
+    }
+}
+
+/// A request with a text, or with two.
+fn on_texts(rt: &impl Abort, alloc: Global, ask: &Ask) -> MetaReq
+    ensures { WantsSome result }
+{
+    let (path, other) = texts(ask);
+    let path = name(rt, alloc, path);
+    match ask {
+        Ask::Rename(..) | Ask::List(..) => on_two(ask, path, name(rt, alloc, other)),
+        _ => on_one(rt, ask, path),
     }
 }
 
 /// A request.
-fn request(rt: &HostRuntime, ask: &Ask, granted: &Option<Capability>) -> Result<MetaReq, Fail>
-    ensures { IfOk result WantsSome }
+fn request(rt: &impl Abort, alloc: Global, ask: &Ask, granted: &Option<Capability>) -> MetaReq
+    ensures { WantsSome result }
 {
     match ask {
-        Ask::MkdirLong(names, length) => Ok(MetaReq::Mkdir {
-            path: long(rt, *names, *length)?,
+        Ask::MkdirLong(names, length) => MetaReq::Mkdir {
+            path: long(rt, alloc, *names, *length),
             mode: 0o777,
-        }),
-        Ask::Report(epoch, size) => report(
-            granted,
-            0,
-            SizeMark {
-                epoch: *epoch,
-                size: *size,
-            },
-        ),
-        Ask::Forge(epoch, size) => report(
-            granted,
-            1,
-            SizeMark {
-                epoch: *epoch,
-                size: *size,
-            },
-        ),
-        ask => {
-            let (path, other) = texts(ask);
-            let path = name(rt, path)?;
-            match ask {
-                Ask::Rename(..) | Ask::List(..) => Ok(on_two(ask, path, name(rt, other)?)),
-                _ => on_one(ask, path),
-            }
-        }
+        },
+        Ask::Report(epoch, size) => report(rt, granted, 0, *epoch, *size),
+        Ask::Forge(epoch, size) => report(rt, granted, 1, *epoch, *size),
+        ask => on_texts(rt, alloc, ask),
+    }
+}
+
+/// The row of an OSD.
+fn row_of(rt: &impl Abort, alloc: Global, node: u32) -> RegistryRow {
+    RegistryRow {
+        node: NodeId(node),
+        kind: 1,
+        address: name(rt, alloc, "a"),
+        version: 1,
     }
 }
 
 /// Rows of these OSDs.
-fn rows(rt: &HostRuntime, nodes: &[u32]) -> Result<Payload, Fail>
-    ensures { IfOk result CanHear }
+fn rows(rt: &impl Abort, alloc: Global, nodes: &[u32]) -> Payload
+    ensures { CanHear result }
 {
-    let mut rows = Seq::new(rt.alloc());
+    let mut rows = Seq::new(alloc);
     for node in nodes {
-        rows.push(RegistryRow {
-            node: NodeId(*node),
-            kind: 1,
-            address: name(rt, "a")?,
-            version: 1,
-        })?;
+        rows.push(row_of(rt, alloc, *node)).expect(rt, OTHERWISE);
     }
-    Ok(Payload::RegistryReply {
+    Payload::RegistryReply {
         number: 0,
         answer: RegistryAnswer::Rows { rows },
-    })
+    }
 }
 
 /// What comes to the server.
-fn payload(rt: &HostRuntime, asked: &Asked, granted: &Option<Capability>) -> Result<Payload, Fail>
-    ensures { IfOk result CanHear }
+fn payload(rt: &impl Abort, alloc: Global, asked: &Asked, granted: &Option<Capability>) -> Payload
+    ensures { CanHear result }
 {
     match asked.ask {
-        Ask::Rows(_, nodes) => rows(rt, nodes),
-        ask => {
-            let request = request(rt, ask, granted)?;
-            Ok(Payload::Meta {
-                number: asked.number,
-                user: asked.asker.0,
-                group: asked.asker.1,
-                request,
-            })
-        }
+        Ask::Rows(_, nodes) => rows(rt, alloc, nodes),
+        ask => Payload::Meta {
+            number: asked.number,
+            user: asked.asker.0,
+            group: asked.asker.1,
+            request: request(rt, alloc, ask, granted),
+        },
     }
 }
 
@@ -428,7 +429,9 @@ fn heard(mrc: &mut Mrc, clock: u32, from: NodeId, payload: Payload) -> Result<Tu
         list: 1,
         payload,
     });
-    mrc.step(u64::from(clock), &event)
+    let turned = mrc.step(u64::from(clock), &event);
+    drop(event);
+    turned
 }
 
 /// Whether a step is the one of the row.
@@ -436,42 +439,30 @@ fn is_right(turned: &Turned, asked: &Asked, row: &Row) -> bool {
     tells(turned, asked, &row.3) && keeps(turned, asked, row.4) && shows(turned, row)
 }
 
-/// What is seen of the row at a place: the capability that was granted last. An error has the place of a row that doesn't come to
-/// what is told.
-fn seen(
-    turned: &Turned,
-    asked: &Asked,
-    place: usize,
-    row: &Row,
-    granted: Option<Capability>,
-) -> Result<Option<Capability>, Fail> {
-    if is_right(turned, asked, row) {
-        Ok(granted_by(turned, asked, granted))
-    } else {
-        Err(Fail::new(place))
-    }
-}
-
-/// Lets the row at a place happen, and gives the capability that was granted last.
+/// Lets the row at a place happen, which comes to what is told, and gives the capability that was granted last.
 fn happen(
-    rt: &HostRuntime,
+    rt: &impl Abort,
+    alloc: Global,
     mrc: &mut Mrc,
     place: usize,
     row: &Row,
     granted: Option<Capability>,
-) -> Result<Option<Capability>, Fail> {
+) -> Option<Capability> {
     let asked = asked_at(place, row);
-    let payload = payload(rt, &asked, &granted)?;
-    let turned = heard(mrc, row.0, sender(&asked), payload)?;
-    seen(&turned, &asked, place, row, granted)
+    let payload = payload(rt, alloc, &asked, &granted);
+    let turned = heard(mrc, row.0, sender(&asked), payload).expect(rt, OTHERWISE);
+    assert!(rt; is_right(&turned, &asked, row), "at the row {place}");
+    let granted = granted_by(&turned, &asked, granted);
+    drop(turned);
+    granted
 }
 
 /// A server to which all rows have happened, one after the other.
-pub fn run(rt: &HostRuntime, rows: &[Row]) -> Result<Mrc, Fail> {
-    let mut mrc = Mrc::start(rt.alloc(), &KEY, &[], 0)?;
+pub fn run(rt: &impl Abort, alloc: Global, rows: &[Row]) -> Mrc {
+    let mut mrc = Mrc::start(alloc, &KEY, &[], 0).expect(rt, OTHERWISE);
     let mut granted = None;
     for (place, row) in rows.iter().enumerate() {
-        granted = happen(rt, &mut mrc, place, row, granted)?;
+        granted = happen(rt, alloc, &mut mrc, place, row, granted);
     }
-    Ok(mrc)
+    mrc
 }

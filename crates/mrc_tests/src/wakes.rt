@@ -1,6 +1,6 @@
-use crate::serving::KEY;
+use crate::serving::{KEY, OTHERWISE};
 use mrc_core::Mrc;
-use std::test::Fail;
+use std::test::*;
 use xt_base::{DIR_NODE, Event, MRC_NODE, NodeId, Payload, RegistryReq};
 use xt_protocol::Turned;
 
@@ -21,9 +21,12 @@ fn asks(turned: &Turned) -> bool {
 }
 
 #[test]
-fn a_wake_asks_for_the_osds(rt: HostRuntime) -> Result<(), Fail> {
-    let mut mrc = Mrc::start(rt.alloc(), &KEY, &[], 0)?;
-    let turned = mrc.step(0, &Event::Wake)?;
+fn a_wake_asks_for_the_osds(rt: HostRuntime) {
+    let mut mrc = Mrc::start(rt.alloc(), &KEY, &[], 0).expect(&rt, OTHERWISE);
+    let event = Event::Wake;
+    let turned = mrc.step(0, &event).expect(&rt, OTHERWISE);
+    drop(event);
+    drop(mrc);
     assert!(rt; asks(&turned));
-    Ok(())
+    drop(turned);
 }
