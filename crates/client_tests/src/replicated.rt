@@ -242,7 +242,7 @@ const LAST_NUMBER: [Step; 3] = [
 ];
 
 /// Each scene, with the number of its first call.
-const SCENES: [Scene; 7] = [
+static SCENES: [Scene; 7] = [
     (1, &SILENT),
     (1, &SILENT_AGAIN),
     (1, &TURNED_AWAY),

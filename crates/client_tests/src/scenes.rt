@@ -262,20 +262,25 @@ fn registry_answer(rt: &impl Abort, alloc: Global, says: &RegistrySays) -> Regis
     }
 }
 
-/// The answers of the members, each as its node and the number of its reply; 0 where it was silent.
+/// The number of the reply of a member in a try that failed; 0 where it was silent.
+fn answer_shown(outcome: &Retry) -> u64 {
+    match outcome {
+        Retry::Silent => 0,
+        Retry::NoLease { .. } => 2,
+        Retry::NoMajority { .. } => 3,
+        Retry::Elsewhere { .. } => 4,
+    }
+}
+
+/// The answers of the members, each as its node and the number of its reply.
 fn answers_shown(answers: &[Answered]) -> u64 {
-    answers.iter().fold(0u64, |shown, answer| {
-        let how = match answer.outcome {
-            Retry::Silent => 0,
-            Retry::NoLease { .. } => 2,
-            Retry::NoMajority { .. } => 3,
-            Retry::Elsewhere { .. } => 4,
-        };
-        let node = u64::from(answer.node.0);
-        shown
-            .wrapping_mul(100)
-            .wrapping_add(node.wrapping_mul(10).wrapping_add(how))
-    })
+    let mut shown = 0u64;
+    for answer in answers {
+        let node = u64::from(answer.node.0).wrapping_mul(10);
+        let digits = node.wrapping_add(answer_shown(&answer.outcome));
+        shown = shown.wrapping_mul(100).wrapping_add(digits);
+    }
+    shown
 }
 
 /// The number of the reply that refused a call.
@@ -363,8 +368,8 @@ fn asked(begins: bool, msg: &Msg) -> Sight {
     }
 }
 
-/// What comes of a step, which left the client so: a call that has ended has a result, and one that runs has none.
-fn shown_by(client: &Client, turned: &Turned) -> Sight {
+/// What is seen of a step, which left the client so: a call that has ended has a result, and one that runs has none.
+fn seen(client: &Client, turned: &Turned) -> Sight {
     let marks = turned.marks.as_slice();
     if let [Mark::Done { number, .. }] = marks {
         return match client.result() {
@@ -379,8 +384,15 @@ fn shown_by(client: &Client, turned: &Turned) -> Sight {
     }
 }
 
+/// What comes of a step, which left the client so.
+fn shown_by(client: &Client, turned: Turned) -> Sight {
+    let shown = seen(client, &turned);
+    drop(turned);
+    shown
+}
+
 /// What comes of a call.
-fn called(client: &Client, made: &Result<Turned, CallErr>) -> Sight {
+fn called(client: &Client, made: Result<Turned, CallErr>) -> Sight {
     match made {
         Ok(turned) => shown_by(client, turned),
         Err(CallErr::Busy) => ("busy", 0, 0, 0, 0),
@@ -395,10 +407,12 @@ fn makes(rt: &impl Abort, alloc: Global, client: &mut Client, now: u64, asks: &A
 {
     let wanted = call(rt, alloc, asks);
     if !client.is_ready(&wanted) {
+        drop(wanted);
         return ("not held", 0, 0, 0, 0);
     }
     let made = client.call(now, &wanted);
-    called(client, &made)
+    drop(wanted);
+    called(client, made)
 }
 
 /// The client makes its last call again.
@@ -406,7 +420,7 @@ fn again(client: &mut Client, now: u64) -> Sight
     requires { now < 2 ^ 62 }
 {
     let made = client.again(now);
-    called(client, &made)
+    called(client, made)
 }
 
 /// The client handles this event.
@@ -414,7 +428,8 @@ fn handles(rt: &impl Abort, client: &mut Client, now: u64, event: Event) -> Sigh
     requires { now < 2 ^ 62 }
 {
     let turned = client.step(now, &event).expect(rt, OTHERWISE);
-    shown_by(client, &turned)
+    drop(event);
+    shown_by(client, turned)
 }
 
 /// The node sends this to the client.
@@ -516,18 +531,20 @@ fn client(rt: &impl Abort, alloc: Global, members: &Members, first: u64) -> Clie
     client
 }
 
+/// Sees that what is shown at a clock is what is wanted.
+fn expect(rt: &impl Abort, clock: u32, shown: &Sight, wanted: &Sight) {
+    let is = are_same(shown, wanted);
+    assert!(rt; is, "{} where {} is wanted at {clock}", shown.0, wanted.0);
+}
+
 /// Plays a scene.
 fn play(rt: &impl Abort, alloc: Global, members: &Members, scene: &Scene) {
     let mut client = client(rt, alloc, members, scene.0);
     for (clock, happens, wanted) in scene.1 {
         let shown = does(rt, alloc, members, &mut client, *clock, happens);
-        assert!(rt;
-            are_same(&shown, wanted),
-            "{} where {} is wanted at {clock}",
-            shown.0,
-            wanted.0
-        );
+        expect(rt, *clock, &shown, wanted);
     }
+    drop(client);
 }
 
 /// Plays these scenes, each with a client of its own.

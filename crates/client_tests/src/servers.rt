@@ -187,7 +187,7 @@ const LAST_NUMBER: [Step; 3] = [
 ];
 
 /// Each scene, with the number of its first call.
-const SCENES: [Scene; 4] = [
+static SCENES: [Scene; 4] = [
     (1, &META),
     (1, &GRANTED),
     (1, &REGISTRY),

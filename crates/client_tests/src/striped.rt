@@ -243,7 +243,7 @@ const TRUNCATED: [Step; 17] = [
 ];
 
 /// Each scene, with the number of its first call.
-const SCENES: [Scene; 4] = [(1, &READ), (1, &AWAY), (1, &REFUSED), (1, &TRUNCATED)];
+static SCENES: [Scene; 4] = [(1, &READ), (1, &AWAY), (1, &REFUSED), (1, &TRUNCATED)];
 
 #[test]
 fn calls_on_a_striped_file_end(rt: HostRuntime) {
