@@ -13,7 +13,7 @@ const SETTLED: usize = 100;
 
 /// The capability of each ask: file 1 of the nil volume, to read and write until 2^62, under truncate epoch 0;
 /// list 1 of the replicated file on the nodes 1, 2 and 3, in objects of 131,072 bytes; a tag.
-const CAPABILITY: [u8; 95] = [
+static CAPABILITY: [u8; 95] = [
     0, 0, 0, 0, 0, 0, 0, 0, 0, 0, 0, 0, 0, 0, 0, 0, 0, 0, 0, 0, 0, 0, 0, 1, // the file
     2, 0x40, 0, 0, 0, 0, 0, 0, 0, 0, 0, 0, 0, 0, 0, 0, 0, // mode, expiry, epoch
     0, 0, 0, 1, 1, 0, 2, 0, 0, 3, 0, 0, 0, 1, 0, 0, 0, 2, 0, 0, 0, 3, // the list
@@ -205,13 +205,19 @@ impl Network {
 
     /// Whether what was told since this was asked last is these lines.
     pub fn has_told(&mut self, lines: &[&str]) -> bool {
-        let has = self.lines.len() == lines.len()
-            && self
-                .lines
-                .iter()
-                .zip(lines)
-                .all(|(told, line)| told.as_str() == *line);
+        let has = are_lines(self.lines.as_slice(), lines);
         self.lines.clear();
         has
     }
+}
+
+/// Whether these texts are the lines.
+fn are_lines(texts: &[String], lines: &[&str]) -> bool {
+    for (place, text) in texts.iter().enumerate() {
+        match lines.get(place) {
+            Some(line) if text.as_str() == *line => {}
+            _ => return false,
+        }
+    }
+    texts.len() == lines.len()
 }

@@ -76,7 +76,8 @@ impl Kept {
         ensures same { self.new.store.records ≡ self.old.store.records }
         ensures said { result ≡ fold_of self.old.store.records }
     {
-        self.store = self.store.reloaded(alloc).expect(rt, OTHERWISE);
+        let store = self.store.reloaded(alloc).expect(rt, OTHERWISE);
+        drop(mem::replace(&mut self.store, store));
         let records = self.store.copies(alloc).expect(rt, OTHERWISE);
         fold(alloc, records.as_slice()).expect(rt, OTHERWISE)
     }
@@ -86,7 +87,9 @@ impl Kept {
         requires { boot.0 < 2 ^ 62 }
         ensures { self.new.store.records ≡ self.old.store.records ++ kept.Boot boot ∷ [] }
     {
-        self.put(rt, alloc, &Record::Boot { boot }, None);
+        let rec = Record::Boot { boot };
+        self.put(rt, alloc, &rec, None);
+        drop(rec);
     }
 }
 
@@ -153,6 +156,17 @@ fn letters(rt: &impl Abort, alloc: Global, msgs: &[Msg]) -> Vec<Letter>
     letters
 }
 
+/// What is told in a step.
+fn shown(rt: &impl Abort, alloc: Global, turned: Turned) -> Told
+    requires { AllByRecursion FitsMessage turned.outs }
+{
+    let letters = letters(rt, alloc, turned.outs.as_slice());
+    let Turned { outs, rec, marks } = turned;
+    drop(outs);
+    drop(rec);
+    Told { marks, letters }
+}
+
 /// The event that a frame comes, or that time has passed where none does.
 fn event(rt: &impl Abort, alloc: Global, frame: Option<&[u8]>) -> Event
     ensures { FitsEvent result }
@@ -205,12 +219,13 @@ impl Node {
         requires { now < 2 ^ 62 }
     {
         let _lease = times.lease();
-        self.osd = Some(begun(rt, alloc, self.id, times, &mut self.kept, now));
+        let osd = begun(rt, alloc, self.id, times, &mut self.kept, now);
+        drop(mem::replace(&mut self.osd, Some(osd)));
     }
 
     /// It stops.
     pub fn stop(&mut self) {
-        self.osd = None;
+        drop(mem::replace(&mut self.osd, None));
     }
 
     /// Its step on an event at a clock: its record is put on the disk, and then its messages are sent. Where the disk stops in
@@ -239,7 +254,8 @@ impl Node {
         match stop {
             None => turned,
             Some(_) => {
-                self.osd = None;
+                drop(turned);
+                drop(mem::replace(&mut self.osd, None));
                 quiet(alloc)
             }
         }
@@ -259,9 +275,7 @@ impl Node {
     {
         let event = event(rt, alloc, frame);
         let turned = self.turn(rt, alloc, now, &event, stop);
-        Told {
-            letters: letters(rt, alloc, turned.outs.as_slice()),
-            marks: turned.marks,
-        }
+        drop(event);
+        shown(rt, alloc, turned)
     }
 }

@@ -25,7 +25,7 @@ const fn gather(node: u8, number: u8) -> [u8; 50] {
 }
 
 /// The Status that node 2 answers to the epoch (1, 1), whose head promises it and has nothing else.
-const STATUS: [u8; 118] = [
+static STATUS: [u8; 118] = [
     0, 0, 0, 118, 1, 7, 0, 0, 0, 2, 0, 0, 0, 1, // the front
     0, 0, 0, 0, 0, 0, 0, 0, 0, 0, 0, 0, 0, 0, 0, 0, 0, 0, 0, 0, 0, 0, 0, 1, // the file
     0, 0, 0, 0, 0, 0, 0, 1, 0, 0, 0, 1, // the epoch
@@ -35,7 +35,7 @@ const STATUS: [u8; 118] = [
 ];
 
 /// That it refuses the epoch (1, 1), since (2, 3) is promised.
-const REFUSED: [u8; 62] = [
+static REFUSED: [u8; 62] = [
     0, 0, 0, 62, 1, 15, 0, 0, 0, 2, 0, 0, 0, 1, // the front
     0, 0, 0, 0, 0, 0, 0, 0, 0, 0, 0, 0, 0, 0, 0, 0, 0, 0, 0, 0, 0, 0, 0, 1, // the file
     0, 0, 0, 0, 0, 0, 0, 1, 0, 0, 0, 1, // the epoch
@@ -53,26 +53,35 @@ fn tears(rt: &impl Abort, alloc: Global, stop: Stop, wanted: &[u8]) -> bool
     let told = node.step(rt, alloc, 2000, Some(&gather(3, 2)), Some(stop));
     node.start(rt, alloc, times, 2000);
     let answered = node.step(rt, alloc, 4000, Some(&gather(1, 1)), None);
+    drop(node);
     told.letters.is_empty()
         && matches!(answered.letters.as_slice(), [one] if one.frame.as_slice() == wanted)
 }
 
-/// The promise stands where its gate was open when the node stopped.
+/// The bytes that are tried in each call.
+static FILLS: [u8; 3] = [0, 0x37, 0xa5];
+
+/// The answer behind a stop in this call with this byte: the promise stands where its gate was open when the node stopped.
+fn answer_behind(call: u64, fill: u8) -> &'static [u8] {
+    if call >= 3 && fill == 0xa5 {
+        &REFUSED
+    } else {
+        &STATUS
+    }
+}
+
 #[test]
 fn a_torn_promise(rt: HostRuntime) {
     for call in 1..5 {
-        for fill in [0, 0x37, 0xa5] {
-            let wanted: &[u8] = match (call, fill) {
-                (3 | 4, 0xa5) => &REFUSED,
-                _ => &STATUS,
-            };
-            assert!(rt; tears(&rt, rt.alloc(), Stop { call, fill }, wanted));
+        for fill in &FILLS {
+            let stop = Stop { call, fill: *fill };
+            assert!(rt; tears(&rt, rt.alloc(), stop, answer_behind(call, *fill)));
         }
     }
 }
 
 /// The record of a head of file 1 under the promise (2, 2), whose stamp is ((1, 1), 3).
-const OWN: [u8; 141] = [
+static OWN: [u8; 141] = [
     5, 0, 0, 0, 0, 0, 0, 0, 0, 0, 0, 0, 0, 0, 0, 0, 0, 0, 0, 0, 0, 0, 0, 0, 1, // the file
     0, 0, 0, 0, 0, 0, 0, 2, 0, 0, 0, 2, // what is promised
     0, 0, 0, 0, 0, 0, 0, 1, 0, 0, 0, 1, 0, 0, 0, 0, 0, 0, 0, 3, // the stamp
@@ -84,7 +93,7 @@ const OWN: [u8; 141] = [
 ];
 
 /// The same of a head whose stamp is ((2, 2), 1).
-const OFFERED: [u8; 117] = [
+static OFFERED: [u8; 117] = [
     5, 0, 0, 0, 0, 0, 0, 0, 0, 0, 0, 0, 0, 0, 0, 0, 0, 0, 0, 0, 0, 0, 0, 0, 1, // the file
     0, 0, 0, 0, 0, 0, 0, 2, 0, 0, 0, 2, // what is promised
     0, 0, 0, 0, 0, 0, 0, 2, 0, 0, 0, 2, 0, 0, 0, 0, 0, 0, 0, 1, // the stamp
@@ -156,7 +165,7 @@ enum Comes {
 }
 
 /// The bodies that a replica with the own head holds, what comes of the offered one, and the versions of its head then.
-const OFFERS: [(&[ObjectVersion], Comes, &[ObjectVersion]); 2] = [
+static OFFERS: [(&[ObjectVersion], Comes, &[ObjectVersion]); 2] = [
     (&[OLDER, NEWER, OTHER], Comes::Kept(STAMP), &[OLDER]),
     (&[NEWER, OTHER], Comes::Missing(OLDER), &[NEWER, OTHER]),
 ];
@@ -202,13 +211,18 @@ fn gives(
     let acted = replica
         .on_head(&STAMP.epoch, &offered)
         .expect(rt, OTHERWISE);
-    comes_of(&acted) == comes && replica.head().versions.as_slice() == versions
+    drop(offered);
+    let came = comes_of(&acted);
+    drop(acted);
+    let has = replica.head().versions.as_slice() == versions;
+    drop(replica);
+    came == comes && has
 }
 
 /// A head takes the place of one with greater versions, where the bodies that it names are held.
 #[test]
 fn older_versions(rt: HostRuntime) {
-    for (bodies, comes, versions) in OFFERS {
-        assert!(rt; gives(&rt, rt.alloc(), bodies, comes, versions));
+    for (bodies, comes, versions) in &OFFERS {
+        assert!(rt; gives(&rt, rt.alloc(), bodies, *comes, versions));
     }
 }

@@ -1,5 +1,8 @@
 //! Three OSDs that are driven by hand.
 use crate::network::{Deed, Network};
+use std::alloc::Global;
+use std::process::Abort;
+use std::test::*;
 
 /// What is done, and what is told of it: marks of the OSDs, messages that they and the clients send, and good ends of calls.
 type Row = (Deed, &'static [&'static str]);
@@ -223,17 +226,28 @@ const FOUND: [Row; 4] = [
 ];
 
 /// Each row of a run is done on the same OSDs.
-const RUNS: [&[&[Row]]; 3] = [&[&BEHIND], &[&STOPPED, &VANISHED], &[&STOPPED, &FOUND]];
+static RUNS: [&[&[Row]]; 3] = [&[&BEHIND], &[&STOPPED, &VANISHED], &[&STOPPED, &FOUND]];
+
+/// Does what the rows say, and sees that what is told is theirs.
+fn drive(rt: &impl Abort, network: &mut Network, rows: &[Row]) {
+    for (place, (deed, lines)) in rows.iter().enumerate() {
+        network.take(rt, *deed);
+        assert!(rt; network.has_told(lines), "behind the deed {place}");
+    }
+}
+
+/// Plays a run on three OSDs of its own.
+fn play(rt: &impl Abort, alloc: Global, run: &[&[Row]]) {
+    let mut network = Network::new(rt, alloc);
+    for rows in run {
+        drive(rt, &mut network, rows);
+    }
+    drop(network);
+}
 
 #[test]
 fn replicas_catch_up_and_primaries_take_over(rt: HostRuntime) {
-    for run in RUNS {
-        let mut network = Network::new(&rt, rt.alloc());
-        for rows in run {
-            for (deed, lines) in *rows {
-                network.take(&rt, *deed);
-                assert!(rt; network.has_told(lines), "behind {lines:?}");
-            }
-        }
+    for run in &RUNS {
+        play(&rt, rt.alloc(), run);
     }
 }

@@ -7,7 +7,7 @@ use xt_base::{Mark, Octets, OpId, Payload, Reply};
 use xt_frames::decode;
 
 /// The kinds of messages, by the number that a frame has as its sixth byte, from 1 on.
-const KINDS: [&str; 19] = [
+static KINDS: [&str; 19] = [
     "read", "promise", "write", "accepted", "outrun", "gather", "status", "fetch", "object",
     "stage", "staged", "head", "update", "ack", "refused", "behind", "missing", "ask", "reply",
 ];
@@ -71,20 +71,27 @@ pub fn sent(rt: &impl Abort, alloc: Global, number: usize, letter: &Letter) -> S
     format!(in alloc; "{number}: {kind} {from} to {to}").expect(rt, OTHERWISE)
 }
 
-/// The good end of a client's call, by the reply that comes to it.
-pub fn done(rt: &impl Abort, alloc: Global, letter: &Letter) -> String {
-    let (msg, _) = decode(alloc, letter.frame.as_slice())
-        .ok()
-        .expect(rt, OTHERWISE);
-    match &msg.payload {
+/// The good end of a client's call, by the message that comes to it.
+fn ended(rt: &impl Abort, alloc: Global, client: u32, payload: &Payload) -> String {
+    match payload {
         Payload::Reply {
             number,
             reply: Reply::Ok { count, bytes, .. },
             ..
         } => {
-            let (client, bytes) = (letter.to, digits(rt, alloc, bytes));
+            let bytes = digits(rt, alloc, bytes);
             format!(in alloc; "done {client} {number} ok {count} {bytes}").expect(rt, OTHERWISE)
         }
         _ => panic!(rt; "a call has no good end"),
     }
+}
+
+/// The good end of a client's call, by the reply that comes to it.
+pub fn done(rt: &impl Abort, alloc: Global, letter: &Letter) -> String {
+    let (msg, _) = decode(alloc, letter.frame.as_slice())
+        .ok()
+        .expect(rt, OTHERWISE);
+    let text = ended(rt, alloc, letter.to, &msg.payload);
+    drop(msg);
+    text
 }
