@@ -1,14 +1,16 @@
+use crate::links::OTHERWISE;
 use schedule_text::{LineErr, print_entry, print_line, print_status, read_line};
 use std::alloc::Global;
-use std::test::Fail;
+use std::process::Abort;
+use std::test::*;
 use time_line::{Entry, Line};
 use xt_base::{
-    Answered, Answers, AskRefusal, Call, Limited, NodeId, Octets, OpId, OutOfMemory, Outcome,
-    Retry, Rule, Status,
+    Answered, Answers, AskRefusal, Call, Limited, NodeId, Octets, OpId, Outcome, Retry, Rule,
+    Status,
 };
 
 /// Lines that a schedule may have behind its first.
-const LINES: &str = "\
+static LINES: &str = "\
 osd 47\n\
 osd 0\n\
 osd 4294967295\n\
@@ -46,7 +48,7 @@ cut 1 0\n\
 cut 4294967295 340282366920938463463374607431768211455";
 
 /// Lines that none may have.
-const MALFORMED: &str = "\
+static MALFORMED: &str = "\
 replay\n\
 osd\n\
 osd x\n\
@@ -116,224 +118,237 @@ down 1 0 idle\n\
 meta 1 1 1 stat /v";
 
 /// Whether the line is read, and printed as it was.
-fn is_read(alloc: Global, text: &str, first: bool) -> Result<bool, OutOfMemory> {
+fn is_read(alloc: Global, text: &str, first: bool) -> bool {
     match read_line(alloc, text.as_bytes(), first) {
         Ok(line) => is_spelled(alloc, line, text),
-        Err(_) => Ok(false),
+        Err(_) => false,
     }
 }
 
 /// Whether the line is spelled so.
-fn is_spelled(alloc: Global, line: Line, text: &str) -> Result<bool, OutOfMemory> {
-    Ok(print_line(alloc, &line)?.as_slice() == text.as_bytes())
+fn is_spelled(alloc: Global, line: Line, text: &str) -> bool {
+    let printed = print_line(alloc, &line);
+    drop(line);
+    matches!(printed, Ok(bytes) if bytes.as_slice() == text.as_bytes())
 }
 
 /// Whether no line is spelled so.
 fn is_malformed(alloc: Global, text: &str, first: bool) -> bool {
-    matches!(
-        read_line(alloc, text.as_bytes(), first),
-        Err(LineErr::Malformed)
-    )
+    read_line(alloc, text.as_bytes(), first).err() == Some(LineErr::Malformed)
 }
 
+/// Lines that a schedule may have first.
+static FIRST: [&str; 3] = [
+    "osd 47",
+    "times 1000 100",
+    "times 1099511627775 549755813887",
+];
+
 #[test]
-fn lines_are_read(rt: HostRuntime) -> Result<(), Fail> {
+fn lines_are_read(rt: HostRuntime) {
     for text in LINES.split('\n') {
-        assert!(rt; is_read(rt.alloc(), text, false)?, "{text}");
+        assert!(rt; is_read(rt.alloc(), text, false), "{text}");
     }
-    for text in [
-        "osd 47",
-        "times 1000 100",
-        "times 1099511627775 549755813887",
-    ] {
-        assert!(rt; is_read(rt.alloc(), text, true)?, "{text}");
+    for text in &FIRST {
+        assert!(rt; is_read(rt.alloc(), text, true), "{text}");
     }
-    Ok(())
 }
+
+/// More lines that none may have behind the first: spaces, ends of lines, no bytes, and what only the first may say.
+static OTHERS: [&str; 8] = [
+    "",
+    " ",
+    " osd 3",
+    "osd 3 ",
+    "osd 3\r",
+    "osd 3\n",
+    "write 100 1 0 0 ",
+    "times 1000 100",
+];
+
+/// Times that no schedule may have.
+static TIMES: [&str; 3] = ["times 1000 500", "times 1000 0", "times 1099511627776 100"];
 
 #[test]
 fn other_lines_are_malformed(rt: HostRuntime) {
     for text in MALFORMED.split('\n') {
         assert!(rt; is_malformed(rt.alloc(), text, false), "{text}");
     }
-    for text in [
-        "",
-        " ",
-        " osd 3",
-        "osd 3 ",
-        "osd 3\r",
-        "osd 3\n",
-        "write 100 1 0 0 ",
-        "times 1000 100",
-    ] {
+    for text in &OTHERS {
         assert!(rt; is_malformed(rt.alloc(), text, false), "{text}");
     }
-    for text in ["times 1000 500", "times 1000 0", "times 1099511627776 100"] {
+    for text in &TIMES {
         assert!(rt; is_malformed(rt.alloc(), text, true), "{text}");
     }
 }
 
-#[test]
-fn words_stand_in_this_order(rt: HostRuntime) -> Result<(), Fail> {
-    let write = Call::Write {
-        file: 550_486,
-        object: 1,
-        at: 984,
-        bytes: Octets::of(rt.alloc(), &[0xf4, 0x23, 0x31])?,
-    };
-    let cases = [
-        (
-            Line::Call {
-                client: NodeId(159),
-                call: write,
+/// Lines by their words.
+static WORDS: [&str; 4] = [
+    "write 159 550486 1 984 f42331",
+    "crash 7 3 a5",
+    "truncate 10 1 2 3",
+    "aim 10 1 2",
+];
+
+/// The line at this place among them.
+fn line_at(rt: &impl Abort, alloc: Global, place: usize) -> Line {
+    match place {
+        0 => Line::Call {
+            client: NodeId(159),
+            call: Call::Write {
+                file: 550_486,
+                object: 1,
+                at: 984,
+                bytes: Octets::of(alloc, &[0xf4, 0x23, 0x31]).expect(rt, OTHERWISE),
             },
-            "write 159 550486 1 984 f42331",
-        ),
-        (
-            Line::Crash {
-                node: NodeId(7),
-                call: 3,
-                fill: 0xa5,
-            },
-            "crash 7 3 a5",
-        ),
-        (
-            Line::Call {
-                client: NodeId(10),
-                call: Call::Truncate {
-                    file: 1,
-                    size: 2,
-                    epoch: 3,
-                },
-            },
-            "truncate 10 1 2 3",
-        ),
-        (
-            Line::Aim {
-                client: NodeId(10),
+        },
+        1 => Line::Crash {
+            node: NodeId(7),
+            call: 3,
+            fill: 0xa5,
+        },
+        2 => Line::Call {
+            client: NodeId(10),
+            call: Call::Truncate {
                 file: 1,
-                node: NodeId(2),
+                size: 2,
+                epoch: 3,
             },
-            "aim 10 1 2",
-        ),
-    ];
-    for (line, text) in cases {
-        assert!(rt; is_spelled(rt.alloc(), line, text)?, "{text}");
+        },
+        _ => Line::Aim {
+            client: NodeId(10),
+            file: 1,
+            node: NodeId(2),
+        },
     }
-    Ok(())
+}
+
+#[test]
+fn words_stand_in_this_order(rt: HostRuntime) {
+    for (place, text) in WORDS.iter().enumerate() {
+        let line = line_at(&rt, rt.alloc(), place);
+        assert!(rt; is_spelled(rt.alloc(), line, text), "{text}");
+    }
 }
 
 /// Whether the entry is printed so.
-fn is_printed(alloc: Global, entry: Entry, text: &str) -> Result<bool, OutOfMemory> {
-    Ok(print_entry(alloc, &entry)?.as_slice() == text.as_bytes())
+fn is_printed(alloc: Global, entry: Entry, text: &str) -> bool {
+    let printed = print_entry(alloc, &entry);
+    drop(entry);
+    matches!(printed, Ok(bytes) if bytes.as_slice() == text.as_bytes())
 }
 
 /// What four members gave, each in its way.
-fn four_answers(alloc: Global) -> Result<Answers, OutOfMemory> {
+static GIVEN: [(u32, Retry); 4] = [
+    (1, Retry::NoLease { end: 1_100 }),
+    (2, Retry::NoMajority { have: 1, need: 2 }),
+    (
+        3,
+        Retry::Elsewhere {
+            node: NodeId(2),
+            end: 18_446_744_073_709_551_615,
+        },
+    ),
+    (4, Retry::Silent),
+];
+
+/// Their answers.
+fn four_answers(rt: &impl Abort, alloc: Global) -> Answers {
     let mut answers = Answers::new(alloc);
-    for (number, outcome) in [
-        (1, Retry::NoLease { end: 1_100 }),
-        (2, Retry::NoMajority { have: 1, need: 2 }),
-        (
-            3,
-            Retry::Elsewhere {
-                node: NodeId(2),
-                end: 18_446_744_073_709_551_615,
-            },
-        ),
-        (4, Retry::Silent),
-    ] {
-        let node = NodeId(number);
-        answers.push(Answered { node, outcome })?;
+    for (number, outcome) in &GIVEN {
+        let answered = Answered {
+            node: NodeId(*number),
+            outcome: *outcome,
+        };
+        answers.push(answered).expect(rt, OTHERWISE);
     }
-    Ok(answers)
+    answers
 }
 
 /// Entries of forms that the vectors have seldom, or not at all.
-#[test]
-fn later_entries_are_printed(rt: HostRuntime) -> Result<(), Fail> {
-    let full = Outcome::Refused {
-        refusal: AskRefusal::ClientsFull,
-    };
-    let retry = Outcome::Retry {
-        answers: four_answers(rt.alloc())?,
-    };
-    let cases = [
-        (
-            Entry::Held {
-                node: NodeId(1),
-                file: 2,
-                end: 3,
+static ENTRIES: [&str; 4] = [
+    "held 1 2 3",
+    "active 1 2 0 0 0",
+    "done 10 4 retry 1=nolease:1100 2=nomajority:1/2 3=elsewhere:2:18446744073709551615 4=silent",
+    "done 143 1 clientsfull",
+];
+
+/// The entry at this place among them.
+fn entry_at(rt: &impl Abort, alloc: Global, place: usize) -> Entry {
+    match place {
+        0 => Entry::Held {
+            node: NodeId(1),
+            file: 2,
+            end: 3,
+        },
+        1 => Entry::Active {
+            node: NodeId(1),
+            file: 2,
+            count: 0,
+            id: OpId {
+                client: NodeId(0),
+                number: 0,
             },
-            "held 1 2 3",
-        ),
-        (
-            Entry::Active {
-                node: NodeId(1),
-                file: 2,
-                count: 0,
-                id: OpId {
-                    client: NodeId(0),
-                    number: 0,
-                },
+        },
+        2 => Entry::Done {
+            client: NodeId(10),
+            number: 4,
+            outcome: Outcome::Retry {
+                answers: four_answers(rt, alloc),
             },
-            "active 1 2 0 0 0",
-        ),
-        (
-            Entry::Done {
-                client: NodeId(10),
-                number: 4,
-                outcome: retry,
+        },
+        _ => Entry::Done {
+            client: NodeId(143),
+            number: 1,
+            outcome: Outcome::Refused {
+                refusal: AskRefusal::ClientsFull,
             },
-            "done 10 4 retry 1=nolease:1100 2=nomajority:1/2 3=elsewhere:2:18446744073709551615 4=silent",
-        ),
-        (
-            Entry::Done {
-                client: NodeId(143),
-                number: 1,
-                outcome: full,
-            },
-            "done 143 1 clientsfull",
-        ),
-    ];
-    for (entry, text) in cases {
-        assert!(rt; is_printed(rt.alloc(), entry, text)?, "{text}");
+        },
     }
-    Ok(())
 }
 
-/// Whether a job that ended so writes this last.
-fn is_last(alloc: Global, status: Status, text: &str) -> Result<bool, OutOfMemory> {
-    Ok(print_status(alloc, &status)?.as_slice() == text.as_bytes())
+#[test]
+fn later_entries_are_printed(rt: HostRuntime) {
+    for (place, text) in ENTRIES.iter().enumerate() {
+        let entry = entry_at(&rt, rt.alloc(), place);
+        assert!(rt; is_printed(rt.alloc(), entry, text), "{text}");
+    }
 }
 
 /// Last lines that no schedule comes to, or none that is short. All others stand in the vectors.
-#[test]
-fn statuses_are_printed(rt: HostRuntime) -> Result<(), Fail> {
-    let cases = [
-        (
-            Status::Illegal {
-                line: 4,
-                rule: Rule::Drift { a: 101, b: 0 },
-            },
-            "! illegal 4 drift 101 0\n",
-        ),
-        (
-            Status::Limit {
-                what: Limited::Lines,
-                limit: 65_536,
-            },
-            "! limit lines 65536\n",
-        ),
-        (
-            Status::NotOurs {
-                first: *b"abcdefgh",
-            },
-            "! notours 6162636465666768\n",
-        ),
-    ];
-    for (status, text) in cases {
-        assert!(rt; is_last(rt.alloc(), status, text)?, "{text}");
+static LAST: [&str; 3] = [
+    "! illegal 4 drift 101 0\n",
+    "! limit lines 65536\n",
+    "! notours 6162636465666768\n",
+];
+
+/// The end of a job at this place among them.
+fn status_at(place: usize) -> Status {
+    match place {
+        0 => Status::Illegal {
+            line: 4,
+            rule: Rule::Drift { a: 101, b: 0 },
+        },
+        1 => Status::Limit {
+            what: Limited::Lines,
+            limit: 65_536,
+        },
+        _ => Status::NotOurs {
+            first: *b"abcdefgh",
+        },
     }
-    Ok(())
+}
+
+/// Whether a job that ended so writes this last.
+fn is_last(alloc: Global, status: Status, text: &str) -> bool {
+    let printed = print_status(alloc, &status);
+    drop(status);
+    matches!(printed, Ok(bytes) if bytes.as_slice() == text.as_bytes())
+}
+
+#[test]
+fn statuses_are_printed(rt: HostRuntime) {
+    for (place, text) in LAST.iter().enumerate() {
+        assert!(rt; is_last(rt.alloc(), status_at(place), text), "{text}");
+    }
 }
