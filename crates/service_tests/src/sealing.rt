@@ -1,12 +1,16 @@
 use capabilities::{CapErr, check, hmac, is_stop, seal};
 use hex::FromHex;
+use std::alloc::Global;
 use std::process::Abort;
-use std::test::Fail;
+use std::test::*;
 use uuid::Uuid;
 use xt_base::{Capability, Denial, FileId, Kind, Location, Members, NodeId, Payload};
 
+/// What is told where a test stops that can't go on.
+pub const OTHERWISE: &str = "a call answers otherwise";
+
 /// Keys, messages and tags. The first are of RFC 4231, but for the one with a key of a whole block.
-const TAGS: [(&[u8], &[u8], &str); 3] = [
+static TAGS: [(&[u8], &[u8], &str); 3] = [
     (
         b"Jefe",
         b"what do ya want for nothing?",
@@ -24,16 +28,25 @@ const TAGS: [(&[u8], &[u8], &str); 3] = [
     ),
 ];
 
-#[test]
-fn tags_are_the_published_ones(rt: HostRuntime) -> Result<(), Fail> {
-    for (key, message, tag) in TAGS {
-        let tag = <[u8; 32]>::from_hex(tag).expect(&rt, "a tag has 64 digits");
-        assert!(rt; hmac(key, message)? == tag);
+/// Whether the tag of a message under a key has these digits.
+fn is_tag(key: &[u8], message: &[u8], digits: &str) -> bool {
+    if key.is_empty() || key.len() > 64 {
+        return false;
     }
-    Ok(())
+    match (<[u8; 32]>::from_hex(digits), hmac(key, message)) {
+        (Ok(wanted), Ok(tag)) => tag == wanted,
+        _ => false,
+    }
 }
 
-const KEY: [u8; 32] = [0; 32];
+#[test]
+fn tags_are_the_published_ones(rt: HostRuntime) {
+    for (key, message, digits) in &TAGS {
+        assert!(rt; is_tag(key, message, digits));
+    }
+}
+
+static KEY: [u8; 32] = [0; 32];
 
 /// A file of the nil volume.
 fn file(number: u64) -> FileId {
@@ -63,7 +76,10 @@ fn capability(rt: &impl Abort, mode: u8) -> Capability {
 }
 
 /// A mode, what changes the tag's first byte, the asked file, the clock, whether it is a write, and what denies it.
-const USES: [(u8, u8, u64, u64, bool, Option<Denial>); 9] = [
+type Use = (u8, u8, u64, u64, bool, Option<Denial>);
+
+/// Uses of capabilities.
+static USES: [Use; 9] = [
     (2, 0, 7, 5000, true, None),
     (2, 0, 7, 5001, true, Some(Denial::Expired)),
     (2, 1, 7, 5000, true, Some(Denial::Tag)),
@@ -75,27 +91,45 @@ const USES: [(u8, u8, u64, u64, bool, Option<Denial>); 9] = [
     (1, 128, 8, 5001, true, Some(Denial::Tag)),
 ];
 
-#[test]
-fn uses_are_denied_in_order(rt: HostRuntime) -> Result<(), Fail> {
-    for (mode, change, number, now, write, denial) in USES {
-        let mut capability = capability(&rt, mode);
-        seal(rt.alloc(), &KEY, &mut capability)?;
-        capability.tag[0] ^= change;
-        let checked = check(rt.alloc(), &KEY, &capability, &file(number), now, write);
-        let wanted = match denial {
-            Some(rule) => Err(CapErr::Denied { rule }),
-            None => Ok(()),
-        };
-        assert!(rt; checked == wanted, "mode {mode}, file {number} at {now}");
+/// How a use of a capability is checked whose tag's first byte was changed.
+fn checked(rt: &impl Abort, alloc: Global, row: &Use) -> Result<(), CapErr> {
+    let mut capability = capability(rt, row.0);
+    seal(alloc, &KEY, &mut capability).expect(rt, OTHERWISE);
+    capability.tag[0] ^= row.1;
+    check(alloc, &KEY, &capability, &file(row.2), row.3, row.4)
+}
+
+/// How it is to be checked.
+fn wanted(denial: Option<Denial>) -> Result<(), CapErr> {
+    match denial {
+        Some(rule) => Err(CapErr::Denied { rule }),
+        None => Ok(()),
     }
-    Ok(())
 }
 
 #[test]
-fn a_stop_has_the_tag_of_its_word(rt: HostRuntime) -> Result<(), Fail> {
-    for (word, ends) in [(b"stop", true), (b"halt", false)] {
-        let tag = hmac(&KEY, word)?;
-        assert!(rt; is_stop(&KEY, &Payload::Stop { tag })? == ends);
+fn uses_are_denied_in_order(rt: HostRuntime) {
+    for row in &USES {
+        assert!(rt;
+            checked(&rt, rt.alloc(), row) == wanted(row.5),
+            "mode {}, file {} at {}",
+            row.0,
+            row.2,
+            row.3
+        );
     }
-    Ok(())
+}
+
+/// Whether a stop with the tag of this word is taken for one.
+fn stops(rt: &impl Abort, word: &[u8]) -> bool {
+    let tag = hmac(&KEY, word).expect(rt, OTHERWISE);
+    let payload = Payload::Stop { tag };
+    let ends = is_stop(&KEY, &payload).expect(rt, OTHERWISE);
+    drop(payload);
+    ends
+}
+
+#[test]
+fn a_stop_has_the_tag_of_its_word(rt: HostRuntime) {
+    assert!(rt; stops(&rt, b"stop") && !stops(&rt, b"halt"));
 }
