@@ -1,37 +1,46 @@
 ghost use Rattle.world_hull.specs.Appends.{IsInAppend};
 
+use crate::stores::OTHERWISE;
 use disk_model::Stop;
 use std::alloc::Global;
-use std::test::Fail;
+use std::process::Abort;
+use std::test::*;
 use world_hull::{Hull, Kept, ListHull};
 use xt_base::{Boot, NodeId, Record};
 
 /// How the first append of a node ends, and how many records the node then has.
-fn first_append(alloc: Global, stop: Option<Stop>) -> Result<(Kept, usize), Fail>
+fn first_append(rt: &impl Abort, alloc: Global, stop: Option<Stop>) -> (Kept, usize)
     requires { IsInAppend stop }
 {
     let mut hull = ListHull::new(alloc);
     let rec = Record::Boot { boot: Boot(1) };
-    let end = hull
-        .append(alloc, NodeId(7), &rec, stop)
-        .ok()
-        .ok_or("an append ends early")?;
-    let found = hull.revive(alloc, NodeId(7)).ok().ok_or("memory is out")?;
-    Ok((end, found.len()))
+    let end = hull.append(alloc, NodeId(7), &rec, stop);
+    drop(rec);
+    let end = end.ok().expect(rt, OTHERWISE);
+    let found = hull.revive(alloc, NodeId(7));
+    (end, found.ok().expect(rt, OTHERWISE).len())
+}
+
+/// The bytes that are tried in each call.
+static FILLS: [u8; 3] = [0, 0x37, 0xa5];
+
+/// What comes of a stop in this call with this byte.
+fn wanted(call: u64, fill: u8) -> (Kept, usize) {
+    if call >= 3 && fill == 0xa5 {
+        (Kept::StoppedKept, 1)
+    } else {
+        (Kept::StoppedLost, 0)
+    }
 }
 
 #[test]
-fn a_stop_keeps_a_record_or_loses_it(rt: HostRuntime) -> Result<(), Fail> {
+fn a_stop_keeps_a_record_or_loses_it(rt: HostRuntime) {
     let alloc = rt.alloc();
-    assert!(rt; first_append(alloc, None)? == (Kept::Done, 1));
+    assert!(rt; first_append(&rt, alloc, None) == (Kept::Done, 1));
     for call in 1..5 {
-        for fill in [0, 0x37, 0xa5] {
-            let want = match (call, fill) {
-                (3 | 4, 0xa5) => (Kept::StoppedKept, 1),
-                _ => (Kept::StoppedLost, 0),
-            };
-            assert!(rt; first_append(alloc, Some(Stop { call, fill }))? == want);
+        for fill in &FILLS {
+            let stop = Stop { call, fill: *fill };
+            assert!(rt; first_append(&rt, alloc, Some(stop)) == wanted(call, *fill));
         }
     }
-    Ok(())
 }

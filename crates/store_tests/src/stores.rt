@@ -4,36 +4,46 @@ use disk_model::MemoryDisk;
 use object_store::{AppendErr, Store, StoreErr};
 use replica_records::{Bodies, BodyErr};
 use std::alloc::Global;
-use std::test::Fail;
+use std::process::Abort;
+use std::test::*;
 use uuid::Uuid;
 use xt_base::{Boot, CallList, Epoch, FileId, NodeId, Octets, Record, Stamp};
 use xt_journal::{Journal, LoadErr, Placed};
 
 /// What is told of a call that was to answer otherwise.
-const OTHERWISE: &str = "a call answers otherwise";
+pub const OTHERWISE: &str = "a call answers otherwise";
 
 const LIMIT: u64 = 1 << 20;
 
 /// The journal of the records of two starts, 1 and 2.
-const STARTS: [u8; 41] = [
+static STARTS: [u8; 41] = [
     0x58, 0x54, 0x46, 0x53, 0x4a, 0x52, 0x4e, 0x4c, 0, 0, 0, 1, 0xa5, 0, 0, 0, 9, 1, 0, 0, 0, 0, 0,
     0, 0, 1, 0xa5, 0, 0, 0, 9, 1, 0, 0, 0, 0, 0, 0, 0, 2, 0,
 ];
 
-fn disk(alloc: Global, bytes: &[u8]) -> Result<MemoryDisk, Fail> {
-    let calls = CallList::new(alloc);
-    Ok(MemoryDisk::new(alloc, Octets::of(alloc, bytes)?, calls, None))
+/// A disk with these bytes.
+fn disk(rt: &impl Abort, alloc: Global, bytes: &[u8]) -> MemoryDisk {
+    let bytes = Octets::of(alloc, bytes).expect(rt, OTHERWISE);
+    MemoryDisk::new(alloc, bytes, CallList::new(alloc), None)
 }
 
 /// The store on a disk with these bytes.
-fn store_on(alloc: Global, bytes: &[u8], limit: u64) -> Result<Store<MemoryDisk>, Fail> {
-    let Ok((journal, payloads)) = Journal::load(alloc, disk(alloc, bytes)?, limit) else {
-        return Err(OTHERWISE)?;
+fn store_on(rt: &impl Abort, alloc: Global, bytes: &[u8], limit: u64) -> Store<MemoryDisk> {
+    let (journal, payloads) = match Journal::load(alloc, disk(rt, alloc, bytes), limit) {
+        Ok(loaded) => loaded,
+        Err(_) => panic!(rt; "the journal isn't loaded"),
     };
     match Store::load(alloc, journal, payloads.as_slice()) {
-        Ok(store) => Ok(store),
-        Err(_) => Err(OTHERWISE)?,
+        Ok(store) => store,
+        Err(_) => panic!(rt; "the store isn't loaded"),
     }
+}
+
+/// How many records a store has.
+fn count_of(store: Store<MemoryDisk>) -> usize {
+    let count = store.records().len();
+    drop(store);
+    count
 }
 
 fn file() -> FileId
@@ -54,12 +64,14 @@ const VERSION: Stamp = Stamp {
 };
 
 /// The body that a store on a disk with these bytes keeps, empty where it keeps none.
-fn body_on(alloc: Global, bytes: &[u8]) -> Result<Octets, Fail> {
-    let mut store = store_on(alloc, bytes, LIMIT)?;
-    match store.body(alloc, &file(), 0, &VERSION) {
-        Ok(body) => Ok(body),
-        Err(BodyErr::NoSuchVersion) => Ok(Octets::new(alloc)),
-        Err(_) => Err(OTHERWISE)?,
+fn body_on(rt: &impl Abort, alloc: Global, bytes: &[u8]) -> Octets {
+    let mut store = store_on(rt, alloc, bytes, LIMIT);
+    let body = store.body(alloc, &file(), 0, &VERSION);
+    drop(store);
+    match body {
+        Ok(body) => body,
+        Err(BodyErr::NoSuchVersion) => Octets::new(alloc),
+        Err(_) => panic!(rt; "a body is read"),
     }
 }
 
@@ -84,7 +96,7 @@ const FRESH: [u8; 13] = [
 ];
 
 /// What comes of the journal of two starts with another byte at a place.
-const CHANGED: [(usize, u8, Comes); 33] = [
+static CHANGED: [(usize, u8, Comes); 33] = [
     // the sign
     (0, b'Y', Comes::NotOurs(*b"YTFSJRNL")),
     (1, b'U', Comes::NotOurs(*b"XUFSJRNL")),
@@ -128,7 +140,7 @@ const CHANGED: [(usize, u8, Comes); 33] = [
 ];
 
 /// What comes of a disk with these bytes.
-const DISKS: [(&[u8], Comes); 9] = [
+static DISKS: [(&[u8], Comes); 9] = [
     (&FRESH, Comes::Loaded(0)),
     // at most 13 bytes
     (b"another file", Comes::Anew),
@@ -182,7 +194,7 @@ const HEAD: [u8; 137] = [
 ];
 
 /// What comes of the journal of these payloads. One of n bytes takes n + 5 from its gate at 12 on.
-const PAYLOADS: [(&[&[u8]], Comes); 11] = [
+static PAYLOADS: [(&[&[u8]], Comes); 11] = [
     (&[&PROMISE_1, &PROMISE_2, &UPDATE], Comes::Loaded(3)),
     (&[&STAGE, &HEAD], Comes::Loaded(2)),
     // no record
@@ -208,16 +220,18 @@ const PAYLOADS: [(&[&[u8]], Comes); 11] = [
 ];
 
 /// The journal of these payloads, by its layout.
-fn journal_of(alloc: Global, payloads: &[&[u8]]) -> Result<Octets, Fail> {
-    let mut bytes = Vec::from_slice(alloc, &FRESH[..12])?;
+fn journal_of(rt: &impl Abort, alloc: Global, payloads: &[&[u8]]) -> Octets {
+    let mut bytes = Vec::from_slice(alloc, &FRESH[..12]).expect(rt, OTHERWISE);
     for payload in payloads {
-        let len = u32::try_from(payload.len())?;
-        bytes.push(0xa5)?;
-        bytes.extend_from_slice(&len.to_be_bytes())?;
-        bytes.extend_from_slice(payload)?;
+        let len = u32::try_from(payload.len()).ok().expect(rt, OTHERWISE);
+        bytes.push(0xa5).expect(rt, OTHERWISE);
+        bytes
+            .extend_from_slice(&len.to_be_bytes())
+            .expect(rt, OTHERWISE);
+        bytes.extend_from_slice(payload).expect(rt, OTHERWISE);
     }
-    bytes.push(0)?;
-    Ok(Octets::from(bytes))
+    bytes.push(0).expect(rt, OTHERWISE);
+    Octets::from(bytes)
 }
 
 /// What comes of the front of this length of the journal of two starts.
@@ -231,113 +245,117 @@ fn comes_of_front(len: usize) -> Comes {
 }
 
 /// What a journal that isn't loaded tells.
-fn told_of(error: &LoadErr<MemoryDisk>) -> Result<Comes, Fail> {
-    match error {
-        LoadErr::NotOurs { first, .. } => Ok(Comes::NotOurs(*first)),
-        LoadErr::Layout { version, .. } => Ok(Comes::Layout(*version)),
-        LoadErr::Damaged { place, .. } => Ok(Comes::Damaged(*place)),
-        _ => Err(OTHERWISE)?,
-    }
+fn told_of(rt: &impl Abort, error: LoadErr<MemoryDisk>) -> Comes {
+    let told = match &error {
+        LoadErr::NotOurs { first, .. } => Comes::NotOurs(*first),
+        LoadErr::Layout { version, .. } => Comes::Layout(*version),
+        LoadErr::Damaged { place, .. } => Comes::Damaged(*place),
+        _ => panic!(rt; "a journal tells something else"),
+    };
+    drop(error);
+    told
 }
 
 /// What comes of a disk that reads as these bytes once its store is closed, and had those before.
-fn comes_of_store(store: Store<MemoryDisk>, before: &[u8]) -> Result<Comes, Fail> {
+fn comes_of_store(rt: &impl Abort, store: Store<MemoryDisk>, before: &[u8]) -> Comes {
     let count = store.records().len();
-    let image = store.close().image()?;
+    let disk = store.close();
+    let image = disk.image().expect(rt, OTHERWISE);
+    drop(disk);
     if image.as_slice() == before {
-        Ok(Comes::Loaded(count))
-    } else if image.as_slice() == FRESH.as_slice() {
-        Ok(Comes::Anew)
+        Comes::Loaded(count)
     } else {
-        Err(OTHERWISE)?
+        assert!(rt; image.as_slice() == FRESH.as_slice());
+        Comes::Anew
     }
 }
 
 /// What a store that isn't loaded from these payloads tells.
-fn told_of_record(error: &StoreErr<MemoryDisk>, payloads: &[Placed]) -> Result<Comes, Fail> {
-    match error {
-        StoreErr::BadRecord { index, .. } => {
-            let placed = payloads.get(*index).ok_or(OTHERWISE)?;
-            Ok(Comes::BadRecord(*index, placed.gate))
-        }
-        StoreErr::OutOfMemory { .. } => Err(OTHERWISE)?,
-    }
+fn told_of_record(rt: &impl Abort, error: StoreErr<MemoryDisk>, payloads: &[Placed]) -> Comes {
+    let StoreErr::BadRecord { index, .. } = &error else {
+        panic!(rt; "memory is out");
+    };
+    let index = *index;
+    drop(error);
+    let placed = payloads.get(index).expect(rt, OTHERWISE);
+    Comes::BadRecord(index, placed.gate)
 }
 
 /// What comes of a disk with these bytes.
-fn comes_of(alloc: Global, bytes: &[u8]) -> Result<Comes, Fail> {
-    let (journal, payloads) = match Journal::load(alloc, disk(alloc, bytes)?, LIMIT) {
-        Ok(found) => found,
-        Err(error) => return told_of(&error),
+fn comes_of(rt: &impl Abort, alloc: Global, bytes: &[u8]) -> Comes {
+    let (journal, payloads) = match Journal::load(alloc, disk(rt, alloc, bytes), LIMIT) {
+        Ok(loaded) => loaded,
+        Err(error) => return told_of(rt, error),
     };
     match Store::load(alloc, journal, payloads.as_slice()) {
-        Ok(store) => comes_of_store(store, bytes),
-        Err(error) => told_of_record(&error, payloads.as_slice()),
+        Ok(store) => comes_of_store(rt, store, bytes),
+        Err(error) => told_of_record(rt, error, payloads.as_slice()),
     }
 }
 
 #[test]
-fn each_front_is_loaded_or_refused(rt: HostRuntime) -> Result<(), Fail> {
+fn each_front_is_loaded_or_refused(rt: HostRuntime) {
     for len in 0..=STARTS.len() {
-        assert!(rt; comes_of(rt.alloc(), &STARTS[..len])? == comes_of_front(len));
+        assert!(rt; comes_of(&rt, rt.alloc(), &STARTS[..len]) == comes_of_front(len));
     }
-    Ok(())
+}
+
+/// The journal of two starts with another byte at a place.
+fn changed(place: usize, byte: u8) -> [u8; 41] {
+    let mut bytes = STARTS;
+    if let Some(here) = bytes.get_mut(place) {
+        *here = byte;
+    }
+    bytes
 }
 
 #[test]
-fn each_changed_byte_is_loaded_or_refused(rt: HostRuntime) -> Result<(), Fail> {
+fn each_changed_byte_is_loaded_or_refused(rt: HostRuntime) {
     for (place, byte, wanted) in &CHANGED {
-        let mut bytes = STARTS;
-        if let Some(here) = bytes.get_mut(*place) {
-            *here = *byte;
-        }
-        assert!(rt; comes_of(rt.alloc(), &bytes)? == *wanted);
+        assert!(rt; comes_of(&rt, rt.alloc(), &changed(*place, *byte)) == *wanted);
     }
-    Ok(())
 }
 
 #[test]
-fn each_disk_is_loaded_or_refused(rt: HostRuntime) -> Result<(), Fail> {
+fn each_disk_is_loaded_or_refused(rt: HostRuntime) {
     for (bytes, wanted) in &DISKS {
-        assert!(rt; comes_of(rt.alloc(), bytes)? == *wanted);
+        assert!(rt; comes_of(&rt, rt.alloc(), bytes) == *wanted);
     }
-    Ok(())
 }
 
 #[test]
-fn each_list_of_payloads_is_loaded_or_refused(rt: HostRuntime) -> Result<(), Fail> {
+fn each_list_of_payloads_is_loaded_or_refused(rt: HostRuntime) {
     for (payloads, wanted) in &PAYLOADS {
-        let bytes = journal_of(rt.alloc(), payloads)?;
-        assert!(rt; comes_of(rt.alloc(), bytes.as_slice())? == *wanted);
+        let bytes = journal_of(&rt, rt.alloc(), payloads);
+        assert!(rt; comes_of(&rt, rt.alloc(), bytes.as_slice()) == *wanted);
     }
-    Ok(())
 }
 
+/// The bodies of the journal of two starts, and of one where a body was put twice.
 #[test]
-fn the_last_body_is_kept(rt: HostRuntime) -> Result<(), Fail> {
+fn the_last_body_is_kept(rt: HostRuntime) {
     let alloc = rt.alloc();
-    assert!(rt; body_on(alloc, &STARTS)?.as_slice() == b"".as_slice());
-    let image = journal_of(alloc, &[STAGE.as_slice(), STAGE_AGAIN.as_slice()])?;
-    assert!(rt; body_on(alloc, image.as_slice())?.as_slice() == b"new".as_slice());
-    Ok(())
+    assert!(rt; body_on(&rt, alloc, &STARTS).as_slice() == b"".as_slice());
+    let image = journal_of(&rt, alloc, &[STAGE.as_slice(), STAGE_AGAIN.as_slice()]);
+    assert!(rt; body_on(&rt, alloc, image.as_slice()).as_slice() == b"new".as_slice());
 }
 
 /// How many records a store of two has under this limit after a put, and the need and the limit that `Full` tells.
-fn told(alloc: Global, limit: u64) -> Result<(usize, u64, u64), Fail> {
-    let store = store_on(alloc, &STARTS, limit)?;
-    match store.put(alloc, &Record::Boot { boot: Boot(3) }) {
-        Ok(store) => Ok((store.records().len(), 0, 0)),
-        Err(AppendErr::Full { store, need, limit }) => Ok((store.records().len(), need, limit)),
-        Err(AppendErr::Broken { count: _, disk: _ }) => Err(OTHERWISE)?,
-        Err(AppendErr::OutOfMemory { store: _ }) => Err(OTHERWISE)?,
+fn told(rt: &impl Abort, alloc: Global, limit: u64) -> (usize, u64, u64) {
+    let rec = Record::Boot { boot: Boot(3) };
+    let put = store_on(rt, alloc, &STARTS, limit).put(alloc, &rec);
+    drop(rec);
+    match put {
+        Ok(store) => (count_of(store), 0, 0),
+        Err(AppendErr::Full { store, need, limit }) => (count_of(store), need, limit),
+        Err(_) => panic!(rt; "a put ends otherwise"),
     }
 }
 
 #[test]
-fn a_store_is_full_past_its_limit(rt: HostRuntime) -> Result<(), Fail> {
+fn a_store_is_full_past_its_limit(rt: HostRuntime) {
     let alloc = rt.alloc();
     // 40, where the journal ends, and 6 and 9 bytes
-    assert_eq!(rt; told(alloc, 55)?, (3, 0, 0));
-    assert_eq!(rt; told(alloc, 54)?, (2, 55, 54));
-    Ok(())
+    assert!(rt; told(&rt, alloc, 55) == (3, 0, 0));
+    assert!(rt; told(&rt, alloc, 54) == (2, 55, 54));
 }
