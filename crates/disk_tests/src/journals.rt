@@ -2,9 +2,12 @@
 
 use disk_model::{Disk, MemoryDisk, Stop};
 use std::alloc::Global;
-use std::test::Fail;
+use std::process::Abort;
 use xt_base::{CallList, Octets};
 use xt_journal::{AppendErr, Journal, LoadErr};
+
+/// What is told where a test stops that can't go on.
+pub const OTHERWISE: &str = "a call answers otherwise";
 
 /// A journal with one record, of a node's first start.
 pub const ONE: [u8; 27] = [
@@ -25,22 +28,25 @@ pub struct Loaded<D: Disk> {
     pub count: usize,
 }
 
-/// What a call answered that was to answer otherwise.
-#[derive(Debug, Drop)]
-pub struct Otherwise;
+/// The calls of these numbers.
+fn calls(rt: &impl Abort, alloc: Global, numbers: &[u64]) -> CallList {
+    let mut calls = CallList::new(alloc);
+    for number in numbers {
+        calls.push(*number).expect(rt, OTHERWISE);
+    }
+    calls
+}
 
 /// A disk with these bytes, of whose calls those of these numbers fail.
 pub fn disk(
+    rt: &impl Abort,
     alloc: Global,
     bytes: &[u8],
     failing: &[u64],
     stop: Option<Stop>,
-) -> Result<MemoryDisk, Fail> {
-    let mut calls = CallList::new(alloc);
-    for number in failing {
-        calls.push(*number)?;
-    }
-    Ok(MemoryDisk::new(alloc, Octets::of(alloc, bytes)?, calls, stop))
+) -> MemoryDisk {
+    let bytes = Octets::of(alloc, bytes).expect(rt, OTHERWISE);
+    MemoryDisk::new(alloc, bytes, calls(rt, alloc, failing), stop)
 }
 
 /// The journal on a disk and its payloads. The tests take from the call only what it answers.
