@@ -4,7 +4,8 @@ ghost use Rattle.world_hull.specs.Appends.{IsInAppend};
 use disk_hull::DiskHull;
 use disk_model::Stop;
 use std::alloc::Global;
-use std::test::Fail;
+use std::process::Abort;
+use std::test::*;
 use uuid::Uuid;
 use world_hull::{BodyErr, Hull, Kept};
 use xt_base::{Boot, Epoch, FileId, Msg, NodeId, Payload, Record, RegistryReq, Stamp};
@@ -23,53 +24,67 @@ fn last_boot(records: &[Record]) -> u64 {
 }
 
 /// Appends the record of a start.
-fn append(alloc: Global, hull: &mut DiskHull, boot: u64, stop: Option<Stop>) -> Result<Kept, Fail>
+fn append(
+    rt: &impl Abort,
+    alloc: Global,
+    hull: &mut DiskHull,
+    boot: u64,
+    stop: Option<Stop>,
+) -> Kept
     requires boot { boot < 2 ^ 62 }
     requires call { IsInAppend stop }
 {
     let rec = Record::Boot { boot: Boot(boot) };
-    Ok(hull.append(alloc, NODE, &rec, stop).ok().ok_or(OTHERWISE)?)
+    let end = hull.append(alloc, NODE, &rec, stop);
+    drop(rec);
+    end.ok().expect(rt, OTHERWISE)
 }
 
 /// The number of the last start that the node finds.
-fn found(alloc: Global, hull: &mut DiskHull) -> Result<u64, Fail> {
-    let records = hull.revive(alloc, NODE).ok().ok_or(OTHERWISE)?;
-    Ok(last_boot(records.as_slice()))
+fn found(rt: &impl Abort, alloc: Global, hull: &mut DiskHull) -> u64 {
+    let records = hull.revive(alloc, NODE).ok().expect(rt, OTHERWISE);
+    last_boot(records.as_slice())
 }
 
 /// Appends the starts 1, then 2 with this stop, and then 3. Gives how the second append ended, and the last start that
 /// stood after it and at the end.
-fn three_starts(alloc: Global, stop: Option<Stop>) -> Result<(Kept, u64, u64), Fail>
+fn three_starts(rt: &impl Abort, alloc: Global, stop: Option<Stop>) -> (Kept, u64, u64)
     requires { IsInAppend stop }
 {
     let mut hull = DiskHull::new(alloc);
-    append(alloc, &mut hull, 1, None)?;
-    let end = append(alloc, &mut hull, 2, stop)?;
-    let after = found(alloc, &mut hull)?;
-    append(alloc, &mut hull, 3, None)?;
-    Ok((end, after, found(alloc, &mut hull)?))
+    append(rt, alloc, &mut hull, 1, None);
+    let end = append(rt, alloc, &mut hull, 2, stop);
+    let after = found(rt, alloc, &mut hull);
+    append(rt, alloc, &mut hull, 3, None);
+    (end, after, found(rt, alloc, &mut hull))
+}
+
+/// The bytes that are tried in each call.
+static FILLS: [u8; 3] = [0, 0x37, 0xa5];
+
+/// What comes of three starts of which the second stops in this call with this byte.
+fn wanted(call: u64, fill: u8) -> (Kept, u64, u64) {
+    if call >= 3 && fill == 0xa5 {
+        (Kept::StoppedKept, 2, 3)
+    } else {
+        (Kept::StoppedLost, 1, 3)
+    }
 }
 
 #[test]
-fn a_stop_keeps_a_record_or_loses_it(rt: HostRuntime) -> Result<(), Fail> {
+fn a_stop_keeps_a_record_or_loses_it(rt: HostRuntime) {
     let alloc = rt.alloc();
-    assert!(rt; three_starts(alloc, None)? == (Kept::Done, 2, 3));
+    assert!(rt; three_starts(&rt, alloc, None) == (Kept::Done, 2, 3));
     for call in 1..5 {
-        for fill in [0, 0x37, 0xa5] {
-            let want = match (call, fill) {
-                (3 | 4, 0xa5) => (Kept::StoppedKept, 2, 3),
-                _ => (Kept::StoppedLost, 1, 3),
-            };
-            assert!(rt; three_starts(alloc, Some(Stop { call, fill }))? == want);
+        for fill in &FILLS {
+            let stop = Stop { call, fill: *fill };
+            assert!(rt; three_starts(&rt, alloc, Some(stop)) == wanted(call, *fill));
         }
     }
-    Ok(())
 }
 
-#[test]
-fn a_message_is_carried(rt: HostRuntime) -> Result<(), Fail> {
-    let alloc = rt.alloc();
-    let mut hull = DiskHull::new(alloc);
+/// Whether a message is carried: the request for a row, from node 1 to 2.
+fn is_carried(alloc: Global, hull: &mut DiskHull) -> bool {
     let request = RegistryReq::Get { node: NodeId(3) };
     let msg = Msg {
         from: NodeId(1),
@@ -77,16 +92,27 @@ fn a_message_is_carried(rt: HostRuntime) -> Result<(), Fail> {
         list: 1,
         payload: Payload::Registry { number: 5, request },
     };
-    let carried = hull.carry(alloc, &msg).ok().ok_or(OTHERWISE)?;
-    assert!(rt; (carried.from, carried.to) == (NodeId(1), NodeId(2)));
-    assert!(rt; matches!(carried.payload, Payload::Registry { number: 5, .. }));
-    Ok(())
+    let carried = hull.carry(alloc, &msg);
+    drop(msg);
+    match carried {
+        Ok(carried) => {
+            let is = (carried.from, carried.to) == (NodeId(1), NodeId(2))
+                && matches!(carried.payload, Payload::Registry { number: 5, .. });
+            drop(carried);
+            is
+        }
+        Err(_) => false,
+    }
 }
 
 #[test]
-fn no_body_is_found_where_none_was_put(rt: HostRuntime) -> Result<(), Fail> {
-    let alloc = rt.alloc();
-    let mut hull = DiskHull::new(alloc);
+fn a_message_is_carried(rt: HostRuntime) {
+    let mut hull = DiskHull::new(rt.alloc());
+    assert!(rt; is_carried(rt.alloc(), &mut hull));
+}
+
+/// Whether the node keeps no body as version 1 of object 0 of a file.
+fn has_no_body(alloc: Global, hull: &DiskHull) -> bool {
     let file = FileId {
         volume: Uuid::nil(),
         number: 1,
@@ -96,8 +122,16 @@ fn no_body_is_found_where_none_was_put(rt: HostRuntime) -> Result<(), Fail> {
         node: NodeId(0),
     };
     let version = Stamp { epoch, count: 1 };
-    append(alloc, &mut hull, 1, None)?;
-    let body = hull.body(alloc, NODE, &file, 0, &version);
-    assert!(rt; matches!(body, Err(BodyErr::NoSuchVersion)));
-    Ok(())
+    matches!(
+        hull.body(alloc, NODE, &file, 0, &version),
+        Err(BodyErr::NoSuchVersion)
+    )
+}
+
+#[test]
+fn no_body_is_found_where_none_was_put(rt: HostRuntime) {
+    let alloc = rt.alloc();
+    let mut hull = DiskHull::new(alloc);
+    append(&rt, alloc, &mut hull, 1, None);
+    assert!(rt; has_no_body(alloc, &hull));
 }
