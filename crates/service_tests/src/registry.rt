@@ -1,11 +1,18 @@
+use crate::sealing::OTHERWISE;
 use dir_core::Dir;
-use std::test::Fail;
+use std::alloc::Global;
+use std::process::Abort;
+use std::test::*;
 use xt_base::{DIR_NODE, Event, Msg, Name, NodeId, Payload, RegistryAnswer, RegistryReq};
+use xt_protocol::Turned;
 
 /// Who asks, and under which number; `s` to set node 1 as an OSD at `a`, `g` to get it, `l` to list a kind, `r` to remove it;
 /// the expected version or the kind; `d` where it is done, `c` changed, `a` absent, `w` a row, `p` a page, `-` nothing; the
 /// version or how many rows; and whether the request is recorded.
-const REQUESTS: [(u32, u64, u8, u64, u8, u64, bool); 14] = [
+type Row = (u32, u64, u8, u64, u8, u64, bool);
+
+/// Requests, one after the other.
+static REQUESTS: [Row; 14] = [
     (10, 1, b'g', 0, b'a', 0, false),
     (10, 2, b's', 0, b'd', 1, true),
     // again under its number, and under an older one
@@ -25,28 +32,25 @@ const REQUESTS: [(u32, u64, u8, u64, u8, u64, bool); 14] = [
 ];
 
 /// A request about node 1.
-fn request(rt: &HostRuntime, verb: u8, value: u64) -> Result<RegistryReq, Fail> {
+fn request(rt: &impl Abort, alloc: Global, verb: u8, value: u64) -> RegistryReq {
     let node = NodeId(1);
-    Ok(if verb == b's' {
-        RegistryReq::Set {
+    match verb {
+        b's' => RegistryReq::Set {
             node,
             kind: 1,
-            address: Name::of(rt.alloc(), "a")?,
+            address: Name::of(alloc, "a").expect(rt, OTHERWISE),
             expected: value,
-        }
-    } else if verb == b'g' {
-        RegistryReq::Get { node }
-    } else if verb == b'l' {
-        RegistryReq::List {
+        },
+        b'g' => RegistryReq::Get { node },
+        b'l' => RegistryReq::List {
             kind: if value == 1 { 1 } else { 2 },
             after: NodeId(0),
-        }
-    } else {
-        RegistryReq::Remove {
+        },
+        _ => RegistryReq::Remove {
             node,
             expected: value,
-        }
-    })
+        },
+    }
 }
 
 /// What an answer says.
@@ -70,34 +74,35 @@ fn said_by(outs: &[Msg]) -> (u8, u64) {
     (b'-', 0)
 }
 
-/// What the service says to a request, and whether it is recorded.
-fn handled(
-    rt: &HostRuntime,
-    dir: &mut Dir,
-    from: u32,
-    number: u64,
-    request: RegistryReq,
-) -> Result<((u8, u64), bool), Fail> {
+/// What a step says, and whether its request is recorded.
+fn told(turned: Turned) -> (u8, u64, bool) {
+    let (what, count) = said_by(turned.outs.as_slice());
+    let recorded = turned.rec.is_some();
+    drop(turned);
+    (what, count, recorded)
+}
+
+/// What the service says to the request of a row, and whether it is recorded.
+fn handled(rt: &impl Abort, alloc: Global, dir: &mut Dir, row: &Row) -> (u8, u64, bool) {
     let event = Event::Deliver(Msg {
-        from: NodeId(from),
+        from: NodeId(row.0),
         to: DIR_NODE,
         list: 1,
-        payload: Payload::Registry { number, request },
+        payload: Payload::Registry {
+            number: row.1,
+            request: request(rt, alloc, row.2, row.3),
+        },
     });
-    let turned = dir.step(rt.alloc(), &event)?;
-    Ok((said_by(turned.outs.as_slice()), turned.rec.is_some()))
+    let turned = dir.step(alloc, &event).expect(rt, OTHERWISE);
+    drop(event);
+    told(turned)
 }
 
 /// Each request gets its answer, and what may change the registry is recorded.
 #[test]
-fn requests_are_answered(rt: HostRuntime) -> Result<(), Fail> {
-    let mut dir = Dir::start(rt.alloc(), &[0; 32], &[])?;
-    for row in REQUESTS.iter() {
-        let request = request(&rt, row.2, row.3)?;
-        let (answer, recorded) = handled(&rt, &mut dir, row.0, row.1, request)?;
-        assert!(rt; answer.0 == row.4);
-        assert!(rt; answer.1 == row.5);
-        assert!(rt; recorded == row.6);
+fn requests_are_answered(rt: HostRuntime) {
+    let mut dir = Dir::start(rt.alloc(), &[0; 32], &[]).expect(&rt, OTHERWISE);
+    for row in &REQUESTS {
+        assert!(rt; handled(&rt, rt.alloc(), &mut dir, row) == (row.4, row.5, row.6));
     }
-    Ok(())
 }

@@ -1,12 +1,18 @@
-use std::test::Fail;
-use striping::{gather, pieces};
+use crate::sealing::OTHERWISE;
+use std::alloc::Global;
+use std::process::Abort;
+use std::test::*;
+use striping::{Piece, gather, pieces};
 use xt_base::Octets;
 
 /// The pieces of a range: each its object, its place and length there, and its owner's number.
 type Pieces = &'static [(u64, u32, u32, u8)];
 
 /// A stripe, how many OSDs there are, where a range begins, its length, and its pieces.
-const RANGES: [(u32, u8, u64, u64, Pieces); 4] = [
+type Row = (u32, u8, u64, u64, Pieces);
+
+/// Ranges of files.
+static RANGES: [Row; 4] = [
     (
         131_072,
         4,
@@ -31,33 +37,58 @@ const RANGES: [(u32, u8, u64, u64, Pieces); 4] = [
     (1_024, 9, (1 << 48) - 1, 1, &[((1 << 38) - 1, 1_023, 1, 3)]),
 ];
 
-#[test]
-fn ranges_fall_into_pieces(rt: HostRuntime) -> Result<(), Fail> {
-    for (stripe, width, offset, len, expected) in RANGES {
-        assert!(rt; stripe >= 1_024 && stripe <= 131_072 && stripe % 1_024 == 0);
-        assert!(rt; width >= 1 && width <= 9);
-        assert!(rt; offset < 1 << 48 && len <= (1 << 48) - offset);
-        let pieces = pieces(rt.alloc(), stripe, width, offset, len)?;
-        assert_eq!(rt; pieces.len(), expected.len(), "at {offset}");
-        for (piece, (object, at, len, owner)) in pieces.iter().zip(expected) {
-            assert_eq!(rt; piece.object, *object, "at {offset}");
-            assert_eq!(rt; piece.at, *at, "at {offset}");
-            assert_eq!(rt; piece.len, *len, "at {offset}");
-            assert_eq!(rt; piece.owner, *owner, "at {offset}");
+/// Whether a piece is the one at this place.
+fn is_at(expected: Pieces, place: usize, piece: &Piece) -> bool {
+    match expected.get(place) {
+        Some((object, at, len, owner)) => {
+            piece.object == *object && piece.at == *at && piece.len == *len && piece.owner == *owner
+        }
+        None => false,
+    }
+}
+
+/// Whether these are the pieces.
+fn are(pieces: &[Piece], expected: Pieces) -> bool {
+    for (place, piece) in pieces.iter().enumerate() {
+        if !is_at(expected, place, piece) {
+            return false;
         }
     }
-    Ok(())
+    pieces.len() == expected.len()
+}
+
+/// Whether a range falls into the pieces of its row.
+fn falls(alloc: Global, row: &Row) -> bool {
+    let (stripe, width, offset, len, expected) = *row;
+    let is_stripe = stripe >= 1_024 && stripe <= 131_072 && stripe % 1_024 == 0;
+    let is_width = width >= 1 && width <= 9;
+    if !is_stripe || !is_width || offset >= 1 << 48 || len > (1 << 48) - offset {
+        return false;
+    }
+    match pieces(alloc, stripe, width, offset, len) {
+        Ok(pieces) => are(pieces.as_slice(), expected),
+        Err(_) => false,
+    }
 }
 
 #[test]
-fn parts_are_joined(rt: HostRuntime) -> Result<(), Fail> {
-    let alloc = rt.alloc();
+fn ranges_fall_into_pieces(rt: HostRuntime) {
+    for row in &RANGES {
+        assert!(rt; falls(rt.alloc(), row), "at {}", row.2);
+    }
+}
+
+/// What the parts `ab`, none and `c` are together.
+fn joined(rt: &impl Abort, alloc: Global) -> Octets {
     let parts = [
-        Octets::of(alloc, b"ab")?,
+        Octets::of(alloc, b"ab").expect(rt, OTHERWISE),
         Octets::new(alloc),
-        Octets::of(alloc, b"c")?,
+        Octets::of(alloc, b"c").expect(rt, OTHERWISE),
     ];
-    let joined = gather(alloc, &parts)?;
-    assert!(rt; joined.as_slice() == b"abc".as_slice());
-    Ok(())
+    gather(alloc, &parts).expect(rt, OTHERWISE)
+}
+
+#[test]
+fn parts_are_joined(rt: HostRuntime) {
+    assert!(rt; joined(&rt, rt.alloc()).as_slice() == b"abc".as_slice());
 }
