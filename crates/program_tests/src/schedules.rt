@@ -1,7 +1,8 @@
 use crate::jobs::outcome;
+use crate::links::OTHERWISE;
 use std::alloc::Global;
-use std::test::Fail;
-use xt_base::OutOfMemory;
+use std::process::Abort;
+use std::test::*;
 
 /// Schedules that are replayed to their end. In each case the lines of the schedule stand behind `>`, and those of the output
 /// behind `<`, where `..` stands for any lines. A comma stands between two lines.
@@ -154,17 +155,19 @@ a wake of a node that doesn't run
 < ! illegal 2 notrunning 1";
 
 /// The lines of a case that stand behind the mark.
-fn lines(alloc: Global, case: &str, mark: &str) -> Result<Vec<u8>, OutOfMemory> {
+fn lines(rt: &impl Abort, alloc: Global, case: &str, mark: &str) -> Vec<u8> {
     let mut bytes = Vec::new(alloc);
     for part in case.split('\n') {
         if let Some(lines) = part.strip_prefix(mark) {
             for line in lines.split(", ") {
-                bytes.extend_from_slice(line.as_bytes())?;
-                bytes.push(b'\n')?;
+                bytes
+                    .extend_from_slice(line.as_bytes())
+                    .expect(rt, OTHERWISE);
+                bytes.push(b'\n').expect(rt, OTHERWISE);
             }
         }
     }
-    Ok(bytes)
+    bytes
 }
 
 /// Whether the output has the wanted lines and no others, but for any number of lines in the place of `..`.
@@ -187,19 +190,21 @@ fn is_like(output: &[u8], wanted: &[u8]) -> bool {
 }
 
 /// Whether the case comes to what it tells, with this status.
-fn is_met(alloc: Global, case: &str, code: u8) -> Result<bool, Fail> {
-    let schedule = lines(alloc, case, "> ")?;
-    let wanted = lines(alloc, case, "< ")?;
-    let ended = outcome(alloc, &["replay"], schedule.as_slice(), None, None)?;
-    Ok(ended.code == code && is_like(ended.output.as_slice(), wanted.as_slice()))
+fn is_met(rt: &impl Abort, alloc: Global, case: &str, code: u8) -> bool {
+    let schedule = lines(rt, alloc, case, "> ");
+    let wanted = lines(rt, alloc, case, "< ");
+    let ended = outcome(rt, alloc, &["replay"], schedule.as_slice(), None, None);
+    ended.code == code && is_like(ended.output.as_slice(), wanted.as_slice())
 }
 
+/// The status of the cases, and the cases.
+static CASES: [(u8, &str); 3] = [(0, DONE), (3, MALFORMED), (4, ILLEGAL)];
+
 #[test]
-fn schedules_come_to_what_is_told(rt: HostRuntime) -> Result<(), Fail> {
-    for (code, cases) in [(0, DONE), (3, MALFORMED), (4, ILLEGAL)] {
+fn schedules_come_to_what_is_told(rt: HostRuntime) {
+    for (code, cases) in &CASES {
         for case in cases.split("\n\n") {
-            assert!(rt; is_met(rt.alloc(), case, code)?, "{case}");
+            assert!(rt; is_met(&rt, rt.alloc(), case, *code), "{case}");
         }
     }
-    Ok(())
 }
