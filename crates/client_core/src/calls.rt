@@ -9,11 +9,12 @@ use crate::ends::outcome_of;
 use crate::holding::HeldFiles;
 use crate::progress::{Learnt, Next};
 use crate::requests::{CallResult, MadeCall, Request, Stage};
-use replica_client::{ReplicaClient, ends, gives};
+use replica_client::{ReplicaClient, gives};
 use std::alloc::Global;
-use step_outputs::sends;
+use step_outputs::{one, sends};
 use xt_base::{
-    Call, Copies, Event, Marks, Msgs, NodeId, OutOfMemory, Outcome, Payload, Reply, Seq, SizeMark,
+    Call, Copies, Event, Mark, Marks, Msgs, NodeId, OutOfMemory, Outcome, Payload, Reply, Seq,
+    SizeMark,
 };
 use xt_protocol::Turned;
 
@@ -91,7 +92,11 @@ fn marks_of(alloc: Global, made: &MadeCall, next: &Next) -> Result<Marks, OutOfM
     ensures { IfOk result (λ marks. marks ≡ rows.marks_of made.now next.now) }
 {
     match next {
-        Next::End { how } => ends(alloc, made.number, outcome_of(alloc, how)?),
+        Next::End { how } => {
+            let outcome = outcome_of(alloc, how)?;
+            let number = made.number;
+            one(alloc, Mark::Done { number, outcome })
+        }
         Next::Wait | Next::Ask { .. } => Ok(Seq::new(alloc)),
     }
 }

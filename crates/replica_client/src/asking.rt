@@ -7,7 +7,7 @@ ghost use Rattle.cluster_runs.specs.Clients as rows;
 
 use cluster_runs::{RunningCall, Tried};
 use std::alloc::Global;
-use step_outputs::message;
+use step_outputs::{message, one};
 use xt_base::{
     Call, Capability, Copies, Mark, Marks, Members, Msgs, NodeId, Op, OutOfMemory, Outcome,
     Payload, Seq,
@@ -34,15 +34,6 @@ pub fn first_target(members: &Members, target: Option<NodeId>) -> NodeId
     }
 }
 
-/// A list of this alone.
-pub fn only<T: Drop>(alloc: Global, item: T) -> Result<Seq<T>, OutOfMemory>
-    ensures { IfOk result (λ items. items ≡ item ∷ []) }
-{
-    let mut items = Seq::new(alloc);
-    items.push(item)?;
-    Ok(items)
-}
-
 /// A call's operation is asked of this member.
 pub fn asks(
     alloc: Global,
@@ -61,7 +52,7 @@ pub fn asks(
         capability: *capability,
         op,
     };
-    only(alloc, message(node, target, payload))
+    one(alloc, message(node, target, payload))
 }
 
 /// A call is marked as begun.
@@ -69,7 +60,7 @@ pub fn begins(alloc: Global, number: u64, call: &Call) -> Result<Marks, OutOfMem
     ensures { IfOk result (λ marks. marks ≡ mark.Begin number call.now ∷ []) }
 {
     let call = call.copy(alloc)?;
-    only(alloc, Mark::Begin { number, call })
+    one(alloc, Mark::Begin { number, call })
 }
 
 /// A call is marked as ended.
@@ -77,7 +68,7 @@ pub fn ends(alloc: Global, number: u64, outcome: &Outcome) -> Result<Marks, OutO
     ensures { IfOk result (λ marks. marks ≡ mark.Done number outcome.now ∷ []) }
 {
     let outcome = outcome.copy(alloc)?;
-    only(alloc, Mark::Done { number, outcome })
+    one(alloc, Mark::Done { number, outcome })
 }
 
 /// What a step gives that keeps no record.

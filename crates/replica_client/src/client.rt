@@ -8,14 +8,14 @@ ghost use Rattle.xt_base.specs.declared.event.Mark.TheVariants as mark;
 ghost use Rattle.replica_client.specs.Views.{Acts, CallActs, ended_by};
 ghost use Rattle.replica_client.specs.Again.{asks_first, again_of_client};
 
-use crate::asking::{asks, begins, ends, first_target, gives, only, run, turn_to};
+use crate::asking::{asks, begins, ends, first_target, gives, run, turn_to};
 use crate::known::{KnownFiles, aimed, raised};
 use asked_members::{answers_in, next_target, was_tried, with_outcome};
 use cluster_runs::{KnownFile, RunningCall, Tried};
 use std::alloc::Global;
 use std::marker::Model;
 use std::mem;
-use step_outputs::{quiet, sends};
+use step_outputs::{one, quiet, sends};
 use xt_base::{
     AskRefusal, COUNTS, Call, Capability, Copies, Event, FileId, Marks, Msgs, NodeId, Octets, Op,
     OutOfMemory, Outcome, Payload, Reply, Retry, Seq, Times,
@@ -303,7 +303,7 @@ impl ReplicaClient {
     {
         let known = self.files.file(&capability.file);
         let target = first_target(&capability.location.members, known.target);
-        let tried = only(
+        let tried = one(
             self.alloc,
             Tried {
                 node: target,

@@ -9,5 +9,5 @@ mod asking;
 mod client;
 mod known;
 
-pub use asking::{begins, ends, first_member, gives};
+pub use asking::{begins, first_member, gives};
 pub use client::ReplicaClient;

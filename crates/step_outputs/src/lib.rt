@@ -49,7 +49,7 @@ pub fn sends(alloc: Global, outs: Msgs) -> Turned
 }
 
 /// One item as a list.
-fn one<T: Drop>(alloc: Global, item: T) -> Result<Seq<T>, OutOfMemory>
+pub fn one<T: Drop>(alloc: Global, item: T) -> Result<Seq<T>, OutOfMemory>
     ensures { IfOk result (λ made. made ≡ item ∷ []) }
 {
     let mut items = Seq::new(alloc);
