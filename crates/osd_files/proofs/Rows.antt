@@ -1,8 +1,10 @@
 -- from the row of a file that has changed to the row of the file before it
-use Rattle.std.proofs.Common.{◌≡◌, ◌∙◌, ℕ, Bool, true, false, refl, ap, sym, subst, Result, Ok, Err, List, cond, arith, ◌<◌}
+use Rattle.std.proofs.Common.{◌≡◌, ◌∙◌, ℕ, Bool, true, false, refl, ap, sym, subst, Result, Ok, Err, Option, Some, None, IfSome, IfNone, List, cond, arith, ◌<◌}
 use Rattle.std.specs.Prelude.{◌==◌, nat_lt}
 use Rattle.std.specs.Result.{IfOk}
 use Rattle.xt_base.specs.declared.ids.FileId.{FileId}
+use Rattle.xt_base.specs.Faults.{Rose}
+use Rattle.xt_base.specs.declared.record.Record.{Record}
 use Rattle.xt_base.specs.declared.ids.Stamp.{Stamp}
 use Rattle.xt_base.specs.declared.file.Capability.{Capability}
 use Rattle.xt_protocol.specs.declared.Turned.{Turned}
@@ -14,6 +16,7 @@ use Rattle.xt_base.specs.declared.message.Payload.{Payload}
 use Rattle.xt_protocol.specs.LeaseRows.{Awake, LeaseState, LeaseNews, on_answer}
 use Rattle.osd_rows.specs.FileLeases.{answer_comes, end_after_answer, lease_news}
 use Rattle.osd_rows.specs.Overdue.{no_lease_for_all, lease_lapses}
+use Rattle.kept_bodies.specs.KeptBodies.{ReadsOnly}
 use Rattle.osd_files.specs.Views.{FileView, site_at}
 use Rattle.osd_files.specs.Rows.{IsRow, IsRowBy}
 
@@ -70,23 +73,54 @@ each_clock first second awake old mid new r same rows =
 abbrev pub behind_it : Turned → FileStep → FileStep
 behind_it first step = record { state = step.state; turned = joined first step.turned }
 
-pub joins_on : {E : Type 0} (row whole : Site → FileState → FileStep) (now : ℕ) (awake : Awake) (old mid : FileState) (new : FileView) (first rest : Turned) (r : Result Turned E)
+-- what two parts of a step give, by what the second one gives
+pub rest_ok : {E F : Type 0} (P Q : Turned → Type 0) (first : Turned) (rest : Result Turned E) (r : Result Turned F)
+    → ((next turned : Turned) → P next → turned ≡ joined first next → Q turned)
+    → IfOk r (λ turned. (next : Turned) × (rest ≡ Ok next) × (turned ≡ joined first next)) → IfOk rest P → IfOk r Q
+rest_ok {E = E} P Q first rest (Ok turned) all made of = all made.0 turned (subst (λ (x : Result Turned E). IfOk x P) made.1 of) made.2
+rest_ok P Q first rest (Err e) all made of = made
+
+pub joins_next : {E F : Type 0} (row whole : Site → FileState → FileStep) (now : ℕ) (awake : Awake) (old mid : FileState) (new : FileView) (first : Turned) (rest : Result Turned E) (r : Result Turned F)
     → ((sealed : Capability → Bool) (body : FileId → ℕ → Stamp → List ℕ) → whole (site_at awake now sealed body) old ≡ behind_it first (row (site_at awake now sealed body) mid))
-    → IsRow row now (record { awake = awake; state = mid }) new rest
-    → IfOk r (λ turned. turned ≡ joined first rest)
+    → IfOk rest (λ next. IsRow row now (record { awake = awake; state = mid }) new next)
+    → IfOk r (λ turned. (next : Turned) × (rest ≡ Ok next) × (turned ≡ joined first next))
     → IfOk r (λ turned. IsRow whole now (record { awake = awake; state = old }) new turned)
-joins_on row whole now awake old mid new first rest r same step made =
-    let P : Turned → Type 0 = λ turned. turned ≡ joined first rest in
+joins_next row whole now awake old mid new first rest r same step made =
+    let P : Turned → Type 0 = λ turned. IsRow row now (record { awake = awake; state = mid }) new turned in
     let Q : Turned → Type 0 = λ turned. IsRow whole now (record { awake = awake; state = old }) new turned in
-    let all : (turned : Turned) → P turned → Q turned = λ turned is sealed body.
+    let all : (next turned : Turned) → P next → turned ≡ joined first next → Q turned = λ next turned of is sealed body.
     record {
-      here = (step sealed body).here;
+      here = (of sealed body).here;
       step =
-          same sealed body ∙ ap (behind_it first) (step sealed body).step
+          same sealed body ∙ ap (behind_it first) (of sealed body).step
           ∙ ap (λ (t : Turned). let made : FileStep = record { state = new.state; turned = t } in made) (sym is);
     }
     in
-    if_ok P Q r all made
+    rest_ok P Q first rest r all made step
+
+-- what holds of what a part gave
+pub given_ok : {A E : Type 0} (P : A → Type 0) (r : Result A E) (a : A) → r ≡ Ok a → IfOk r P → P a
+given_ok {A = A} {E = E} P r a is of = subst (λ (x : Result A E). IfOk x P) is of
+
+if_none : (o : Option ℕ) (a b c : ℕ) → IfNone o (a ≡ b) → b ≡ c → IfNone o (a ≡ c)
+if_none None a b c first next = first ∙ next
+if_none (Some n) a b c first next = first
+
+-- a step reads as the part of it that fails
+pub reads_as : {B : Type 0} (records : B → List Record) (faults : B → ℕ) (old new : B) (part whole : Option ℕ) → whole ≡ part
+    → ReadsOnly records faults old new part → ReadsOnly records faults old new whole
+reads_as records faults old new part whole same reads = subst (λ (f : Option ℕ). ReadsOnly records faults old new f) (sym same) reads
+
+-- the same behind a part that has not failed
+pub reads_behind : {B : Type 0} (records : B → List Record) (faults : B → ℕ) (old mid new : B) (part whole : Option ℕ) → whole ≡ part
+    → ReadsOnly records faults old mid None → ReadsOnly records faults mid new part → ReadsOnly records faults old new whole
+reads_behind records faults old mid new part whole same first next =
+    reads_as records faults old new part whole same
+    (record {
+      same = next.same ∙ first.same;
+      failed = subst (λ (n : ℕ). IfSome part (λ count. (count ≡ faults new) × Rose n (faults new))) first.sound next.failed;
+      sound = if_none part (faults new) (faults mid) (faults old) next.sound first.sound;
+    })
 
 -- Tests.
 
@@ -130,15 +164,20 @@ rows_by first second now body awake old mid new r same rows =
     let all : (turned : Turned) → P turned → Q turned = λ turned row sealed. record { here = (row sealed).here; step = same sealed ∙ (row sealed).step } in
     if_ok P Q r all rows
 
-pub joins_by : (row whole : Site → FileState → FileStep) (now : ℕ) (body : FileId → ℕ → Stamp → List ℕ) (awake : Awake) (old mid : FileState) (new : FileView) (first rest turned : Turned)
+pub joins_by : {E F : Type 0} (row whole : Site → FileState → FileStep) (now : ℕ) (body : FileId → ℕ → Stamp → List ℕ) (awake : Awake) (old mid : FileState) (new : FileView) (first : Turned) (rest : Result Turned E) (r : Result Turned F)
     → ((sealed : Capability → Bool) → whole (site_at awake now sealed body) old ≡ behind_it first (row (site_at awake now sealed body) mid))
-    → IsRowBy row now body (record { awake = awake; state = mid }) new rest
-    → turned ≡ joined first rest → IsRowBy whole now body (record { awake = awake; state = old }) new turned
-joins_by row whole now body awake old mid new first rest turned same step is =
-    λ sealed.
+    → IfOk rest (λ next. IsRowBy row now body (record { awake = awake; state = mid }) new next)
+    → IfOk r (λ turned. (next : Turned) × (rest ≡ Ok next) × (turned ≡ joined first next))
+    → IfOk r (λ turned. IsRowBy whole now body (record { awake = awake; state = old }) new turned)
+joins_by row whole now body awake old mid new first rest r same step made =
+    let P : Turned → Type 0 = λ turned. IsRowBy row now body (record { awake = awake; state = mid }) new turned in
+    let Q : Turned → Type 0 = λ turned. IsRowBy whole now body (record { awake = awake; state = old }) new turned in
+    let all : (next turned : Turned) → P next → turned ≡ joined first next → Q turned = λ next turned of is sealed.
     record {
-      here = (step sealed).here;
+      here = (of sealed).here;
       step =
-          same sealed ∙ ap (behind_it first) (step sealed).step
+          same sealed ∙ ap (behind_it first) (of sealed).step
           ∙ ap (λ (t : Turned). let made : FileStep = record { state = new.state; turned = t } in made) (sym is);
     }
+    in
+    rest_ok P Q first rest r all made step

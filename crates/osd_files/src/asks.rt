@@ -20,6 +20,7 @@ ghost use Rattle.osd_files.specs.Leads.{place_of};
 ghost use Rattle.osd_files.specs.Views.{shown, site_at};
 ghost use Rattle.osd_files.specs.Rows.{IsStep, IsRow, IsRowBy};
 
+use crate::joining::join_rest;
 use crate::lead::Lead;
 use crate::parts::Parts;
 use crate::waking::reads_of;
@@ -29,7 +30,7 @@ use kept_bodies::{Bodies, StepErr};
 use osd_asks::{OpenAsks, is_read, refusal_of};
 use osd_rows::WaitingAsk;
 use std::alloc::Global;
-use step_outputs::{answers, join, keeps, quiet, tells};
+use step_outputs::{answers, keeps, quiet, tells};
 use xt_base::{Capability, Copies, FileId, Lease, NodeId, Op, OpId, OutOfMemory, Reply, Times};
 use xt_protocol::Turned;
 
@@ -271,8 +272,8 @@ fn let_in<B: Bodies>(
     let ask = waiting_ask(file.awake.times(), now, id, capability.epoch, asked);
     let kept = keeps(file.alloc, file.lead.list_once(&capability.location));
     file.used = now;
-    let rest = ask_rows(file, bodies, now, ask)?;
-    Ok(join(kept, rest)?)
+    let rest = ask_rows(file, bodies, now, ask);
+    join_rest(kept, rest)
 }
 
 /// An ask on a replicated file, where `sealed` says whether the capability's tag is the key's: it is refused, or let in.

@@ -9,6 +9,7 @@ ghost use Rattle.osd_files.specs.Rows.{IsRow, IsRowBy};
 ghost use Rattle.xt_protocol.specs.SeenBodies.{body_by};
 ghost use Rattle.kept_bodies.specs.KeptBodies.{fault_of, ReadsOnly};
 
+use crate::joining::both;
 use crate::parts::Parts;
 use kept_bodies::{Bodies, StepErr};
 use osd_peers::send_any;
@@ -16,8 +17,24 @@ use osd_rows::Acted;
 use replica_state::fetched_from;
 use std::alloc::Global;
 use step_outputs::{message, sends_one};
-use xt_base::{Epoch, FileHead, NodeId, Octets, OutOfMemory, Seq, Stamp, Update};
+use xt_base::{
+    Epoch, FileHead, Msgs, NodeId, Octets, OutOfMemory, Payload, Seq, Stamp, Update,
+};
 use xt_protocol::Turned;
+
+/// The answer to whoever asked, if there is one.
+fn answered(
+    alloc: Global,
+    node: NodeId,
+    from: NodeId,
+    answer: Option<Payload>,
+) -> Result<Msgs, OutOfMemory>
+    ensures { IfOk result (λ outs. outs ≡ if_any node from answer) }
+{
+    let mut outs = Seq::new(alloc);
+    send_any(&mut outs, node, from, answer)?;
+    Ok(outs)
+}
 
 /// A row of the replica: its record, and its answer to whoever asked.
 fn replica_acts(
@@ -28,10 +45,9 @@ fn replica_acts(
 ) -> Result<Turned, OutOfMemory>
     ensures { IfOk result (λ turned. turned ≡ record { rec = acted.rec; outs = if_any node from acted.answer; marks = [] }) }
 {
-    let mut outs = Seq::new(alloc);
-    send_any(&mut outs, node, from, acted.answer)?;
+    let (rec, outs) = both(acted.rec, answered(alloc, node, from, acted.answer))?;
     Ok(Turned {
-        rec: acted.rec,
+        rec,
         outs,
         marks: Seq::new(alloc),
     })

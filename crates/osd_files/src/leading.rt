@@ -13,12 +13,13 @@ ghost use Rattle.osd_files.specs.Answers.{HasTurn};
 ghost use Rattle.osd_files.specs.Rows.{IsRowBy};
 ghost use Rattle.osd_files.specs.Views.{shown};
 
-use crate::leases::{note, stay_in_range};
+use crate::joining::join_rest;
+use crate::leases::{noted, stay_in_range};
 use crate::parts::Parts;
 use crate::serving::asks_follow;
 use file_lease::FileLease;
 use kept_bodies::{Bodies, StepErr};
-use step_outputs::{join, quiet};
+use step_outputs::quiet;
 use xt_base::{NodeId, Payload};
 use xt_protocol::Turned;
 
@@ -48,8 +49,7 @@ fn primary_led<B: Bodies>(
         from,
         content,
     )?;
-    note(&mut file.replica, &turned.rec)?;
-    Ok(turned)
+    Ok(noted(&mut file.replica, turned)?)
 }
 
 /// The primary hears a message in its turn, and the asks follow.
@@ -69,8 +69,8 @@ fn primary_turns<B: Bodies>(
 {
     let was_ready = file.lead.is_ready();
     let led = primary_led(file, bodies, now, from, content)?;
-    let followed = asks_follow(file, bodies, now, was_ready)?;
-    Ok(join(led, followed)?)
+    let followed = asks_follow(file, bodies, now, was_ready);
+    join_rest(led, followed)
 }
 
 /// Whether the lease gives a turn.

@@ -14,6 +14,7 @@ ghost use Rattle.osd_files.specs.Answers.{read_answer, write_answer, answered_wr
 ghost use Rattle.osd_files.specs.Views.{shown};
 ghost use Rattle.osd_files.specs.Rows.{IsRow};
 
+use crate::joining::{both, join_next};
 use crate::parts::Parts;
 use file_lease::{FileLease, News};
 use flease_register::{ReadAnswer, WriteAnswer};
@@ -153,7 +154,7 @@ fn writes_to(
 }
 
 /// Takes what the primary recorded, if it did, in its own replica.
-pub fn note(replica: &mut Replica, rec: &Option<Record>) -> Result<(), OutOfMemory>
+fn note(replica: &mut Replica, rec: &Option<Record>) -> Result<(), OutOfMemory>
     requires { IfSome rec.now (IsNotable replica.old) }
     ensures ok { OnOk result ((location : Option Location) → record replica.new { location = location } ≡ kept_after (record replica.old { location = location }) rec.now) }
     ensures file { replica.new.file ≡ replica.old.file }
@@ -162,6 +163,18 @@ pub fn note(replica: &mut Replica, rec: &Option<Record>) -> Result<(), OutOfMemo
         Some(rec) => replica.note(rec),
         None => Ok(()),
     }
+}
+
+/// What the primary gave, once its own replica has taken what it recorded.
+pub fn noted(replica: &mut Replica, turned: Turned) -> Result<Turned, OutOfMemory>
+    requires { IfSome turned.rec (IsNotable replica.old) }
+    ensures turned { IfOk result (λ given. given ≡ turned) }
+    ensures ok { OnOk result ((location : Option Location) → record replica.new { location = location } ≡ kept_after (record replica.old { location = location }) turned.rec) }
+    ensures file { replica.new.file ≡ replica.old.file }
+{
+    let done = note(replica, &turned.rec);
+    let (turned, ()) = both(turned, done)?;
+    Ok(turned)
 }
 
 /// The number of a node has 32 bits.
@@ -186,15 +199,7 @@ fn led_on(file: &mut Parts, now: u64) -> Result<Turned, OutOfMemory>
         unreachable!()
     };
     let turned = file.lead.begin(&turn, file.replica.head())?;
-    note(&mut file.replica, &turned.rec)?;
-    Ok(turned)
-}
-
-/// This mark, and then what was given.
-fn marked_before(alloc: Global, mark: Mark, given: Turned) -> Result<Turned, OutOfMemory>
-    ensures { IfOk result (λ both. both ≡ joined (shows mark) given) }
-{
-    join(shows(alloc, mark)?, given)
+    noted(&mut file.replica, turned)
 }
 
 /// Lease won, or renewed: it is marked, and an idle primary draws its epoch.
@@ -205,8 +210,9 @@ fn lease_held(file: &mut Parts, now: u64, end: u64) -> Result<Turned, OutOfMemor
     ensures { IfOk result (λ turned. IsRow (λ site s. rows.lease_held site s end) now (shown file.old) (shown file.new) turned) }
 {
     let number = file.replica.file().number;
-    let led = led_on(file, now)?;
-    marked_before(file.alloc, Mark::Held { file: number, end }, led)
+    let marked = shows(file.alloc, Mark::Held { file: number, end })?;
+    let led = led_on(file, now);
+    join_next(marked, led)
 }
 
 /// What the news of a round mean for the file.

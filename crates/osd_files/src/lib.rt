@@ -8,6 +8,7 @@
 mod asks;
 mod file;
 mod hearing;
+mod joining;
 mod lead;
 mod leading;
 mod leases;

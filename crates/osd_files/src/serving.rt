@@ -14,12 +14,13 @@ ghost use Rattle.osd_files.specs.Serves.{ground_at, AsksFollow, AsksWait, Serves
 ghost use Rattle.osd_files.specs.Views.{shown};
 
 use crate::asks::{mark_issued, read_served};
+use crate::joining::join_rest;
 use crate::lead::Lead;
 use crate::parts::Parts;
 use kept_bodies::{Bodies, StepErr};
 use osd_asks::is_read;
 use osd_rows::WaitingAsk;
-use step_outputs::{join, quiet};
+use step_outputs::quiet;
 use xt_base::OutOfMemory;
 use xt_protocol::Turned;
 
@@ -111,8 +112,8 @@ fn serve_next<B: Bodies>(
     ensures served { IfOk result (λ turned. ServesNext ask served (B.records bodies.old) (shown file.old) (shown file.new) turned) }
     ensures reads { ReadsOnly B.records B.fault_count bodies.old bodies.new (fault_of result) }
 {
-    let one = serve_one(file, bodies, now, ask)?;
-    Ok(join(served, one)?)
+    let one = serve_one(file, bodies, now, ask);
+    join_rest(served, one)
 }
 
 /// All waiting asks, in order, in turns of the primary.

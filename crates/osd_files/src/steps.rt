@@ -11,12 +11,13 @@ ghost use Rattle.osd_files.specs.Whole.{IsRowOn, IsWhole};
 
 use crate::asks::ask_handled;
 use crate::hearing::{fetch_comes, gather_comes, head_comes, stage_comes, update_comes};
+use crate::joining::join_rest;
 use crate::leading::primary_hears;
 use crate::leases::{answer_comes, read_comes, write_comes};
 use crate::overdue::expire;
 use crate::parts::Parts;
 use kept_bodies::{Bodies, StepErr};
-use step_outputs::{join, quiet};
+use step_outputs::quiet;
 use xt_base::{Capability, Kind, NodeId, Op, OpId, Payload};
 use xt_protocol::Turned;
 
@@ -117,6 +118,6 @@ pub fn step_of_file<B: Bodies>(
     ensures reads { ReadsOnly B.records B.fault_count bodies.old bodies.new (fault_of result) }
 {
     let overdue = expire(file, now)?;
-    let rest = message_comes(file, bodies, now, sealed, from, content)?;
-    Ok(join(overdue, rest)?)
+    let rest = message_comes(file, bodies, now, sealed, from, content);
+    join_rest(overdue, rest)
 }

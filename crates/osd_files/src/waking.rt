@@ -9,11 +9,12 @@ ghost use Rattle.osd_files.specs.Views.{shown};
 ghost use Rattle.osd_files.specs.Rows.{IsRow};
 ghost use Rattle.osd_files.specs.Whole.{IsWhole, IsWoken};
 
+use crate::joining::{both, join_next};
 use crate::overdue::expire;
 use crate::parts::Parts;
 use std::alloc::Global;
-use step_outputs::{join, quiet, sends, to_each};
-use xt_base::{Ballot, FileId, Members, Msgs, NodeId, OutOfMemory, Payload};
+use step_outputs::{message, quiet, sends};
+use xt_base::{Ballot, FileId, Members, Msgs, NodeId, OutOfMemory, Payload, Seq};
 use xt_protocol::Turned;
 
 /// What a Wake gives at a file: of what was overdue, and of what is sent again or renewed.
@@ -27,14 +28,21 @@ pub struct Woken {
 fn read_to_each(
     alloc: Global,
     node: NodeId,
-    file: FileId,
-    members: &Members,
+    file: &FileId,
+    members: &[NodeId],
     ballot: Ballot,
 ) -> Result<Msgs, OutOfMemory>
-    ensures { IfOk result (λ outs. outs ≡ to_each node members.now (payload.Read file ballot)) }
+    ensures { IfOk result (λ outs. outs ≡ to_each node members.now (payload.Read file.now ballot)) }
 {
-    let content = Payload::Read { file, ballot };
-    to_each(alloc, node, members.as_slice(), &content)
+    let mut outs = Seq::new(alloc);
+    for to in members {
+        let content = Payload::Read {
+            file: *file,
+            ballot,
+        };
+        outs.push(message(node, *to, content))?;
+    }
+    Ok(outs)
 }
 
 /// A Read of the round's ballot to each of these.
@@ -47,7 +55,7 @@ pub fn reads_of(
 ) -> Result<Turned, OutOfMemory>
     ensures { IfOk result (λ turned. turned ≡ sends (to_each node members.now (payload.Read file ballot))) }
 {
-    let outs = read_to_each(alloc, node, file, members, ballot)?;
+    let outs = read_to_each(alloc, node, &file, members.as_slice(), ballot)?;
     Ok(sends(alloc, outs))
 }
 
@@ -79,8 +87,8 @@ fn wake_of_file(file: &mut Parts, now: u64) -> Result<Turned, OutOfMemory>
         return Ok(quiet(file.alloc));
     };
     let woke = file.lead.wake(&turn)?;
-    let renewed = renews(file, now)?;
-    join(woke, renewed)
+    let renewed = renews(file, now);
+    join_next(woke, renewed)
 }
 
 /// A Wake of a file: what is overdue, and then the rows of a Wake.
@@ -90,6 +98,6 @@ pub fn wake_whole(file: &mut Parts, now: u64) -> Result<Woken, OutOfMemory>
     ensures { IfOk result (λ woken. IsWoken now (shown file.old) (shown file.new) woken) }
 {
     let overdue = expire(file, now)?;
-    let again = wake_of_file(file, now)?;
+    let (overdue, again) = both(overdue, wake_of_file(file, now))?;
     Ok(Woken { overdue, again })
 }

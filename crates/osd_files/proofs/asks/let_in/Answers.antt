@@ -11,11 +11,11 @@ use Rattle.osd_files.specs.Asking.{first_list, list_after}
 use Rattle.osd_files.specs.Leads.{LeadView}
 use Rattle.osd_files.specs.Views.{shown, with_lead, site_at}
 use Rattle.osd_files.proofs.LetIn.{let_row}
-use Rattle.osd_files.proofs.Rows.{joins_by, behind_it}
+use Rattle.osd_files.proofs.Rows.{joins_by, behind_it, reads_as}
 use Rattle.osd_files.proofs.asks.let_in.Goals as goal
 
-pub ask_rows-requires-clause-fits : goal.ask_rows-requires-clause-fits
-ask_rows-requires-clause-fits g c = subst FitsOp (sym (c.waiting_ask-ask.ensures.op ∙ c.in_ok-asked.ensures)) c.requires.fits
+pub ask_rows-rest-requires-clause-fits : goal.ask_rows-rest-requires-clause-fits
+ask_rows-rest-requires-clause-fits g c = subst FitsOp (sym (c.waiting_ask-ask.ensures.op ∙ c.in_ok-asked.ensures)) c.requires.fits
 
 pub returns-clause-row : goal.returns-clause-row
 returns-clause-row g c =
@@ -34,10 +34,13 @@ returns-clause-row g c =
     let used : LeadView → FileState = λ lead. record (with_lead old lead).state { used = now } in
     let row : Site → FileState → FileStep = λ site s. ask_rows site s ask in
     let whole : Site → FileState → FileStep = λ site s. ask_let_in site s c.args.id capability c.args.op.now None in
-    joins_by row whole now body old.awake old.state (used c.list_once.new.self) (shown c.ask_rows.new.file) kept c.in_ok-rest.rest c.in_ok-join.field-0
+    joins_by row whole now body old.awake old.state (used c.list_once.new.self) (shown c.ask_rows-rest.new.file) kept c.ask_rows-rest.result c.join_rest.result
     (λ sealed.
     let site = site_at old.awake now sealed body in
     let_row site old.state c.args.id capability c.args.op.now kept list ask is refl
     (c.waiting_ask-ask.ensures.row site refl (sym c.times.ensures) ∙ ap (λ (o : Op). waiting_ask site c.args.id capability.epoch o) c.in_ok-asked.ensures)
     ∙ ap (λ (lead : LeadView). behind_it kept (row site (used lead))) (sym c.list_once.ensures.state))
-    c.in_ok-rest.ensures.row c.in_ok-join.ensures
+    c.ask_rows-rest.ensures.row c.join_rest.ensures.joined
+
+pub returns-clause-reads : goal.returns-clause-reads
+returns-clause-reads g c = reads_as (g.B.Bodies.records) (g.B.Bodies.fault_count) _ _ _ _ c.join_rest.ensures.failed c.ask_rows-rest.ensures.reads

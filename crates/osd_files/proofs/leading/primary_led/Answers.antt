@@ -1,9 +1,11 @@
-use Rattle.std.proofs.Common.{◌∙◌, ◌<◌, ◌^◌, ap, subst, sym, refl, List}
+use Rattle.std.proofs.Common.{◌≡◌, ◌∙◌, ◌<◌, ◌^◌, ap, subst, sym, refl, List}
 use Rattle.xt_base.specs.declared.ids.NodeId.{NodeId}
 use Rattle.xt_base.specs.declared.ids.FileId.{FileId}
 use Rattle.xt_base.specs.declared.file.FileHead.{FileHead}
 use Rattle.xt_base.specs.declared.file.ObjectVersion.{ObjectVersion}
 use Rattle.osd_rows.specs.FileStates.{stripe_of}
+use Rattle.osd_rows.specs.ReplicaRows.{kept_after}
+use Rattle.xt_protocol.specs.declared.Turned.{Turned}
 use Rattle.osd_rows.specs.Primaries.{Led}
 use Rattle.osd_rows.specs.PrimaryRows.{hears}
 use Rattle.replica_primary.specs.Written.{ground}
@@ -13,8 +15,8 @@ use Rattle.osd_files.proofs.Followed.{led_row}
 use Rattle.osd_files.proofs.Noted.{heard_notable}
 use Rattle.osd_files.proofs.leading.primary_led.Goals as goal
 
-pub note-requires : goal.note-requires
-note-requires g c =
+pub noted-requires : goal.noted-requires
+noted-requires g c =
     let f = c.args.file.now in
     let lead = f.lead in
     let P : NodeId → Type 0 = λ n. n.0 < 2 ^ 32 in
@@ -32,13 +34,15 @@ returns-clause-row g c =
     λ n x own held. hears (ground (record { node = n; file = x; stripe = stripe_of f.lead.location }) records own held) f.lead.primary c.args.from c.args.content.now in
     let own = c.head.result.now in
     let held = c.held.result.now in
+    let given = c.in_ok-noted.field-0 in
+    let is : given ≡ c.in_ok-turned.turned = c.in_ok-noted.ensures.turned in
     record {
       here = refl;
       step =
-          led_row old.state f.replica c.note.new.replica f.lead c.take.new.self (by f.awake.node f.replica.file f.replica.head f.replica.held) (by f.lead.node f.lead.file own held) c.in_ok-turned.turned
+          led_row old.state f.replica c.noted.new.replica f.lead c.take.new.self (by f.awake.node f.replica.file f.replica.head f.replica.held) (by f.lead.node f.lead.file own held) given
           (ap (λ (n : NodeId). by n f.replica.file f.replica.head f.replica.held) (sym f.node)
           ∙ ap (λ (x : FileId). by f.lead.node x f.replica.head f.replica.held) (sym f.file)
           ∙ ap (λ (h : FileHead). by f.lead.node f.lead.file h f.replica.held) (sym c.head.ensures.value)
           ∙ ap (λ (vs : List ObjectVersion). by f.lead.node f.lead.file own vs) (sym c.held.ensures))
-          c.in_ok-turned.ensures.state c.in_ok-turned.ensures.led (c.in_ok-note.ensures.ok f.lead.location);
+          c.in_ok-turned.ensures.state (is ∙ c.in_ok-turned.ensures.led) (c.in_ok-noted.ensures.ok f.lead.location ∙ ap (λ (t : Turned). kept_after (shown f).state.kept t.rec) (sym is));
     }

@@ -5,8 +5,8 @@ use Rattle.osd_files.specs.Leads.{place_of}
 use Rattle.osd_files.proofs.Drawn.{drawn_notable}
 use Rattle.osd_files.proofs.leases.led_on.Goals as goal
 
-pub note-requires : goal.note-requires
-note-requires c =
+pub noted-requires : goal.noted-requires
+noted-requires c =
     let lead = c.args.file.now.lead in
     let P : NodeId → Type 0 = λ n. n.0 < 2 ^ 32 in
     let low : lead.node.0 < 2 ^ 32 = subst P (c.node.ensures ∙ sym c.args.file.now.node) c.stay_in_range.ensures in

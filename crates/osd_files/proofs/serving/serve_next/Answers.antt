@@ -1,12 +1,23 @@
-use Rattle.std.proofs.Common.{◌∙◌, ap}
-use Rattle.osd_files.specs.Serves.{served_in}
+use Rattle.std.proofs.Common.{◌≡◌, ◌∙◌, ap}
+use Rattle.xt_protocol.specs.declared.Turned.{Turned}
+use Rattle.osd_rows.specs.Turns.{joined}
+use Rattle.osd_files.specs.Serves.{ServesNext, ServesOne, served_in}
 use Rattle.osd_files.specs.Views.{shown}
+use Rattle.osd_files.proofs.Rows.{reads_as, rest_ok}
 use Rattle.osd_files.proofs.serving.serve_next.Goals as goal
 
 pub returns-clause-served : goal.returns-clause-served
 returns-clause-served g c =
-    let one = c.in_ok-one.ensures.served in
-    record {
-      rest = one.rest;
-      step = λ own held. ap (served_in (shown c.serve_one.new.file)) c.in_ok-join.ensures ∙ one.step c.args.served own held;
-    }
+    let old = shown c.args.file.now in
+    let new = shown c.serve_one-one.new.file in
+    let served = c.args.served in
+    let records = g.B.Bodies.records c.args.bodies.now in
+    let P : Turned → Type 0 = λ one. ServesOne c.args.ask records old new one in
+    let Q : Turned → Type 0 = λ turned. ServesNext c.args.ask served records old new turned in
+    let all : (one turned : Turned) → P one → turned ≡ joined served one → Q turned = λ one turned of is.
+    record { rest = of.rest; step = λ own held. ap (served_in new) is ∙ of.step served own held }
+    in
+    rest_ok P Q served c.serve_one-one.result c.join_rest.result all c.join_rest.ensures.joined c.serve_one-one.ensures.served
+
+pub returns-clause-reads : goal.returns-clause-reads
+returns-clause-reads g c = reads_as (g.B.Bodies.records) (g.B.Bodies.fault_count) _ _ _ _ c.join_rest.ensures.failed c.serve_one-one.ensures.reads

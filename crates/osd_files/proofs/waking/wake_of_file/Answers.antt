@@ -6,8 +6,11 @@ use Rattle.osd_rows.specs.declared.Place.{Place}
 use Rattle.osd_rows.specs.Serving.{wakes}
 use Rattle.osd_rows.specs.FileSteps.{wake_of_file, renews}
 use Rattle.osd_rows.specs.FileStates.{Site, FileState, FileStep, stripe_of}
+use Rattle.xt_protocol.specs.declared.Turned.{Turned}
+use Rattle.xt_protocol.specs.LeaseRows.{Held, held}
+use Rattle.osd_files.specs.Rows.{IsRow}
 use Rattle.osd_files.specs.Views.{shown, site_at}
-use Rattle.osd_files.proofs.Rows.{joins_on}
+use Rattle.osd_files.proofs.Rows.{if_ok, joins_next}
 use Rattle.osd_files.proofs.Wakes.{held_by, woken, sleeps}
 use Rattle.osd_files.proofs.waking.wake_of_file.Goals as goal
 
@@ -32,6 +35,9 @@ returns c =
     ∙ ap (λ (n : NodeId). wakes (place n f.lead.file) f.lead.primary) f.node
     ∙ ap (λ (x : FileId). wakes (place f.awake.node x) f.lead.primary) f.file in
     let row : Site → FileState → FileStep = λ site s. renews site s h in
-    joins_on row wake_of_file c.args.now old.awake old.state old.state (shown c.renews.new.file) c.in_ok-woke.woke c.in_ok-renewed.renewed c.join.result
+    let new = shown c.renews-renewed.new.file in
+    let P : Turned → Type 0 = λ turned. (h : Held) → f.lease ≡ held h → IsRow (λ site s. renews site s h) c.args.now old new turned in
+    let Q : Turned → Type 0 = λ turned. IsRow row c.args.now old new turned in
+    joins_next row wake_of_file c.args.now old.awake old.state old.state new c.in_ok-woke.woke c.renews-renewed.result c.join_next.result
     (λ sealed body. woken (site_at old.awake c.args.now sealed body) old.state h c.in_ok-woke.woke by.1 is)
-    (c.in_ok-renewed.ensures h by.1) c.join.ensures
+    (if_ok P Q c.renews-renewed.result (λ turned rows. rows h by.1) c.renews-renewed.ensures) c.join_next.ensures

@@ -1,3 +1,9 @@
+use Rattle.std.proofs.Common.{subst, sym}
+use Rattle.xt_protocol.specs.declared.Turned.{Turned}
+use Rattle.osd_rows.specs.FileSteps.{wake_of_file}
+use Rattle.osd_rows.specs.Overdue.{expired}
+use Rattle.osd_files.specs.Rows.{IsRow}
+use Rattle.osd_files.proofs.Rows.{given_ok}
 use Rattle.osd_files.specs.Views.{shown}
 use Rattle.osd_files.proofs.Stepped.{whole_expired, woken_row}
 use Rattle.osd_files.proofs.waking.wake_whole.Goals as goal
@@ -8,5 +14,10 @@ wake_of_file-requires-clause-stored c =
 
 pub returns : goal.returns
 returns c =
-    woken_row c.args.now (shown c.args.file.now) (shown c.expire.new.file) (shown c.wake_of_file.new.file) (record { overdue = c.in_ok-overdue.overdue; again = c.in_ok-again.again })
-    c.in_ok-overdue.ensures.row c.in_ok-again.ensures
+    let both = c.in_ok-overdue-2 in
+    let old = shown c.args.file.now in
+    let mid = shown c.expire.new.file in
+    let new = shown c.wake_of_file.new.file in
+    woken_row c.args.now old mid new (record { overdue = both.overdue; again = both.again })
+    (subst (λ (t : Turned). IsRow expired c.args.now old mid t) (sym both.ensures.0) c.in_ok-overdue.ensures.row)
+    (given_ok (λ (t : Turned). IsRow wake_of_file c.args.now mid new t) c.wake_of_file.result both.again both.ensures.1 c.wake_of_file.ensures)
