@@ -17,7 +17,9 @@ use osd_rows::{IssuedUpdate, PeerState, Peers, Place, Progress, Tenure};
 use std::alloc::Global;
 use step_outputs::{answers, join, message, quiet, sends_one, shows};
 use version_lists::is_below;
-use xt_base::{Copies, FileHead, Mark, NodeId, Octets, OutOfMemory, Payload, Stamp, Update};
+use xt_base::{
+    Copies, FileHead, Mark, NodeId, Octets, OutOfMemory, Payload, Seq, Stamp, Update,
+};
 use xt_protocol::Turned;
 
 /// Whether an acknowledgement makes the peer current: it isn't below the head that was sent to it, or it is the own node's.
@@ -81,9 +83,15 @@ fn commit_told(alloc: Global, place: &Place, update: &Update) -> Result<Turned, 
         count,
         id,
     };
-    let marked = shows(alloc, mark)?;
+    let mut marks = Seq::new(alloc);
+    marks.push(mark)?;
     let none = Octets::new(alloc);
     let answered = answers(alloc, place.node, file, id, count, update.mark, none)?;
+    let marked = Turned {
+        rec: None,
+        outs: Seq::new(alloc),
+        marks,
+    };
     join(marked, answered)
 }
 
@@ -111,11 +119,10 @@ fn carried_told(
     shows(alloc, mark)
 }
 
-/// The primary is active from the own head, with nothing issued.
-fn serve_from(alloc: Global, tenure: &mut Tenure, own: &FileHead) -> Result<(), OutOfMemory>
-    ensures { OnOk result (tenure.new ≡ record tenure.old { progress = progress.Active own.now None }) }
+/// The primary is active from this head, with nothing issued.
+fn serve_from(tenure: &mut Tenure, committed: FileHead)
+    ensures { tenure.new ≡ record tenure.old { progress = progress.Active committed None } }
 {
-    let committed = own.copy(alloc)?;
     advance(
         tenure,
         Progress::Active {
@@ -123,7 +130,6 @@ fn serve_from(alloc: Global, tenure: &mut Tenure, own: &FileHead) -> Result<(), 
             issued: None,
         },
     );
-    Ok(())
 }
 
 /// A node has acknowledged the head that is installed, or the issued update. Once a majority has it, the own node among it, the
@@ -141,8 +147,9 @@ fn acked_by(
     if !is_carried(place, tenure) {
         return Ok(quiet(alloc));
     }
+    let committed = own.copy(alloc)?;
     let told = carried_told(alloc, place, own, &tenure.progress)?;
-    serve_from(alloc, tenure, own)?;
+    serve_from(tenure, committed);
     Ok(told)
 }
 

@@ -8,7 +8,7 @@ ghost use Rattle.osd_writes.specs.Committed.{CommittedUnder};
 use osd_peers::unknown_peers;
 use osd_rows::{Nodes, Peer, Place, Progress, Tenure};
 use std::alloc::Global;
-use step_outputs::{quiet, to_each};
+use step_outputs::{message, quiet};
 use xt_base::{COUNTS, Epoch, FileHead, Msgs, NodeId, OutOfMemory, Payload, Record, Seq};
 use xt_protocol::Turned;
 
@@ -28,11 +28,15 @@ fn gathers(
 ) -> Result<Msgs, OutOfMemory>
     ensures { IfOk result (λ outs. outs ≡ to_each place.now.node nodes.now (payload.Gather place.now.file epoch)) }
 {
-    let gather = Payload::Gather {
-        file: place.file,
-        epoch,
-    };
-    to_each(alloc, place.node, nodes, &gather)
+    let mut outs = Seq::new(alloc);
+    for to in nodes {
+        let content = Payload::Gather {
+            file: place.file,
+            epoch,
+        };
+        outs.push(message(place.node, *to, content))?;
+    }
+    Ok(outs)
 }
 
 /// Epoch drawn: the own promise is kept, and all are asked. Without a number left the primary is idle.

@@ -15,7 +15,7 @@ ghost use Rattle.replica_primary.specs.Moves.{ground_beyond, is_asked, kept_of, 
 
 use crate::feeding::body_missed;
 use crate::gathering::fetches;
-use crate::moving::{FetchedBody, Heard, after_keeping};
+use crate::moving::{FetchedBody, Heard, advance, after_keeping};
 use kept_bodies::{Bodies, StepErr};
 use osd_rows::{Place, Progress, Tenure};
 use std::alloc::Global;
@@ -80,7 +80,7 @@ fn fetches_on<B: Bodies>(
             bodies, alloc, place, fetched, tenure, own, chosen, source, later,
         )?),
         progress => {
-            tenure.progress = progress;
+            advance(tenure, progress);
             Ok(quiet(alloc))
         }
     }

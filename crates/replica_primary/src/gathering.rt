@@ -14,7 +14,7 @@ ghost use Rattle.replica_primary.specs.Written.{ground};
 ghost use Rattle.replica_primary.specs.Moves.{IsSplit, any_report, ground_beyond, is_to_feed};
 
 use crate::feeding::{fed, feeds_on, target_of};
-use crate::moving::{FetchedBody, advance};
+use crate::moving::{FetchedBody, advance, put};
 use failover_fetch::{choose, difference};
 use kept_bodies::{Bodies, StepErr};
 use osd_peers::{is_majority, last_to_each, set_peer, statuses_counted};
@@ -86,7 +86,8 @@ fn peer_fed<B: Bodies>(
     if !is_to_feed(place, peer) {
         return Ok(());
     }
-    peer.state = fed(bodies, alloc, &place.file, fetched, target, Seq::new(alloc))?;
+    let state = fed(bodies, alloc, &place.file, fetched, target, Seq::new(alloc))?;
+    put(&mut peer.state, state);
     Ok(())
 }
 

@@ -21,7 +21,7 @@ use crate::drawing::redrawn;
 use crate::feeding::body_staged;
 use crate::fetching::{hears_missing, hears_object};
 use crate::gathering::status_told;
-use crate::moving::Heard;
+use crate::moving::{Heard, put};
 use kept_bodies::{Bodies, StepErr};
 use osd_peers::{peer_in, set_peer};
 use osd_rows::{Peer, PeerState, Peers, Place, PrimaryState, Tenure};
@@ -319,7 +319,7 @@ fn redraws(
 {
     let drawn = redrawn(alloc, place, above, own, peers_under(&primary.tenure))?;
     primary.learnt = above;
-    primary.tenure = drawn.tenure;
+    put(&mut primary.tenure, drawn.tenure);
     Ok(drawn.turned)
 }
 

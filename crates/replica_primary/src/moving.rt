@@ -1,6 +1,7 @@
 ghost use Rattle.std.specs.Prelude.{◌≡◌};
 
 use osd_rows::{Progress, Tenure};
+use std::mem;
 use xt_base::{Octets, Record, Stamp};
 use xt_protocol::Turned;
 
@@ -21,20 +22,25 @@ pub struct FetchedBody {
     pub bytes: Octets,
 }
 
+/// Puts a value in the place of another one, which is dropped.
+pub fn put<T: Drop>(place: &mut T, value: T)
+    ensures { place.new ≡ value }
+{
+    drop(mem::replace(place, value));
+}
+
 /// The tenure comes this far.
 pub fn advance(tenure: &mut Tenure, progress: Progress)
     ensures { tenure.new ≡ record tenure.old { progress = progress } }
 {
-    tenure.progress = progress;
+    put(&mut tenure.progress, progress);
 }
 
 /// What a row gives that keeps this record first, if there is one.
 pub fn after_keeping(rec: Option<Record>, turned: Turned) -> Turned
     ensures { result ≡ record turned { rec = rec } }
 {
-    Turned {
-        rec,
-        outs: turned.outs,
-        marks: turned.marks,
-    }
+    let mut turned = turned;
+    put(&mut turned.rec, rec);
+    turned
 }

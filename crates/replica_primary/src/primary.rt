@@ -14,6 +14,7 @@ ghost use Rattle.replica_primary.specs.PrimaryViews.{chosen_by, rests_by};
 
 use crate::drawing::epoch_drawn;
 use crate::hearing::hears;
+use crate::moving::put;
 use crate::serving::{Written, put_issued, writes};
 use crate::waking::wakes;
 use flease_lease::Turn;
@@ -89,7 +90,7 @@ impl Primary {
     pub fn idle(&mut self)
         ensures { self.new ≡ record self.old { state = rows.idle self.old.state } }
     {
-        self.state.tenure = None;
+        put(&mut self.state.tenure, None);
     }
 
     /// The head that was chosen, none where its bodies aren't fetched and it isn't installed.
@@ -152,7 +153,7 @@ impl Primary {
             own,
             members.as_slice(),
         )?;
-        self.state.tenure = drawn.tenure;
+        put(&mut self.state.tenure, drawn.tenure);
         Ok(drawn.turned)
     }
 
@@ -234,7 +235,7 @@ impl Primary {
         match hears(bodies, alloc, place, state, own, held, from, payload) {
             Ok(turned) => Ok(turned),
             Err(error) => {
-                self.state.tenure = None;
+                put(&mut self.state.tenure, None);
                 Err(error)
             }
         }

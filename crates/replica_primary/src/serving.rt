@@ -16,6 +16,7 @@ ghost use Rattle.version_lists.specs.Rising.{HeadRises};
 ghost use Rattle.osd_writes.specs.Committed.{CommittedRises, CommittedUnder};
 ghost use Rattle.replica_primary.specs.Written.{ground, tenure_after, led_of, led_under, with_issued, under_issued};
 
+use crate::moving::put;
 use kept_bodies::{Bodies, StepErr};
 use osd_rows::{IssuedUpdate, Nodes, Peer, PeerState, Place, PrimaryState, Progress, Tenure};
 use osd_writes::{Standing, standing_of, update_of};
@@ -287,10 +288,11 @@ fn put_in_progress(alloc: Global, progress: &mut Progress, update: Update)
     ensures rises { CommittedRises progress.old → CommittedRises progress.new }
 {
     if let Progress::Active { issued, .. } = progress {
-        *issued = Some(IssuedUpdate {
+        let fresh = IssuedUpdate {
             update,
             acked: Seq::new(alloc),
-        });
+        };
+        put(issued, Some(fresh));
     }
 }
 
