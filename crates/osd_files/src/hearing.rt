@@ -17,9 +17,7 @@ use osd_rows::Acted;
 use replica_state::fetched_from;
 use std::alloc::Global;
 use step_outputs::{message, sends_one};
-use xt_base::{
-    Epoch, FileHead, Msgs, NodeId, Octets, OutOfMemory, Payload, Seq, Stamp, Update,
-};
+use xt_base::{Epoch, FileHead, Msgs, NodeId, Octets, OutOfMemory, Payload, Seq, Stamp, Update};
 use xt_protocol::Turned;
 
 /// The answer to whoever asked, if there is one.

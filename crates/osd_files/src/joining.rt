@@ -19,10 +19,7 @@ pub fn both<A: Drop, B, E>(made: A, next: Result<B, E>) -> Result<(A, B), E>
 }
 
 /// What one part of a step gives, and then what the next one gives.
-pub fn join_next(
-    first: Turned,
-    next: Result<Turned, OutOfMemory>,
-) -> Result<Turned, OutOfMemory>
+pub fn join_next(first: Turned, next: Result<Turned, OutOfMemory>) -> Result<Turned, OutOfMemory>
     ensures { IfOk result (λ turned. (rest : Turned) × (next ≡ Ok rest) × (turned ≡ rows.joined first rest)) }
 {
     let (first, next) = both(first, next)?;

@@ -1,3 +1,4 @@
+pub mod Given
 pub mod Stands
 pub mod Fed
 pub mod Rises

@@ -214,9 +214,9 @@ fn active_acked(
         return Ok(quiet(alloc));
     };
     if is_below(stamp, issued.update.stamp) {
-        return Ok(sent_to_newly(alloc, place, from, newly, &issued.update)?);
+        return sent_to_newly(alloc, place, from, newly, &issued.update);
     }
-    Ok(acked_by(alloc, place, tenure, own, from)?)
+    acked_by(alloc, place, tenure, own, from)
 }
 
 /// Peer acknowledged, while the head is installed.
@@ -235,7 +235,7 @@ fn installing_acked(
         return Ok(quiet(alloc));
     }
     set_peer(&mut tenure.peers, from, PeerState::Current);
-    Ok(acked_by(alloc, place, tenure, own, from)?)
+    acked_by(alloc, place, tenure, own, from)
 }
 
 /// Peer acknowledged. `newly` says whether that makes the peer current.
@@ -252,7 +252,7 @@ pub fn hears_ack(
 {
     match &tenure.progress {
         Progress::Installing { .. } => {
-            Ok(installing_acked(alloc, place, tenure, own, from, newly)?)
+            installing_acked(alloc, place, tenure, own, from, newly)
         }
         Progress::Active { .. } => active_acked(alloc, place, tenure, own, from, newly, stamp),
         _ => Ok(quiet(alloc)),

@@ -174,9 +174,9 @@ pub fn feeds_on<B: Bodies>(
     match &tenure.progress {
         Progress::Installing { chosen, .. } => {
             let target = target_of(alloc, own, tenure.epoch, chosen)?;
-            Ok(feeds(bodies, alloc, place, tenure, from, &target, known)?)
+            feeds(bodies, alloc, place, tenure, from, &target, known)
         }
-        Progress::Active { .. } => Ok(feeds(bodies, alloc, place, tenure, from, own, known)?),
+        Progress::Active { .. } => feeds(bodies, alloc, place, tenure, from, own, known),
         _ => Ok(quiet(alloc)),
     }
 }
@@ -197,7 +197,7 @@ fn feeds_any<B: Bodies>(
     let Some(known) = known else {
         return Ok(quiet(alloc));
     };
-    Ok(feeds_on(bodies, alloc, place, tenure, own, from, known)?)
+    feeds_on(bodies, alloc, place, tenure, own, from, known)
 }
 
 /// Body staged: it is known of the peer, which is fed on.
@@ -215,7 +215,7 @@ pub fn body_staged<B: Bodies>(
 {
     let told = known_told(alloc, tenure.peers.as_slice(), from)?;
     let known = with_any(told, version)?;
-    Ok(feeds_any(bodies, alloc, place, tenure, own, from, known)?)
+    feeds_any(bodies, alloc, place, tenure, own, from, known)
 }
 
 /// Body missed: it is no longer known of the peer, which is fed on.
@@ -233,7 +233,7 @@ pub fn body_missed<B: Bodies>(
 {
     let told = known_of_head(alloc, tenure.peers.as_slice(), from)?;
     let known = without_any(told, version);
-    Ok(feeds_any(bodies, alloc, place, tenure, own, from, known)?)
+    feeds_any(bodies, alloc, place, tenure, own, from, known)
 }
 
 /// These versions and this one, where something is known.

@@ -76,9 +76,9 @@ fn fetches_on<B: Bodies>(
             source,
             later,
             ..
-        } => Ok(fetches(
+        } => fetches(
             bodies, alloc, place, fetched, tenure, own, chosen, source, later,
-        )?),
+        ),
         progress => {
             advance(tenure, progress);
             Ok(quiet(alloc))
@@ -139,7 +139,7 @@ pub fn hears_object<B: Bodies>(
         version: version.version,
         bytes: bytes.copy(alloc)?,
     };
-    Ok(body_fetched(bodies, alloc, place, tenure, own, held, body)?)
+    body_fetched(bodies, alloc, place, tenure, own, held, body)
 }
 
 /// From whom bodies are fetched, if they are.

@@ -121,15 +121,8 @@ fn peers_fed<B: Bodies>(
     ensures value { OnOk result (peers.new ≡ rows.peers_fed (ground_beyond place.now (B.records bodies.old) fetched.now target.now []) target.now peers.old) }
     ensures reads { ReadsOnly B.records B.fault_count bodies.old bodies.new (fault_of result) }
 {
-    each_fed(
-        bodies,
-        alloc,
-        place,
-        fetched,
-        target,
-        peers.items.as_mut_slice(),
-    )?;
-    Ok(())
+    let peers = peers.items.as_mut_slice();
+    each_fed(bodies, alloc, place, fetched, target, peers)
 }
 
 /// The head goes to the node itself.
@@ -212,7 +205,7 @@ pub fn fetches<B: Bodies>(
     ensures reads { ReadsOnly B.records B.fault_count bodies.old bodies.new (fault_of result) }
 {
     let Some((asked, later)) = split(wanted) else {
-        return Ok(installs(bodies, alloc, place, fetched, tenure, own, chosen)?);
+        return installs(bodies, alloc, place, fetched, tenure, own, chosen);
     };
     let fetch = Payload::Fetch {
         file: place.file,
@@ -246,12 +239,12 @@ fn head_chosen<B: Bodies>(
     ensures reads { ReadsOnly B.records B.fault_count bodies.old bodies.new (fault_of result) }
 {
     if source.0 == place.node.0 {
-        return Ok(installs(bodies, alloc, place, &None, tenure, own, chosen)?);
+        return installs(bodies, alloc, place, &None, tenure, own, chosen);
     }
     let wanted = difference(alloc, &Seq::new(alloc), &chosen.versions)?;
-    Ok(fetches(
+    fetches(
         bodies, alloc, place, &None, tenure, own, chosen, source, wanted,
-    )?)
+    )
 }
 
 /// The best of the reports is chosen, if there is one.
@@ -271,7 +264,7 @@ fn chooses<B: Bodies>(
     }
     let (source, chosen) = &reports[choose(place.node, reports)];
     let chosen = chosen.copy(alloc)?;
-    Ok(head_chosen(bodies, alloc, place, tenure, own, *source, chosen)?)
+    head_chosen(bodies, alloc, place, tenure, own, *source, chosen)
 }
 
 /// Status counted: at a majority a head is chosen.
@@ -290,7 +283,7 @@ fn status_counted<B: Bodies>(
         return Ok(quiet(alloc));
     }
     let reports = reports_of(alloc, peers)?;
-    Ok(chooses(bodies, alloc, place, tenure, own, reports.as_slice())?)
+    chooses(bodies, alloc, place, tenure, own, reports.as_slice())
 }
 
 /// A status of an unknown peer is counted, or kept until the head is installed.
@@ -330,10 +323,10 @@ pub fn status_told<B: Bodies>(
             Ok(quiet(alloc))
         }
         Progress::Installing { .. } => {
-            Ok(feeds_on(bodies, alloc, place, tenure, own, from, Seq::new(alloc))?)
+            feeds_on(bodies, alloc, place, tenure, own, from, Seq::new(alloc))
         }
         Progress::Active { .. } => {
-            Ok(feeds_on(bodies, alloc, place, tenure, own, from, Seq::new(alloc))?)
+            feeds_on(bodies, alloc, place, tenure, own, from, Seq::new(alloc))
         }
     }
 }

@@ -57,7 +57,7 @@ fn hears_status<B: Bodies>(
     if !is_unknown(tenure.peers.as_slice(), from) {
         return Ok(quiet(alloc));
     }
-    Ok(status_told(bodies, alloc, place, tenure, own, from, head)?)
+    status_told(bodies, alloc, place, tenure, own, from, head)
 }
 
 /// Whether an acknowledgement makes this peer current.
@@ -180,7 +180,7 @@ fn goes_on_hearing<B: Bodies>(
 {
     match payload {
         Payload::Status { head, .. } => {
-            Ok(hears_status(bodies, alloc, place, tenure, own, from, head)?)
+            hears_status(bodies, alloc, place, tenure, own, from, head)
         }
         Payload::Object {
             object,
@@ -189,9 +189,9 @@ fn goes_on_hearing<B: Bodies>(
             ..
         } => {
             let version = version_of(*object, *version);
-            Ok(hears_object(
+            hears_object(
                 bodies, alloc, place, tenure, own, held, from, version, bytes,
-            )?)
+            )
         }
         Payload::Staged {
             object,
@@ -199,7 +199,7 @@ fn goes_on_hearing<B: Bodies>(
             ..
         } => {
             let version = version_of(*object, *version);
-            Ok(body_staged(bodies, alloc, place, tenure, own, from, version)?)
+            body_staged(bodies, alloc, place, tenure, own, from, version)
         }
         Payload::Ack { stamp, .. } => {
             let newly = newly_current(place, tenure.peers.as_slice(), from, *stamp);
@@ -232,7 +232,7 @@ fn hears_peer<B: Bodies>(
             ..
         } => {
             let version = version_of(*object, *version);
-            Ok(hears_missing(bodies, alloc, place, learnt, tenure, own, from, version)?)
+            hears_missing(bodies, alloc, place, learnt, tenure, own, from, version)
         }
         Payload::Refused { promised, .. } => {
             Ok(outpromised(alloc, learnt, tenure.epoch, *promised))
@@ -267,9 +267,9 @@ pub fn hears_in<B: Bodies>(
     }
     match peer_in(tenure.peers.as_slice(), from) {
         None => Ok(unmoved(alloc)),
-        Some(_) => Ok(hears_peer(
+        Some(_) => hears_peer(
             bodies, alloc, place, learnt, tenure, own, held, from, payload,
-        )?),
+        ),
     }
 }
 
@@ -289,9 +289,9 @@ fn hears_under<B: Bodies>(
     ensures reads { ReadsOnly B.records B.fault_count bodies.old bodies.new (fault_of result) }
 {
     match tenure {
-        Some(tenure) => Ok(hears_in(
+        Some(tenure) => hears_in(
             bodies, alloc, place, learnt, tenure, own, held, from, payload,
-        )?),
+        ),
         None => Ok(unmoved(alloc)),
     }
 }

@@ -4,6 +4,7 @@ use Rattle.osd_rows.specs.declared.Peer.{Peer}
 use Rattle.osd_rows.specs.PrimaryRows.{goes_on, unmoved}
 use Rattle.replica_primary.specs.Acks.{acked_by}
 use Rattle.replica_primary.specs.Written.{ground}
+use Rattle.replica_primary.proofs.Given.{if_so}
 use Rattle.replica_primary.proofs.Acks.{below_acked, issued_acked, newly_told, none_acked}
 use Rattle.replica_primary.proofs.acking.active_acked.Goals as goal
 
@@ -18,19 +19,21 @@ returns-in_default c =
 
 pub returns-then-is_below : goal.returns-then-is_below
 returns-then-is_below c =
-    λ learnt records held.
+    if_so _ _ c.sent_to_newly.result c.sent_to_newly.ensures
+    (λ turned of learnt records held.
     let t = c.args.tenure.now in
     let g = ground c.args.place.now records c.args.own.now held in
     let issued = c.in-Some.issued.now in
-    ap (λ (u : Turned). goes_on learnt (record { epoch = t.epoch; peers = c.make_current.new.peers; progress = t.progress }) u) c.in_ok-sent_to_newly.ensures
+    ap (λ (u : Turned). goes_on learnt (record { epoch = t.epoch; peers = c.make_current.new.peers; progress = t.progress }) u) of
     ∙ ap (λ (peers : List Peer). goes_on learnt (record { epoch = t.epoch; peers = peers; progress = t.progress }) (newly_told g c.args.from c.args.newly issued.update)) c.make_current.ensures
-    ∙ below_acked g learnt t.epoch t.peers c.args.from c.args.stamp c.args.newly t.progress issued c.requires c.in-Some.ensures (sym c.is_below.ensures ∙ c.if-is_below.true)
+    ∙ below_acked g learnt t.epoch t.peers c.args.from c.args.stamp c.args.newly t.progress issued c.requires c.in-Some.ensures (sym c.is_below.ensures ∙ c.if-is_below.true))
 
 pub returns : goal.returns
 returns c =
-    λ learnt records held.
+    if_so _ _ c.acked_by.result c.acked_by.ensures
+    (λ turned of learnt records held.
     let t = c.args.tenure.now in
     let g = ground c.args.place.now records c.args.own.now held in
-    c.in_ok-acked_by.ensures learnt
+    of learnt
     ∙ ap (λ (peers : List Peer). acked_by g.place g.own learnt (record { epoch = t.epoch; peers = peers; progress = t.progress }) c.args.from) c.make_current.ensures
-    ∙ issued_acked g learnt t.epoch t.peers c.args.from c.args.stamp c.args.newly t.progress c.in-Some.issued.now c.requires c.in-Some.ensures (sym c.is_below.ensures ∙ c.if-is_below.false)
+    ∙ issued_acked g learnt t.epoch t.peers c.args.from c.args.stamp c.args.newly t.progress c.in-Some.issued.now c.requires c.in-Some.ensures (sym c.is_below.ensures ∙ c.if-is_below.false))

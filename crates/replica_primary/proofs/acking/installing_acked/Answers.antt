@@ -3,16 +3,18 @@ use Rattle.osd_rows.specs.declared.Peer.{Peer}
 use Rattle.osd_rows.specs.PrimaryRows.{hears_ack}
 use Rattle.replica_primary.specs.Acks.{acked_by}
 use Rattle.replica_primary.specs.Written.{ground}
+use Rattle.replica_primary.proofs.Given.{if_so}
 use Rattle.replica_primary.proofs.Acks.{installing_by}
 use Rattle.replica_primary.proofs.acking.installing_acked.Goals as goal
 
 pub returns : goal.returns
 returns c =
-    λ learnt records held stamp.
+    if_so _ _ c.acked_by.result c.acked_by.ensures
+    (λ turned of learnt records held stamp.
     let t = c.args.tenure.now in
     let from = c.args.from in
     let g = ground c.args.place.now records c.args.own.now held in
-    c.in_ok-acked_by.ensures learnt
+    of learnt
     ∙ ap (λ (peers : List Peer). acked_by g.place g.own learnt (record { epoch = t.epoch; peers = peers; progress = t.progress }) from) c.set_peer.ensures
     ∙ installing_by g learnt t from stamp t.progress c.requires
-    ∙ ap (λ (newly : Bool). hears_ack g learnt t t.progress from newly stamp) (sym c.if-not-newly.false)
+    ∙ ap (λ (newly : Bool). hears_ack g learnt t t.progress from newly stamp) (sym c.if-not-newly.false))

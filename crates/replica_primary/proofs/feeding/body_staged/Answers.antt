@@ -5,17 +5,19 @@ use Rattle.osd_rows.specs.Primaries.{peer_in}
 use Rattle.osd_rows.specs.PrimaryRows.{target_in}
 use Rattle.replica_primary.specs.Written.{ground}
 use Rattle.replica_primary.specs.Moves.{feeds_any}
+use Rattle.replica_primary.proofs.Given.{if_so}
 use Rattle.replica_primary.proofs.Fed.{staged_fed}
 use Rattle.replica_primary.proofs.feeding.body_staged.Goals as goal
 
 pub returns-clause-value : goal.returns-clause-value
 returns-clause-value g c =
-    λ learnt held state is.
+    if_so _ _ c.feeds_any.result c.feeds_any.ensures.value
+    (λ turned of learnt held state is.
     let t = c.args.tenure.now in
     let from = c.args.from in
     let target = target_in c.args.own.now t.epoch t.progress in
     let stands = ground c.args.place.now (g.B.Bodies.records c.args.bodies.now) c.args.own.now held in
     let told = ap (λ (peers : List Peer). peer_in peers from) c.as_slice.ensures ∙ is in
-    c.in_ok-feeds_any.ensures.value learnt held
+    of learnt held
     ∙ ap (λ (known : Option (List ObjectVersion)). feeds_any stands learnt t target from known) c.in_ok-known.ensures
-    ∙ staged_fed stands learnt t from c.args.version target state c.in_ok-told.told (c.in_ok-told.ensures state told)
+    ∙ staged_fed stands learnt t from c.args.version target state c.in_ok-told.told (c.in_ok-told.ensures state told))

@@ -4,6 +4,7 @@ use Rattle.xt_base.specs.declared.file.ObjectVersion.{ObjectVersion}
 use Rattle.osd_rows.specs.PrimaryRows.{goes_on, target_in}
 use Rattle.replica_primary.specs.Written.{ground}
 use Rattle.replica_primary.specs.Moves.{feeds_any}
+use Rattle.replica_primary.proofs.Given.{if_so}
 use Rattle.replica_primary.proofs.Fed.{none_known}
 use Rattle.replica_primary.proofs.feeding.feeds_any.Goals as goal
 
@@ -20,9 +21,10 @@ returns-in_default-clause-value g c =
 
 pub returns-clause-value : goal.returns-clause-value
 returns-clause-value g c =
-    λ learnt held.
+    if_so _ _ c.feeds_on.result c.feeds_on.ensures.value
+    (λ turned of learnt held.
     let t = c.args.tenure.now in
     let target = target_in c.args.own.now t.epoch t.progress in
     let stands = ground c.args.place.now (g.B.Bodies.records c.args.bodies.now) c.args.own.now held in
-    c.in_ok-feeds_on.ensures.value learnt held
-    ∙ ap (λ (known : Option (List ObjectVersion)). feeds_any stands learnt t target c.args.from known) (sym c.in-Some.is)
+    of learnt held
+    ∙ ap (λ (known : Option (List ObjectVersion)). feeds_any stands learnt t target c.args.from known) (sym c.in-Some.is))

@@ -2,6 +2,7 @@ use Rattle.std.proofs.Common.{◌∙◌, ℕ, List, ap, sym}
 use Rattle.xt_protocol.specs.declared.Turned.{Turned}
 use Rattle.osd_rows.specs.PrimaryRows.{body_fetched, goes_on}
 use Rattle.replica_primary.specs.Written.{ground}
+use Rattle.replica_primary.proofs.Given.{if_so}
 use Rattle.replica_primary.proofs.Hears.{asked_object, other_object}
 use Rattle.replica_primary.proofs.fetching.hears_object.Goals as goal
 
@@ -15,11 +16,12 @@ returns-then-not-is_asked-clause-value g c =
 
 pub returns-clause-value : goal.returns-clause-value
 returns-clause-value g c =
-    λ learnt.
+    if_so _ _ c.body_fetched.result c.body_fetched.ensures.value
+    (λ turned of learnt.
     let t = c.args.tenure.now in
     let v = c.args.version in
     let stands = ground c.args.place.now (g.B.Bodies.records c.args.bodies.now) c.args.own.now c.args.held.now in
-    asked_object stands learnt t t.progress c.args.from v c.args.bytes.now (goes_on learnt c.body_fetched.new.tenure c.in_ok-body_fetched.field-0) (sym c.is_asked.ensures ∙ c.if-not-is_asked.false)
+    asked_object stands learnt t t.progress c.args.from v c.args.bytes.now (goes_on learnt c.body_fetched.new.tenure turned) (sym c.is_asked.ensures ∙ c.if-not-is_asked.false)
     (λ chosen source asked later is.
-    c.in_ok-body_fetched.ensures.value learnt chosen source asked later is
-    ∙ ap (λ (bytes : List ℕ). body_fetched stands learnt t chosen source later v.object v.version bytes) c.in_ok-copy.ensures)
+    of learnt chosen source asked later is
+    ∙ ap (λ (bytes : List ℕ). body_fetched stands learnt t chosen source later v.object v.version bytes) c.in_ok-copy.ensures))

@@ -2,13 +2,15 @@ use Rattle.std.proofs.Common.{◌∙◌, List, ap, sym}
 use Rattle.xt_base.specs.declared.file.ObjectVersion.{ObjectVersion}
 use Rattle.osd_rows.specs.PrimaryRows.{fetches}
 use Rattle.replica_primary.specs.Moves.{ground_beyond}
+use Rattle.replica_primary.proofs.Given.{if_so}
 use Rattle.replica_primary.proofs.Hears.{split_none}
 use Rattle.replica_primary.proofs.gathering.fetches.Goals as goal
 
 pub returns-in_default-clause-value : goal.returns-in_default-clause-value
 returns-in_default-clause-value g c =
-    λ learnt held.
+    if_so _ _ c.installs.result c.installs.ensures.value
+    (λ turned of learnt held.
     let stands = ground_beyond c.args.place.now (g.B.Bodies.records c.args.bodies.now) c.args.fetched.now c.args.own.now held in
-    c.in_ok-installs.ensures.value learnt held
+    of learnt held
     ∙ ap (λ (wanted : List ObjectVersion). fetches stands learnt c.args.tenure.now c.args.chosen c.args.source wanted)
-    (sym (split_none c.args.wanted c.split.result c.split.ensures c.in_default.is))
+    (sym (split_none c.args.wanted c.split.result c.split.ensures c.in_default.is)))

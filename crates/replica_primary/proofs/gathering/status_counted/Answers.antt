@@ -6,12 +6,14 @@ use Rattle.std.specs.Prelude.{nat_le}
 use Rattle.osd_rows.specs.Primaries.{majority_among, reports_of, statuses_counted}
 use Rattle.osd_rows.specs.PrimaryRows.{chooses}
 use Rattle.replica_primary.specs.Written.{ground}
+use Rattle.replica_primary.proofs.Given.{if_so}
 use Rattle.replica_primary.proofs.Hears.{majority_told}
 use Rattle.replica_primary.proofs.gathering.status_counted.Goals as goal
 
 pub returns-clause-value : goal.returns-clause-value
 returns-clause-value g c =
-    λ learnt held.
+    if_so _ _ c.chooses.result c.chooses.ensures.value
+    (λ turned of learnt held.
     let t = c.args.tenure.now in
     let peers = c.as_slice-peers.result.now in
     let majority =
@@ -20,7 +22,7 @@ returns-clause-value g c =
     ∙ sym c.is_majority.ensures
     ∙ c.if-not-is_majority.false in
     let stands = ground c.args.place.now (g.B.Bodies.records c.args.bodies.now) c.args.own.now held in
-    c.in_ok-chooses.ensures.value learnt held
+    of learnt held
     ∙ ap (λ (reports : List (NodeId × FileHead)). chooses stands learnt t reports)
     (c.as_slice.ensures ∙ c.in_ok-reports.ensures ∙ ap (λ (ps : List Peer). reports_of ps) c.as_slice-peers.ensures)
-    ∙ majority_told stands learnt t majority
+    ∙ majority_told stands learnt t majority)
