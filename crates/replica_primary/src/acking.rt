@@ -17,9 +17,7 @@ use osd_rows::{IssuedUpdate, PeerState, Peers, Place, Progress, Tenure};
 use std::alloc::Global;
 use step_outputs::{answers, join, message, quiet, sends_one, shows};
 use version_lists::is_below;
-use xt_base::{
-    Copies, FileHead, Mark, NodeId, Octets, OutOfMemory, Payload, Seq, Stamp, Update,
-};
+use xt_base::{Copies, FileHead, Mark, NodeId, Octets, OutOfMemory, Payload, Seq, Stamp, Update};
 use xt_protocol::Turned;
 
 /// Whether an acknowledgement makes the peer current: it isn't below the head that was sent to it, or it is the own node's.
@@ -251,9 +249,7 @@ pub fn hears_ack(
     ensures { IfOk result (λ turned. (learnt : ℕ) (records : List Record) (held : List ObjectVersion) → goes_on learnt tenure.new turned ≡ rows.hears_ack (ground place.now records own.now held) learnt tenure.old tenure.old.progress from newly stamp) }
 {
     match &tenure.progress {
-        Progress::Installing { .. } => {
-            installing_acked(alloc, place, tenure, own, from, newly)
-        }
+        Progress::Installing { .. } => { installing_acked(alloc, place, tenure, own, from, newly) }
         Progress::Active { .. } => active_acked(alloc, place, tenure, own, from, newly, stamp),
         _ => Ok(quiet(alloc)),
     }
