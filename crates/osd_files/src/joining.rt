@@ -8,7 +8,8 @@ use step_outputs::join;
 use xt_base::OutOfMemory;
 use xt_protocol::Turned;
 
-/// What was made, and what the next part gives; where that fails, its error.
+/// What was made, and what the next part gives; where that fails, its error. So what was made is dropped here, by one call, and
+/// not case by case on the way out of each function that holds it.
 pub fn both<A: Drop, B, E>(made: A, next: Result<B, E>) -> Result<(A, B), E>
     ensures { MatchResult result (λ pair. (pair.0 ≡ made) × (next ≡ Ok pair.1)) (λ error. next ≡ Err error) }
 {

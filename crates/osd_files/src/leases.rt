@@ -8,7 +8,7 @@ ghost use Rattle.file_lease.specs.Moves.{IsSettled};
 ghost use Rattle.osd_invariants.specs.Sound.{IsStored, ListUnder};
 ghost use Rattle.replica_state.specs.Kept.{IsNotable};
 ghost use Rattle.osd_rows.specs.ReplicaRows.{kept_after};
-ghost use Rattle.osd_rows.specs.Turns.{joined, message, shows};
+ghost use Rattle.osd_rows.specs.Turns.{message};
 ghost use Rattle.osd_rows.specs.FileLeases as rows;
 ghost use Rattle.osd_files.specs.Answers.{read_answer, write_answer, answered_write, news_of, HasTurn, HoldBy};
 ghost use Rattle.osd_files.specs.Views.{shown};
@@ -20,7 +20,7 @@ use file_lease::{FileLease, News};
 use flease_register::{ReadAnswer, WriteAnswer};
 use replica_state::Replica;
 use std::alloc::Global;
-use step_outputs::{join, message, quiet, sends, sends_one, shows};
+use step_outputs::{message, quiet, sends, sends_one, shows};
 use xt_base::{
     Ballot, Boot, FileId, Lease, Mark, Msgs, NodeId, OutOfMemory, Payload, Record, Reply, Seq,
 };
