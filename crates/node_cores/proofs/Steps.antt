@@ -20,7 +20,7 @@ use Rattle.node_cores.specs.declared.running.Core.TheVariants as core
 use Rattle.node_cores.specs.declared.running.Running.{Running}
 use Rattle.node_cores.specs.Hosts.{HostView, node_of}
 use Rattle.node_cores.specs.Cores.{core_of, IsOf, IsUpOf}
-use Rattle.node_cores.specs.Turns.{IsCoreStep, IsCoreCall, call_step}
+use Rattle.node_cores.specs.Turns.{IsCoreStep, IsCoreCall}
 
 -- an OSD's step
 pub osd_took : (kept : List Record) (old new : OsdView) (clock : ℕ) (happens : Event) (turned : Turned)

@@ -136,7 +136,7 @@ impl Host {
         ensures err { OnErr result (self.new ≡ self.old) }
     {
         let state = Osd::start(alloc, self.id, self.times, None, folded, boot, clock)?;
-        self.up = Some(fresh(boot, clock, Core::Osd(state)));
+        drop(self.up.replace(fresh(boot, clock, Core::Osd(state))));
         Ok(())
     }
 
@@ -144,7 +144,7 @@ impl Host {
     pub fn stop(&mut self)
         ensures { self.new ≡ record self.old { up = None } }
     {
-        self.up = None;
+        drop(self.up.take());
     }
 
     /// Its next append stops so, where it runs.
@@ -189,12 +189,16 @@ impl Host {
         ensures ok { OnOk result (self.new ≡ record self.old { up = option_map (aims number node) self.old.up }) }
         ensures err { OnErr result (self.new ≡ record self.old { up = None }) }
     {
-        let Some(mut running) = self.up.take() else {
+        let Some(Running { core, .. }) = &mut self.up else {
             return Ok(());
         };
-        running.core.aim(number, node)?;
-        self.up = Some(running);
-        Ok(())
+        match core.aim(number, node) {
+            Ok(()) => Ok(()),
+            Err(error) => {
+                drop(self.up.take());
+                Err(error)
+            }
+        }
     }
 
     /// An event comes to it. None where it doesn't run. Where memory runs out it runs no more.
@@ -214,7 +218,7 @@ impl Host {
         match running.core.handle(bodies, running.clock, ev) {
             Ok(turned) => Ok(Some(turned)),
             Err(error) => {
-                self.up = None;
+                drop(self.up.take());
                 Err(error)
             }
         }
@@ -232,13 +236,15 @@ impl Host {
         ensures called { IfOk result (λ turned. Calls call.now number location.now op self.old self.new turned) }
         ensures err { OnErr result (self.new ≡ record self.old { up = None }) }
     {
-        let Some(mut running) = self.up.take() else {
+        let Some(running) = &mut self.up else {
             return Ok(None);
         };
-        let turned = running
-            .core
-            .call(running.clock, call, number, location, op)?;
-        self.up = Some(running);
-        Ok(turned)
+        match running.core.call(running.clock, call, number, location, op) {
+            Ok(turned) => Ok(turned),
+            Err(error) => {
+                drop(self.up.take());
+                Err(error)
+            }
+        }
     }
 }
