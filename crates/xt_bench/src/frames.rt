@@ -33,24 +33,47 @@ fn object_of(alloc: Global, size: usize) -> Result<Msg>
     })
 }
 
-/// Makes the frame of a message so many times, and gives the bytes of all.
-pub fn encode_times(alloc: Global, size: usize, times: u32) -> Result<u64> {
-    let msg = object_of(alloc, size)?;
+/// Makes the frame of this message so many times, and gives the bytes of all.
+fn encode_each(alloc: Global, msg: &Msg, times: u32) -> Result<u64>
+    requires { FitsMessage msg.now }
+{
     let mut bytes = 0u64;
     for _ in 0..times {
-        let frame = encode(alloc, &msg).context("encode")?;
+        let frame = encode(alloc, msg).context("encode")?;
         bytes = bytes.saturating_add(frame.as_slice().len() as u64);
     }
     Ok(bytes)
 }
 
+/// Makes the frame of a message so many times, and gives the bytes of all.
+pub fn encode_times(alloc: Global, size: usize, times: u32) -> Result<u64> {
+    let msg = object_of(alloc, size)?;
+    let bytes = encode_each(alloc, &msg, times);
+    drop(msg);
+    bytes
+}
+
+/// The frame of a message.
+fn frame_of(alloc: Global, size: usize) -> Result<Octets> {
+    let msg = object_of(alloc, size)?;
+    let frame = encode(alloc, &msg);
+    drop(msg);
+    frame.context("encode")
+}
+
+/// Reads a frame, and gives how many bytes it has.
+fn length_read(alloc: Global, frame: &[u8]) -> Result<usize> {
+    let (msg, len) = decode(alloc, frame).context("decode")?;
+    drop(msg);
+    Ok(len)
+}
+
 /// Reads the frame of a message so many times, and gives the bytes of all.
 pub fn decode_times(alloc: Global, size: usize, times: u32) -> Result<u64> {
-    let frame = encode(alloc, &object_of(alloc, size)?).context("encode")?;
+    let frame = frame_of(alloc, size)?;
     let mut bytes = 0u64;
     for _ in 0..times {
-        let (_msg, len) = decode(alloc, frame.as_slice()).context("decode")?;
-        bytes = bytes.saturating_add(len as u64);
+        bytes = bytes.saturating_add(length_read(alloc, frame.as_slice())? as u64);
     }
     Ok(bytes)
 }

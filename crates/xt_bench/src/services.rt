@@ -23,22 +23,30 @@ fn ask(
         list: 1,
         payload: Payload::Registry { number, request },
     });
-    dir.step(alloc, &event)
+    let turned = dir.step(alloc, &event);
+    drop(event);
+    turned
 }
 
-/// A service with so many nodes, from 0 on, each registered by a request of its own.
-fn registered(alloc: Global, nodes: u32) -> Result<Dir, OutOfMemory> {
-    let mut dir = Dir::start(alloc, &KEY, &[])?;
+/// Registers a node.
+fn register(alloc: Global, dir: &mut Dir, node: u32) -> Result<(), OutOfMemory> {
+    let request = RegistryReq::Set {
+        node: NodeId(node),
+        kind: 1,
+        address: Name::of(alloc, "127.0.0.1:7400")?,
+        expected: 0,
+    };
+    let turned = ask(alloc, dir, u64::from(node).saturating_add(1), request)?;
+    drop(turned);
+    Ok(())
+}
+
+/// Registers so many nodes, from 0 on, each by a request of its own.
+fn register_each(alloc: Global, dir: &mut Dir, nodes: u32) -> Result<(), OutOfMemory> {
     for node in 0..nodes {
-        let request = RegistryReq::Set {
-            node: NodeId(node),
-            kind: 1,
-            address: Name::of(alloc, "127.0.0.1:7400")?,
-            expected: 0,
-        };
-        ask(alloc, &mut dir, u64::from(node).saturating_add(1), request)?;
+        register(alloc, dir, node)?;
     }
-    Ok(dir)
+    Ok(())
 }
 
 /// The bytes of the address that a step tells.
@@ -57,10 +65,8 @@ fn told(turned: &Turned) -> u64 {
     }
 }
 
-/// Registers so many nodes and then asks for one so many times, each time another; gives the bytes of the addresses that were told.
-pub fn get_times(alloc: Global, nodes: usize, times: u32) -> Result<u64> {
-    let nodes = u32::try_from(nodes)?;
-    let mut dir = registered(alloc, nodes)?;
+/// Asks for one of so many nodes so many times, each time another, and gives the bytes of the addresses that were told.
+fn get_each(alloc: Global, dir: &mut Dir, nodes: u32, times: u32) -> Result<u64, OutOfMemory> {
     let number = u64::from(nodes).saturating_add(1);
     let mut bytes = 0u64;
     for turn in 0..times {
@@ -69,10 +75,31 @@ pub fn get_times(alloc: Global, nodes: usize, times: u32) -> Result<u64> {
                 .checked_rem(nodes)
                 .unwrap_or(0),
         );
-        let turned = ask(alloc, &mut dir, number, RegistryReq::Get { node })?;
+        let turned = ask(alloc, dir, number, RegistryReq::Get { node })?;
         bytes = bytes.saturating_add(told(&turned));
+        drop(turned);
     }
     Ok(bytes)
+}
+
+/// Registers so many nodes and then asks for them.
+fn register_and_get(
+    alloc: Global,
+    dir: &mut Dir,
+    nodes: u32,
+    times: u32,
+) -> Result<u64, OutOfMemory> {
+    register_each(alloc, dir, nodes)?;
+    get_each(alloc, dir, nodes, times)
+}
+
+/// Registers so many nodes and then asks for one so many times, each time another; gives the bytes of the addresses that were told.
+pub fn get_times(alloc: Global, nodes: usize, times: u32) -> Result<u64> {
+    let nodes = u32::try_from(nodes)?;
+    let mut dir = Dir::start(alloc, &KEY, &[])?;
+    let bytes = register_and_get(alloc, &mut dir, nodes, times);
+    drop(dir);
+    Ok(bytes?)
 }
 
 /// Makes the tag of a message of so many bytes so many times, and gives the bytes of all messages.
