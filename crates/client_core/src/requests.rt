@@ -7,10 +7,10 @@ use crate::holding::HeldFiles;
 use crate::striped::first_of;
 use replica_client::{begins, gives};
 use std::alloc::Global;
-use step_outputs::message;
+use step_outputs::{message, one};
 use xt_base::{
     Answers, AskRefusal, Call, Capability, Copies, DIR_NODE, Kind, MRC_NODE, MetaAnswer, MetaReq,
-    Msgs, NodeId, Octets, Op, OutOfMemory, Payload, RegistryAnswer, RegistryReq, Seq, SizeMark,
+    Msgs, NodeId, Octets, Op, OutOfMemory, Payload, RegistryAnswer, RegistryReq, SizeMark,
 };
 use xt_protocol::Turned;
 
@@ -271,9 +271,7 @@ impl Request {
         ensures { IfOk result (λ outs. outs ≡ spec.asks node number self.now target) }
     {
         let content = self.payload(alloc, number)?;
-        let mut outs = Seq::new(alloc);
-        outs.push(message(node, target, content))?;
-        Ok(outs)
+        one(alloc, message(node, target, content))
     }
 
     /// A call that asks for it is marked, and asks its first node.

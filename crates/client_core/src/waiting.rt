@@ -7,20 +7,21 @@ use crate::progress::{Learnt, Next, Progress, ends, waits_on};
 use crate::requests::{CallResult, MadeCall, Request};
 use crate::striped::{bytes_shown, next_asked, was_asked};
 use std::alloc::Global;
+use step_outputs::one;
 use xt_base::{
     Answered, AskRefusal, Capability, Copies, Event, MetaAnswer, NodeId, Octets, Op, OutOfMemory,
-    Payload, RegistryAnswer, Reply, Retry, Seq, SizeMark,
+    Payload, RegistryAnswer, Reply, Retry, SizeMark,
 };
 
 /// The node that is asked doesn't do it, and nobody else may.
 fn give_up(alloc: Global, target: NodeId, how: Retry) -> Result<Progress, OutOfMemory>
     ensures { IfOk result (λ comes. comes ≡ rows.gives_up target how) }
 {
-    let mut answers = Seq::new(alloc);
-    answers.push(Answered {
+    let answered = Answered {
         node: target,
         outcome: how,
-    })?;
+    };
+    let answers = one(alloc, answered)?;
     Ok(ends(CallResult::Retry { answers }))
 }
 
