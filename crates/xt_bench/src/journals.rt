@@ -1,3 +1,5 @@
+ghost use Rattle.std.specs.Prelude.{◌≤◌, ◌<◌, ◌^◌, length};
+
 use crate::done::Done;
 use anyhow::{Context, Result, bail, ensure};
 use disk_model::{Disk, FileDisk, MemoryDisk};
@@ -5,6 +7,17 @@ use std::alloc::Global;
 use std::rt::Files;
 use xt_base::{BODY, CallList, Octets};
 use xt_journal::Journal;
+
+/// The journal with this payload behind its records.
+pub fn longer<D: Disk>(alloc: Global, journal: Journal<D>, payload: &[u8]) -> Result<Journal<D>>
+    requires some { 1 ≤ length payload.now }
+    requires fits { length payload.now < 2 ^ 32 }
+{
+    match journal.append(alloc, payload) {
+        Ok(longer) => Ok(longer),
+        Err(_) => bail!("the payload isn't appended"),
+    }
+}
 
 /// Appends a payload of so many bytes so many times to the journal on a disk, and gives where its records end.
 fn append_to<D: Disk>(alloc: Global, disk: D, size: usize, times: u32) -> Result<u64> {
@@ -14,10 +27,7 @@ fn append_to<D: Disk>(alloc: Global, disk: D, size: usize, times: u32) -> Result
         bail!("the journal isn't loaded");
     };
     for _ in 0..times {
-        journal = match journal.append(alloc, payload.as_slice()) {
-            Ok(longer) => longer,
-            Err(_) => bail!("the payload isn't appended"),
-        };
+        journal = longer(alloc, journal, payload.as_slice())?;
     }
     Ok(journal.end())
 }

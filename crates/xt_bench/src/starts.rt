@@ -1,7 +1,8 @@
-ghost use Rattle.std.specs.Prelude.{◌<◌, ◌^◌, IfOk};
+ghost use Rattle.std.specs.Prelude.{◌≤◌, ◌<◌, ◌^◌, IfOk, length};
 ghost use Rattle.xt_base.specs.Limits.{FitsRecord};
 
 use crate::done::Done;
+use crate::journals::longer;
 use anyhow::{Result, bail};
 use disk_model::MemoryDisk;
 use object_store::Store;
@@ -48,6 +49,30 @@ fn update(alloc: Global, count: u32) -> Result<Record, OutOfMemory>
     Ok(Record::Update { file, update })
 }
 
+/// The bytes of the record of an update.
+fn payload_of(alloc: Global, count: u32) -> Result<Octets>
+    ensures { IfOk result (λ bytes. (1 ≤ length bytes) × (length bytes < 2 ^ 32)) }
+{
+    let rec = update(alloc, count)?;
+    Ok(record_bytes(alloc, &rec)?)
+}
+
+/// The journal, longer by the record of an update.
+fn longer_by(
+    alloc: Global,
+    journal: Journal<MemoryDisk>,
+    count: u32,
+) -> Result<Journal<MemoryDisk>> {
+    match payload_of(alloc, count) {
+        Ok(payload) => longer(alloc, journal, payload.as_slice()),
+        Err(error) => {
+            // by a call, so that it is no part of the way out
+            drop(journal);
+            Err(error)
+        }
+    }
+}
+
 /// The journal of the records of so many updates of one file.
 fn journal_of(alloc: Global, updates: u32) -> Result<Journal<MemoryDisk>> {
     let disk = MemoryDisk::new(alloc, Octets::new(alloc), CallList::new(alloc), None);
@@ -55,13 +80,20 @@ fn journal_of(alloc: Global, updates: u32) -> Result<Journal<MemoryDisk>> {
         bail!("the journal isn't loaded");
     };
     for count in 0..updates {
-        let bytes = record_bytes(alloc, &update(alloc, count.saturating_add(1))?)?;
-        journal = match journal.append(alloc, bytes.as_slice()) {
-            Ok(longer) => longer,
-            Err(_) => bail!("the record isn't appended"),
-        };
+        journal = longer_by(alloc, journal, count.saturating_add(1))?;
     }
     Ok(journal)
+}
+
+/// Loads the records on a disk, and gives how many there are.
+fn records_on(alloc: Global, disk: MemoryDisk) -> Result<u64> {
+    let Ok((journal, payloads)) = Journal::load(alloc, disk, u64::MAX) else {
+        bail!("the journal isn't loaded again");
+    };
+    match Store::load(alloc, journal, payloads.as_slice()) {
+        Ok(store) => Ok(store.records().len() as u64),
+        Err(_) => bail!("the records aren't loaded"),
+    }
 }
 
 /// Loads the records of so many updates of one file from a disk in memory, and gives how many there are, and the bytes of
@@ -69,14 +101,6 @@ fn journal_of(alloc: Global, updates: u32) -> Result<Journal<MemoryDisk>> {
 pub fn start_from(alloc: Global, updates: u32) -> Result<Done> {
     let made = journal_of(alloc, updates)?;
     let bytes = made.end();
-    let Ok((journal, payloads)) = Journal::load(alloc, made.close(), u64::MAX) else {
-        bail!("the journal isn't loaded again");
-    };
-    let Ok(store) = Store::load(alloc, journal, payloads.as_slice()) else {
-        bail!("the records aren't loaded");
-    };
-    Ok(Done {
-        pieces: store.records().len() as u64,
-        bytes,
-    })
+    let pieces = records_on(alloc, made.close())?;
+    Ok(Done { pieces, bytes })
 }

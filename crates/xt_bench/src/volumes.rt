@@ -96,9 +96,14 @@ fn all_paths(alloc: Global) -> Result<Paths> {
     })
 }
 
-/// A volume with so many files in a directory.
-fn filled(alloc: Global, paths: &Paths, files: u32) -> Result<Tree> {
-    let mut tree = Tree::new(alloc);
+/// The path of a file of the directory.
+fn file_path(alloc: Global, number: u32) -> Result<Name> {
+    let path = format!(in alloc; "/v/d/{number}")?;
+    Ok(Name::of(alloc, path.as_str())?)
+}
+
+/// Makes a volume with so many files in a directory.
+fn fill(alloc: Global, tree: &mut Tree, paths: &Paths, files: u32) -> Result<()> {
     let volume = Name::of(alloc, "/v")?;
     if tree.mkdir(ASKER, &volume, 0o755).is_err()
         || tree.mkdir(ASKER, &paths.directory, 0o755).is_err()
@@ -106,24 +111,39 @@ fn filled(alloc: Global, paths: &Paths, files: u32) -> Result<Tree> {
         bail!("no directory is made");
     }
     for number in 0..files {
-        let path = format!(in alloc; "/v/d/{number}")?;
-        let path = Name::of(alloc, path.as_str())?;
-        if !create(&mut tree, &path, &paths.pick) {
+        if !create(tree, &file_path(alloc, number)?, &paths.pick) {
             bail!("no file {number} is made");
         }
     }
-    Ok(tree)
+    Ok(())
+}
+
+/// Fills a tree, and runs an errand on it so many times.
+fn run_on(
+    alloc: Global,
+    tree: &mut Tree,
+    paths: &Paths,
+    errand: Errand,
+    files: u32,
+    times: u32,
+) -> Result<()> {
+    fill(alloc, tree, paths, files)?;
+    for round in 0..times {
+        if !errand.run(tree, paths) {
+            bail!("round {round} isn't done");
+        }
+    }
+    Ok(())
 }
 
 /// Runs an errand so many times over a directory of so many files, and gives how many calls were done.
 pub fn run_errands(alloc: Global, errand: Errand, files: u32, times: u32) -> Result<Done> {
     let paths = all_paths(alloc)?;
-    let mut tree = filled(alloc, &paths, files)?;
-    for round in 0..times {
-        if !errand.run(&mut tree, &paths) {
-            bail!("round {round} isn't done");
-        }
-    }
+    let mut tree = Tree::new(alloc);
+    let done = run_on(alloc, &mut tree, &paths, errand, files, times);
+    // by a call, so that it is no part of the way out
+    drop(tree);
+    done?;
     Ok(Done {
         pieces: u64::from(times),
         bytes: 0,

@@ -98,32 +98,59 @@ fn numbers(size: &Name, times: &Name) -> Option<(usize, u32)> {
     Some((size, times))
 }
 
+/// The work on volumes that these words name, if they name one.
+fn volume_of<'a>(words: &'a [Name]) -> Option<Work<'a>> {
+    let [errand, files, times] = words else {
+        return None;
+    };
+    Some(Work::Volume {
+        errand: Errand::of(errand.as_str())?,
+        files: files.as_str().parse::<u32>().ok()?,
+        times: times.as_str().parse::<u32>().ok()?,
+    })
+}
+
+/// The appends to a file that these words name, if they name them.
+fn append_of<'a>(words: &'a [Name]) -> Option<Work<'a>> {
+    let [size, times, path] = words else {
+        return None;
+    };
+    let (size, times) = numbers(size, times)?;
+    let path = path.as_str();
+    Some(Work::AppendFile { size, times, path })
+}
+
+/// The task that these words name, if they name one.
+fn task_of<'a>(task: &str, words: &'a [Name]) -> Option<Work<'a>> {
+    let [size, times] = words else { return None };
+    let task = Task::of(task)?;
+    let (size, times) = numbers(size, times)?;
+    Some(Work::Inside { task, size, times })
+}
+
+/// The work on one word that these words name, if they name one.
+fn single_of<'a>(name: &str, word: &'a Name) -> Option<Work<'a>> {
+    let word = word.as_str();
+    if name == "load" {
+        Some(Work::LoadFile { path: word })
+    } else if name == "start" {
+        let updates = word.parse::<u32>().ok()?;
+        Some(Work::Start { updates })
+    } else {
+        None
+    }
+}
+
 impl<'a> Work<'a> {
     /// The work that these words name, if they name one.
     pub fn of(words: &'a [Name]) -> Option<Work<'a>> {
-        match words {
-            [volume, errand, files, times] if volume.as_str() == "volume" => Some(Work::Volume {
-                errand: Errand::of(errand.as_str())?,
-                files: files.as_str().parse::<u32>().ok()?,
-                times: times.as_str().parse::<u32>().ok()?,
-            }),
-            [task, size, times] => {
-                let task = Task::of(task.as_str())?;
-                let (size, times) = numbers(size, times)?;
-                Some(Work::Inside { task, size, times })
-            }
-            [task, size, times, path] if task.as_str() == "append-file" => {
-                let (size, times) = numbers(size, times)?;
-                let path = path.as_str();
-                Some(Work::AppendFile { size, times, path })
-            }
-            [task, path] if task.as_str() == "load" => Some(Work::LoadFile {
-                path: path.as_str(),
-            }),
-            [task, updates] if task.as_str() == "start" => Some(Work::Start {
-                updates: updates.as_str().parse::<u32>().ok()?,
-            }),
-            _ => None,
+        let (name, rest) = words.split_first()?;
+        let name = name.as_str();
+        match rest {
+            [word] => single_of(name, word),
+            _ if name == "volume" => volume_of(rest),
+            _ if name == "append-file" => append_of(rest),
+            _ => task_of(name, rest),
         }
     }
 
