@@ -2,7 +2,7 @@ ghost use Rattle.std.specs.Prelude.{◌≡◌, ◌≤◌, ◌+◌, ◌⊎◌, �
 ghost use Rattle.node_links.specs.Streams.{Takes, IsAtEnd, is_named};
 ghost use Rattle.xt_base.specs.Faults.{Rose, fault_count_after};
 
-use std::io::Read;
+use std::io::BufRead;
 use xt_base::{CallList, Failed, Octets};
 
 /// A source of bytes.
@@ -93,15 +93,15 @@ impl Source for MemorySource {
     }
 }
 
-/// The standard input, or another real reader. What it gives isn't told.
+/// The standard input, or another real reader with a buffer. What it gives isn't told.
 #[derive(Drop)]
-pub struct StdinSource<R: Read + Drop> {
+pub struct StdinSource<R: BufRead + Drop> {
     reader: R,
     faults: u64,
 }
 
-impl<R: Read + Drop> StdinSource<R> {
-    /// A source of what the reader gives. The reader had better be buffered.
+impl<R: BufRead + Drop> StdinSource<R> {
+    /// A source of what the reader gives.
     pub fn new(reader: R) -> StdinSource<R>
         ensures { result.faults ≡ 0 }
     {
@@ -109,7 +109,21 @@ impl<R: Read + Drop> StdinSource<R> {
     }
 }
 
-impl<R: Read + Drop> Source for StdinSource<R> {
+/// Copies as many of the bytes as fit to the front of the buffer, and says how many. A single byte, which is what a line is read
+/// by, is no call.
+fn copy_front(buf: &mut [u8], bytes: &[u8]) -> usize
+    ensures { result ≤ length buf.old }
+{
+    let count = buf.len().min(bytes.len());
+    if count == 1 {
+        buf[0] = bytes[0];
+    } else {
+        buf[..count].copy_from_slice(&bytes[..count]);
+    }
+    count
+}
+
+impl<R: BufRead + Drop> Source for StdinSource<R> {
     ghost left = { λ _. None };
 
     ghost fails = { λ _ _. false };
@@ -121,8 +135,12 @@ impl<R: Read + Drop> Source for StdinSource<R> {
     }
 
     fn take(&mut self, buf: &mut [u8]) -> Result<usize, Failed> {
-        match self.reader.read(buf) {
-            Ok(count) => Ok(count),
+        match self.reader.fill_buf() {
+            Ok(bytes) => {
+                let count = copy_front(buf, bytes);
+                self.reader.consume(count);
+                Ok(count)
+            }
             Err(_) => {
                 self.faults = self.faults.saturating_add(1);
                 Err(Failed)

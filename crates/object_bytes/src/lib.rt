@@ -37,7 +37,8 @@ pub fn overlay(alloc: Global, old: &[u8], at: usize, new: &[u8]) -> Result<Octet
 {
     let front = old.len().min(at);
     let behind = old.len().min(at + new.len());
-    let mut made = Vec::from_slice(alloc, &old[..front])?;
+    let mut made = Vec::with_capacity(alloc, old.len().max(at + new.len()))?;
+    made.extend_from_slice(&old[..front])?;
     push_zeros(&mut made, at.saturating_sub(old.len()))?;
     made.extend_from_slice(new)?;
     made.extend_from_slice(&old[behind..])?;

@@ -1,6 +1,6 @@
 use node_links::{MemorySink, MemorySource, Sink, Source, StdinSource, StdoutSink};
 use std::alloc::Global;
-use std::io::{self, Read, Write};
+use std::io::{self, BufReader, Read, Write};
 use std::process::Abort;
 use std::test::*;
 use xt_base::{CallList, Failed, Octets};
@@ -131,7 +131,8 @@ fn a_reader_is_a_source(rt: HostRuntime) {
 
 #[test]
 fn a_reader_that_halts_is_a_source(rt: HostRuntime) {
-    let mut source = StdinSource::new(Halting { calls: 0 });
+    let reader = BufReader::new(rt.alloc(), Halting { calls: 0 }).expect(&rt, OTHERWISE);
+    let mut source = StdinSource::new(reader);
     for (count, faults) in &HALTS {
         assert!(rt; taken(&mut source, 2) == *count && source.faults() == *faults);
     }
