@@ -12,8 +12,8 @@ use registry_table::{Plan, Registry};
 use std::alloc::Global;
 use std::marker::Model;
 use xt_base::{
-    Copies, DIR_NODE, Event, Logged, Msg, NodeId, Octets, OutOfMemory, Payload, Record,
-    RegistryAnswer, RegistryReq, Seq,
+    Copies, DIR_NODE, Event, Logged, Msg, NodeId, Octets, OptionalBox, OutOfMemory, Payload,
+    Record, RegistryAnswer, RegistryReq, Seq,
 };
 use xt_protocol::Turned;
 
@@ -41,7 +41,7 @@ fn quiet(alloc: Global) -> Turned
     ensures { result ≡ record { rec = None; outs = []; marks = [] } }
 {
     Turned {
-        rec: None,
+        rec: OptionalBox::none(),
         outs: Seq::new(alloc),
         marks: Seq::new(alloc),
     }
@@ -57,6 +57,7 @@ fn answer(
 ) -> Result<Turned, OutOfMemory>
     ensures { IfOk result (λ turned. turned ≡ record { rec = rec; outs = reply_to client number answer ∷ []; marks = [] }) }
 {
+    let rec = OptionalBox::of(alloc, rec)?;
     let mut outs = Seq::new(alloc);
     outs.push(Msg {
         from: DIR_NODE,

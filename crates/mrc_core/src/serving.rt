@@ -14,8 +14,8 @@ use mrc_catalogue::{
 use std::alloc::Global;
 use step_outputs::{message, quiet, sends_one};
 use xt_base::{
-    Copies, Logged, MRC_NODE, Marks, Members, MetaAnswer, Msg, Msgs, NodeId, OutOfMemory, Payload,
-    Record, Seq,
+    Copies, Logged, MRC_NODE, Marks, Members, MetaAnswer, Msg, Msgs, NodeId, OptionalBox,
+    OutOfMemory, Payload, Record, Seq,
 };
 use xt_protocol::Turned;
 
@@ -65,7 +65,7 @@ fn one_in(room: Vec<Msg>, message: Msg) -> Msgs
 /// What a recorded request gives: its record, the marks where it is done, and its answer, in the room for it.
 fn recorded(
     alloc: Global,
-    rec: Record,
+    rec: OptionalBox<Record>,
     asking: &Asking,
     settled: &Settled,
     marks: Marks,
@@ -73,7 +73,7 @@ fn recorded(
 ) -> Turned
     requires empty { room.items ≡ [] }
     requires room { vec_len room < vec_capacity room }
-    ensures { result ≡ record { rec = Some rec; outs = steps.reply_to asking.now.client asking.now.number (answer_of settled.now) ∷ []; marks = if rows.is_done (answer_of settled.now) then marks else [] } }
+    ensures { result ≡ record { rec = rec; outs = steps.reply_to asking.now.client asking.now.number (answer_of settled.now) ∷ []; marks = if rows.is_done (answer_of settled.now) then marks else [] } }
 {
     let marks = if settled.is_done() {
         marks
@@ -81,7 +81,7 @@ fn recorded(
         Seq::new(alloc)
     };
     Turned {
-        rec: Some(rec),
+        rec,
         outs: one_in(
             room,
             reply_to(asking.client, asking.number, settled.answer()),
@@ -108,7 +108,7 @@ fn changed(
     let nodes = nodes_for(alloc, site.osds, next, asking.request)?;
     let room = Vec::with_capacity(alloc, 1)?;
     let marks = marks_on(alloc, next, &place_of(&nodes, asking.request))?;
-    let rec = record_of(alloc, site, asking, &nodes)?;
+    let rec = OptionalBox::some(alloc, record_of(alloc, site, asking, &nodes)?)?;
     match catalogue.change(alloc, site, asking, &nodes) {
         Ok(settled) => Ok(recorded(alloc, rec, asking, &settled, marks, room)),
         Err(error) => {
@@ -135,7 +135,7 @@ fn sized(
     ensures err { OnErr result (catalogue.new ≡ catalogue.old) }
 {
     let room = Vec::with_capacity(alloc, 1)?;
-    let rec = record_of(alloc, site, asking, &None)?;
+    let rec = OptionalBox::some(alloc, record_of(alloc, site, asking, &None)?)?;
     match catalogue.set(asking.client, asking.number, settling) {
         Ok(()) => Ok(recorded(alloc, rec, asking, &settling.settled, Seq::new(alloc), room)),
         Err(error) => {

@@ -379,7 +379,7 @@ fn tells(turned: &Turned, asked: &Asked, told: &Told) -> bool {
 
 /// Whether a step keeps the request with these nodes, or nothing.
 fn keeps(turned: &Turned, asked: &Asked, kept: Kept) -> bool {
-    match &turned.rec {
+    match turned.rec.get() {
         Some(
             Record::Meta {
                 from,

@@ -270,7 +270,7 @@ fn let_in<B: Bodies>(
 {
     let asked = op.copy(file.alloc)?;
     let ask = waiting_ask(file.awake.times(), now, id, capability.epoch, asked);
-    let kept = keeps(file.alloc, file.lead.list_once(&capability.location));
+    let kept = keeps(file.alloc, file.lead.list_once(&capability.location))?;
     file.used = now;
     let rest = ask_rows(file, bodies, now, ask);
     join_rest(kept, rest)

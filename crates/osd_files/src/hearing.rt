@@ -17,7 +17,9 @@ use osd_rows::Acted;
 use replica_state::fetched_from;
 use std::alloc::Global;
 use step_outputs::{message, sends_one};
-use xt_base::{Epoch, FileHead, Msgs, NodeId, Octets, OutOfMemory, Payload, Seq, Stamp, Update};
+use xt_base::{
+    Epoch, FileHead, Msgs, NodeId, Octets, OptionalBox, OutOfMemory, Payload, Seq, Stamp, Update,
+};
 use xt_protocol::Turned;
 
 /// The answer to whoever asked, if there is one.
@@ -43,7 +45,8 @@ fn replica_acts(
 ) -> Result<Turned, OutOfMemory>
     ensures { IfOk result (λ turned. turned ≡ record { rec = acted.rec; outs = if_any node from acted.answer; marks = [] }) }
 {
-    let (rec, outs) = both(acted.rec, answered(alloc, node, from, acted.answer))?;
+    let rec = OptionalBox::of(alloc, acted.rec)?;
+    let (rec, outs) = both(rec, answered(alloc, node, from, acted.answer))?;
     Ok(Turned {
         rec,
         outs,

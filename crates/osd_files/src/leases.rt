@@ -22,7 +22,8 @@ use replica_state::Replica;
 use std::alloc::Global;
 use step_outputs::{message, quiet, sends, sends_one, shows};
 use xt_base::{
-    Ballot, Boot, FileId, Lease, Mark, Msgs, NodeId, OutOfMemory, Payload, Record, Reply, Seq,
+    Ballot, Boot, FileId, Lease, Mark, Msgs, NodeId, OptionalBox, OutOfMemory, Payload, Record,
+    Reply, Seq,
 };
 use xt_protocol::Turned;
 
@@ -154,12 +155,12 @@ fn writes_to(
 }
 
 /// Takes what the primary recorded, if it did, in its own replica.
-fn note(replica: &mut Replica, rec: &Option<Record>) -> Result<(), OutOfMemory>
+fn note(replica: &mut Replica, rec: &OptionalBox<Record>) -> Result<(), OutOfMemory>
     requires { IfSome rec.now (IsNotable replica.old) }
     ensures ok { OnOk result ((location : Option Location) → record replica.new { location = location } ≡ kept_after (record replica.old { location = location }) rec.now) }
     ensures file { replica.new.file ≡ replica.old.file }
 {
-    match rec {
+    match rec.get() {
         Some(rec) => replica.note(rec),
         None => Ok(()),
     }

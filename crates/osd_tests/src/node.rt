@@ -161,7 +161,7 @@ fn shown(rt: &impl Abort, alloc: Global, turned: Turned) -> Told
     requires { AllByRecursion FitsMessage turned.outs }
 {
     let letters = letters(rt, alloc, turned.outs.as_slice());
-    let Turned { outs, rec, marks } = turned;
+    let (rec, outs, marks) = turned.into_parts();
     drop(outs);
     drop(rec);
     Told { marks, letters }
@@ -247,7 +247,7 @@ impl Node {
             return quiet(alloc);
         };
         let turned = stepped(rt, osd, &mut self.kept, now, event);
-        let Some(rec) = &turned.rec else {
+        let Some(rec) = turned.rec.get() else {
             return turned;
         };
         self.kept.put(rt, alloc, rec, stop);

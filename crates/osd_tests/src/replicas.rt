@@ -12,7 +12,7 @@ use std::process::Abort;
 use uuid::Uuid;
 use version_lists::hold;
 use xt_base::{
-    Epoch, FileHead, FileId, HeldSet, NodeId, ObjectVersion, Payload, Record, Stamp, Times,
+    Copies, Epoch, FileHead, FileId, HeldSet, NodeId, ObjectVersion, Payload, Record, Stamp, Times,
 };
 
 /// The frame of a Gather of file 1 from a node to node 2, with the epoch of this number and that node.
@@ -107,8 +107,8 @@ static OFFERED: [u8; 117] = [
 fn head(rt: &impl Abort, alloc: Global, bytes: &[u8]) -> FileHead
     ensures { FitsHead result }
 {
-    match read_record(alloc, bytes) {
-        Ok(Record::Head { head, .. }) => head,
+    match &read_record(alloc, bytes) {
+        Ok(Record::Head { head, .. }) => head.copy(alloc).ok().expect(rt, OTHERWISE),
         _ => panic!(rt; "the bytes are the record of a head"),
     }
 }

@@ -9,8 +9,8 @@ use cluster_runs::{RunningCall, Tried};
 use std::alloc::Global;
 use step_outputs::{message, one};
 use xt_base::{
-    Call, Capability, Copies, Mark, Marks, Members, Msgs, NodeId, Op, OutOfMemory, Outcome,
-    Payload, Seq,
+    Call, Capability, Copies, Mark, Marks, Members, Msgs, NodeId, Op, OptionalBox, OutOfMemory,
+    Outcome, Payload, Seq,
 };
 use xt_protocol::Turned;
 
@@ -76,7 +76,7 @@ pub fn gives(outs: Msgs, marks: Marks) -> Turned
     ensures { result ≡ record { rec = None; outs = outs; marks = marks } }
 {
     Turned {
-        rec: None,
+        rec: OptionalBox::none(),
         outs,
         marks,
     }

@@ -17,7 +17,9 @@ use osd_rows::{IssuedUpdate, PeerState, Peers, Place, Progress, Tenure};
 use std::alloc::Global;
 use step_outputs::{answers, join, message, quiet, sends_one, shows};
 use version_lists::is_below;
-use xt_base::{Copies, FileHead, Mark, NodeId, Octets, OutOfMemory, Payload, Seq, Stamp, Update};
+use xt_base::{
+    Copies, FileHead, Mark, NodeId, Octets, OptionalBox, OutOfMemory, Payload, Seq, Stamp, Update,
+};
 use xt_protocol::Turned;
 
 /// Whether an acknowledgement makes the peer current: it isn't below the head that was sent to it, or it is the own node's.
@@ -86,7 +88,7 @@ fn commit_told(alloc: Global, place: &Place, update: &Update) -> Result<Turned, 
     let none = Octets::new(alloc);
     let answered = answers(alloc, place.node, file, id, count, update.mark, none)?;
     let marked = Turned {
-        rec: None,
+        rec: OptionalBox::none(),
         outs: Seq::new(alloc),
         marks,
     };

@@ -9,7 +9,9 @@ use osd_peers::unknown_peers;
 use osd_rows::{Nodes, Peer, Place, Progress, Tenure};
 use std::alloc::Global;
 use step_outputs::{message, quiet};
-use xt_base::{COUNTS, Epoch, FileHead, Msgs, NodeId, OutOfMemory, Payload, Record, Seq};
+use xt_base::{
+    COUNTS, Epoch, FileHead, Msgs, NodeId, OptionalBox, OutOfMemory, Payload, Record, Seq,
+};
 use xt_protocol::Turned;
 
 /// A tenure that begins, none where no number is left, and what is sent then.
@@ -62,6 +64,11 @@ pub fn epoch_drawn(
         number: 1 + greatest,
         node: place.node,
     };
+    let promise = Record::Promise {
+        file: place.file,
+        epoch,
+    };
+    let rec = OptionalBox::some(alloc, promise)?;
     let outs = gathers(alloc, place, epoch, members)?;
     let peers = unknown_peers(alloc, members)?;
     Ok(Drawn {
@@ -71,10 +78,7 @@ pub fn epoch_drawn(
             progress: Progress::Gathering,
         }),
         turned: Turned {
-            rec: Some(Record::Promise {
-                file: place.file,
-                epoch,
-            }),
+            rec,
             outs,
             marks: Seq::new(alloc),
         },

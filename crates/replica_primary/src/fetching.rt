@@ -101,7 +101,9 @@ fn body_fetched<B: Bodies>(
 {
     let fetched = unless_held(held, body);
     let turned = fetches_on(bodies, alloc, place, &fetched, tenure, own)?;
-    Ok(after_keeping(kept_of(&place.file, fetched), turned))
+    let rec = kept_of(&place.file, fetched);
+    let next = after_keeping(alloc, rec, turned)?;
+    Ok(next)
 }
 
 /// Whether this is the version that was asked for last, from its source.

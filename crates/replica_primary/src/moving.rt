@@ -1,8 +1,9 @@
-ghost use Rattle.std.specs.Prelude.{◌≡◌};
+ghost use Rattle.std.specs.Prelude.{◌≡◌, IfOk};
 
 use osd_rows::{Progress, Tenure};
+use std::alloc::Global;
 use std::mem;
-use xt_base::{Octets, Record, Stamp};
+use xt_base::{Octets, OptionalBox, OutOfMemory, Record, Stamp};
 use xt_protocol::Turned;
 
 /// What a message makes of a tenure.
@@ -37,10 +38,13 @@ pub fn advance(tenure: &mut Tenure, progress: Progress)
 }
 
 /// What a row gives that keeps this record first, if there is one.
-pub fn after_keeping(rec: Option<Record>, turned: Turned) -> Turned
-    ensures { result ≡ record turned { rec = rec } }
+pub fn after_keeping(
+    alloc: Global,
+    rec: Option<Record>,
+    mut turned: Turned,
+) -> Result<Turned, OutOfMemory>
+    ensures { IfOk result (λ next. next ≡ record turned { rec = rec }) }
 {
-    let mut turned = turned;
-    put(&mut turned.rec, rec);
-    turned
+    turned.rec = OptionalBox::of(alloc, rec)?;
+    Ok(turned)
 }

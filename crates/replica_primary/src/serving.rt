@@ -23,8 +23,8 @@ use osd_writes::{Standing, standing_of, update_of};
 use std::alloc::Global;
 use step_outputs::{answers, message, quiet, tells};
 use xt_base::{
-    COUNTS, Copies, FileHead, FileId, Mark, Msgs, NodeId, OBJECTS, Octets, Op, OpId, OutOfMemory,
-    Payload, Seq, Stamp, Update,
+    COUNTS, Copies, FileHead, FileId, Mark, Msgs, NodeId, OBJECTS, Octets, Op, OpId, OptionalBox,
+    OutOfMemory, Payload, Seq, Stamp, Update,
 };
 use xt_protocol::Turned;
 
@@ -98,7 +98,7 @@ fn issue_told(
         id: update.id,
     })?;
     Ok(Turned {
-        rec: None,
+        rec: OptionalBox::none(),
         outs,
         marks,
     })

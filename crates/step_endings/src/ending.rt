@@ -6,7 +6,7 @@ use disk_model::Stop;
 use node_cores::Moment;
 use time_line::Halt;
 use world_hull::Kept;
-use xt_base::{Msg, Msgs, Record};
+use xt_base::{Msg, Msgs, OptionalBox, Record};
 
 /// How the step of a running node ends.
 #[derive(Clone, Copy, PartialEq, Eq)]
@@ -20,7 +20,7 @@ pub enum Ending {
 }
 
 /// By the plans for a node and by what its step gives, how the step ends.
-pub fn ending_of(moment: &Moment, rec: &Option<Record>, outs: &Msgs) -> Ending
+pub fn ending_of(moment: &Moment, rec: &OptionalBox<Record>, outs: &Msgs) -> Ending
     ensures { result ≡ ending_of moment.now.crash moment.now.cut rec.now outs.now }
 {
     match moment.crash {

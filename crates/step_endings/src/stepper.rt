@@ -19,7 +19,7 @@ use time_line::{Entry, Halt};
 use world_hull::{Hull, WorldErr};
 use world_nodes::{Nodes, OwnMessages};
 use world_tables::SentMessages;
-use xt_base::{Marks, Msg, Msgs, NodeId, Record};
+use xt_base::{Marks, Msg, Msgs, NodeId, OptionalBox, Record};
 use xt_protocol::Turned;
 
 /// What the steps of nodes change in a world: its nodes, the messages and the trace.
@@ -79,7 +79,7 @@ impl<H: Hull> Stepper<H> {
         &mut self,
         alloc: Global,
         place: usize,
-        rec: &Option<Record>,
+        rec: &OptionalBox<Record>,
         outs: &[Msg],
     ) -> Result<(), WorldErr>
         requires inside { place < length self.old.nodes.nodes }
@@ -98,7 +98,7 @@ impl<H: Hull> Stepper<H> {
         &mut self,
         alloc: Global,
         place: usize,
-        rec: &Option<Record>,
+        rec: &OptionalBox<Record>,
         outs: &mut Msgs,
         marks: &mut Marks,
     ) -> Result<(), WorldErr>
@@ -121,7 +121,7 @@ impl<H: Hull> Stepper<H> {
         place: usize,
         clock: u64,
         count: u128,
-        rec: &Option<Record>,
+        rec: &OptionalBox<Record>,
         outs: &Msgs,
         marks: &mut Marks,
     ) -> Result<(), WorldErr>
@@ -168,7 +168,7 @@ impl<H: Hull> Stepper<H> {
         &mut self,
         alloc: Global,
         place: usize,
-        rec: &Option<Record>,
+        rec: &OptionalBox<Record>,
         outs: &mut Msgs,
         marks: &mut Marks,
     ) -> Result<(), WorldErr>
@@ -184,7 +184,7 @@ impl<H: Hull> Stepper<H> {
             Ending::InSending(count) => {
                 self.cut_sending(alloc, place, moment.clock, count, rec, outs, marks)
             }
-            Ending::InAppend(stop) => match rec {
+            Ending::InAppend(stop) => match rec.get() {
                 Some(rec) => self.stop_in_append(alloc, place, moment.clock, stop, rec),
                 None => Ok(()),
             },
@@ -202,11 +202,7 @@ impl<H: Hull> Stepper<H> {
         requires fits { (node : Node) → IsAt self.old.nodes.nodes place node → FitsTurned node.kept turned × IfSome node.up FitsRunning }
         ensures { (around : Around) (node : Node) (running : Running) → IsAt self.old.nodes.nodes place node → node.up ≡ Some running → IsStepped (working around self.old) (end_of_step H.overflow (working around self.old).doing node running (record { state = running.core; turned = turned })) (working around self.new) result }
     {
-        let Turned {
-            rec,
-            mut outs,
-            mut marks,
-        } = turned;
+        let (rec, mut outs, mut marks) = turned.into_parts();
         self.end_by_plans(alloc, place, &rec, &mut outs, &mut marks)
     }
 }

@@ -10,8 +10,8 @@ ghost use Rattle.osd_rows.specs.Turns as rows;
 use std::alloc::Global;
 use std::mem;
 use xt_base::{
-    Copies, FileId, Mark, Marks, Msg, Msgs, NodeId, Octets, OpId, OutOfMemory, Payload, Record,
-    Reply, Seq, SizeMark,
+    Copies, FileId, Mark, Marks, Msg, Msgs, NodeId, Octets, OpId, OptionalBox, OutOfMemory,
+    Payload, Record, Reply, Seq, SizeMark,
 };
 use xt_protocol::Turned;
 
@@ -20,21 +20,22 @@ pub fn quiet(alloc: Global) -> Turned
     ensures { result ≡ rows.quiet }
 {
     Turned {
-        rec: None,
+        rec: OptionalBox::none(),
         outs: Seq::new(alloc),
         marks: Seq::new(alloc),
     }
 }
 
 /// A record alone, if there is one.
-pub fn keeps(alloc: Global, rec: Option<Record>) -> Turned
-    ensures { result ≡ rows.keeps rec }
+pub fn keeps(alloc: Global, rec: Option<Record>) -> Result<Turned, OutOfMemory>
+    ensures { IfOk result (λ turned. turned ≡ rows.keeps rec) }
 {
-    Turned {
+    let rec = OptionalBox::of(alloc, rec)?;
+    Ok(Turned {
         rec,
         outs: Seq::new(alloc),
         marks: Seq::new(alloc),
-    }
+    })
 }
 
 /// Messages alone.
@@ -42,7 +43,7 @@ pub fn sends(alloc: Global, outs: Msgs) -> Turned
     ensures { result ≡ rows.sends outs }
 {
     Turned {
-        rec: None,
+        rec: OptionalBox::none(),
         outs,
         marks: Seq::new(alloc),
     }
@@ -70,7 +71,7 @@ pub fn shows(alloc: Global, mark: Mark) -> Result<Turned, OutOfMemory>
 {
     let marks = one(alloc, mark)?;
     Ok(Turned {
-        rec: None,
+        rec: OptionalBox::none(),
         outs: Seq::new(alloc),
         marks,
     })
@@ -136,7 +137,7 @@ pub fn answers(
     let reply = Reply::Ok { count, mark, bytes };
     let outs = one(alloc, reply_to(node, file, id, reply))?;
     Ok(Turned {
-        rec: None,
+        rec: OptionalBox::none(),
         outs,
         marks,
     })

@@ -14,7 +14,6 @@ pub enum Halt {
 }
 
 /// A line of a trace.
-#[derive(Drop)]
 pub enum Entry {
     /// The lease length and the drift, in milliseconds.
     Times {
@@ -94,4 +93,69 @@ pub enum Entry {
         number: u64,
         outcome: Outcome,
     },
+}
+
+// A derived drop is part of the code of each function that may drop a value, and proved there. This is proved once.
+impl Drop for Entry {
+    fn drop(self) {
+        match self {
+            Entry::Times { lease: _, drift: _ } => {}
+            Entry::File {
+                number: _,
+                location: _,
+            } => {}
+            Entry::Clock { node: _, clock: _ } => {}
+            Entry::Tick { count: _ } => {}
+            Entry::Up {
+                node: _,
+                boot: _,
+                clock: _,
+            } => {}
+            Entry::Down {
+                node: _,
+                clock: _,
+                how: _,
+            } => {}
+            Entry::Begin {
+                client: _,
+                number: _,
+                call: _,
+            } => {}
+            Entry::Held {
+                node: _,
+                file: _,
+                end: _,
+            } => {}
+            Entry::Active {
+                node: _,
+                file: _,
+                count: _,
+                id: _,
+            } => {}
+            Entry::Issue {
+                node: _,
+                file: _,
+                count: _,
+                id: _,
+            } => {}
+            Entry::Commit {
+                node: _,
+                file: _,
+                count: _,
+                id: _,
+            } => {}
+            Entry::Answer {
+                node: _,
+                file: _,
+                id: _,
+                count: _,
+                bytes: _,
+            } => {}
+            Entry::Done {
+                client: _,
+                number: _,
+                outcome: _,
+            } => {}
+        }
+    }
 }

@@ -1,7 +1,6 @@
 use xt_base::{Call, Location, NodeId};
 
 /// A line of a schedule.
-#[derive(Drop)]
 pub enum Line {
     /// The lease length and the drift, in milliseconds. It is the first line, if any.
     Times {
@@ -78,4 +77,39 @@ pub enum Line {
     Settle {
         count: u128,
     },
+}
+
+// A derived drop is part of the code of each function that may drop a value, and proved there. This is proved once.
+impl Drop for Line {
+    fn drop(self) {
+        match self {
+            Line::Times { lease: _, drift: _ } => {}
+            Line::Osd { node: _ } => {}
+            Line::Client { node: _, clock: _ } => {}
+            Line::File {
+                number: _,
+                location: _,
+            } => {}
+            Line::Start { node: _, clock: _ } => {}
+            Line::Stop { node: _ } => {}
+            Line::Crash {
+                node: _,
+                call: _,
+                fill: _,
+            } => {}
+            Line::Cut { node: _, count: _ } => {}
+            Line::Clock { node: _, clock: _ } => {}
+            Line::Tick { count: _ } => {}
+            Line::Wake { node: _ } => {}
+            Line::Call { client: _, call: _ } => {}
+            Line::Aim {
+                client: _,
+                file: _,
+                node: _,
+            } => {}
+            Line::Deliver { number: _ } => {}
+            Line::Drop { number: _ } => {}
+            Line::Settle { count: _ } => {}
+        }
+    }
 }

@@ -37,7 +37,6 @@ pub struct Capability {
 }
 
 /// An operation on a file's content.
-#[derive(Drop)]
 pub enum Op {
     /// The bytes of an object from `at` on, up to `len` of them.
     Read { object: u64, at: u32, len: u32 },
@@ -66,7 +65,6 @@ impl Copies for Op {
 }
 
 /// One write or truncation, as a primary sends it and a replica keeps it.
-#[derive(Drop)]
 pub struct Update {
     pub stamp: Stamp,
     pub id: OpId,
@@ -125,7 +123,6 @@ impl Copies for Session {
 pub type Sessions = Seq<Session>;
 
 /// The state of a replica.
-#[derive(Drop)]
 pub struct FileHead {
     pub promised: Epoch,
     pub stamp: Stamp,
@@ -146,5 +143,51 @@ impl Copies for FileHead {
             versions: self.versions.copy(alloc)?,
             sessions: self.sessions.copy(alloc)?,
         })
+    }
+}
+
+// A derived drop is part of the code of each function that may drop a value, and proved there. These are proved once.
+
+impl Drop for Op {
+    fn drop(self) {
+        match self {
+            Op::Read {
+                object: _,
+                at: _,
+                len: _,
+            } => {}
+            Op::Write {
+                object: _,
+                at: _,
+                bytes: _,
+            } => {}
+            Op::Truncate { size: _ } => {}
+        }
+    }
+}
+
+impl Drop for Update {
+    fn drop(self) {
+        let Update {
+            stamp: _,
+            id: _,
+            mark: _,
+            drop_from: _,
+            object: _,
+            body: _,
+        } = self;
+    }
+}
+
+impl Drop for FileHead {
+    fn drop(self) {
+        let FileHead {
+            promised: _,
+            stamp: _,
+            last: _,
+            mark: _,
+            versions: _,
+            sessions: _,
+        } = self;
     }
 }

@@ -7,7 +7,6 @@ use crate::reply::Reply;
 use std::alloc::Global;
 
 /// What a message says, in the order of the kinds' numbers, from 1.
-#[derive(Drop)]
 pub enum Payload {
     /// Asks an acceptor to promise a ballot.
     Read {
@@ -327,7 +326,6 @@ impl Copies for Payload {
 }
 
 /// A message from one node to another.
-#[derive(Drop)]
 pub struct Msg {
     pub from: NodeId,
     pub to: NodeId,
@@ -349,3 +347,130 @@ impl Copies for Msg {
 
 /// Messages, in order of sending.
 pub type Msgs = Seq<Msg>;
+
+// A derived drop is part of the code of each function that may drop a value, and proved there. These are proved once.
+
+impl Drop for Payload {
+    fn drop(self) {
+        match self {
+            Payload::Read { file: _, ballot: _ } => {}
+            Payload::Promise {
+                file: _,
+                ballot: _,
+                boot: _,
+                report: _,
+            } => {}
+            Payload::Write {
+                file: _,
+                ballot: _,
+                boot: _,
+                lease: _,
+            } => {}
+            Payload::Accepted {
+                file: _,
+                ballot: _,
+                boot: _,
+            } => {}
+            Payload::Outrun {
+                file: _,
+                ballot: _,
+                seen: _,
+            } => {}
+            Payload::Gather { file: _, epoch: _ } => {}
+            Payload::Status {
+                file: _,
+                epoch: _,
+                head: _,
+            } => {}
+            Payload::Fetch {
+                file: _,
+                epoch: _,
+                object: _,
+                version: _,
+            } => {}
+            Payload::Object {
+                file: _,
+                epoch: _,
+                object: _,
+                version: _,
+                bytes: _,
+            } => {}
+            Payload::Stage {
+                file: _,
+                epoch: _,
+                object: _,
+                version: _,
+                bytes: _,
+            } => {}
+            Payload::Staged {
+                file: _,
+                epoch: _,
+                object: _,
+                version: _,
+            } => {}
+            Payload::Head {
+                file: _,
+                epoch: _,
+                head: _,
+            } => {}
+            Payload::Update { file: _, update: _ } => {}
+            Payload::Ack { file: _, stamp: _ } => {}
+            Payload::Refused {
+                file: _,
+                epoch: _,
+                promised: _,
+            } => {}
+            Payload::Behind {
+                file: _,
+                epoch: _,
+                stamp: _,
+            } => {}
+            Payload::Missing {
+                file: _,
+                epoch: _,
+                object: _,
+                version: _,
+            } => {}
+            Payload::Ask {
+                number: _,
+                capability: _,
+                op: _,
+            } => {}
+            Payload::Reply {
+                number: _,
+                file: _,
+                reply: _,
+            } => {}
+            Payload::Meta {
+                number: _,
+                user: _,
+                group: _,
+                request: _,
+            } => {}
+            Payload::MetaReply {
+                number: _,
+                answer: _,
+            } => {}
+            Payload::Registry {
+                number: _,
+                request: _,
+            } => {}
+            Payload::RegistryReply {
+                number: _,
+                answer: _,
+            } => {}
+            Payload::Stop { tag: _ } => {}
+        }
+    }
+}
+
+impl Drop for Msg {
+    fn drop(self) {
+        let Msg {
+            from: _,
+            to: _,
+            list: _,
+            payload: _,
+        } = self;
+    }
+}

@@ -7,7 +7,6 @@ use crate::reply::Denial;
 use std::alloc::Global;
 
 /// A request to the MRC.
-#[derive(Drop)]
 pub enum MetaReq {
     Mkdir {
         path: Name,
@@ -146,7 +145,6 @@ pub enum RowKind {
 pub type Names = Seq<Name>;
 
 /// What the MRC answers.
-#[derive(Drop)]
 pub enum MetaAnswer {
     Done,
     Refused {
@@ -193,6 +191,55 @@ impl Copies for MetaAnswer {
                 capability: *capability,
                 mark: *mark,
             }),
+        }
+    }
+}
+
+// A derived drop is part of the code of each function that may drop a value, and proved there. These are proved once.
+
+impl Drop for MetaReq {
+    fn drop(self) {
+        match self {
+            MetaReq::Mkdir { path: _, mode: _ } => {}
+            MetaReq::Create {
+                path: _,
+                mode: _,
+                kind: _,
+                n: _,
+                stripe: _,
+            } => {}
+            MetaReq::Rename { from: _, to: _ } => {}
+            MetaReq::Unlink { path: _ } => {}
+            MetaReq::Rmdir { path: _ } => {}
+            MetaReq::List { path: _, after: _ } => {}
+            MetaReq::Stat { path: _ } => {}
+            MetaReq::Chmod { path: _, mode: _ } => {}
+            MetaReq::Grant { path: _, want: _ } => {}
+            MetaReq::Report {
+                capability: _,
+                mark: _,
+            } => {}
+        }
+    }
+}
+
+impl Drop for MetaAnswer {
+    fn drop(self) {
+        match self {
+            MetaAnswer::Done => {}
+            MetaAnswer::Refused { refusal: _ } => {}
+            MetaAnswer::Names { names: _ } => {}
+            MetaAnswer::Row {
+                kind: _,
+                owner: _,
+                group: _,
+                mode: _,
+                mark: _,
+            } => {}
+            MetaAnswer::Granted {
+                capability: _,
+                mark: _,
+            } => {}
         }
     }
 }

@@ -9,7 +9,6 @@ use std::collections::BTreeSet;
 use std::marker::Model;
 
 /// A recorded request of the MRC or the DIR.
-#[derive(Drop)]
 pub enum Logged {
     Meta {
         user: u32,
@@ -41,7 +40,6 @@ impl Copies for Logged {
 }
 
 /// What a node keeps of a step, in the order of the kinds' numbers, from 1.
-#[derive(Drop)]
 pub enum Record {
     /// A start.
     Boot {
@@ -198,3 +196,46 @@ impl Copies for KeepBody {
 
 /// The bodies that are to be kept.
 pub type Keep = Seq<KeepBody>;
+
+// A derived drop is part of the code of each function that may drop a value, and proved there. These are proved once.
+
+impl Drop for Logged {
+    fn drop(self) {
+        match self {
+            Logged::Meta {
+                user: _,
+                group: _,
+                request: _,
+            } => {}
+            Logged::Registry { request: _ } => {}
+        }
+    }
+}
+
+impl Drop for Record {
+    fn drop(self) {
+        match self {
+            Record::Boot { boot: _ } => {}
+            Record::Promise { file: _, epoch: _ } => {}
+            Record::Update { file: _, update: _ } => {}
+            Record::Stage {
+                file: _,
+                object: _,
+                version: _,
+                bytes: _,
+            } => {}
+            Record::Head { file: _, head: _ } => {}
+            Record::View {
+                file: _,
+                location: _,
+            } => {}
+            Record::Meta {
+                from: _,
+                number: _,
+                now: _,
+                nodes: _,
+                request: _,
+            } => {}
+        }
+    }
+}

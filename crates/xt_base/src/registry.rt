@@ -3,7 +3,6 @@ use crate::lists::{Copies, Name, OutOfMemory, Seq};
 use std::alloc::Global;
 
 /// A request to the DIR. The kind of a node is 1 for an OSD and 2 for an MRC.
-#[derive(Drop)]
 pub enum RegistryReq {
     /// Registers a node, where its row has the expected version.
     Set {
@@ -55,7 +54,6 @@ impl Copies for RegistryReq {
 }
 
 /// A registered node. An absent one has version 0.
-#[derive(Drop)]
 pub struct RegistryRow {
     pub node: NodeId,
     pub kind: u8,
@@ -78,7 +76,6 @@ impl Copies for RegistryRow {
 pub type RegistryRows = Seq<RegistryRow>;
 
 /// What the DIR answers.
-#[derive(Drop)]
 pub enum RegistryAnswer {
     Done { version: u64 },
     /// The row's version isn't the expected one, but this.
@@ -102,6 +99,50 @@ impl Copies for RegistryAnswer {
             RegistryAnswer::Rows { rows } => Ok(RegistryAnswer::Rows {
                 rows: rows.copy(alloc)?,
             }),
+        }
+    }
+}
+
+// A derived drop is part of the code of each function that may drop a value, and proved there. These are proved once.
+
+impl Drop for RegistryReq {
+    fn drop(self) {
+        match self {
+            RegistryReq::Set {
+                node: _,
+                kind: _,
+                address: _,
+                expected: _,
+            } => {}
+            RegistryReq::Get { node: _ } => {}
+            RegistryReq::List { kind: _, after: _ } => {}
+            RegistryReq::Remove {
+                node: _,
+                expected: _,
+            } => {}
+        }
+    }
+}
+
+impl Drop for RegistryRow {
+    fn drop(self) {
+        let RegistryRow {
+            node: _,
+            kind: _,
+            address: _,
+            version: _,
+        } = self;
+    }
+}
+
+impl Drop for RegistryAnswer {
+    fn drop(self) {
+        match self {
+            RegistryAnswer::Done { version: _ } => {}
+            RegistryAnswer::Changed { version: _ } => {}
+            RegistryAnswer::Absent => {}
+            RegistryAnswer::Row { row: _ } => {}
+            RegistryAnswer::Rows { rows: _ } => {}
         }
     }
 }

@@ -65,7 +65,6 @@ pub enum Refusal {
 }
 
 /// How a job ended.
-#[derive(Drop)]
 pub enum Status {
     Done,
     Usage,
@@ -116,6 +115,37 @@ impl Status {
             Status::Damaged { .. } => 18,
             Status::Retry { .. } => 20,
             Status::Refused { .. } => 21,
+        }
+    }
+}
+
+// A derived drop is part of the code of each function that may drop a value, and proved there. This is proved once.
+impl Drop for Status {
+    fn drop(self) {
+        match self {
+            Status::Done => {}
+            Status::Usage => {}
+            Status::Malformed { line: _ } => {}
+            Status::Illegal { line: _, rule: _ } => {}
+            Status::DiskFault { count: _ } => {}
+            Status::LinkFault { count: _ } => {}
+            Status::SourceFault { count: _ } => {}
+            Status::SinkFault { count: _ } => {}
+            Status::ClockFault { count: _ } => {}
+            Status::ChildFault { count: _ } => {}
+            Status::TurnsSpent { turns: _ } => {}
+            Status::OutOfMemory => {}
+            Status::NotOurs { first: _ } => {}
+            Status::Layout { version: _ } => {}
+            Status::Limit { what: _, limit: _ } => {}
+            Status::JournalFull { need: _, limit: _ } => {}
+            Status::Broken {
+                clause: _,
+                entry: _,
+            } => {}
+            Status::Damaged { place: _ } => {}
+            Status::Retry { answers: _ } => {}
+            Status::Refused { rule: _ } => {}
         }
     }
 }

@@ -5,12 +5,36 @@
 //! computes them, and the safety theorems speak of them.
 #![tactic(auto)]
 
-use xt_base::{Marks, Msgs, Record};
+ghost use Rattle.std.specs.Prelude.{◌≡◌};
+
+use xt_base::{Marks, Msgs, OptionalBox, Record};
 
 /// What a step gives: at most one record, which is kept first; then its marks; then its messages, in order.
-#[derive(Drop)]
 pub struct Turned {
-    pub rec: Option<Record>,
+    pub rec: OptionalBox<Record>,
     pub outs: Msgs,
     pub marks: Marks,
+}
+
+impl Turned {
+    /// Its record, its messages and its marks.
+    pub fn into_parts(self) -> (OptionalBox<Record>, Msgs, Marks)
+        ensures rec { result.0 ≡ self.rec }
+        ensures outs { result.1 ≡ self.outs }
+        ensures marks { result.2 ≡ self.marks }
+    {
+        let Turned { rec, outs, marks } = self;
+        (rec, outs, marks)
+    }
+}
+
+// A derived drop is part of the code of each function that may drop a value, and proved there. This is proved once.
+impl Drop for Turned {
+    fn drop(self) {
+        let Turned {
+            rec: _,
+            outs: _,
+            marks: _,
+        } = self;
+    }
 }

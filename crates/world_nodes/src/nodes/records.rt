@@ -16,7 +16,7 @@ use disk_model::Stop;
 use record_folds::fold;
 use std::alloc::{AllocError, Global};
 use world_hull::{Hull, Kept, WorldErr};
-use xt_base::{Boot, Folded, Msg, OutOfMemory, Record};
+use xt_base::{Boot, Folded, Msg, OptionalBox, OutOfMemory, Record};
 
 impl<H: Hull> Nodes<H> {
     /// What the records of the node at a place say.
@@ -73,7 +73,7 @@ impl<H: Hull> Nodes<H> {
         &mut self,
         alloc: Global,
         place: usize,
-        rec: &Option<Record>,
+        rec: &OptionalBox<Record>,
     ) -> Result<(), WorldErr>
         requires inside { place < length self.old.nodes }
         requires fits { (node : Node) → IsAt self.old.nodes place node → FitsNext node.kept rec.now }
@@ -81,7 +81,7 @@ impl<H: Hull> Nodes<H> {
         ensures room { (node : Node) → IsAt self.old.nodes place node → IsFullExactly (overflow_of H.overflow node.kept rec.now) result }
         ensures error { IfErr result IsFullOrMemory }
     {
-        match rec {
+        match rec.get() {
             None => Ok(()),
             Some(rec) => {
                 self.append(alloc, place, rec, None)?;

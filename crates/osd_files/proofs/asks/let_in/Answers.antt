@@ -25,10 +25,10 @@ returns-clause-row g c =
     let capability = c.args.capability.now in
     let body = body_by (g.B.Bodies.records c.args.bodies.now) in
     let ask = c.waiting_ask-ask.result in
-    let kept = c.keeps-kept.result in
+    let kept = c.in_ok-kept.kept in
     let list = list_after f.lead.location capability.location in
     let is : kept ≡ keeps (first_list f.replica.file capability.location f.lead.location) =
-    c.keeps-kept.ensures
+    c.in_ok-kept.ensures
     ∙ ap (λ (r : Option Record). keeps r) c.list_once.ensures.rec
     ∙ ap (λ (x : FileId). keeps (first_list x capability.location f.lead.location)) f.file in
     let used : LeadView → FileState = λ lead. record (with_lead old lead).state { used = now } in

@@ -1,4 +1,4 @@
-use Rattle.std.proofs.Common.{sym, subst, refl, IfOk}
+use Rattle.std.proofs.Common.{rules, sym, subst, refl, IfOk}
 use Rattle.xt_base.specs.declared.reply.Reply.TheVariants as reply
 use Rattle.file_lease.specs.declared.news.News.{News}
 use Rattle.osd_rows.specs.FileLeases.{lease_held, live_lease, waiting_told, lease_news}
@@ -39,3 +39,10 @@ returns-in-Ends c =
     subst P (sym c.in-Ends.is)
     (rows_from none here c.args.now old.awake old.state old.state new c.waiting_told.result (λ sealed body. refl)
     (at_clock none c.args.now old new c.waiting_told.result c.waiting_told.ensures))
+
+pub returns-in_ok-outs-in-Writes : goal.returns-in_ok-outs-in-Writes
+returns-in_ok-outs-in-Writes c =
+    let old = shown c.args.file.now in
+    let row : News → Site → FileState → FileStep = λ n site s. lease_news site s (news_of n) in
+    let P : News → Type 0 = λ n. IsRow (row n) c.args.now old old c.sends.result in
+    subst P (sym c.in-Writes.is) (λ sealed body. record { here = refl; step = search rules })

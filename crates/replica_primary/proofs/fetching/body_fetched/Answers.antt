@@ -11,7 +11,7 @@ returns-clause-value g c =
     let held = c.args.held.now in
     let body = c.args.body in
     let after = c.fetches_on.new.tenure in
-    ap (λ (u : Turned). goes_on learnt after u) c.after_keeping.ensures
+    ap (λ (u : Turned). goes_on learnt after u) c.in_ok-next.ensures
     ∙ kept_first place (g.B.Bodies.records c.args.bodies.now) c.args.own.now held learnt c.args.tenure.now after chosen source later body.object body.version body.bytes
-    c.unless_held-fetched.result c.in_ok-turned.turned c.kept_of.result c.kept_of.ensures (c.unless_held-fetched.ensures place.file)
+    c.unless_held-fetched.result c.in_ok-turned.turned c.kept_of-rec.result c.kept_of-rec.ensures (c.unless_held-fetched.ensures place.file)
     (c.in_ok-turned.ensures.value learnt held chosen source asked later is)

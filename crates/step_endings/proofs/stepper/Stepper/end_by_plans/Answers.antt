@@ -1,4 +1,5 @@
-use Rattle.std.proofs.Common.{Option, refl, sym, ◌∙◌, subst}
+use Rattle.std.proofs.Common.{Option, Bor, refl, ap, sym, ◌∙◌, subst}
+use Rattle.std.specs.Option.{option_map}
 use Rattle.xt_base.specs.declared.record.Record.{Record}
 use Rattle.step_endings.specs.declared.ending.Ending.TheVariants as ending
 use Rattle.step_endings.specs.Steps.{IsStepped, working}
@@ -24,11 +25,11 @@ returns-in-InSending g c = λ around node running at up.
     (sym c.in-InSending.is ∙ c.ending_of.ensures)
     (λ there clock crash. c.cut_sending.ensures around node running there up clock)
 
-pub returns-in-Some-rec : goal.returns-in-Some-rec
-returns-in-Some-rec g c = λ around node running at up.
+pub returns-in-Some-get : goal.returns-in-Some-get
+returns-in-Some-get g c = λ around node running at up.
     step_ends (Unit {0}) g.H.Hull.overflow (working around c.args.self.now) (working around c.args.self.now) (working around c.stop_in_append.new.self) c.args.place node running (given_by c.args.rec.now c.args.outs.now c.args.marks.now) c.in-Some.moment c.moment.result (ending.InAppend c.in-InAppend.stop) c.stop_in_append.result refl at up c.in-Some.is
     c.moment.ensures.moment
     (sym c.in-InAppend.is ∙ c.ending_of.ensures)
     (λ there clock crash. subst
     (λ (r : Option Record). IsStepped {T = Unit {0}} (working around c.args.self.now) (ended g.H.Hull.overflow node r (way g.H.Hull.overflow (working around c.args.self.now).doing node running (given_by c.args.rec.now c.args.outs.now c.args.marks.now) (ending.InAppend c.in-InAppend.stop) r c.args.outs.now)) (working around c.stop_in_append.new.self) c.stop_in_append.result)
-    (sym c.in-Some-rec.is) (c.stop_in_append.ensures around node running there up clock))
+    (sym (ap (option_map (λ (value : Bor Record). value.now)) c.in-Some-get.is) ∙ c.get.ensures) (c.stop_in_append.ensures around node running there up clock))

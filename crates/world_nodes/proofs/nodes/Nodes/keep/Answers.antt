@@ -1,4 +1,5 @@
-use Rattle.std.proofs.Common.{◌≡◌, Option, sym, subst}
+use Rattle.std.proofs.Common.{◌≡◌, ◌∙◌, Option, Bor, ap, sym, subst}
+use Rattle.std.specs.Option.{option_map}
 use Rattle.xt_base.specs.declared.record.Record.{Record}
 use Rattle.cluster_runs.specs.World.{with_node}
 use Rattle.cluster_runs.specs.NodeSteps.{one_more}
@@ -8,4 +9,4 @@ use Rattle.world_nodes.proofs.nodes.Nodes.keep.Goals as goal
 pub returns-in-None-clause-done : goal.returns-in-None-clause-done
 returns-in-None-clause-done g c = λ node at.
     subst (λ (rec : Option Record). c.args.self.now ≡ record c.args.self.now { nodes = with_node c.args.self.now.nodes (record node { kept = one_more node.kept rec }) })
-    (sym c.in-None.is) (same_there c.args.self.now c.args.place node at)
+    (sym (ap (option_map (λ (value : Bor Record). value.now)) c.in-None.is) ∙ c.get.ensures) (same_there c.args.self.now c.args.place node at)
