@@ -1,4 +1,4 @@
-ghost use Rattle.std.specs.Prelude.{◌≡◌, ◌≤◌, ◌+◌, ◌⊎◌, ℕ, Bool, false, List, Option, Some, None, length, take, drop, min, is_err, IfOk, OnOk, OnErr, IfSome, OnSome};
+ghost use Rattle.std.specs.Prelude.{◌≡◌, ◌≤◌, ◌+◌, ◌++◌, ◌⊎◌, ℕ, Bool, false, List, Option, Some, None, length, take, drop, min, is_err, IfOk, OnOk, OnErr, IfSome, OnSome};
 ghost use Rattle.node_links.specs.Streams.{Takes, IsAtEnd, is_named};
 ghost use Rattle.xt_base.specs.Faults.{Rose, fault_count_after};
 
@@ -109,10 +109,11 @@ impl<R: BufRead + Drop> StdinSource<R> {
     }
 }
 
-/// Copies as many of the bytes as fit to the front of the buffer, and says how many. A single byte, which is what a line is read
-/// by, is no call.
+/// Copies as many of the bytes as fit to the front of the buffer, and says how many. A single byte, which is how a line is read,
+/// is copied without a call.
 fn copy_front(buf: &mut [u8], bytes: &[u8]) -> usize
-    ensures { result ≤ length buf.old }
+    ensures count { result ≡ min (length buf.old) (length bytes.now) }
+    ensures bytes { buf.new ≡ take result bytes.now ++ drop result buf.old }
 {
     let count = buf.len().min(bytes.len());
     if count == 1 {
