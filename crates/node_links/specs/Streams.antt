@@ -8,6 +8,11 @@ abbrev pub Takes : Option (List ℕ) → Option (List ℕ) → List ℕ → Type
 Takes None new bytes = new ≡ None
 Takes (Some left) new bytes = (rest : List ℕ) × (left ≡ bytes ++ rest) × (new ≡ Some rest)
 
+-- These bytes are the front of what is left. What isn't told has any.
+abbrev pub IsAhead : Option (List ℕ) → List ℕ → Type 0
+IsAhead None bytes = Unit {0}
+IsAhead (Some left) bytes = (rest : List ℕ) × (left ≡ bytes ++ rest)
+
 -- nothing is left
 abbrev pub IsAtEnd : Option (List ℕ) → Type 0
 IsAtEnd None = Unit {0}

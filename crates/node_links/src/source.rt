@@ -1,16 +1,20 @@
-ghost use Rattle.std.specs.Prelude.{◌≡◌, ◌≤◌, ◌+◌, ◌++◌, ◌⊎◌, ℕ, Bool, false, List, Option, Some, None, length, take, drop, min, is_err, IfOk, OnOk, OnErr, IfSome, OnSome};
-ghost use Rattle.node_links.specs.Streams.{Takes, IsAtEnd, is_named};
+ghost use Rattle.std.specs.Prelude.{◌≡◌, ◌≤◌, ◌<◌, ◌+◌, ◌-◌, ℕ, Bool, false, List, [], Option, Some, None, length, take, drop, is_err, IfOk, OnOk, OnErr, OnSome};
+ghost use Rattle.node_links.specs.Streams.{Takes, IsAhead, IsAtEnd, is_named};
 ghost use Rattle.xt_base.specs.Faults.{Rose, fault_count_after};
 
-use std::io::BufRead;
-use xt_base::{CallList, Failed, Octets};
+use std::alloc::Global;
+use std::io::Read;
+use xt_base::{CallList, Failed, Octets, OutOfMemory};
 
-/// A source of bytes.
+/// A source of bytes that reads ahead: its bytes are looked at where they lie, and then taken by their number.
 pub trait Source {
     /// The bytes that are left, where they are told.
     ghost left: { Self → Option (List ℕ) };
 
-    /// Whether a coming call fails, the next one being 1, where the bytes are told.
+    /// The bytes that were read ahead.
+    ghost ahead: { Self → List ℕ };
+
+    /// Whether a coming call of `fill` fails, the next one being 1, where the bytes are told.
     ghost fails: { Self → ℕ → Bool };
 
     /// How often the source has failed.
@@ -20,47 +24,66 @@ pub trait Source {
     fn faults(&self) -> u64
         ensures { result ≡ fault_count self.now };
 
-    /// Takes the next bytes, as many as it likes, into the front of the buffer, and says how many. 0 is the end, for
-    /// a buffer that isn't empty. After an `Err` the same bytes are left.
-    fn take(&mut self, buf: &mut [u8]) -> Result<usize, Failed>
-        ensures count { IfOk result (λ n. n ≤ length buf.old) }
-        ensures taken { IfOk result (λ n. Takes (left self.old) (left self.new) (take n buf.new)) }
-        ensures end { IfOk result (λ n. n ≡ 0 → (length buf.old ≡ 0) ⊎ IsAtEnd (left self.old)) }
+    /// The bytes that were read ahead, the front of those that are left.
+    fn ahead(&self) -> &[u8]
+        ensures bytes { result.now ≡ ahead self.now }
+        ensures front { IsAhead (left self.now) (ahead self.now) };
+
+    /// Reads ahead, where nothing is: as many bytes as it likes, and none only at the end.
+    fn fill(&mut self) -> Result<(), Failed>
+        requires { ahead self.old ≡ [] }
+        ensures left { left self.new ≡ left self.old }
+        ensures end { OnOk result (ahead self.new ≡ [] → IsAtEnd (left self.old)) }
         ensures sound { OnOk result (fault_count self.new ≡ fault_count self.old) }
         ensures failed { OnErr result (Rose (fault_count self.old) (fault_count self.new)) }
-        ensures kept { OnErr result (left self.new ≡ left self.old) }
+        ensures none { OnErr result (ahead self.new ≡ []) }
         ensures faults { fault_count self.new ≡
             fault_count_after (is_err result) (fault_count self.old) }
-        // Where the bytes are told, it gives as many as it can, and fails as planned.
-        ensures most { IfOk result (λ n.
-            IfSome (left self.old) (λ bytes. n ≡ min (length bytes) (length buf.old))) }
+        // Where the bytes are told, it fails as planned.
         ensures plan { OnSome (left self.old) (is_err result ≡ fails self.old 1) }
         ensures later { OnSome (left self.old) ((k : ℕ) → fails self.new k ≡ fails self.old (k + 1)) };
+
+    /// Takes so many of the bytes that were read ahead.
+    fn consume(&mut self, count: usize)
+        requires { count ≤ length (ahead self.old) }
+        ensures taken { Takes (left self.old) (left self.new) (take count (ahead self.old)) }
+        ensures rest { ahead self.new ≡ drop count (ahead self.old) }
+        ensures sound { fault_count self.new ≡ fault_count self.old }
+        ensures later { OnSome (left self.old) ((k : ℕ) → fails self.new k ≡ fails self.old k) };
 }
 
-/// Bytes in memory. The calls that are named, counted from 1, fail, and no others.
+/// Bytes in memory, of which each call of `fill` reads a block ahead, or what is left. The calls that are named, counted from 1,
+/// fail, and no others.
 #[derive(Drop)]
 pub struct MemorySource {
     bytes: Octets,
+    block: usize,
     place: usize,
+    filled: usize,
     failing: CallList,
     calls: u64,
     faults: u64,
-    ghost inside: { place ≤ length bytes },
+    ghost some: { 1 ≤ block },
+    ghost ordered: { place ≤ filled },
+    ghost inside: { filled ≤ length bytes },
 }
 
 impl MemorySource {
-    ghost use Rattle.std.specs.Prelude.{◌≡◌};
+    ghost use Rattle.std.specs.Prelude.{◌≡◌, ◌≤◌};
 
-    /// A source of these bytes.
-    pub fn new(bytes: Octets, failing: CallList) -> MemorySource
-        ensures bytes { (result.bytes ≡ bytes) × (result.place ≡ 0) }
+    /// A source of these bytes, which reads so many ahead at a time, at least one.
+    pub fn new(bytes: Octets, block: usize, failing: CallList) -> MemorySource
+        requires { 1 ≤ block }
+        ensures bytes { (result.bytes ≡ bytes) × (result.place ≡ 0) × (result.filled ≡ 0) }
+        ensures block { result.block ≡ block }
         ensures plan { (result.failing ≡ failing) × (result.calls ≡ 0) }
         ensures sound { result.faults ≡ 0 }
     {
         MemorySource {
             bytes,
+            block,
             place: 0,
+            filled: 0,
             failing,
             calls: 0,
             faults: 0,
@@ -71,6 +94,8 @@ impl MemorySource {
 impl Source for MemorySource {
     ghost left = { λ s. Some (drop s.place s.bytes) };
 
+    ghost ahead = { λ s. take (s.filled - s.place) (drop s.place s.bytes) };
+
     ghost fails = { λ s k. is_named s.failing s.calls k };
 
     ghost fault_count = { λ s. s.faults };
@@ -79,53 +104,62 @@ impl Source for MemorySource {
         self.faults
     }
 
-    fn take(&mut self, buf: &mut [u8]) -> Result<usize, Failed> {
+    fn ahead(&self) -> &[u8] {
+        &self.bytes.as_slice()[self.place..self.filled]
+    }
+
+    fn fill(&mut self) -> Result<(), Failed> {
         self.calls = self.calls.saturating_add(1);
         if self.failing.as_slice().contains(&self.calls) {
             self.faults = self.faults.saturating_add(1);
             return Err(Failed);
         }
-        let rest = &self.bytes.as_slice()[self.place..];
-        let count = rest.len().min(buf.len());
-        buf[..count].copy_from_slice(&rest[..count]);
+        let left = self.bytes.as_slice().len() - self.place;
+        self.filled = self.place + left.min(self.block);
+        Ok(())
+    }
+
+    fn consume(&mut self, count: usize) {
         self.place += count;
-        Ok(count)
     }
 }
 
-/// The standard input, or another real reader with a buffer. What it gives isn't told.
+/// The standard input, or another real reader. What it gives isn't told.
 #[derive(Drop)]
-pub struct StdinSource<R: BufRead + Drop> {
+pub struct StdinSource<R: Read + Drop> {
     reader: R,
+    buffer: Vec<u8>,
+    place: usize,
+    filled: usize,
     faults: u64,
+    ghost ordered: { place ≤ filled },
+    ghost inside: { filled ≤ length buffer.items },
 }
 
-impl<R: BufRead + Drop> StdinSource<R> {
+/// How many bytes are read ahead at most.
+const BUFFER_BYTES: usize = 65_536;
+
+impl<R: Read + Drop> StdinSource<R> {
+    ghost use Rattle.std.specs.Prelude.{◌≡◌, IfOk};
+
     /// A source of what the reader gives.
-    pub fn new(reader: R) -> StdinSource<R>
-        ensures { result.faults ≡ 0 }
+    pub fn new(alloc: Global, reader: R) -> Result<StdinSource<R>, OutOfMemory>
+        ensures { IfOk result (λ made. made.faults ≡ 0) }
     {
-        StdinSource { reader, faults: 0 }
+        Ok(StdinSource {
+            reader,
+            buffer: Vec::from_elem(alloc, 0, BUFFER_BYTES)?,
+            place: 0,
+            filled: 0,
+            faults: 0,
+        })
     }
 }
 
-/// Copies as many of the bytes as fit to the front of the buffer, and says how many. A single byte, which is how a line is read,
-/// is copied without a call.
-fn copy_front(buf: &mut [u8], bytes: &[u8]) -> usize
-    ensures count { result ≡ min (length buf.old) (length bytes.now) }
-    ensures bytes { buf.new ≡ take result bytes.now ++ drop result buf.old }
-{
-    let count = buf.len().min(bytes.len());
-    if count == 1 {
-        buf[0] = bytes[0];
-    } else {
-        buf[..count].copy_from_slice(&bytes[..count]);
-    }
-    count
-}
-
-impl<R: BufRead + Drop> Source for StdinSource<R> {
+impl<R: Read + Drop> Source for StdinSource<R> {
     ghost left = { λ _. None };
+
+    ghost ahead = { λ s. take (s.filled - s.place) (drop s.place s.buffer.items) };
 
     ghost fails = { λ _ _. false };
 
@@ -135,17 +169,25 @@ impl<R: BufRead + Drop> Source for StdinSource<R> {
         self.faults
     }
 
-    fn take(&mut self, buf: &mut [u8]) -> Result<usize, Failed> {
-        match self.reader.fill_buf() {
-            Ok(bytes) => {
-                let count = copy_front(buf, bytes);
-                self.reader.consume(count);
-                Ok(count)
+    fn ahead(&self) -> &[u8] {
+        &self.buffer.as_slice()[self.place..self.filled]
+    }
+
+    fn fill(&mut self) -> Result<(), Failed> {
+        match self.reader.read(self.buffer.as_mut_slice()) {
+            Ok(count) => {
+                self.place = 0;
+                self.filled = count;
+                Ok(())
             }
             Err(_) => {
                 self.faults = self.faults.saturating_add(1);
                 Err(Failed)
             }
         }
+    }
+
+    fn consume(&mut self, count: usize) {
+        self.place += count;
     }
 }

@@ -31,23 +31,28 @@ fn line(rt: &impl Abort, alloc: Global, words: &[&str]) -> Words {
     line
 }
 
-/// A schedule to read, of whose calls this one fails.
-fn source(rt: &impl Abort, alloc: Global, schedule: &[u8], fails: Option<u64>) -> MemorySource {
+/// A schedule to read in blocks of so many bytes, of whose calls this one fails.
+pub fn source(
+    rt: &impl Abort,
+    alloc: Global,
+    schedule: &[u8],
+    block: usize,
+    fails: Option<u64>,
+) -> MemorySource {
     let bytes = Octets::of(alloc, schedule).expect(rt, OTHERWISE);
-    MemorySource::new(bytes, calls(rt, alloc, fails))
+    MemorySource::new(bytes, block.max(1), calls(rt, alloc, fails))
 }
 
-/// Runs the program with these words over this schedule. The calls of the source and the sink that are named fail.
+/// Runs the program with these words over this source. The call of the sink that is named fails.
 pub fn outcome(
     rt: &impl Abort,
     alloc: Global,
     words: &[&str],
-    schedule: &[u8],
-    source_fails: Option<u64>,
+    source: MemorySource,
     sink_fails: Option<u64>,
 ) -> Ended {
     let line = line(rt, alloc, words);
-    let mut source = source(rt, alloc, schedule, source_fails);
+    let mut source = source;
     let fails = calls(rt, alloc, sink_fails);
     let mut sink = MemorySink::new(alloc, 65_536, fails).expect(rt, OTHERWISE);
     let status = run(alloc, &line, &mut source, &mut sink);
@@ -57,32 +62,52 @@ pub fn outcome(
     }
 }
 
-/// The words, the calls that fail of the source and of the sink, the status and the output.
+/// The words, the bytes that the source reads at once, the calls that fail of the source and of the sink, the status and the output.
 type Row = (
     &'static [&'static str],
+    usize,
     Option<u64>,
     Option<u64>,
     u8,
     &'static [u8],
 );
 
-/// Jobs over a schedule of two lines.
-static JOBS: [Row; 9] = [
-    (&["replay"], None, None, 0, b"up 10 1 0\n"),
-    (&["replay"], Some(1), None, 7, b"! source 1\n"),
-    (&["replay"], Some(13), None, 7, b"up 10 1 0\n! source 1\n"),
-    (&["replay"], Some(19), None, 7, b"up 10 1 0\n! source 1\n"),
-    (&["replay"], None, Some(1), 8, b""),
-    (&["replay"], Some(13), Some(2), 8, b"up 10 1 0\n"),
-    (&["replays"], None, None, 2, b"! usage\n"),
-    (&[], None, None, 2, b"! usage\n"),
-    (&["replay", "replay"], None, None, 2, b"! usage\n"),
+/// Jobs over a schedule of two lines, of twelve and of six bytes.
+static JOBS: [Row; 13] = [
+    (&["replay"], 1, None, None, 0, b"up 10 1 0\n"),
+    (&["replay"], 5, None, None, 0, b"up 10 1 0\n"),
+    (&["replay"], 99, None, None, 0, b"up 10 1 0\n"),
+    (&["replay"], 1, Some(1), None, 7, b"! source 1\n"),
+    (
+        &["replay"],
+        1,
+        Some(13),
+        None,
+        7,
+        b"up 10 1 0\n! source 1\n",
+    ),
+    (
+        &["replay"],
+        1,
+        Some(19),
+        None,
+        7,
+        b"up 10 1 0\n! source 1\n",
+    ),
+    (&["replay"], 5, Some(3), None, 7, b"! source 1\n"),
+    (&["replay"], 5, Some(4), None, 7, b"up 10 1 0\n! source 1\n"),
+    (&["replay"], 1, None, Some(1), 8, b""),
+    (&["replay"], 1, Some(13), Some(2), 8, b"up 10 1 0\n"),
+    (&["replays"], 1, None, None, 2, b"! usage\n"),
+    (&[], 1, None, None, 2, b"! usage\n"),
+    (&["replay", "replay"], 1, None, None, 2, b"! usage\n"),
 ];
 
 /// Whether a job ends as its row tells.
 fn ends(rt: &impl Abort, alloc: Global, row: &Row) -> bool {
-    let ended = outcome(rt, alloc, row.0, b"client 10 0\nosd 1\n", row.1, row.2);
-    ended.code == row.3 && ended.output.as_slice() == row.4
+    let source = source(rt, alloc, b"client 10 0\nosd 1\n", row.1, row.2);
+    let ended = outcome(rt, alloc, row.0, source, row.3);
+    ended.code == row.4 && ended.output.as_slice() == row.5
 }
 
 /// What the built program can't show: other words, and a source or a sink that fails.

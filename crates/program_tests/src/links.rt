@@ -1,9 +1,9 @@
 use node_links::{MemorySink, MemorySource, Sink, Source, StdinSource, StdoutSink};
 use std::alloc::Global;
-use std::io::{self, BufReader, Read, Write};
+use std::io::{self, Read, Write};
 use std::process::Abort;
 use std::test::*;
-use xt_base::{CallList, Failed, Octets};
+use xt_base::{CallList, Octets};
 
 /// What is told where a test stops that can't go on.
 pub const OTHERWISE: &str = "a call answers otherwise";
@@ -17,33 +17,43 @@ fn calls(rt: &impl Abort, alloc: Global, numbers: &[u64]) -> CallList {
     calls
 }
 
-/// The buffer's length, what comes, and how many faults there were.
-static TAKES: [(usize, Option<&[u8]>, u64); 7] = [
-    (3, Some(&[10, 20, 30]), 0),
-    (3, None, 1),
-    (2, Some(&[40, 50]), 1),
-    (0, Some(&[]), 1),
-    (9, None, 2),
-    (9, Some(&[60, 70]), 2),
-    (1, Some(&[]), 2),
-];
+/// A step of a source: it reads ahead, where none is given, or so many bytes are taken. Then whether it went well, what is ahead, and
+/// how many faults there were.
+type Step = (Option<usize>, bool, &'static [u8], u64);
 
-/// Whether this comes into a buffer of so many bytes, of at most 9.
-fn gives(source: &mut MemorySource, size: usize, given: Option<&[u8]>) -> bool {
-    let mut buf = [0; 9];
-    match source.take(&mut buf[..size.min(9)]) {
-        Ok(count) => given == Some(&buf[..count]),
-        Err(Failed) => given.is_none(),
-    }
+/// Whether the source goes so, and then has this ahead.
+fn goes<S: Source>(source: &mut S, step: &Step) -> bool {
+    let is_well = match step.0 {
+        None => source.ahead().is_empty() && source.fill().is_ok(),
+        Some(count) => {
+            let count = count.min(source.ahead().len());
+            source.consume(count);
+            true
+        }
+    };
+    is_well == step.1 && source.ahead() == step.2 && source.faults() == step.3
 }
+
+/// Seven bytes in blocks of three, where the second and the fifth call fail.
+static BLOCKS: [Step; 10] = [
+    (None, true, &[10, 20, 30], 0),
+    (Some(2), true, &[30], 0),
+    (Some(1), true, &[], 0),
+    (None, false, &[], 1),
+    (None, true, &[40, 50, 60], 1),
+    (Some(3), true, &[], 1),
+    (None, true, &[70], 1),
+    (Some(1), true, &[], 1),
+    (None, false, &[], 2),
+    (None, true, &[], 2),
+];
 
 #[test]
 fn a_source_in_memory_gives_what_is_left(rt: HostRuntime) {
     let bytes = Octets::of(rt.alloc(), &[10, 20, 30, 40, 50, 60, 70]).expect(&rt, OTHERWISE);
-    let mut source = MemorySource::new(bytes, calls(&rt, rt.alloc(), &[5, 2, 99]));
-    for (size, given, faults) in &TAKES {
-        assert!(rt; gives(&mut source, *size, *given));
-        assert!(rt; source.faults() == *faults);
+    let mut source = MemorySource::new(bytes, 3, calls(&rt, rt.alloc(), &[5, 2, 99]));
+    for step in &BLOCKS {
+        assert!(rt; goes(&mut source, step));
     }
 }
 
@@ -102,41 +112,39 @@ impl Write for Halting {
     }
 }
 
-/// Takes so many bytes at most, and tells what came.
-fn taken<S: Source>(source: &mut S, most: usize) -> Option<usize> {
-    let mut buf = [0; 2];
-    source.take(&mut buf[..most.min(2)]).ok()
-}
+/// A reader of `abc`.
+static TEXT: [Step; 4] = [
+    (None, true, b"abc", 0),
+    (Some(2), true, b"c", 0),
+    (Some(1), true, b"", 0),
+    (None, true, b"", 0),
+];
 
-/// Whether so many bytes of a text come, and this first.
-fn gives_text(source: &mut StdinSource<&[u8]>, count: usize, first: u8) -> bool {
-    let mut buf = [first; 2];
-    source.take(&mut buf) == Ok(count) && buf[0] == first
-}
-
-/// How many bytes of `abc` come, and the first of them.
-static TEXT: [(usize, u8); 3] = [(2, b'a'), (1, b'c'), (0, b'c')];
-
-/// How many bytes come from a reader that halts, and how many faults there were.
-static HALTS: [(Option<usize>, u64); 3] = [(Some(1), 0), (None, 1), (Some(0), 1)];
+/// A reader that halts.
+static HALTS: [Step; 4] = [
+    (None, true, b"x", 0),
+    (Some(1), true, b"", 0),
+    (None, false, b"", 1),
+    (None, true, b"", 1),
+];
 
 #[test]
 fn a_reader_is_a_source(rt: HostRuntime) {
-    let mut source = StdinSource::new(b"abc".as_slice());
-    for (count, first) in &TEXT {
-        assert!(rt; gives_text(&mut source, *count, *first));
+    let mut source = StdinSource::new(rt.alloc(), b"abc".as_slice()).expect(&rt, OTHERWISE);
+    for step in &TEXT {
+        assert!(rt; goes(&mut source, step));
     }
-    assert!(rt; source.faults() == 0);
 }
 
 #[test]
 fn a_reader_that_halts_is_a_source(rt: HostRuntime) {
-    let reader = BufReader::new(rt.alloc(), Halting { calls: 0 }).expect(&rt, OTHERWISE);
-    let mut source = StdinSource::new(reader);
-    for (count, faults) in &HALTS {
-        assert!(rt; taken(&mut source, 2) == *count && source.faults() == *faults);
+    let reader = Halting { calls: 0 };
+    let mut source = StdinSource::new(rt.alloc(), reader).expect(&rt, OTHERWISE);
+    for step in &HALTS {
+        assert!(rt; goes(&mut source, step));
     }
 }
+
 /// Pieces of a text.
 static PIECES: [&[u8]; 3] = [b"ab", b"", b"c"];
 

@@ -1,4 +1,4 @@
-use crate::jobs::outcome;
+use crate::jobs::{outcome, source};
 use crate::links::OTHERWISE;
 use std::alloc::Global;
 use std::process::Abort;
@@ -193,7 +193,8 @@ fn is_like(output: &[u8], wanted: &[u8]) -> bool {
 fn is_met(rt: &impl Abort, alloc: Global, case: &str, code: u8) -> bool {
     let schedule = lines(rt, alloc, case, "> ");
     let wanted = lines(rt, alloc, case, "< ");
-    let ended = outcome(rt, alloc, &["replay"], schedule.as_slice(), None, None);
+    let source = source(rt, alloc, schedule.as_slice(), 4_096, None);
+    let ended = outcome(rt, alloc, &["replay"], source, None);
     ended.code == code && is_like(ended.output.as_slice(), wanted.as_slice())
 }
 

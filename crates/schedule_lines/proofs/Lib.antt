@@ -1,3 +1,4 @@
+pub mod Pieces
 pub mod Streamed
 pub mod LineBytes
 pub mod Counted

@@ -1,6 +1,5 @@
 -- what was taken and put, piece by piece
 use Rattle.std.proofs.Common.{◌≡◌, ◌∙◌, ℕ, MatchOption, subst, Option, Some, None, List, [], ◌∷◌, ◌++◌, refl, sym, ap, append_assoc, append-nil}
-use Rattle.std.specs.List.{AllByRecursion}
 use Rattle.node_links.specs.Streams.{Takes, IsAtEnd, Puts}
 
 -- nothing was taken
@@ -22,23 +21,12 @@ Takes-append None (Some b) c xs ys first second = cc
 Takes-append (Some a) None c xs ys first second = absurd (let wrong : None ≡ Some first.0 = first.2 in cc)
 Takes-append (Some a) (Some b) c xs ys first second = Takes-told c a b first.0 xs ys first.1 first.2 second
 
--- where nothing was taken and nothing is left, nothing was left
-pub IsAtEnd-before : (a b : Option (List ℕ)) → Takes a b [] → IsAtEnd b → IsAtEnd a
-IsAtEnd-before None b taken end = tt
-IsAtEnd-before (Some a) None taken end = absurd (let wrong : None ≡ Some taken.0 = taken.2 in cc)
-IsAtEnd-before (Some a) (Some b) taken end = let same : Some b ≡ Some taken.0 = taken.2 in let parts : a ≡ [] ++ taken.0 = taken.1 in cc
-
 -- where nothing was left, nothing is left
 IsAtEnd-after : (a b : Option (List ℕ)) → Takes a b [] → IsAtEnd a → IsAtEnd b
 IsAtEnd-after None None taken end = tt
 IsAtEnd-after None (Some b) taken end = absurd (let wrong : Some b ≡ None = taken in cc)
 IsAtEnd-after (Some a) None taken end = absurd (let wrong : None ≡ Some taken.0 = taken.2 in cc)
 IsAtEnd-after (Some a) (Some b) taken end = let same : Some b ≡ Some taken.0 = taken.2 in let parts : a ≡ [] ++ taken.0 = taken.1 in cc
-
--- one more at the end
-pub AllByRecursion-more : (P : ℕ → Type 0) (xs : List ℕ) (x : ℕ) → AllByRecursion P xs → P x → AllByRecursion P (xs ++ x ∷ [])
-AllByRecursion-more P [] x all here = (here, tt)
-AllByRecursion-more P (y ∷ ys) x all here = (all.0, AllByRecursion-more P ys x all.1 here)
 
 -- the byte that was taken, where one was
 pub byte_taken : (a b : Option (List ℕ)) (found : Option ℕ) (byte : ℕ) → found ≡ Some byte → MatchOption found (IsAtEnd a × Takes a b []) (λ x. Takes a b (x ∷ [])) → Takes a b (byte ∷ [])

@@ -1,5 +1,5 @@
 -- the bytes of a line, as a source gives them
-use Rattle.std.specs.Prelude.{ℕ, ◌≡◌, ◌≢◌, ◌≤◌, ◌+◌, Option, List, [], ◌∷◌, ◌++◌, length}
+use Rattle.std.specs.Prelude.{ℕ, ◌≡◌, ◌≢◌, ◌≤◌, ◌<◌, ◌+◌, Bool, true, false, Option, List, [], ◌∷◌, ◌++◌, length}
 use Rattle.std.specs.List.{AllByRecursion}
 use Rattle.time_line.specs.declared.TheConstants.{LINE_BYTES}
 use Rattle.node_links.specs.Streams.{Takes, IsAtEnd}
@@ -13,6 +13,14 @@ line_feed = 10
 -- no line feed is among them
 abbrev pub IsInLine : List ℕ → Type 0
 IsInLine bytes = AllByRecursion (λ byte. byte ≢ line_feed) bytes
+
+-- What was taken of a line at once, behind its first bytes, of at most so many bytes: those before the line feed, and it, where it
+-- is whole; at least one byte else
+abbrev pub IsPiece : ℕ → Option (List ℕ) → Option (List ℕ) → List ℕ → List ℕ → Bool → Type 0
+IsPiece room old new line longer true =
+    (piece : List ℕ) × (longer ≡ line ++ piece) × Takes old new (piece ++ line_feed ∷ []) × IsInLine piece × (length piece < room)
+IsPiece room old new line longer false =
+    (piece : List ℕ) × (longer ≡ line ++ piece) × Takes old new piece × IsInLine piece × (1 ≤ length piece) × (length piece ≤ room)
 
 -- What was taken from the source, and why the reading ended. `bytes` are those before the line feed, if any.
 abbrev pub IsRawLine : Option (List ℕ) → Option (List ℕ) → List ℕ → RawLine → Type 0

@@ -5,7 +5,6 @@
 #![tactic(auto)]
 
 use node_links::{StdinSource, StdoutSink};
-use std::io::BufReader;
 use std::process::ExitCode;
 use std::{env, io};
 use xt_base::Words;
@@ -17,7 +16,7 @@ fn main(rt: HostRuntime) -> io::Result<ExitCode> {
     for word in env::args(&rt)?.skip(1) {
         words.push(alloc, word.as_str())?;
     }
-    let mut source = StdinSource::new(BufReader::new(alloc, rt.reader())?);
+    let mut source = StdinSource::new(alloc, rt.reader())?;
     let mut sink = StdoutSink::new(io::writer(&rt));
     let status = run(alloc, &words, &mut source, &mut sink);
     Ok(ExitCode::from(status.code()))
