@@ -3,7 +3,7 @@ ghost use Rattle.std.specs.Prelude.{◌<◌, ◌^◌};
 use flease_lease::{Asked, Asking, Free, Held, Silent, Writing, Written};
 use std::process::Abort;
 use std::test::*;
-use xt_base::{Ballot, Boot, FileId, Lease, Members, NodeId, Payload, Times};
+use xt_base::{Ballot, Boot, FileId, Lease, Members, NodeId, Payload, Times, VolumeId};
 
 const FIRST: Boot = Boot(1);
 
@@ -233,7 +233,7 @@ fn renewing(held: &mut Held, members: &Members) -> Option<Ballot> {
 /// A promise of this renewal, or an acceptance.
 fn answer(ballot: Ballot, promises: bool) -> Payload {
     let file = FileId {
-        volume: uuid::Uuid::nil(),
+        volume: VolumeId::NIL,
         number: 1,
     };
     let boot = FIRST;

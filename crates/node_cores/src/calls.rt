@@ -4,15 +4,14 @@ ghost use Rattle.cluster_runs.specs.Rules.{called_file};
 ghost use Rattle.cluster_runs.specs.Lines.{declared_file, declared_capability, operation_of};
 
 use std::alloc::Global;
-use uuid::Uuid;
-use xt_base::{COUNTS, Call, Capability, Copies, FileId, Location, Op, OutOfMemory};
+use xt_base::{COUNTS, Call, Capability, Copies, FileId, Location, Op, OutOfMemory, VolumeId};
 
 /// The file that a schedule declares under this number.
 pub fn declared_file(number: u64) -> FileId
     ensures { result ≡ declared_file number }
 {
     FileId {
-        volume: Uuid::nil(),
+        volume: VolumeId::NIL,
         number,
     }
 }

@@ -9,10 +9,10 @@ use replica_records::read_record;
 use replica_state::{Acted, Replica};
 use std::alloc::Global;
 use std::process::Abort;
-use uuid::Uuid;
 use version_lists::hold;
 use xt_base::{
     Copies, Epoch, FileHead, FileId, HeldSet, NodeId, ObjectVersion, Payload, Record, Stamp, Times,
+    VolumeId,
 };
 
 /// The frame of a Gather of file 1 from a node to node 2, with the epoch of this number and that node.
@@ -199,7 +199,7 @@ fn gives(
     versions: &[ObjectVersion],
 ) -> bool {
     let file = FileId {
-        volume: Uuid::nil(),
+        volume: VolumeId::NIL,
         number: 1,
     };
     let mut held = HeldSet::new(alloc);

@@ -5,7 +5,6 @@ use cluster_runs::KnownFile;
 use indexmap::IndexMap;
 use std::alloc::Global;
 use std::marker::Model;
-use uuid::Uuid;
 use xt_base::{FileId, NodeId, OutOfMemory};
 
 /// What is known of a file.
@@ -16,16 +15,16 @@ pub struct Known {
 }
 
 /// The key of a file: its volume and its number.
-fn key_of(file: &FileId) -> (Uuid, u64)
+fn key_of(file: &FileId) -> ([u8; 16], u64)
     ensures { result ≡ (file.now.volume, file.now.number) }
 {
-    (file.volume, file.number)
+    (file.volume.0, file.number)
 }
 
 /// The files that a client knows, in the order in which it met them. They are found by volume and number.
 #[derive(Drop)]
 pub struct KnownFiles {
-    files: IndexMap<(Uuid, u64), Known>,
+    files: IndexMap<([u8; 16], u64), Known>,
 }
 
 impl Model for KnownFiles {

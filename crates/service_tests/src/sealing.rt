@@ -3,8 +3,7 @@ use hex::FromHex;
 use std::alloc::Global;
 use std::process::Abort;
 use std::test::*;
-use uuid::Uuid;
-use xt_base::{Capability, Denial, FileId, Kind, Location, Members, NodeId, Payload};
+use xt_base::{Capability, Denial, FileId, Kind, Location, Members, NodeId, Payload, VolumeId};
 
 /// What is told where a test stops that can't go on.
 pub const OTHERWISE: &str = "a call answers otherwise";
@@ -51,7 +50,7 @@ static KEY: [u8; 32] = [0; 32];
 /// A file of the nil volume.
 fn file(number: u64) -> FileId {
     FileId {
-        volume: Uuid::nil(),
+        volume: VolumeId::NIL,
         number,
     }
 }

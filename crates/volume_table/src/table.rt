@@ -11,9 +11,8 @@ use name_tree::Node;
 use std::alloc::Global;
 use std::collections::BTreeMap;
 use std::marker::Model;
-use uuid::Uuid;
 use volume_rows::{Asker, Content, Entry, Stored, volume_of};
-use xt_base::{FileId, Location, MetaRefusal, Names, OutOfMemory, SizeMark};
+use xt_base::{FileId, Location, MetaRefusal, Names, OutOfMemory, SizeMark, VolumeId};
 
 /// The number of the first file.
 const FIRST: u64 = 1_000_000;
@@ -33,7 +32,7 @@ const EMPTY: SizeMark = SizeMark { epoch: 0, size: 0 };
 /// stands beside them.
 #[derive(Clone, Copy)]
 pub struct Sizes {
-    pub volume: Uuid,
+    pub volume: VolumeId,
     pub epoch: u64,
     pub mark: SizeMark,
 }

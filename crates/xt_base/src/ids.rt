@@ -1,22 +1,41 @@
-use uuid::Uuid;
+use std::marker::Model;
 
 /// A node: an OSD, the MRC, the DIR or a client.
 #[derive(Clone, Copy, PartialEq, Eq, PartialOrd, Ord)]
 pub struct NodeId(pub u32);
 
 /// A start of a node, counted from 1, below 2^62.
-#[derive(Clone, Copy, PartialEq, Eq, PartialOrd, Ord)]
+#[derive(Clone, Copy, PartialEq, Eq, PartialOrd)]
 pub struct Boot(pub u64);
 
-/// A file: its volume and its number. The volume of a file that a schedule declares is the nil UUID.
+/// A volume: the sixteen bytes of its UUID. Contracts see the bytes, and its order is theirs.
+#[derive(Clone, Copy, PartialEq, Eq, PartialOrd, Ord)]
+pub struct VolumeId(pub [u8; 16]);
+
+impl Model for VolumeId {
+    ghost use Rattle.std.specs.Prelude.{List, ℕ};
+
+    ghost Value = { List ℕ };
+
+    ghost view = { λ v. v.0 };
+
+    ghost inverse = { λ bytes. record { 0 = bytes } };
+}
+
+impl VolumeId {
+    /// The nil UUID, the volume of each file that a schedule declares.
+    pub const NIL: VolumeId = VolumeId([0; 16]);
+}
+
+/// A file: its volume and its number.
 #[derive(Clone, Copy, PartialEq, Eq, PartialOrd, Ord)]
 pub struct FileId {
-    pub volume: Uuid,
+    pub volume: VolumeId,
     pub number: u64,
 }
 
 /// A numbered round of the lease negotiation, ordered by its places.
-#[derive(Clone, Copy, PartialEq, Eq, PartialOrd, Ord)]
+#[derive(Clone, Copy, PartialEq, Eq, PartialOrd)]
 pub struct Ballot {
     pub count: u64,
     pub node: NodeId,
@@ -46,14 +65,14 @@ pub struct Lease {
 }
 
 /// A client's operation. A client's numbers rise.
-#[derive(Clone, Copy, PartialEq, Eq, PartialOrd, Ord)]
+#[derive(Clone, Copy, PartialEq, Eq)]
 pub struct OpId {
     pub client: NodeId,
     pub number: u64,
 }
 
 /// A file's size in bytes, under the epoch of its last truncation.
-#[derive(Clone, Copy, PartialEq, Eq, PartialOrd, Ord)]
+#[derive(Clone, Copy, PartialEq, Eq, PartialOrd)]
 pub struct SizeMark {
     pub epoch: u64,
     pub size: u64,

@@ -27,7 +27,7 @@ pub use event::{Call, Event, Mark, Marks, MetaOutcome, Outcome, RegistryOutcome}
 pub use file::{
     Capability, FileHead, Kind, Location, ObjectVersion, Op, Session, Sessions, Update, Versions,
 };
-pub use ids::{Ballot, Boot, Epoch, FileId, Lease, NodeId, OpId, SizeMark, Stamp};
+pub use ids::{Ballot, Boot, Epoch, FileId, Lease, NodeId, OpId, SizeMark, Stamp, VolumeId};
 pub use lists::{Copies, Name, Octets, OutOfMemory, Seq, Words};
 pub use members::{BadMembers, Members, has_node};
 pub use message::{Msg, Msgs, Payload};

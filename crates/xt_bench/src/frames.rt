@@ -3,8 +3,7 @@ ghost use Rattle.xt_base.specs.Limits.{FitsMessage};
 
 use anyhow::{Context, Result, ensure};
 use std::alloc::Global;
-use uuid::Uuid;
-use xt_base::{BODY, Epoch, FileId, Msg, NodeId, Octets, Payload, Stamp};
+use xt_base::{BODY, Epoch, FileId, Msg, NodeId, Octets, Payload, Stamp, VolumeId};
 use xt_frames::{decode, encode};
 
 /// A message that sends an object of so many bytes.
@@ -22,7 +21,7 @@ fn object_of(alloc: Global, size: usize) -> Result<Msg>
         list: 1,
         payload: Payload::Object {
             file: FileId {
-                volume: Uuid::nil(),
+                volume: VolumeId::NIL,
                 number: 1,
             },
             epoch,

@@ -8,10 +8,9 @@ use disk_model::MemoryDisk;
 use object_store::Store;
 use replica_records::record_bytes;
 use std::alloc::Global;
-use uuid::Uuid;
 use xt_base::{
     CallList, Epoch, FileId, NO_OBJECT, NodeId, Octets, OpId, OutOfMemory, Record, SizeMark, Stamp,
-    Update,
+    Update, VolumeId,
 };
 use xt_journal::Journal;
 
@@ -23,7 +22,7 @@ fn update(alloc: Global, count: u32) -> Result<Record, OutOfMemory>
     ensures { IfOk result FitsRecord }
 {
     let file = FileId {
-        volume: Uuid::nil(),
+        volume: VolumeId::NIL,
         number: 1,
     };
     let epoch = Epoch {

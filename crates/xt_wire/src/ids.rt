@@ -4,8 +4,9 @@ ghost use Rattle.xt_fields.specs.Reading.{Gives};
 ghost use Rattle.xt_fields.specs.BasicFields.{byte_bytes};
 ghost use Rattle.xt_wire.specs.IdFields.{node_at, node_bytes, boot_at, boot_bytes, file_at, file_bytes, ballot_at, ballot_bytes, epoch_at, epoch_bytes, stamp_at, stamp_bytes, lease_at, lease_bytes, some_report_at, report_at, report_arms, report_bytes, op_id_at, op_id_bytes, mark_at, mark_bytes};
 
-use uuid::Uuid;
-use xt_base::{Ballot, Boot, Epoch, FileId, Lease, NodeId, OpId, OutOfMemory, SizeMark, Stamp};
+use xt_base::{
+    Ballot, Boot, Epoch, FileId, Lease, NodeId, OpId, OutOfMemory, SizeMark, Stamp, VolumeId,
+};
 use xt_fields::{FieldErr, FieldReader, FieldWriter};
 
 /// Reads nodes, files, leases and epochs. A field that is refused leaves the reader as it was, and what takes no
@@ -91,7 +92,7 @@ impl ReadIds for FieldReader<'_> {
         ensures never { IfErr result (λ e. e ≢ OutOfMemory) }
     {
         let mut ahead = self.ahead();
-        let volume = Uuid::from_bytes(ahead.volume()?);
+        let volume = VolumeId(ahead.volume()?);
         let number = ahead.long()?;
         *self = ahead;
         Ok(FileId { volume, number })
@@ -247,7 +248,7 @@ impl WriteIds for FieldWriter {
     fn file(&mut self, file: FileId) -> Result<(), OutOfMemory>
         ensures { OnOk result (self.new ≡ self.old ++ file_bytes file) }
     {
-        self.raw(file.volume.as_bytes())?;
+        self.raw(&file.volume.0)?;
         self.long(file.number)
     }
 

@@ -3,11 +3,10 @@ ghost use Rattle.std.specs.Prelude.{◌<◌, ◌^◌};
 use client_core::{CallErr, CallResult, Client};
 use std::alloc::Global;
 use std::process::Abort;
-use uuid::Uuid;
 use xt_base::{
     Answered, AskRefusal, COUNTS, Call, Capability, Denial, Event, FileId, Kind, Location, Mark,
     Members, MetaAnswer, MetaRefusal, MetaReq, Msg, Name, NodeId, Octets, Payload, RegistryAnswer,
-    RegistryReq, RegistryRow, Reply, Retry, RowKind, Seq, SizeMark, Times,
+    RegistryReq, RegistryRow, Reply, Retry, RowKind, Seq, SizeMark, Times, VolumeId,
 };
 use xt_protocol::Turned;
 
@@ -108,7 +107,7 @@ pub type Scene = (u64, &'static [Step]);
 /// A file.
 fn file(number: u64) -> FileId {
     FileId {
-        volume: Uuid::nil(),
+        volume: VolumeId::NIL,
         number,
     }
 }

@@ -2,8 +2,7 @@ use crate::serving::{ASIDE, Ask, Asker, KEPT, Kept, OTHERWISE, Row, Told, run};
 use mrc_core::Mrc;
 use std::process::Abort;
 use std::test::*;
-use uuid::Uuid;
-use xt_base::{FileId, MetaRefusal, NodeId};
+use xt_base::{FileId, MetaRefusal, NodeId, VolumeId};
 
 const ANN: Asker = (1, 1);
 
@@ -73,7 +72,9 @@ static FILES: [(usize, &[(u64, Option<u64>)]); 5] = [
 fn is_at(made: &[(u64, Option<u64>)], place: usize, file: &FileId, at: Option<u64>) -> bool {
     match made.get(place) {
         Some((number, unlinked)) => {
-            file.number == *number && at == *unlinked && file.volume == Uuid::from_u128(VOLUME)
+            file.number == *number
+                && at == *unlinked
+                && file.volume == VolumeId(VOLUME.to_be_bytes())
         }
         None => false,
     }

@@ -6,9 +6,8 @@ use disk_model::Stop;
 use std::alloc::Global;
 use std::process::Abort;
 use std::test::*;
-use uuid::Uuid;
 use world_hull::{BodyErr, Hull, Kept};
-use xt_base::{Boot, Epoch, FileId, Msg, NodeId, Payload, Record, RegistryReq, Stamp};
+use xt_base::{Boot, Epoch, FileId, Msg, NodeId, Payload, Record, RegistryReq, Stamp, VolumeId};
 
 /// What is told of a call that was to answer otherwise.
 const OTHERWISE: &str = "a call answers otherwise";
@@ -114,7 +113,7 @@ fn a_message_is_carried(rt: HostRuntime) {
 /// Whether the node keeps no body as version 1 of object 0 of a file.
 fn has_no_body(alloc: Global, hull: &DiskHull) -> bool {
     let file = FileId {
-        volume: Uuid::nil(),
+        volume: VolumeId::NIL,
         number: 1,
     };
     let epoch = Epoch {

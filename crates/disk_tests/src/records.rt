@@ -3,8 +3,7 @@ use replica_records::{BodyErr, Folding, RecordErr, RecordLog, fold, read_record,
 use std::alloc::Global;
 use std::process::Abort;
 use std::test::*;
-use uuid::Uuid;
-use xt_base::{Boot, Epoch, FileId, NodeId, Octets, Record, Stamp};
+use xt_base::{Boot, Epoch, FileId, NodeId, Octets, Record, Stamp, VolumeId};
 
 /// One of each kind, with file 3 of the nil volume; the last with a node and without.
 static SPELLINGS: [&[u8]; 8] = [
@@ -134,7 +133,7 @@ fn promises(rt: HostRuntime) {
 
 fn file() -> FileId {
     FileId {
-        volume: Uuid::nil(),
+        volume: VolumeId::NIL,
         number: 1,
     }
 }

@@ -6,8 +6,7 @@ use replica_records::{Bodies, BodyErr};
 use std::alloc::Global;
 use std::process::Abort;
 use std::test::*;
-use uuid::Uuid;
-use xt_base::{Boot, CallList, Epoch, FileId, NodeId, Octets, Record, Stamp};
+use xt_base::{Boot, CallList, Epoch, FileId, NodeId, Octets, Record, Stamp, VolumeId};
 use xt_journal::{Journal, LoadErr, Placed};
 
 /// What is told of a call that was to answer otherwise.
@@ -50,7 +49,7 @@ fn file() -> FileId
     ensures { FitsFile result }
 {
     FileId {
-        volume: Uuid::nil(),
+        volume: VolumeId::NIL,
         number: 1,
     }
 }
