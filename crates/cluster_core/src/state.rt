@@ -10,12 +10,13 @@ mod rules;
 mod running;
 
 use crate::lines::{copy_of, left_of};
+use own_messages::OwnMessages;
 use std::alloc::Global;
 use std::marker::Model;
 use step_endings::Stepper;
 use time_line::{Entry, Line};
 use world_hull::Hull;
-use world_nodes::{Nodes, OwnMessages};
+use world_nodes::Nodes;
 use world_tables::{DeclaredFiles, SentMessages};
 use xt_base::OutOfMemory;
 

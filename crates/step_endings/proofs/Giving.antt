@@ -6,7 +6,7 @@ use Rattle.xt_base.specs.declared.record.Record.{Record}
 use Rattle.xt_base.specs.declared.status.Limited.{Limited}
 use Rattle.cluster_runs.specs.declared.Sent.{Sent}
 use Rattle.cluster_runs.specs.World.{World, Node}
-use Rattle.cluster_runs.specs.NodeSteps.{Room, Overflow, Cause, came_to, has_no_room, overflow_of}
+use Rattle.cluster_runs.specs.NodeSteps.{Room, Overflow, has_no_room, overflow_of}
 use Rattle.world_hull.specs.Answers.{IsFullOrMemory, IsFullExactly}
 use Rattle.world_hull.specs.declared.errors.WorldErr.{WorldErr}
 use Rattle.world_hull.specs.declared.errors.WorldErr.TheVariants as error

@@ -13,7 +13,8 @@ use Rattle.cluster_runs.specs.World.{Node, Running}
 use Rattle.cluster_runs.specs.Rules.{Reading, lesser, reading_where, least_where, end_named, clock_ends}
 use Rattle.cluster_runs.specs.Lines.{ticked}
 use Rattle.node_cores.specs.Hosts.{HostView, node_of, host_ticked}
-use Rattle.world_nodes.specs.Nodes.{NodesView, nodes_of, has_host, AreDistinct, AreHosts, MayTick}
+use Rattle.node_clocks.specs.Hosts.{nodes_of, MayTick}
+use Rattle.world_nodes.specs.Nodes.{NodesView, has_host, AreDistinct, AreHosts}
 
 no_reading : (found : Option Reading) → end_named found ≡ None → found ≡ None
 no_reading None is = refl

@@ -29,9 +29,6 @@ pub record NodesView : Type 0 where
 abbrev pub bare : NodesView → World
 bare view = record { times = view.times; nodes = view.nodes; files = []; sent = []; entries = []; lines = [] }
 
-abbrev pub nodes_of : (ℕ → List Record) → List HostView → List Node
-nodes_of kept hosts = map (λ h. node_of (kept h.id.0) h) hosts
-
 -- whether one of them has this id
 abbrev pub has_host : List HostView → ℕ → Bool
 has_host [] id = false
@@ -106,7 +103,3 @@ kept_when kept rec ending.StoppedLost = kept
 abbrev pub IsHostPlace : List HostView → NodeId → Option ℕ → Type 0
 IsHostPlace hosts id None = has_host hosts id.0 ≡ false
 IsHostPlace hosts id (Some place) = (place < length hosts) × ((d : HostView) → (slice_index_or hosts place d).id ≡ id)
-
--- no running clock would reach the end behind so many milliseconds
-abbrev pub MayTick : ℕ → HostView → Type 0
-MayTick count host = IfSome host.up (λ running. running.clock + count < COUNTS)

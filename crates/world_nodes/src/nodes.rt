@@ -23,7 +23,8 @@ pub struct Nodes<H: Hull> {
 }
 
 impl<H: Hull> Model for Nodes<H> {
-    ghost use Rattle.world_nodes.specs.Nodes.{NodesView, AreHosts, nodes_of};
+    ghost use Rattle.node_clocks.specs.Hosts.{nodes_of};
+    ghost use Rattle.world_nodes.specs.Nodes.{NodesView, AreHosts};
 
     ghost Value = { NodesView };
 

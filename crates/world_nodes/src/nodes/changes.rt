@@ -1,18 +1,17 @@
 //! What changes the declared nodes.
 ghost use Rattle.std.specs.Prelude.{◌≡◌, ◌<◌, ◌^◌, ◌++◌, ◌∷◌, [], Some, None, IfOk, IfSome, OnOk, OnErr, length, map};
-ghost use Rattle.std.specs.List.{AllByRecursion};
 ghost use Rattle.cluster_runs.specs.World.{Node, client, osd, node_in};
 ghost use Rattle.cluster_runs.specs.declared.Role.TheVariants as role;
 ghost use Rattle.cluster_runs.specs.Clients.{new_client};
 ghost use Rattle.cluster_runs.specs.Rules.{clock_ends};
 ghost use Rattle.cluster_runs.specs.Lines.{runs, first_boot, crashes, cuts, reads_clock, aims, ticked};
-ghost use Rattle.node_cores.specs.Hosts.{host_ticked};
 ghost use Rattle.node_cores.specs.Turns.{Handles};
 ghost use Rattle.cluster_fits.specs.Fits.{FitsContent};
-ghost use Rattle.world_nodes.specs.Nodes.{IsAt, Changes, ChangesUp, NodeHandles, NodeCalls, MayTick};
+ghost use Rattle.world_nodes.specs.Nodes.{IsAt, Changes, ChangesUp, NodeHandles, NodeCalls};
 
 use crate::nodes::Nodes;
 use disk_model::Stop;
+use node_clocks::{set_clock, tick};
 use node_cores::{Host, HullBodies};
 use std::alloc::Global;
 use world_hull::Hull;
@@ -73,7 +72,7 @@ impl<H: Hull> Nodes<H> {
         requires { place < length self.old.nodes }
         ensures { ChangesUp self.old place (reads_clock clock) self.new }
     {
-        self.hosts[place].set_clock(clock);
+        set_clock(&mut self.hosts, place, clock);
     }
 
     /// The first target of the client at a place for a declared file is this member.
@@ -129,15 +128,4 @@ fn handle<H: Hull>(host: &mut Host, hull: &H, ev: &Event) -> Result<Option<Turne
     let node = host.id();
     let mut bodies = HullBodies { hull, node };
     host.handle(&mut bodies, ev)
-}
-
-/// Every running clock advances.
-fn tick(hosts: &mut [Host], count: u64)
-    requires { AllByRecursion (MayTick count) hosts.old }
-    ensures { hosts.new ≡ map (host_ticked count) hosts.old }
-{
-    if let Some((first, rest)) = hosts.split_first_mut() {
-        first.tick(count);
-        tick(rest, count);
-    }
 }

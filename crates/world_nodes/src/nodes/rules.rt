@@ -5,8 +5,8 @@ ghost use Rattle.cluster_runs.specs.World.{client, node_in, up_of};
 ghost use Rattle.cluster_runs.specs.Rules.{no_osd, no_client, no_node, node_twice, runs_already, runs_not, first_stranger, goes_back, clock_ends, busy, drifts};
 ghost use Rattle.world_nodes.specs.Nodes.{bare};
 
-use crate::clocks::{ClockTest, least_where};
 use crate::nodes::Nodes;
+use node_clocks::{ClockTest, least_where};
 use world_hull::Hull;
 use xt_base::{NodeId, Rule};
 

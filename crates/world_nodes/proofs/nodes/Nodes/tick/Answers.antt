@@ -2,7 +2,7 @@ use Rattle.std.proofs.Common.{List, ◌++◌, take, drop, length, map, ap, sym, 
 use Rattle.std.specs.List.{AllByRecursion}
 use Rattle.std.proofs.lemmas.List.{length-map}
 use Rattle.node_cores.specs.Hosts.{HostView, host_ticked}
-use Rattle.world_nodes.specs.Nodes.{MayTick}
+use Rattle.node_clocks.specs.Hosts.{MayTick}
 use Rattle.world_nodes.proofs.Ticks.{may_tick, ticked_hosts, all_new}
 use Rattle.world_nodes.proofs.nodes.Nodes.tick.Goals as goal
 

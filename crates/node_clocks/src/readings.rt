@@ -2,8 +2,8 @@
 ghost use Rattle.std.specs.Prelude.{◌≡◌, ℕ, List};
 ghost use Rattle.xt_base.specs.declared.record.Record.{Record};
 ghost use Rattle.cluster_runs.specs.Rules.{are_apart, least_where, lesser, reading_where};
-ghost use Rattle.world_nodes.specs.Nodes.{nodes_of};
-ghost use Rattle.world_nodes.specs.Clocks.{reading_of, test_of};
+ghost use Rattle.node_clocks.specs.Hosts.{nodes_of};
+ghost use Rattle.node_clocks.specs.Clocks.{reading_of, test_of};
 
 use node_cores::Host;
 use xt_base::{COUNTS, NodeId};

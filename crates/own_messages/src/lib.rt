@@ -1,7 +1,12 @@
-//! The messages of a node to itself that wait.
+//! The messages of a node to itself that wait: they are handled first in first out, before anything else, and are lost with the
+//! node.
+//!
+//! Contracts see the list of them, the next one first, and each call changes it as its definition tells.
+#![tactic(auto)]
+
 ghost use Rattle.std.specs.Prelude.{◌≡◌, ◌++◌, [], OnOk};
 ghost use Rattle.cluster_runs.specs.NodeSteps.{to_itself};
-ghost use Rattle.world_nodes.specs.Own.{IsNext};
+ghost use Rattle.own_messages.specs.Own.{IsNext};
 
 use std::alloc::Global;
 use std::collections::VecDeque;

@@ -1,5 +1,5 @@
 use Rattle.std.proofs.Common.{length}
-use Rattle.world_nodes.proofs.nodes.changes.+tick.Given as goal
+use Rattle.node_clocks.proofs.setting.+tick.Given as goal
 
 abbrev pub decreases-tick : goal.decreases-tick
 decreases-tick l = length l.hosts.now

@@ -5,9 +5,9 @@ use Rattle.xt_base.specs.declared.ids.NodeId.{NodeId}
 use Rattle.xt_base.specs.declared.TheConstants.{COUNTS}
 use Rattle.cluster_runs.specs.Rules as rules
 use Rattle.cluster_runs.specs.Rules.{are_apart}
-use Rattle.world_nodes.specs.declared.clocks.Reading.{Reading}
-use Rattle.world_nodes.specs.declared.clocks.ClockTest.{ClockTest}
-use Rattle.world_nodes.specs.declared.clocks.ClockTest.TheVariants as test
+use Rattle.node_clocks.specs.declared.readings.Reading.{Reading}
+use Rattle.node_clocks.specs.declared.readings.ClockTest.{ClockTest}
+use Rattle.node_clocks.specs.declared.readings.ClockTest.TheVariants as test
 
 -- of which clocks a test holds: those of other nodes that are apart from a new one, and those that would reach the end
 abbrev pub test_of : ClockTest → NodeId → ℕ → Bool

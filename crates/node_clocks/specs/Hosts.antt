@@ -1,0 +1,24 @@
+-- lists of nodes as code has them
+use Rattle.std.specs.Prelude.{ℕ, ◌≡◌, ◌+◌, ◌<◌, List, map, slice_index_or, slice_set}
+use Rattle.std.specs.Option.{option_map, IfSome}
+use Rattle.xt_base.specs.declared.record.Record.{Record}
+use Rattle.xt_base.specs.declared.TheConstants.{COUNTS}
+use Rattle.cluster_runs.specs.World.{Node}
+use Rattle.cluster_runs.specs.Lines.{reads_clock}
+use Rattle.node_cores.specs.Hosts.{HostView, node_of}
+
+-- the nodes, with the records that are kept for them
+abbrev pub nodes_of : (ℕ → List Record) → List HostView → List Node
+nodes_of kept hosts = map (λ h. node_of (kept h.id.0) h) hosts
+
+-- no running clock would reach the end behind so many milliseconds
+abbrev pub MayTick : ℕ → HostView → Type 0
+MayTick count host = IfSome host.up (λ running. running.clock + count < COUNTS)
+
+-- a node whose clock is set, where it runs
+abbrev pub clock_set : ℕ → HostView → HostView
+clock_set clock host = record host { up = option_map (reads_clock clock) host.up }
+
+-- the clock of the one that stands there is set, and no other
+abbrev pub SetsClock : List HostView → ℕ → ℕ → List HostView → Type 0
+SetsClock old place clock new = (host : HostView) × (host ≡ slice_index_or old place host) × (new ≡ slice_set old place (clock_set clock host))
