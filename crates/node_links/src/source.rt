@@ -1,4 +1,4 @@
-ghost use Rattle.std.specs.Prelude.{◌≡◌, ◌≤◌, ◌<◌, ◌+◌, ◌-◌, ℕ, Bool, false, List, [], Option, Some, None, length, take, drop, is_err, IfOk, OnOk, OnErr, OnSome};
+ghost use Rattle.std.specs.Prelude.{◌≡◌, ◌≤◌, ◌<◌, ◌+◌, ◌-◌, ℕ, Bool, false, List, [], Option, Some, None, length, take, drop, min, is_err, IfOk, OnOk, OnErr, IfSome, OnSome};
 ghost use Rattle.node_links.specs.Streams.{Takes, IsAhead, IsAtEnd, is_named};
 ghost use Rattle.xt_base.specs.Faults.{Rose, fault_count_after};
 
@@ -13,6 +13,9 @@ pub trait Source {
 
     /// The bytes that were read ahead.
     ghost ahead: { Self → List ℕ };
+
+    /// How many bytes are read ahead at once, where the bytes are told.
+    ghost block: { Self → ℕ };
 
     /// Whether a coming call of `fill` fails, the next one being 1, where the bytes are told.
     ghost fails: { Self → ℕ → Bool };
@@ -39,7 +42,10 @@ pub trait Source {
         ensures none { OnErr result (ahead self.new ≡ []) }
         ensures faults { fault_count self.new ≡
             fault_count_after (is_err result) (fault_count self.old) }
-        // Where the bytes are told, it fails as planned.
+        // Where the bytes are told, it reads as many as it can, and fails as planned.
+        ensures most { OnOk result (IfSome (left self.old)
+            (λ bytes. length (ahead self.new) ≡ min (block self.old) (length bytes))) }
+        ensures same { block self.new ≡ block self.old }
         ensures plan { OnSome (left self.old) (is_err result ≡ fails self.old 1) }
         ensures later { OnSome (left self.old) ((k : ℕ) → fails self.new k ≡ fails self.old (k + 1)) };
 
@@ -49,6 +55,7 @@ pub trait Source {
         ensures taken { Takes (left self.old) (left self.new) (take count (ahead self.old)) }
         ensures rest { ahead self.new ≡ drop count (ahead self.old) }
         ensures sound { fault_count self.new ≡ fault_count self.old }
+        ensures same { block self.new ≡ block self.old }
         ensures later { OnSome (left self.old) ((k : ℕ) → fails self.new k ≡ fails self.old k) };
 }
 
@@ -95,6 +102,8 @@ impl Source for MemorySource {
     ghost left = { λ s. Some (drop s.place s.bytes) };
 
     ghost ahead = { λ s. take (s.filled - s.place) (drop s.place s.bytes) };
+
+    ghost block = { λ s. s.block };
 
     ghost fails = { λ s k. is_named s.failing s.calls k };
 
@@ -160,6 +169,8 @@ impl<R: Read + Drop> Source for StdinSource<R> {
     ghost left = { λ _. None };
 
     ghost ahead = { λ s. take (s.filled - s.place) (drop s.place s.buffer.items) };
+
+    ghost block = { λ _. 65536 };
 
     ghost fails = { λ _ _. false };
 
