@@ -13,11 +13,10 @@ use Rattle.xt_base.specs.declared.message.Payload.{Payload}
 use Rattle.xt_base.specs.declared.message.Payload.TheVariants as payload
 use Rattle.xt_base.specs.declared.event.Event.{Event}
 use Rattle.xt_base.specs.declared.event.Event.TheVariants as event
-use Rattle.cluster_runs.specs.declared.KnownFile.{KnownFile}
 use Rattle.cluster_runs.specs.declared.RunningCall.{RunningCall}
 use Rattle.cluster_runs.specs.declared.ClientState.{ClientState}
 use Rattle.cluster_runs.specs.Steps.{Step}
-use Rattle.cluster_runs.specs.Clients.{step_of_client}
+use Rattle.cluster_runs.specs.Clients.{KnownFiles, step_of_client}
 use Rattle.replica_client.specs.Views.{awaits}
 use Rattle.client_core.specs.declared.progress.Learnt.{Learnt}
 use Rattle.client_core.specs.declared.progress.Learnt.TheVariants as learnt
@@ -84,7 +83,7 @@ waiting_ends deadline held made target from number count size bytes waits =
     rw parts.0 (request_ends deadline made.stage held target from count size bytes made.request parts.1)
 
 -- on a replicated file
-replicas_end : (node : NodeId) (times : TimeSettings) (last next : ℕ) (running : Option RunningCall) (files : List KnownFile) (held : Held)
+replicas_end : (node : NodeId) (times : TimeSettings) (last next : ℕ) (running : Option RunningCall) (files : KnownFiles) (held : Held)
     (made : MadeCall) (reading : ℕ) (from to : NodeId) (list : ℕ) (file : FileId) (number count : ℕ) (size : SizeMark) (bytes : List ℕ)
     → IsTrue (awaits running from number)
     → ends_ok

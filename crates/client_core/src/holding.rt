@@ -2,8 +2,8 @@ ghost use Rattle.std.specs.Prelude.{◌≡◌, [], OnOk, OnErr};
 ghost use Rattle.std.specs.Option.{option_copied};
 ghost use Rattle.client_core.specs.Holding as spec;
 
-use indexmap::IndexMap;
 use std::alloc::Global;
+use std::collections::BTreeMap;
 use std::marker::Model;
 use truncate_epochs::merge;
 use xt_base::{Capability, OutOfMemory, SizeMark};
@@ -15,10 +15,10 @@ pub struct HeldFile {
     pub mark: SizeMark,
 }
 
-/// What is held of files. They are found by their numbers.
+/// What is held of files, rising by their numbers.
 #[derive(Drop)]
 pub struct HeldFiles {
-    files: IndexMap<u64, HeldFile>,
+    files: BTreeMap<u64, HeldFile>,
 }
 
 impl Model for HeldFiles {
@@ -35,7 +35,7 @@ impl HeldFiles {
         ensures { result ≡ [] }
     {
         HeldFiles {
-            files: IndexMap::new(alloc),
+            files: BTreeMap::new(alloc),
         }
     }
 

@@ -1,8 +1,12 @@
 -- a step of a client: its state and its messages are within the limits, and it keeps no record
-use Rattle.std.proofs.Common.{◌≡◌, ◌==◌, ◌||◌, ◌&&◌, ◌<◌, ◌+◌, ◌^◌, max, ℕ, nat_lt, nat_le, List, [], ◌∷◌, refl, subst, Option, Some, None, Bool, true, false, arith}
-use Rattle.std.specs.Prelude.{not, filter}
+use Rattle.std.proofs.Common.{◌≡◌, ◌==◌, ◌||◌, ◌&&◌, ◌<◌, ◌+◌, ◌^◌, max, ℕ, nat_lt, nat_le, List, [], ◌∷◌, refl, subst, Option, Some, None, Bool, true, false, cond, arith}
+use Rattle.std.specs.Prelude.{not, filter, unwrap_or}
 use Rattle.std.specs.Option.{IfSome}
 use Rattle.std.specs.List.{AllByRecursion}
+use Rattle.std.specs.Map.{lookup}
+use Rattle.std.specs.Ordering.{is_eq, match_ordering}
+use Rattle.std.specs.declared.cmp.Ordering.{Ordering}
+use Rattle.std.specs.declared.cmp.Ordering.TheVariants.{Less, Equal, Greater}
 use Rattle.std.proofs.lemmas.Bool.{eqb-true}
 use Rattle.std.proofs.lemmas.Bool.Decides.{nat_tests}
 use Rattle.xt_base.specs.MemberList.{has_node}
@@ -28,12 +32,12 @@ use Rattle.xt_base.specs.declared.reply.Reply.TheVariants as reply
 use Rattle.xt_base.specs.declared.reply.Retry.{Retry}
 use Rattle.xt_base.specs.declared.reply.Retry.TheVariants as retry
 use Rattle.xt_base.specs.Limits.{FitsNode, FitsCapability, FitsLocation, FitsOp, FitsPayload, FitsReply, IsCount}
-use Rattle.xt_protocol.specs.FileIds.{is_file}
+use Rattle.xt_protocol.specs.FileIds.{file_cmp}
 use Rattle.cluster_runs.specs.declared.ClientState.{ClientState}
 use Rattle.cluster_runs.specs.declared.KnownFile.{KnownFile}
 use Rattle.cluster_runs.specs.declared.RunningCall.{RunningCall}
 use Rattle.time_line.specs.Bounds.{FitsCall}
-use Rattle.cluster_runs.specs.Clients.{ClientSite, known_in, with_known, knows, aimed, raised, first_member, first_target, asks, new_call, begins_call, call_comes, call_of_client, ends_call, was_tried, with_outcome, named, next_of, turned_away, turned_away_by, answered, reply_comes, message_comes, wakes, event_comes, step_of_client, new_client, answers_in}
+use Rattle.cluster_runs.specs.Clients.{ClientSite, KnownFiles, unknown, known_in, with_known, knows, aimed, raised, first_member, first_target, asks, new_call, begins_call, call_comes, call_of_client, ends_call, was_tried, with_outcome, named, next_of, turned_away, turned_away_by, answered, reply_comes, message_comes, wakes, event_comes, step_of_client, new_client, answers_in}
 use Rattle.cluster_runs.specs.Lines.{declared_file, declared_capability, operation_of, epoch_of, uses}
 use Rattle.cluster_runs.specs.Rules.{called_file}
 use Rattle.cluster_runs.specs.Steps.{Step, stays}
@@ -54,7 +58,7 @@ KnownIs known = IsCount known.epoch
 -- the state of a client
 pub record ClientIs (c : ClientState) : Type 0 where
   pub call : IfSome c.running CallIs
-  pub known : AllByRecursion KnownIs c.files
+  pub known : AllByRecursion (λ e. KnownIs e.1) c.files
 
 -- what a step of a client owes
 pub record ClientStepIs (step : Step ClientState) : Type 0 where
@@ -67,18 +71,29 @@ new_is clock = record { call = tt; known = tt }
 
 -- ---- known files
 
-known_is : (files : List KnownFile) (file : FileId) → AllByRecursion KnownIs files → KnownIs (known_in files file)
-unfolding known_in
-known_is [] file all = omega arith
-known_is (k ∷ ks) file all = either KnownIs (is_file k.file file) k (known_in ks file) all.0 (known_is ks file all.1)
+abbrev AreKnown : KnownFiles → Type 0
+AreKnown files = AllByRecursion (λ (e : FileId × KnownFile). KnownIs e.1) files
 
-put_known : (files : List KnownFile) (known : KnownFile) → AllByRecursion KnownIs files → KnownIs known → AllByRecursion KnownIs (with_known files known)
-unfolding with_known
-put_known [] known all is = (is, tt)
-put_known (k ∷ ks) known all is = either (AllByRecursion KnownIs) (is_file k.file known.file) (known ∷ ks) (k ∷ with_known ks known) (is, all.1) (all.0, put_known ks known all.1 is)
+known_is : (files : KnownFiles) (file : FileId) → AreKnown files → KnownIs (known_in files file)
+known_is [] file all = omega arith
+known_is (e ∷ es) file all = at (is_eq (file_cmp file e.0)) (known_is es file all.1)
+  where
+    at : (same : Bool) → KnownIs (known_in es file) → KnownIs (unwrap_or (cond same (Some e.1) (lookup (λ other. is_eq (file_cmp file other)) es)) unknown)
+    at true later = all.0
+    at false later = later
+
+put_known : (files : KnownFiles) (file : FileId) (known : KnownFile) → AreKnown files → KnownIs known → AreKnown (with_known files file known)
+put_known [] file known all is = (is, tt)
+put_known (e ∷ es) file known all is = at (file_cmp file e.0) (put_known es file known all.1 is)
+  where
+    at : (o : Ordering) → AreKnown (with_known es file known)
+        → AreKnown (match_ordering o ((file, known) ∷ e ∷ es) ((e.0, known) ∷ es) (e ∷ with_known es file known))
+    at Less later = (is, all)
+    at Equal later = (is, all.1)
+    at Greater later = (all.0, later)
 
 pub learns_is : (c : ClientState) (file : FileId) (learns : KnownFile → KnownFile) → ClientIs c → ((known : KnownFile) → KnownIs known → KnownIs (learns known)) → ClientIs (knows c file learns)
-learns_is c file learns is still = record { call = is.call; known = put_known c.files (learns (known_in c.files file)) is.known (still (known_in c.files file) (known_is c.files file is.known)) }
+learns_is c file learns is still = record { call = is.call; known = put_known c.files file (learns (known_in c.files file)) is.known (still (known_in c.files file) (known_is c.files file is.known)) }
 
 raised_is : (epoch : ℕ) (known : KnownFile) → IsCount epoch → KnownIs known → KnownIs (raised epoch known)
 raised_is epoch known fits is = both known.epoch epoch is fits

@@ -28,7 +28,7 @@ use Rattle.time_line.specs.declared.line.Line.{Line}
 use Rattle.time_line.specs.declared.line.Line.TheVariants as line
 use Rattle.time_line.specs.declared.entry.Entry.{Entry}
 use Rattle.time_line.specs.declared.entry.Entry.TheVariants as entry
-use Rattle.cluster_runs.specs.Clients.{known_in, with_known, outcome_in, call_of_client, step_of_client}
+use Rattle.cluster_runs.specs.Clients.{outcome_in, call_of_client, step_of_client}
 use Rattle.cluster_runs.specs.World.{World, node_in, with_node, file_in}
 use Rattle.cluster_runs.specs.Rules.{refusal, first_stranger, least_where}
 use Rattle.cluster_runs.specs.NodeSteps.{Room, event_comes}
@@ -45,7 +45,7 @@ room_for count kept rec = if nat_lt (length kept) count then None else Some (rec
 
 -- the world after these lines
 unfoldable pub world_in : Room → List Line → World
-unfolding run_of after refusal first_stranger least_where done steps next_step first_step least_pending event_comes node_in with_node file_in known_in with_known outcome_in call_of_client step_of_client step_of_osd step_of_file wake_of_file expired ask_handled refusal_of read_comes write_comes answer_comes serves_all epoch_drawn hears reads writes wakes peer_in with_peer fed chosen_of difference gathered fetched_from staged headed updated standing file_at with_file each_file body_kept fold_of row_in with_row with_held
+unfolding run_of after refusal first_stranger least_where done steps next_step first_step least_pending event_comes node_in with_node file_in outcome_in call_of_client step_of_client step_of_osd step_of_file wake_of_file expired ask_handled refusal_of read_comes write_comes answer_comes serves_all epoch_drawn hears reads writes wakes peer_in with_peer fed chosen_of difference gathered fetched_from staged headed updated standing file_at with_file each_file body_kept fold_of row_in with_row with_held
 world_in room lines = run_of room lines
 
 -- the trace of these lines

@@ -39,7 +39,6 @@ pub struct Sent {
 /// What a client knows of a file: its first target, if it was aimed or a member has answered, and its truncate epoch.
 #[derive(Clone, Copy, PartialEq, Eq)]
 pub struct KnownFile {
-    pub file: FileId,
     pub target: Option<NodeId>,
     pub epoch: u64,
 }
@@ -63,13 +62,13 @@ pub struct RunningCall {
 }
 
 /// The state of a client: the clock that it used last, the number of its next call, the call that runs, and the files
-/// that it knows.
+/// that it knows, rising.
 #[derive(Drop)]
 pub struct ClientState {
     pub last: u64,
     pub next: u64,
     pub running: Option<RunningCall>,
-    pub files: Seq<KnownFile>,
+    pub files: Seq<(FileId, KnownFile)>,
 }
 
 ghost use Rattle.std.specs.Prelude.{◌≡◌, ℕ, Some, None, List, [], ◌∷◌};

@@ -22,12 +22,23 @@ use xt_base::{Boot, Call, Event, Folded, Location, NodeId, Op, OutOfMemory, Time
 use xt_protocol::Turned;
 
 /// A declared node without its records. Contracts see its id, its role, its times and how it runs.
-#[derive(Drop)]
 pub struct Host {
     id: NodeId,
     role: Role,
     times: Times,
     up: Option<Running>,
+}
+
+// A derived drop is part of the code of each function that may drop a value. This one is proved once.
+impl Drop for Host {
+    fn drop(self) {
+        let Host {
+            id: _,
+            role: _,
+            times: _,
+            up: _,
+        } = self;
+    }
 }
 
 impl Model for Host {

@@ -19,7 +19,6 @@ use xt_base::{Boot, Event, Folded, Msg, NodeId, Octets, OutOfMemory, Times};
 use xt_protocol::Turned;
 
 /// An OSD of replicated files. Contracts see its key and its state.
-#[derive(Drop)]
 pub struct Osd {
     alloc: Global,
     key: Option<Octets>,
@@ -28,6 +27,20 @@ pub struct Osd {
     /// The clock that was used last.
     last: u64,
     slots: Vec<Slot>,
+}
+
+// A derived drop is part of the code of each function that may drop a value. This one is proved once.
+impl Drop for Osd {
+    fn drop(self) {
+        let Osd {
+            alloc: _,
+            key: _,
+            node: _,
+            silent: _,
+            last: _,
+            slots: _,
+        } = self;
+    }
 }
 
 impl Model for Osd {

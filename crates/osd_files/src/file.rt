@@ -18,9 +18,15 @@ use xt_base::{FileId, FileRow, NodeId, OutOfMemory, Payload};
 use xt_protocol::Turned;
 
 /// A file at an OSD that is awake. Contracts see the OSD, and the file's state in the rows' terms.
-#[derive(Drop)]
 pub struct OsdFile {
     parts: Parts,
+}
+
+// A derived drop is part of the code of each function that may drop a value. This one is proved once.
+impl Drop for OsdFile {
+    fn drop(self) {
+        let OsdFile { parts: _ } = self;
+    }
 }
 
 impl Model for OsdFile {

@@ -18,7 +18,7 @@ use crate::joining::join_rest;
 use crate::lead::Lead;
 use crate::parts::Parts;
 use kept_bodies::{Bodies, StepErr};
-use osd_asks::is_read;
+use osd_decisions::is_read;
 use osd_rows::WaitingAsk;
 use step_outputs::quiet;
 use xt_base::OutOfMemory;

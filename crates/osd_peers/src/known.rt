@@ -2,8 +2,20 @@ ghost use Rattle.std.specs.Prelude.{◌≡◌, ◌++◌, ◌∷◌, [], None, So
 ghost use Rattle.xt_protocol.specs.Stamps as stamps;
 ghost use Rattle.osd_rows.specs.Primaries as rows;
 
+use osd_rows::Nodes;
 use version_lists::has_version;
-use xt_base::{HeldPairs, ObjectVersion, OutOfMemory};
+use xt_base::{HeldPairs, NodeId, ObjectVersion, OutOfMemory, has_node};
+
+/// Puts the node among these, once.
+pub fn add_node(nodes: &mut Nodes, node: NodeId) -> Result<(), OutOfMemory>
+    ensures ok { OnOk result (nodes.new ≡ rows.with_node nodes.old node) }
+    ensures err { OnErr result (nodes.new ≡ nodes.old) }
+{
+    if !has_node(nodes.as_slice(), node) {
+        nodes.push(node)?;
+    }
+    Ok(())
+}
 
 /// Puts the version among those that are known, once.
 pub fn add_known(known: &mut HeldPairs, version: ObjectVersion) -> Result<(), OutOfMemory>

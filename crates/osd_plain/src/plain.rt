@@ -10,7 +10,7 @@ ghost use Rattle.osd_plain.specs.Rows as rows;
 use crate::PlainActed;
 use crate::serving::{next_update, nothing, only, read_served, refusal, update_fits};
 use kept_bodies::{Bodies, StepErr};
-use osd_writes::{Standing, standing_of};
+use osd_decisions::{Standing, standing_of};
 use std::alloc::Global;
 use std::marker::Model;
 use version_lists::update_head;

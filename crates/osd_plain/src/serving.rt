@@ -8,9 +8,8 @@ ghost use Rattle.version_lists.specs.Rising.{HeadRises};
 ghost use Rattle.osd_plain.specs.Rows as rows;
 
 use crate::PlainActed;
-use kept_bodies::{Bodies, StepErr};
-use object_bytes::{behind, cut_or_filled};
-use osd_writes::{present_body, update_of};
+use kept_bodies::{Bodies, StepErr, behind, cut_or_filled};
+use osd_decisions::{present_body, update_of};
 use std::alloc::Global;
 use version_lists::{sessions_after, version_of, versions_after};
 use xt_base::{

@@ -24,7 +24,6 @@ use xt_protocol::Turned;
 
 /// A client's calls on replicated files, one at a time. Contracts see which node it is, its times and its state, and how the call
 /// that ended last ended, until that is taken.
-#[derive(Drop)]
 pub struct ReplicaClient {
     alloc: Global,
     node: NodeId,
@@ -34,6 +33,22 @@ pub struct ReplicaClient {
     running: Option<RunningCall>,
     files: KnownFiles,
     ended: Option<Outcome>,
+}
+
+// A derived drop is part of the code of each function that may drop a value. This one is proved once.
+impl Drop for ReplicaClient {
+    fn drop(self) {
+        let ReplicaClient {
+            alloc: _,
+            node: _,
+            times: _,
+            last: _,
+            next: _,
+            running: _,
+            files: _,
+            ended: _,
+        } = self;
+    }
 }
 
 impl Model for ReplicaClient {
@@ -56,16 +71,17 @@ impl Model for ReplicaClient {
 fn ends_knowing(
     alloc: Global,
     files: &mut KnownFiles,
+    file: FileId,
     number: u64,
     known: KnownFile,
     outcome: &Outcome,
 ) -> Result<Marks, OutOfMemory>
     ensures marks { IfOk result (λ marks. marks ≡ mark.Done number outcome.now ∷ []) }
-    ensures known { OnOk result (files.new ≡ rows.with_known files.old known) }
+    ensures known { OnOk result (files.new ≡ rows.with_known files.old file known) }
     ensures err { OnErr result (files.new ≡ files.old) }
 {
     let marks = ends(alloc, number, outcome)?;
-    files.put(known)?;
+    files.put(file, known)?;
     Ok(marks)
 }
 
@@ -154,8 +170,8 @@ impl ReplicaClient {
         ensures ok { OnOk result (self.new ≡ record self.old { state = rows.knows self.old.state file.now (rows.raised epoch) }) }
         ensures err { OnErr result (self.new ≡ self.old) }
     {
-        let known = raised(&self.files.file(file), epoch);
-        self.files.put(known)
+        let known = raised(self.files.file(file), epoch);
+        self.files.put(*file, known)
     }
 
     /// Its first target for a file is this member.
@@ -163,8 +179,8 @@ impl ReplicaClient {
         ensures ok { OnOk result (self.new ≡ record self.old { state = rows.knows self.old.state file.now (rows.aimed node) }) }
         ensures err { OnErr result (self.new ≡ self.old) }
     {
-        let known = aimed(&self.files.file(file), node);
-        self.files.put(known)
+        let known = aimed(self.files.file(file), node);
+        self.files.put(*file, known)
     }
 
     /// Its truncate epoch for a file.
@@ -443,7 +459,7 @@ impl ReplicaClient {
         ensures err { OnErr result (self.new ≡ self.old) }
     {
         let file = self.running().capability.file;
-        let known = aimed(&self.files.file(&file), from);
+        let known = aimed(self.files.file(&file), from);
         let bytes = bytes.copy(self.alloc)?;
         self.end_knowing(now, known, Outcome::Ok { count, bytes })
     }
@@ -471,7 +487,7 @@ impl ReplicaClient {
         ensures err { OnErr result (self.new ≡ self.old) }
     {
         let file = self.running().capability.file;
-        let known = raised(&self.files.file(&file), epoch);
+        let known = raised(self.files.file(&file), epoch);
         let refusal = AskRefusal::OldEpoch { epoch };
         self.end_knowing(now, known, Outcome::Refused { refusal })
     }
@@ -574,7 +590,7 @@ impl ReplicaClient {
         }
     }
 
-    /// The call ends so, and this is known of a file from now on.
+    /// The call ends so, and this is known of its file from now on.
     fn end_knowing(
         &mut self,
         now: u64,
@@ -584,12 +600,13 @@ impl ReplicaClient {
         requires clock { now < 2 ^ 62 }
         requires runs { IsSome self.old.state.running }
         ensures row { IfOk result (λ turned.
-            CallActs (λ site client call. rows.ends_call (record client { files = rows.with_known client.files known }) call outcome)
+            CallActs (λ site client call. rows.ends_call (record client { files = rows.with_known client.files call.capability.file known }) call outcome)
             now self.old self.new turned) }
         ensures err { OnErr result (self.new ≡ self.old) }
     {
-        let number = self.running().number;
-        match ends_knowing(self.alloc, &mut self.files, number, known, &outcome) {
+        let running = self.running();
+        let (file, number) = (running.capability.file, running.number);
+        match ends_knowing(self.alloc, &mut self.files, file, number, known, &outcome) {
             Ok(marks) => Ok(self.over(now, outcome, marks)),
             Err(error) => {
                 // by a call, so that it is no part of the way out

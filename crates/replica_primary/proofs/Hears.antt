@@ -32,7 +32,7 @@ use Rattle.osd_rows.specs.Primaries.{Ground, Led, fed, fed_next, is_reported, is
 use Rattle.osd_rows.specs.PrimaryRows.{after_keeping, body_beyond, body_fetched, body_missed, chooses, epoch_drawn, fetches, forgotten, goes_on, head_chosen, hears_epoch, hears_member, hears_missing, hears_object, hears_peer, hears_status, installs, peer_fed, peers_fed, status_counted, status_told, target_in, unmoved}
 use Rattle.osd_rows.specs.PrimaryRows as rows
 use Rattle.osd_rows.specs.Turns.{message, quiet, sends}
-use Rattle.failover_fetch.specs.Reports.{best_report}
+use Rattle.osd_decisions.specs.Reports.{best_report}
 use Rattle.replica_primary.specs.declared.moving.Heard.TheVariants as heard
 use Rattle.replica_primary.specs.Moves.{IsSplit, any_report, feeds_any, ground_beyond, is_asked, is_to_feed, kept_of, led_by, outpromised, source_in}
 

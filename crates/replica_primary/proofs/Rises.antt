@@ -23,7 +23,7 @@ use Rattle.osd_rows.specs.ReplicaRows.{stage_record}
 use Rattle.osd_rows.specs.Primaries.{Ground, Led, carries, is_unknown, majority_among, nodes_of, peer_in, reports_of, statuses_counted, with_node}
 use Rattle.osd_rows.specs.PrimaryRows.{epoch_drawn, epoch_above, epoch_told, fetches, head_chosen, chooses, status_counted, status_told, with_state, body_beyond, hears_object, body_staged, body_missed, hears_missing, target_in, update_acked, acked_below, hears_ack, makes_current, hears_peer, hears_member, hears_epoch, hears_in, committed}
 use Rattle.version_lists.specs.Rising.{HeadRises}
-use Rattle.osd_writes.specs.Committed.{CommittedRises, CommittedUnder}
+use Rattle.osd_decisions.specs.Committed.{CommittedRises, CommittedUnder}
 
 abbrev LedRises : Led → Type 0
 LedRises led = CommittedUnder led.primary.tenure

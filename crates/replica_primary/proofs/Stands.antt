@@ -11,8 +11,8 @@ use Rattle.osd_rows.specs.Writes as rows
 use Rattle.osd_rows.specs.Primaries.{Ground}
 use Rattle.osd_rows.specs.PrimaryRows.{goes_on, unmoved}
 use Rattle.osd_rows.specs.Serving.{write_stands, issues_unless}
-use Rattle.osd_writes.specs.declared.judging.Standing.TheVariants as standing
-use Rattle.osd_writes.specs.Shown.{shown_standing}
+use Rattle.osd_decisions.specs.declared.judging.Standing.TheVariants as standing
+use Rattle.osd_decisions.specs.Shown.{shown_standing}
 
 module _ (g : Ground) (learnt : ℕ) (t : Tenure) (head : FileHead) (issued : Option IssuedUpdate) (id : OpId) (epoch : ℕ) (asked : Op) where
   pub by_repeated : (s : rows.Standing) (count : ℕ) → standing.Repeated count ≡ shown_standing s

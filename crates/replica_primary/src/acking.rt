@@ -12,7 +12,8 @@ ghost use Rattle.replica_primary.specs.Written.{ground};
 ghost use Rattle.replica_primary.specs.Acks.{acked_by, acked_in, carried_told, commit_told, is_installing, peers_after, with_ack};
 
 use crate::moving::advance;
-use osd_peers::{add_node, carries, set_peer};
+use osd_decisions::carries;
+use osd_peers::{add_node, set_peer};
 use osd_rows::{IssuedUpdate, PeerState, Peers, Place, Progress, Tenure};
 use std::alloc::Global;
 use step_outputs::{answers, join, message, quiet, sends_one, shows};

@@ -3,7 +3,7 @@ ghost use Rattle.xt_base.specs.declared.message.Payload.TheVariants as payload;
 ghost use Rattle.osd_rows.specs.Primaries.{nodes_of};
 ghost use Rattle.osd_rows.specs.PrimaryRows as rows;
 ghost use Rattle.osd_rows.specs.Turns.{to_each};
-ghost use Rattle.osd_writes.specs.Committed.{CommittedUnder};
+ghost use Rattle.osd_decisions.specs.Committed.{CommittedUnder};
 
 use osd_peers::unknown_peers;
 use osd_rows::{Nodes, Peer, Place, Progress, Tenure};

@@ -15,9 +15,9 @@ ghost use Rattle.replica_primary.specs.Moves.{IsSplit, any_report, ground_beyond
 
 use crate::feeding::{fed, feeds_on, target_of};
 use crate::moving::{FetchedBody, advance, put};
-use failover_fetch::{choose, difference};
 use kept_bodies::{Bodies, StepErr};
-use osd_peers::{is_majority, last_to_each, set_peer, statuses_counted};
+use osd_decisions::{choose, difference, is_majority, statuses_counted};
+use osd_peers::{last_to_each, set_peer};
 use osd_rows::{Peer, PeerState, Peers, Place, Progress, Tenure};
 use std::alloc::Global;
 use step_outputs::{join, message, quiet, sends, sends_one};

@@ -11,7 +11,7 @@ ghost use Rattle.osd_rows.specs.PrimaryRows.{goes_on};
 ghost use Rattle.osd_rows.specs.Turns.{message, quiet, sends};
 ghost use Rattle.kept_bodies.specs.KeptBodies.{fault_of, ReadsOnly};
 ghost use Rattle.version_lists.specs.Rising.{HeadRises};
-ghost use Rattle.osd_writes.specs.Committed.{CommittedUnder};
+ghost use Rattle.osd_decisions.specs.Committed.{CommittedUnder};
 ghost use Rattle.replica_primary.specs.declared.moving.Heard.TheVariants as heard;
 ghost use Rattle.replica_primary.specs.Written.{ground};
 ghost use Rattle.replica_primary.specs.Moves.{keeps_tenure, led_by, outpromised, peers_under};

@@ -19,9 +19,9 @@ use crate::serving::{Written, put_issued, writes};
 use crate::waking::wakes;
 use flease_lease::Turn;
 use kept_bodies::{Bodies, StepErr};
-use osd_peers::{peer_in, statuses_counted};
+use osd_decisions::{reads_under, statuses_counted};
+use osd_peers::peer_in;
 use osd_rows::{Peer, PeerState, Place, PrimaryState, Progress, Tenure};
-use osd_writes::reads_under;
 use std::alloc::Global;
 use std::marker::Model;
 use step_outputs::quiet;
@@ -55,7 +55,7 @@ impl Model for Primary {
     ghost view = { λ p. record { place = p.place; state = p.state } };
 
     ghost use Rattle.xt_base.specs.Limits.{FitsStripe};
-    ghost use Rattle.osd_writes.specs.Committed.{CommittedUnder};
+    ghost use Rattle.osd_decisions.specs.Committed.{CommittedUnder};
 
     ghost invariant = { λ p. FitsStripe p.place.stripe × CommittedUnder p.state.tenure };
 }

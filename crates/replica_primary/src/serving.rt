@@ -13,13 +13,13 @@ ghost use Rattle.osd_rows.specs.Primaries.{is_current};
 ghost use Rattle.osd_rows.specs.Serving as rows;
 ghost use Rattle.kept_bodies.specs.KeptBodies.{fault_of, ReadsOnly};
 ghost use Rattle.version_lists.specs.Rising.{HeadRises};
-ghost use Rattle.osd_writes.specs.Committed.{CommittedRises, CommittedUnder};
+ghost use Rattle.osd_decisions.specs.Committed.{CommittedRises, CommittedUnder};
 ghost use Rattle.replica_primary.specs.Written.{ground, tenure_after, led_of, led_under, with_issued, under_issued};
 
 use crate::moving::put;
 use kept_bodies::{Bodies, StepErr};
+use osd_decisions::{Standing, standing_of, update_of};
 use osd_rows::{IssuedUpdate, Nodes, Peer, PeerState, Place, PrimaryState, Progress, Tenure};
-use osd_writes::{Standing, standing_of, update_of};
 use std::alloc::Global;
 use step_outputs::{answers, message, quiet, tells};
 use xt_base::{

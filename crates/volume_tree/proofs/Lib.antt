@@ -1,3 +1,9 @@
 pub mod Calling
+pub mod Framing
 pub mod Moves
+pub mod Numbers
 pub mod Placing
+pub mod Removing
+pub mod Rooted
+pub mod Sizing
+pub mod Tables

@@ -1,10 +1,11 @@
 //! What the metadata server does with its volumes.
 //!
-//! `Tree` keeps them as a tree of names, which goes down the names of a path alone, and its calls equal those on the flat list of
-//! rows; a refusal, and want of memory, change nothing.
+//! `Table` keeps them as a tree of names, which goes down the names of a path alone, and the sizes of each file by its number; contracts
+//! see the flat list of rows. The calls of `Tree` equal those on that list; a refusal, and want of memory, change nothing.
 #![tactic(auto)]
 
 mod requests;
+mod table;
 mod tree;
 
 use std::alloc::AllocError;

@@ -9,12 +9,12 @@ ghost use Rattle.volume_tree.specs.declared.TreeErr.TheVariants.{OutOfMemory};
 ghost use Rattle.volume_tree.specs.Calls.{Comes, Grants, IsBadPath};
 
 use crate::TreeErr;
+use crate::table::Table;
 use std::alloc::Global;
 use volume_rows::{
     Asker, Content, Entry, Granting, NO_READ, NO_WRITE, NOT_OWNER, Picked, READ, WRITE, allows,
     is_directory, path_in, volume_of,
 };
-use volume_table::Table;
 use xt_base::{FileId, MetaAnswer, MetaRefusal, Name, RowKind, SizeMark};
 
 /// The names of the path that a text spells, at least so many.

@@ -10,10 +10,10 @@ use crate::requests::{
     file_id, grant_file, list, make_directory, make_file, move_path, names_of, remove_directory,
     set_mode, tell, unlink_file,
 };
+use crate::table::Table;
 use std::alloc::Global;
 use std::marker::Model;
 use volume_rows::{Asker, Granting, Picked, path_in};
-use volume_table::Table;
 use xt_base::{FileId, MetaAnswer, MetaReq, Name, OutOfMemory, SizeMark};
 
 /// All volumes. Contracts see the flat list of their rows, and the number that the next file gets.

@@ -8,7 +8,7 @@ use Rattle.std.proofs.lemmas.Bool.{cases_eq, cases_lt}
 use Rattle.std.specs.Prelude.{min, sum_by, slice_get}
 use Rattle.xt_base.specs.FrameLength.{frame_length}
 use Rattle.xt_base.specs.declared.message.Msg.{Msg}
-use Rattle.frame_lengths.specs.Within64.{within_64}
+use Rattle.world_tables.specs.Within64.{within_64}
 use Rattle.cluster_runs.specs.declared.Sent.{Sent}
 use Rattle.cluster_runs.specs.NodeSteps.{pending}
 use Rattle.cluster_runs.specs.Lines.{least_pending, no_longer_pending}

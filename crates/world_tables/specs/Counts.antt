@@ -1,6 +1,6 @@
 -- what is kept beside the messages
 use Rattle.std.specs.Prelude.{ℕ, ◌≡◌, ◌<◌, ◌≤◌, true, false, List, length, slice_index_or}
-use Rattle.frame_lengths.specs.Within64.{within_64}
+use Rattle.world_tables.specs.Within64.{within_64}
 use Rattle.cluster_runs.specs.declared.Sent.{Sent}
 use Rattle.cluster_runs.specs.NodeSteps.{frame_bytes}
 

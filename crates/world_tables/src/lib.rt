@@ -1,11 +1,12 @@
 //! The tables of a world of nodes: the messages that were ever sent, and the declared files.
 //!
 //! Contracts see each of them as the list that the definitions of a run speak of. Beside the messages stand the bytes of
-//! their frames and the place of the first one that is pending, so neither is sought anew; beside the files a map tells
-//! where each is. A call that wants memory and gets none leaves its table as it was.
+//! their frames, which are counted without making them, and the place of the first one that is pending; beside the files a map
+//! tells where each is. A call that wants memory and gets none leaves its table as it was.
 #![tactic(auto)]
 
 mod files;
+mod lengths;
 mod sent;
 
 pub use files::DeclaredFiles;

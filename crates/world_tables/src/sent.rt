@@ -1,14 +1,14 @@
 //! The messages that were sent, with which of them are pending.
 ghost use Rattle.std.specs.Prelude.{◌≡◌, ◌++◌, ◌∷◌, [], ◌+◌, ◌-◌, ◌<◌, ◌≤◌, length, map, sum_by, slice_get, None, OnOk, OnErr, IfOk, IfSome, MatchOption};
 ghost use Rattle.xt_base.specs.FrameLength.{frame_length};
-ghost use Rattle.frame_lengths.specs.Within64.{within_64};
+ghost use Rattle.world_tables.specs.Within64.{within_64};
 ghost use Rattle.cluster_runs.specs.NodeSteps.{pending, frame_bytes};
 ghost use Rattle.cluster_runs.specs.Lines.{least_pending, no_longer_pending};
 ghost use Rattle.world_tables.specs.Limits.{IsSentAs, limit_passed};
 ghost use Rattle.world_tables.specs.Counts.{IsFirstPending};
 
+use crate::lengths::frame_length;
 use cluster_runs::{MESSAGE_BYTES, MESSAGES, Sent};
-use frame_lengths::frame_length;
 use std::alloc::Global;
 use std::marker::Model;
 use xt_base::{Limited, Msg, Msgs, OutOfMemory};

@@ -56,9 +56,9 @@ pub fn append_file_times<R: Files>(
     append_to(alloc, attached(rt, path)?, size, times)
 }
 
-/// Loads the journal in a file, and gives how many payloads it has, and their bytes.
-pub fn load_file<R: Files>(rt: &R, alloc: Global, path: &str) -> Result<Done> {
-    let Ok((_journal, placed)) = Journal::load(alloc, attached(rt, path)?, u64::MAX) else {
+/// Loads the journal on a disk, and gives how many payloads it has, and their bytes.
+fn load_from<D: Disk>(alloc: Global, disk: D) -> Result<Done> {
+    let Ok((_journal, placed)) = Journal::load(alloc, disk, u64::MAX) else {
         bail!("the journal isn't loaded");
     };
     let mut bytes = 0u64;
@@ -69,4 +69,9 @@ pub fn load_file<R: Files>(rt: &R, alloc: Global, path: &str) -> Result<Done> {
         pieces: placed.len() as u64,
         bytes,
     })
+}
+
+/// The same from a file.
+pub fn load_file<R: Files>(rt: &R, alloc: Global, path: &str) -> Result<Done> {
+    load_from(alloc, attached(rt, path)?)
 }

@@ -4,7 +4,7 @@ ghost use Rattle.xt_base.specs.Limits.{FitsRecord};
 use crate::done::Done;
 use crate::journals::longer;
 use anyhow::{Result, bail};
-use disk_model::MemoryDisk;
+use disk_model::{Disk, MemoryDisk};
 use object_store::Store;
 use replica_records::record_bytes;
 use std::alloc::Global;
@@ -57,11 +57,7 @@ fn payload_of(alloc: Global, count: u32) -> Result<Octets>
 }
 
 /// The journal, longer by the record of an update.
-fn longer_by(
-    alloc: Global,
-    journal: Journal<MemoryDisk>,
-    count: u32,
-) -> Result<Journal<MemoryDisk>> {
+fn longer_by<D: Disk>(alloc: Global, journal: Journal<D>, count: u32) -> Result<Journal<D>> {
     match payload_of(alloc, count) {
         Ok(payload) => longer(alloc, journal, payload.as_slice()),
         Err(error) => {
@@ -72,9 +68,8 @@ fn longer_by(
     }
 }
 
-/// The journal of the records of so many updates of one file.
-fn journal_of(alloc: Global, updates: u32) -> Result<Journal<MemoryDisk>> {
-    let disk = MemoryDisk::new(alloc, Octets::new(alloc), CallList::new(alloc), None);
+/// The journal of the records of so many updates of one file, on this disk.
+fn journal_on<D: Disk>(alloc: Global, disk: D, updates: u32) -> Result<Journal<D>> {
     let Ok((mut journal, _)) = Journal::load(alloc, disk, u64::MAX) else {
         bail!("the journal isn't loaded");
     };
@@ -85,7 +80,7 @@ fn journal_of(alloc: Global, updates: u32) -> Result<Journal<MemoryDisk>> {
 }
 
 /// Loads the records on a disk, and gives how many there are.
-fn records_on(alloc: Global, disk: MemoryDisk) -> Result<u64> {
+fn records_on<D: Disk>(alloc: Global, disk: D) -> Result<u64> {
     let Ok((journal, payloads)) = Journal::load(alloc, disk, u64::MAX) else {
         bail!("the journal isn't loaded again");
     };
@@ -98,7 +93,8 @@ fn records_on(alloc: Global, disk: MemoryDisk) -> Result<u64> {
 /// Loads the records of so many updates of one file from a disk in memory, and gives how many there are, and the bytes of
 /// their journal.
 pub fn start_from(alloc: Global, updates: u32) -> Result<Done> {
-    let made = journal_of(alloc, updates)?;
+    let disk = MemoryDisk::new(alloc, Octets::new(alloc), CallList::new(alloc), None);
+    let made = journal_on(alloc, disk, updates)?;
     let bytes = made.end();
     let pieces = records_on(alloc, made.close())?;
     Ok(Done { pieces, bytes })

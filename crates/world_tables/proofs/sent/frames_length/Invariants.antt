@@ -1,7 +1,7 @@
 use Rattle.std.proofs.Common.{◌≡◌, take}
 use Rattle.std.specs.Prelude.{sum_by}
 use Rattle.xt_base.specs.FrameLength.{frame_length}
-use Rattle.frame_lengths.specs.Within64.{within_64}
+use Rattle.world_tables.specs.Within64.{within_64}
 use Rattle.world_tables.proofs.sent.frames_length.Given as goal
 
 abbrev pub invariant-loop-message : goal.invariant-loop-message

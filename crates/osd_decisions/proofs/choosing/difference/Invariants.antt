@@ -1,0 +1,7 @@
+use Rattle.std.proofs.Common.{◌≡◌, take}
+use Rattle.osd_rows.specs.Choice.{difference}
+use Rattle.osd_decisions.proofs.choosing.difference.Given as goal
+
+-- what is missing of the versions so far
+abbrev pub invariant-loop-version : goal.invariant-loop-version
+invariant-loop-version l = l.missing ≡ difference l.have (take l.version-index l.version-items)

@@ -1,0 +1,10 @@
+-- how a write stands, as the code tells it
+use Rattle.osd_rows.specs.Writes as rows
+use Rattle.osd_decisions.specs.declared.judging.Standing.{Standing}
+use Rattle.osd_decisions.specs.declared.judging.Standing.TheVariants as standing
+
+abbrev pub shown_standing : rows.Standing → Standing
+shown_standing (rows.repeated count) = standing.Repeated count
+shown_standing rows.older = standing.Older
+shown_standing (rows.turned_away answer) = standing.TurnedAway answer
+shown_standing rows.fresh = standing.Fresh

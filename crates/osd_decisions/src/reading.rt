@@ -1,0 +1,86 @@
+ghost use Rattle.std.specs.Prelude.{◌≡◌, [], List, IfOk};
+ghost use Rattle.xt_base.specs.declared.file.FileHead.{FileHead};
+ghost use Rattle.xt_base.specs.declared.file.ObjectVersion.{ObjectVersion};
+ghost use Rattle.xt_protocol.specs.Objects as plain;
+ghost use Rattle.xt_protocol.specs.SeenBodies.{body_by};
+ghost use Rattle.osd_rows.specs.Serving.{reads_under};
+ghost use Rattle.osd_rows.specs.Writes as rows;
+ghost use Rattle.kept_bodies.specs.KeptBodies.{fault_of, ReadsOnly};
+ghost use Rattle.version_lists.specs.Rising.{HeadRises};
+ghost use Rattle.osd_decisions.specs.Committed.{CommittedUnder};
+
+use kept_bodies::{Bodies, StepErr, behind, cut_or_filled, readable, seen};
+use osd_rows::{Place, Progress, Tenure};
+use std::alloc::Global;
+use version_lists::version_of;
+use xt_base::{FileHead, FileId, Octets, Op, Reply, Stamp};
+
+/// The body of an object in its present version: empty where it has none.
+pub fn present_body<B: Bodies>(
+    bodies: &mut B,
+    alloc: Global,
+    file: &FileId,
+    object: u64,
+    version: Option<Stamp>,
+) -> Result<Octets, StepErr>
+    ensures value { IfOk result (λ body. body ≡ plain.present_body (body_by (B.records bodies.old) file.now) version object) }
+    ensures reads { ReadsOnly B.records B.fault_count bodies.old bodies.new (fault_of result) }
+{
+    match version {
+        None => Ok(Octets::new(alloc)),
+        Some(version) => seen(bodies, alloc, file, object, &version),
+    }
+}
+
+/// The bytes that an operation shows of a head, in a file with objects of `stripe` bytes: clipped to the size, with zeros where
+/// the body has none. Only a read shows any.
+pub fn bytes_shown<B: Bodies>(
+    bodies: &mut B,
+    alloc: Global,
+    file: &FileId,
+    stripe: u32,
+    head: &FileHead,
+    op: &Op,
+) -> Result<Octets, StepErr>
+    requires { HeadRises head.now }
+    ensures value { IfOk result (λ bytes. bytes ≡ rows.bytes_shown stripe (body_by (B.records bodies.old) file.now) head.now op.now) }
+    ensures reads { ReadsOnly B.records B.fault_count bodies.old bodies.new (fault_of result) }
+{
+    let Op::Read { object, at, len } = op else {
+        return Ok(Octets::new(alloc));
+    };
+    let version = version_of(head.versions.as_slice(), *object);
+    let body = present_body(bodies, alloc, file, *object, version)?;
+    let size = readable(head.mark.size, stripe, *object, *at, *len);
+    Ok(cut_or_filled(alloc, behind(body.as_slice(), *at as usize), size as usize)?)
+}
+
+/// Read served: what the committed head of a primary shows, its count and its mark; none where the primary isn't active. An issued
+/// update shows nothing, since no majority may have it yet.
+pub fn reads_under<B: Bodies>(
+    bodies: &mut B,
+    alloc: Global,
+    place: &Place,
+    tenure: &Option<Tenure>,
+    op: &Op,
+) -> Result<Option<Reply>, StepErr>
+    requires { CommittedUnder tenure.now }
+    ensures value { IfOk result (λ answer. (own : FileHead) (held : List ObjectVersion) → answer ≡ reads_under (record { place = place.now; own = own; held = held; body = body_by (B.records bodies.old) place.now.file }) tenure.now op.now) }
+    ensures reads { ReadsOnly B.records B.fault_count bodies.old bodies.new (fault_of result) }
+{
+    let Some(
+        Tenure {
+            progress: Progress::Active { committed, .. },
+            ..
+        },
+    ) = tenure
+    else {
+        return Ok(None);
+    };
+    let bytes = bytes_shown(bodies, alloc, &place.file, place.stripe, committed, op)?;
+    Ok(Some(Reply::Ok {
+        count: committed.stamp.count,
+        mark: committed.mark,
+        bytes,
+    }))
+}
