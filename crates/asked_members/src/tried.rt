@@ -5,7 +5,8 @@ ghost use Rattle.cluster_runs.specs.Clients as rows;
 
 use cluster_runs::Tried;
 use std::alloc::Global;
-use xt_base::{Answered, Answers, Members, NodeId, OutOfMemory, Retry, Seq};
+use xt_base::{Members, NodeId, OutOfMemory, Seq};
+use xt_messages::{Answered, Answers, Retry};
 
 /// Whether the member was asked.
 pub fn was_tried(tried: &[Tried], node: NodeId) -> bool

@@ -1,7 +1,8 @@
 use std::alloc::{AllocError, Global};
 use std::test::*;
-use xt_base::{NodeId, Octets, Payload};
+use xt_base::{NodeId, Octets};
 use xt_frames::{FrameErr, decode, encode};
+use xt_messages::Payload;
 
 /// Gather of file 1 in the nil volume with epoch (1, 1), from 1 to 2.
 const GATHER: [u8; 50] = [

@@ -3,7 +3,8 @@ ghost use Rattle.std.specs.Prelude.{◌<◌, ◌^◌};
 use flease_lease::{Asked, Asking, Free, Held, Silent, Writing, Written};
 use std::process::Abort;
 use std::test::*;
-use xt_base::{Ballot, Boot, FileId, Lease, Members, NodeId, Payload, Times, VolumeId};
+use xt_base::{Ballot, Boot, FileId, Lease, Members, NodeId, Times, VolumeId};
+use xt_messages::Payload;
 
 const FIRST: Boot = Boot(1);
 

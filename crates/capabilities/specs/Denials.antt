@@ -1,9 +1,9 @@
 -- which use of a capability is denied, and why
 use Rattle.std.specs.Prelude.{◌≡◌, ℕ, Bool, ◌&&◌, ◌==◌, nat_lt, not, if◌then◌else◌, Option, Some, None, List, Result, Ok, Err}
 use Rattle.xt_base.specs.declared.ids.FileId.{FileId}
-use Rattle.xt_base.specs.declared.file.Capability.{Capability}
-use Rattle.xt_base.specs.declared.reply.Denial.{Denial}
-use Rattle.xt_base.specs.declared.reply.Denial.TheVariants as denial
+use Rattle.xt_messages.specs.declared.file.Capability.{Capability}
+use Rattle.xt_messages.specs.declared.reply.Denial.{Denial}
+use Rattle.xt_messages.specs.declared.reply.Denial.TheVariants as denial
 use Rattle.xt_protocol.specs.FileIds.{is_file}
 use Rattle.capabilities.specs.Tags.{is_sealed}
 use Rattle.capabilities.specs.declared.CapErr.{CapErr}

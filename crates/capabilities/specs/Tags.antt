@@ -2,7 +2,7 @@
 use Rattle.std.specs.Prelude.{ℕ, Bool, ◌-◌, List, ◌++◌, length, map, replicate, bit_xor}
 use Rattle.std.specs.Str.{bytes_eq}
 use Rattle.sha2.specs.Sha256.{sha256}
-use Rattle.xt_base.specs.declared.file.Capability.{Capability}
+use Rattle.xt_messages.specs.declared.file.Capability.{Capability}
 use Rattle.xt_wire.specs.FileFields.{sealed_bytes}
 
 -- a key of at most 64 bytes, filled with zeros to a block of 64, with each byte changed by a pad

@@ -14,7 +14,8 @@ ghost use Rattle.capabilities.specs.declared.CapErr.TheVariants.{OutOfMemory as 
 
 use sha2::{Digest, Sha256};
 use std::alloc::{AllocError, Global};
-use xt_base::{Capability, Denial, FileId, OutOfMemory, Payload};
+use xt_base::{FileId, OutOfMemory};
+use xt_messages::{Capability, Denial, Payload};
 use xt_wire::{FieldWriter, WriteFiles};
 
 /// The bytes of a block of SHA-256.

@@ -1,28 +1,28 @@
 -- what calls ask, of whom, and how their ends are shown
 use Rattle.std.specs.Prelude.{ℕ, Bool, true, false, ◌==◌, if◌then◌else◌, ◌%◌, Option, Some, None, is_some, List, [], ◌∷◌, length, map, take, slice_get}
 use Rattle.xt_base.specs.declared.ids.NodeId.{NodeId}
-use Rattle.xt_base.specs.declared.file.Kind.TheVariants as kind
-use Rattle.xt_base.specs.declared.file.Kind.{Kind}
-use Rattle.xt_base.specs.declared.file.Capability.{Capability}
-use Rattle.xt_base.specs.declared.file.Op.{Op}
-use Rattle.xt_base.specs.declared.file.Op.TheVariants as op
-use Rattle.xt_base.specs.declared.event.Call.{Call}
-use Rattle.xt_base.specs.declared.event.Call.TheVariants as call
-use Rattle.xt_base.specs.declared.event.MetaOutcome.{MetaOutcome}
-use Rattle.xt_base.specs.declared.event.MetaOutcome.TheVariants as shown
-use Rattle.xt_base.specs.declared.event.RegistryOutcome.{RegistryOutcome}
-use Rattle.xt_base.specs.declared.event.RegistryOutcome.TheVariants as told
-use Rattle.xt_base.specs.declared.event.Outcome.{Outcome}
-use Rattle.xt_base.specs.declared.event.Outcome.TheVariants as outcome
-use Rattle.xt_base.specs.declared.meta.MetaReq.TheVariants as wish
-use Rattle.xt_base.specs.declared.meta.MetaAnswer.{MetaAnswer}
-use Rattle.xt_base.specs.declared.meta.MetaAnswer.TheVariants as answer
-use Rattle.xt_base.specs.declared.registry.RegistryAnswer.{RegistryAnswer}
-use Rattle.xt_base.specs.declared.registry.RegistryAnswer.TheVariants as listed
-use Rattle.xt_base.specs.declared.event.Mark.TheVariants as mark
-use Rattle.xt_base.specs.declared.message.Msg.{Msg}
-use Rattle.xt_base.specs.declared.message.Payload.{Payload}
-use Rattle.xt_base.specs.declared.message.Payload.TheVariants as payload
+use Rattle.xt_messages.specs.declared.file.Kind.TheVariants as kind
+use Rattle.xt_messages.specs.declared.file.Kind.{Kind}
+use Rattle.xt_messages.specs.declared.file.Capability.{Capability}
+use Rattle.xt_messages.specs.declared.file.Op.{Op}
+use Rattle.xt_messages.specs.declared.file.Op.TheVariants as op
+use Rattle.xt_messages.specs.declared.event.Call.{Call}
+use Rattle.xt_messages.specs.declared.event.Call.TheVariants as call
+use Rattle.xt_messages.specs.declared.event.MetaOutcome.{MetaOutcome}
+use Rattle.xt_messages.specs.declared.event.MetaOutcome.TheVariants as shown
+use Rattle.xt_messages.specs.declared.event.RegistryOutcome.{RegistryOutcome}
+use Rattle.xt_messages.specs.declared.event.RegistryOutcome.TheVariants as told
+use Rattle.xt_messages.specs.declared.event.Outcome.{Outcome}
+use Rattle.xt_messages.specs.declared.event.Outcome.TheVariants as outcome
+use Rattle.xt_messages.specs.declared.meta.MetaReq.TheVariants as wish
+use Rattle.xt_messages.specs.declared.meta.MetaAnswer.{MetaAnswer}
+use Rattle.xt_messages.specs.declared.meta.MetaAnswer.TheVariants as answer
+use Rattle.xt_messages.specs.declared.registry.RegistryAnswer.{RegistryAnswer}
+use Rattle.xt_messages.specs.declared.registry.RegistryAnswer.TheVariants as listed
+use Rattle.xt_messages.specs.declared.event.Mark.TheVariants as mark
+use Rattle.xt_messages.specs.declared.message.Msg.{Msg}
+use Rattle.xt_messages.specs.declared.message.Payload.{Payload}
+use Rattle.xt_messages.specs.declared.message.Payload.TheVariants as payload
 use Rattle.xt_protocol.specs.Objects.{readable}
 use Rattle.xt_protocol.specs.declared.Turned.{Turned}
 use Rattle.osd_rows.specs.Turns.{message}

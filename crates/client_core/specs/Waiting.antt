@@ -2,21 +2,21 @@
 use Rattle.std.specs.Prelude.{ℕ, ◌==◌, ◌&&◌, nat_le, if◌then◌else◌, Option, Some, None, List, [], ◌∷◌}
 use Rattle.xt_base.specs.declared.ids.NodeId.{NodeId}
 use Rattle.xt_base.specs.declared.ids.SizeMark.{SizeMark}
-use Rattle.xt_base.specs.declared.file.Capability.{Capability}
-use Rattle.xt_base.specs.declared.file.Op.{Op}
-use Rattle.xt_base.specs.declared.reply.Reply.{Reply}
-use Rattle.xt_base.specs.declared.reply.Reply.TheVariants as reply
-use Rattle.xt_base.specs.declared.reply.Retry.{Retry}
-use Rattle.xt_base.specs.declared.reply.Retry.TheVariants as retry
-use Rattle.xt_base.specs.declared.status.AskRefusal.{AskRefusal}
-use Rattle.xt_base.specs.declared.status.AskRefusal.TheVariants as refusal
-use Rattle.xt_base.specs.declared.meta.MetaAnswer.{MetaAnswer}
-use Rattle.xt_base.specs.declared.meta.MetaAnswer.TheVariants as answer
-use Rattle.xt_base.specs.declared.registry.RegistryAnswer.{RegistryAnswer}
-use Rattle.xt_base.specs.declared.message.Payload.{Payload}
-use Rattle.xt_base.specs.declared.message.Payload.TheVariants as payload
-use Rattle.xt_base.specs.declared.event.Event.{Event}
-use Rattle.xt_base.specs.declared.event.Event.TheVariants as event
+use Rattle.xt_messages.specs.declared.file.Capability.{Capability}
+use Rattle.xt_messages.specs.declared.file.Op.{Op}
+use Rattle.xt_messages.specs.declared.reply.Reply.{Reply}
+use Rattle.xt_messages.specs.declared.reply.Reply.TheVariants as reply
+use Rattle.xt_messages.specs.declared.reply.Retry.{Retry}
+use Rattle.xt_messages.specs.declared.reply.Retry.TheVariants as retry
+use Rattle.xt_messages.specs.declared.status.AskRefusal.{AskRefusal}
+use Rattle.xt_messages.specs.declared.status.AskRefusal.TheVariants as refusal
+use Rattle.xt_messages.specs.declared.meta.MetaAnswer.{MetaAnswer}
+use Rattle.xt_messages.specs.declared.meta.MetaAnswer.TheVariants as answer
+use Rattle.xt_messages.specs.declared.registry.RegistryAnswer.{RegistryAnswer}
+use Rattle.xt_messages.specs.declared.message.Payload.{Payload}
+use Rattle.xt_messages.specs.declared.message.Payload.TheVariants as payload
+use Rattle.xt_messages.specs.declared.event.Event.{Event}
+use Rattle.xt_messages.specs.declared.event.Event.TheVariants as event
 use Rattle.client_core.specs.declared.progress.Learnt.{Learnt}
 use Rattle.client_core.specs.declared.progress.Learnt.TheVariants as learnt
 use Rattle.client_core.specs.declared.progress.Next.{Next}

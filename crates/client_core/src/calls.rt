@@ -12,10 +12,8 @@ use crate::requests::{CallResult, MadeCall, Request, Stage};
 use replica_client::{ReplicaClient, gives};
 use std::alloc::Global;
 use step_outputs::{one, sends};
-use xt_base::{
-    Call, Copies, Event, Mark, Marks, Msgs, NodeId, OutOfMemory, Outcome, Payload, Reply, Seq,
-    SizeMark,
-};
+use xt_base::{Copies, NodeId, OutOfMemory, Seq, SizeMark};
+use xt_messages::{Call, Event, Mark, Marks, Msgs, Outcome, Payload, Reply};
 use xt_protocol::Turned;
 
 /// The mark of an Ok that comes; any other event tells of no byte.

@@ -19,9 +19,8 @@ use replica_client::ReplicaClient;
 use std::alloc::Global;
 use std::marker::Model;
 use step_outputs::quiet;
-use xt_base::{
-    COUNTS, Call, Capability, Event, FileId, NodeId, OutOfMemory, Outcome, SizeMark, Times,
-};
+use xt_base::{COUNTS, FileId, NodeId, OutOfMemory, SizeMark, Times};
+use xt_messages::{Call, Capability, Event, Outcome};
 use xt_protocol::Turned;
 
 /// Why a call isn't made.

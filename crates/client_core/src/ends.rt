@@ -4,10 +4,8 @@ ghost use Rattle.client_core.specs.Requests as spec;
 
 use crate::requests::CallResult;
 use std::alloc::Global;
-use xt_base::{
-    Copies, MetaAnswer, MetaOutcome, NodeId, OutOfMemory, Outcome, RegistryAnswer, RegistryOutcome,
-    RegistryRow, Seq,
-};
+use xt_base::{Copies, NodeId, OutOfMemory, Seq};
+use xt_messages::{MetaAnswer, MetaOutcome, Outcome, RegistryAnswer, RegistryOutcome, RegistryRow};
 
 /// What the metadata server answered, as a trace shows it.
 fn meta_shown(alloc: Global, answer: &MetaAnswer) -> Result<MetaOutcome, OutOfMemory>

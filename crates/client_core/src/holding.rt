@@ -6,7 +6,8 @@ use std::alloc::Global;
 use std::collections::BTreeMap;
 use std::marker::Model;
 use truncate_epochs::merge;
-use xt_base::{Capability, OutOfMemory, SizeMark};
+use xt_base::{OutOfMemory, SizeMark};
+use xt_messages::Capability;
 
 /// What is held of a file: the capability under which it is used, and the greatest size mark that was learnt of it.
 #[derive(Clone, Copy)]

@@ -3,7 +3,8 @@ ghost use Rattle.std.specs.Prelude.{◌≡◌};
 ghost use Rattle.client_core.specs.Waiting as rows;
 
 use crate::requests::CallResult;
-use xt_base::{Capability, FileId, NodeId, SizeMark};
+use xt_base::{FileId, NodeId, SizeMark};
+use xt_messages::Capability;
 
 /// What a client learns of a file.
 #[derive(Clone, Copy)]

@@ -8,9 +8,10 @@ use crate::striped::first_of;
 use replica_client::{begins, gives};
 use std::alloc::Global;
 use step_outputs::{message, one};
-use xt_base::{
-    Answers, AskRefusal, Call, Capability, Copies, DIR_NODE, Kind, MRC_NODE, MetaAnswer, MetaReq,
-    Msgs, NodeId, Octets, Op, OutOfMemory, Payload, RegistryAnswer, RegistryReq, SizeMark,
+use xt_base::{Copies, DIR_NODE, MRC_NODE, NodeId, Octets, OutOfMemory, SizeMark};
+use xt_messages::{
+    Answers, AskRefusal, Call, Capability, Kind, MetaAnswer, MetaReq, Msgs, Op, Payload,
+    RegistryAnswer, RegistryReq,
 };
 use xt_protocol::Turned;
 

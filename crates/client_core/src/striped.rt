@@ -5,7 +5,8 @@ ghost use Rattle.client_core.specs.Requests as spec;
 use kept_bodies::readable;
 use replica_client::first_member;
 use std::alloc::Global;
-use xt_base::{Members, NodeId, Octets, Op, OutOfMemory};
+use xt_base::{Members, NodeId, Octets, OutOfMemory};
+use xt_messages::Op;
 
 /// An object's owner: the member whose place in the list, from 0, is the object's number modulo the length of the list.
 fn owner_of(members: &Members, object: u64) -> NodeId

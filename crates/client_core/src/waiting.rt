@@ -8,9 +8,9 @@ use crate::requests::{CallResult, MadeCall, Request};
 use crate::striped::{bytes_shown, next_asked, was_asked};
 use std::alloc::Global;
 use step_outputs::one;
-use xt_base::{
-    Answered, AskRefusal, Capability, Copies, Event, MetaAnswer, NodeId, Octets, Op, OutOfMemory,
-    Payload, RegistryAnswer, Reply, Retry, SizeMark,
+use xt_base::{Copies, NodeId, Octets, OutOfMemory, SizeMark};
+use xt_messages::{
+    Answered, AskRefusal, Capability, Event, MetaAnswer, Op, Payload, RegistryAnswer, Reply, Retry,
 };
 
 /// The node that is asked doesn't do it, and nobody else may.

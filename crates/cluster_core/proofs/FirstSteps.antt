@@ -5,10 +5,10 @@ use Rattle.std.specs.Option.{option_map, option_or}
 use Rattle.std.proofs.lemmas.Bool.Decides.{nat_tests}
 use Rattle.std.proofs.lemmas.List.{append-nil}
 use Rattle.xt_base.specs.declared.ids.NodeId.{NodeId}
-use Rattle.xt_base.specs.declared.message.Msg.{Msg}
+use Rattle.xt_messages.specs.declared.message.Msg.{Msg}
 use Rattle.xt_base.specs.declared.times.BadTimes.{BadTimes}
-use Rattle.xt_base.specs.declared.file.Location.{Location}
-use Rattle.xt_base.specs.declared.status.Limited.TheVariants as limited
+use Rattle.xt_messages.specs.declared.file.Location.{Location}
+use Rattle.xt_messages.specs.declared.status.Limited.TheVariants as limited
 use Rattle.time_line.specs.declared.entry.Halt.TheVariants as halt
 use Rattle.time_line.specs.declared.line.Line.TheVariants as line
 use Rattle.cluster_runs.specs.declared.TheConstants.{NODES}
@@ -19,7 +19,7 @@ use Rattle.time_line.specs.declared.entry.Entry.{Entry}
 use Rattle.time_line.specs.declared.entry.Entry.TheVariants as entry
 use Rattle.cluster_runs.specs.World.{World, Node, Running, client, node_in, with_node, up_of}
 use Rattle.time_line.specs.declared.line.Line.{Line}
-use Rattle.xt_base.specs.declared.status.Rule.{Rule}
+use Rattle.xt_messages.specs.declared.status.Rule.{Rule}
 use Rattle.cluster_runs.specs.Rules.{refusal, no_osd, no_node, runs_already, runs_not, goes_back, drifts}
 use Rattle.cluster_runs.specs.NodeSteps.{Room, Cause, came_to, Doing, halted}
 use Rattle.cluster_runs.specs.Lines.{does, tells, declares, runs, first_boot, changed, stops, crashes, cuts, reads_clock, aims, ticked, first_step}
@@ -29,7 +29,7 @@ use Rattle.world_nodes.specs.Nodes.{NodesView, IsAt, IsPlace, ChangesUp}
 use Rattle.step_endings.specs.Steps.{Working, WentOn, IsUntold, Tells, limit_of, cause_of}
 use Rattle.world_hull.specs.declared.errors.WorldErr.{WorldErr}
 use Rattle.world_hull.specs.declared.errors.WorldErr.TheVariants as error
-use Rattle.xt_base.specs.declared.status.Limited.{Limited}
+use Rattle.xt_messages.specs.declared.status.Limited.{Limited}
 use Rattle.xt_base.specs.TimeSettings.{TimeSettings}
 use Rattle.std.proofs.Common.{IfOk}
 use Rattle.step_endings.proofs.Endings.{stepped_ok}

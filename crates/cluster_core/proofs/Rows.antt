@@ -2,13 +2,13 @@
 use Rattle.std.proofs.Common.{◌≡◌, Bool, true, false, cond, List, [], ◌∷◌, Option, Some, None, refl, arith, ap, sym, ◌∙◌, subst}
 use Rattle.std.specs.List.{fold, AllByRecursion}
 use Rattle.std.proofs.lemmas.Bool.Decides.{nat_tests}
-use Rattle.xt_base.specs.Limits.{FitsHead, FitsRecord, is_at_most}
+use Rattle.xt_messages.specs.Limits.{FitsHead, FitsRecord, is_at_most}
 use Rattle.xt_base.specs.declared.ids.FileId.{FileId}
 use Rattle.xt_base.specs.declared.ids.Epoch.{Epoch}
-use Rattle.xt_base.specs.declared.record.FileRow.{FileRow}
-use Rattle.xt_base.specs.declared.record.Folded.{Folded}
-use Rattle.xt_base.specs.declared.record.Record.{Record}
-use Rattle.xt_base.specs.declared.record.Record.TheVariants as kept
+use Rattle.xt_messages.specs.declared.record.FileRow.{FileRow}
+use Rattle.xt_messages.specs.declared.record.Folded.{Folded}
+use Rattle.xt_messages.specs.declared.record.Record.{Record}
+use Rattle.xt_messages.specs.declared.record.Record.TheVariants as kept
 use Rattle.xt_protocol.specs.FileIds.{is_file, is_before}
 use Rattle.xt_protocol.specs.Heads.{new_head, head_after}
 use Rattle.xt_protocol.specs.Folds.{row_in, with_row, new_row, row_after, file_of, rows_after, folded_after, nothing_kept, fold_of, IsInPlace, AreInPlace}

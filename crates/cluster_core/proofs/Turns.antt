@@ -1,7 +1,7 @@
 -- steps, one after the other
 use Rattle.std.proofs.Common.{Bool, false, length, drop, Some, ◌≡◌, ℕ, zero, suc, ◌+◌, ◌-◌, ◌<◌, ◌≤◌, Result, Ok, Err, List, [], ◌∷◌, refl, ap, sym, ◌∙◌, subst, arith, zero-add}
-use Rattle.xt_base.specs.declared.message.Msg.{Msg}
-use Rattle.xt_base.specs.declared.event.Event.TheVariants as event
+use Rattle.xt_messages.specs.declared.message.Msg.{Msg}
+use Rattle.xt_messages.specs.declared.event.Event.TheVariants as event
 use Rattle.cluster_fits.specs.Fits.{FitsWorld, FitsAt}
 use Rattle.world_hull.specs.declared.errors.WorldErr.{WorldErr}
 use Rattle.world_hull.specs.declared.errors.WorldErr.TheVariants as error

@@ -8,11 +8,11 @@ use Rattle.std.proofs.lemmas.List.Sums.{sum_by-cons}
 use Rattle.xt_base.specs.declared.ids.NodeId.{NodeId}
 use Rattle.xt_base.specs.declared.ids.FileId.{FileId}
 use Rattle.xt_base.specs.declared.ids.OpId.{OpId}
-use Rattle.xt_base.specs.declared.file.FileHead.{FileHead}
-use Rattle.xt_base.specs.declared.record.Record.{Record}
-use Rattle.xt_base.specs.declared.reply.Reply.{Reply}
-use Rattle.xt_base.specs.declared.reply.Reply.TheVariants as reply
-use Rattle.xt_base.specs.Limits.{FitsNode, FitsFile, FitsMessage, FitsReply}
+use Rattle.xt_messages.specs.declared.file.FileHead.{FileHead}
+use Rattle.xt_messages.specs.declared.record.Record.{Record}
+use Rattle.xt_messages.specs.declared.reply.Reply.{Reply}
+use Rattle.xt_messages.specs.declared.reply.Reply.TheVariants as reply
+use Rattle.xt_messages.specs.Limits.{FitsNode, FitsFile, FitsMessage, FitsReply}
 use Rattle.osd_rows.specs.declared.Asks.{Asks}
 use Rattle.osd_rows.specs.declared.IssuedAsk.{IssuedAsk}
 use Rattle.osd_rows.specs.declared.Peer.{Peer}

@@ -2,7 +2,7 @@
 use Rattle.std.proofs.Common.{◌≡◌, ℕ, zero, suc, ◌+◌, ◌-◌, ◌<◌, List, [], ◌∷◌, ◌++◌, length, length-append, length-drop, take, drop, ap, ◌∙◌, ◌≤◌, arith}
 use Rattle.std.specs.List.{AllByRecursion}
 use Rattle.std.proofs.lemmas.List.{length-take, length-replicate}
-use Rattle.xt_base.specs.Limits.{AreBytes}
+use Rattle.xt_base.specs.FieldLimits.{AreBytes}
 use Rattle.xt_base.specs.Overlay.{zeros, overlay, cut_or_filled}
 
 -- each is a byte, by cases on the list

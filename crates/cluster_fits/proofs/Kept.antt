@@ -6,11 +6,12 @@ use Rattle.std.specs.Prelude.{Contains}
 use Rattle.xt_base.specs.declared.ids.Boot.{Boot}
 use Rattle.xt_base.specs.declared.ids.FileId.{FileId}
 use Rattle.xt_base.specs.declared.ids.Stamp.{Stamp}
-use Rattle.xt_base.specs.declared.record.FileRow.{FileRow}
-use Rattle.xt_base.specs.declared.record.Folded.{Folded}
-use Rattle.xt_base.specs.declared.record.Record.{Record}
-use Rattle.xt_base.specs.declared.record.Record.TheVariants as kept
-use Rattle.xt_base.specs.Limits.{FitsBoot, FitsBytes, FitsFile, FitsHead, FitsRecord, is_at_most}
+use Rattle.xt_messages.specs.declared.record.FileRow.{FileRow}
+use Rattle.xt_messages.specs.declared.record.Folded.{Folded}
+use Rattle.xt_messages.specs.declared.record.Record.{Record}
+use Rattle.xt_messages.specs.declared.record.Record.TheVariants as kept
+use Rattle.xt_base.specs.FieldLimits.{FitsBytes}
+use Rattle.xt_messages.specs.Limits.{FitsBoot, FitsFile, FitsHead, FitsRecord, is_at_most}
 use Rattle.xt_protocol.specs.FileIds.{is_file, is_before}
 use Rattle.xt_protocol.specs.Heads.{new_head}
 use Rattle.xt_protocol.specs.Folds.{new_row, row_in, row_after, with_row, rows_after, file_of, folded_after, nothing_kept, fold_of, FollowsHead, IsInPlace, AreInPlace, makes_body, body_put, newer, body_after, body_kept}

@@ -9,12 +9,13 @@ use Rattle.xt_base.specs.declared.TheConstants.{OBJECTS, COUNTS}
 use Rattle.xt_base.specs.declared.ids.NodeId.{NodeId}
 use Rattle.xt_base.specs.declared.ids.OpId.{OpId}
 use Rattle.xt_base.specs.declared.ids.Epoch.{Epoch}
-use Rattle.xt_base.specs.declared.file.FileHead.{FileHead}
-use Rattle.xt_base.specs.declared.file.Op.{Op}
-use Rattle.xt_base.specs.declared.file.Update.{Update}
-use Rattle.xt_base.specs.declared.message.Payload.{Payload}
-use Rattle.xt_base.specs.declared.message.Payload.TheVariants as payload
-use Rattle.xt_base.specs.Limits.{FitsNode, FitsFile, FitsEpoch, FitsHead, FitsUpdate, FitsMessage, FitsPayload, FitsOp, FitsOpId, FitsReply, IsCount}
+use Rattle.xt_messages.specs.declared.file.FileHead.{FileHead}
+use Rattle.xt_messages.specs.declared.file.Op.{Op}
+use Rattle.xt_messages.specs.declared.file.Update.{Update}
+use Rattle.xt_messages.specs.declared.message.Payload.{Payload}
+use Rattle.xt_messages.specs.declared.message.Payload.TheVariants as payload
+use Rattle.xt_base.specs.FieldLimits.{IsCount}
+use Rattle.xt_messages.specs.Limits.{FitsNode, FitsFile, FitsEpoch, FitsHead, FitsUpdate, FitsMessage, FitsPayload, FitsOp, FitsOpId, FitsReply}
 use Rattle.osd_rows.specs.declared.Place.{Place}
 use Rattle.osd_rows.specs.declared.IssuedUpdate.{IssuedUpdate}
 use Rattle.osd_rows.specs.declared.Peer.{Peer}

@@ -3,19 +3,20 @@ use Rattle.std.proofs.Common.{refl}
 use Rattle.std.specs.Prelude.{ℕ, ◌≡◌, ◌<◌, ◌≤◌, ◌+◌, ◌^◌, true, Option, Some, List, length, Contains}
 use Rattle.std.specs.Option.{IfSome}
 use Rattle.std.specs.List.{All, AllByRecursion}
-use Rattle.xt_base.specs.Limits.{FitsBoot, FitsBallot, FitsLease, FitsNode, FitsFile, FitsEpoch, FitsStamp, FitsHead, FitsVersion, FitsUpdate, FitsBytes, FitsOp, FitsOpId, FitsLocation, FitsMessage, FitsPayload, FitsRecord, IsCount, IsObject, is_at_most}
+use Rattle.xt_base.specs.FieldLimits.{FitsBytes, IsCount}
+use Rattle.xt_messages.specs.Limits.{FitsBoot, FitsBallot, FitsLease, FitsNode, FitsFile, FitsEpoch, FitsStamp, FitsHead, FitsVersion, FitsUpdate, FitsOp, FitsOpId, FitsLocation, FitsMessage, FitsPayload, FitsRecord, IsObject, is_at_most}
 use Rattle.xt_base.specs.declared.TheConstants.{BODY}
 use Rattle.xt_base.specs.declared.ids.NodeId.{NodeId}
 use Rattle.xt_base.specs.declared.ids.Boot.{Boot}
 use Rattle.xt_base.specs.declared.ids.FileId.{FileId}
 use Rattle.xt_base.specs.declared.ids.Stamp.{Stamp}
-use Rattle.xt_base.specs.declared.file.Op.{Op}
-use Rattle.xt_base.specs.declared.file.Op.TheVariants as op
-use Rattle.xt_base.specs.declared.message.Msg.{Msg}
-use Rattle.xt_base.specs.declared.message.Payload.{Payload}
-use Rattle.xt_base.specs.declared.record.FileRow.{FileRow}
-use Rattle.xt_base.specs.declared.record.Record.{Record}
-use Rattle.xt_base.specs.declared.record.Record.TheVariants as kept
+use Rattle.xt_messages.specs.declared.file.Op.{Op}
+use Rattle.xt_messages.specs.declared.file.Op.TheVariants as op
+use Rattle.xt_messages.specs.declared.message.Msg.{Msg}
+use Rattle.xt_messages.specs.declared.message.Payload.{Payload}
+use Rattle.xt_messages.specs.declared.record.FileRow.{FileRow}
+use Rattle.xt_messages.specs.declared.record.Record.{Record}
+use Rattle.xt_messages.specs.declared.record.Record.TheVariants as kept
 use Rattle.xt_protocol.specs.Folds.{file_of, FollowsHead}
 use Rattle.xt_protocol.specs.Register.{Acceptor, Seat, Round}
 use Rattle.xt_protocol.specs.LeaseRows.{Proposer, Held, LeaseState, free, asking, writing, held}

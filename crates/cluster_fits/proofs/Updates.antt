@@ -11,12 +11,13 @@ use Rattle.std.proofs.lemmas.Nat.{div_below}
 use Rattle.xt_base.specs.declared.TheConstants.{OBJECTS, CLIENTS, NO_OBJECT}
 use Rattle.xt_base.specs.declared.ids.OpId.{OpId}
 use Rattle.xt_base.specs.declared.ids.Stamp.{Stamp}
-use Rattle.xt_base.specs.declared.file.FileHead.{FileHead}
-use Rattle.xt_base.specs.declared.file.Op.{Op}
-use Rattle.xt_base.specs.declared.file.Op.TheVariants as op
-use Rattle.xt_base.specs.declared.file.Session.{Session}
-use Rattle.xt_base.specs.declared.reply.Reply.TheVariants as reply
-use Rattle.xt_base.specs.Limits.{FitsHead, FitsStamp, FitsOpId, FitsOp, FitsBytes, FitsUpdate, FitsSession, FitsReply, IsCount, IsObjectOrNone}
+use Rattle.xt_messages.specs.declared.file.FileHead.{FileHead}
+use Rattle.xt_messages.specs.declared.file.Op.{Op}
+use Rattle.xt_messages.specs.declared.file.Op.TheVariants as op
+use Rattle.xt_messages.specs.declared.file.Session.{Session}
+use Rattle.xt_messages.specs.declared.reply.Reply.TheVariants as reply
+use Rattle.xt_base.specs.FieldLimits.{FitsBytes, IsCount}
+use Rattle.xt_messages.specs.Limits.{FitsHead, FitsStamp, FitsOpId, FitsOp, FitsUpdate, FitsSession, FitsReply, IsObjectOrNone}
 use Rattle.xt_base.specs.Overlay.{overlay, cut_or_filled}
 use Rattle.xt_protocol.specs.Heads.{version_of, session_of}
 use Rattle.xt_protocol.specs.Objects.{present_body, readable}

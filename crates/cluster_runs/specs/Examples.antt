@@ -2,13 +2,13 @@
 use Rattle.std.specs.Prelude.{ℕ, Option, None, List, [], ◌∷◌, ◌++◌, map, nat_lt, ◌+◌, if◌then◌else◌, length, Some}
 use Rattle.xt_base.specs.declared.ids.NodeId.{NodeId}
 use Rattle.xt_base.specs.declared.ids.OpId.{OpId}
-use Rattle.xt_base.specs.declared.file.Kind.TheVariants as kind
-use Rattle.xt_base.specs.declared.file.Location.{Location}
-use Rattle.xt_base.specs.declared.event.Call.TheVariants as call
-use Rattle.xt_base.specs.declared.event.Outcome.TheVariants as outcome
-use Rattle.xt_base.specs.declared.reply.Retry.TheVariants as retry
-use Rattle.xt_base.specs.declared.status.AskRefusal.TheVariants as ask_refusal
-use Rattle.xt_base.specs.declared.status.Rule.{Rule}
+use Rattle.xt_messages.specs.declared.file.Kind.TheVariants as kind
+use Rattle.xt_messages.specs.declared.file.Location.{Location}
+use Rattle.xt_messages.specs.declared.event.Call.TheVariants as call
+use Rattle.xt_messages.specs.declared.event.Outcome.TheVariants as outcome
+use Rattle.xt_messages.specs.declared.reply.Retry.TheVariants as retry
+use Rattle.xt_messages.specs.declared.status.AskRefusal.TheVariants as ask_refusal
+use Rattle.xt_messages.specs.declared.status.Rule.{Rule}
 use Rattle.time_line.specs.declared.entry.Halt.TheVariants as halt
 use Rattle.xt_protocol.specs.Stamps.{with_held}
 use Rattle.xt_protocol.specs.Folds.{body_kept, fold_of, row_in, with_row}

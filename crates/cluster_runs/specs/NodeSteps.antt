@@ -4,15 +4,15 @@ use Rattle.disk_model.specs.Gate.{open_gate}
 use Rattle.disk_model.specs.declared.plan.Stop.{Stop}
 use Rattle.xt_base.specs.TimeSettings.{TimeSettings}
 use Rattle.xt_base.specs.declared.ids.NodeId.{NodeId}
-use Rattle.xt_base.specs.declared.event.Event.{Event}
-use Rattle.xt_base.specs.declared.event.Mark.{Mark}
-use Rattle.xt_base.specs.declared.event.Mark.TheVariants as mark
-use Rattle.xt_base.specs.declared.message.Msg.{Msg}
-use Rattle.xt_base.specs.declared.record.Record.{Record}
-use Rattle.xt_base.specs.declared.status.Limited.{Limited}
-use Rattle.xt_base.specs.declared.status.Limited.TheVariants as limited
+use Rattle.xt_messages.specs.declared.event.Event.{Event}
+use Rattle.xt_messages.specs.declared.event.Mark.{Mark}
+use Rattle.xt_messages.specs.declared.event.Mark.TheVariants as mark
+use Rattle.xt_messages.specs.declared.message.Msg.{Msg}
+use Rattle.xt_messages.specs.declared.record.Record.{Record}
+use Rattle.xt_messages.specs.declared.status.Limited.{Limited}
+use Rattle.xt_messages.specs.declared.status.Limited.TheVariants as limited
 use Rattle.xt_protocol.specs.declared.Turned.{Turned}
-use Rattle.xt_base.specs.FrameLength.{frame_length}
+use Rattle.xt_messages.specs.FrameLength.{frame_length}
 use Rattle.xt_protocol.specs.SeenBodies.{body_by}
 use Rattle.time_line.specs.declared.entry.Halt.{Halt}
 use Rattle.time_line.specs.declared.entry.Halt.TheVariants as halt

@@ -4,7 +4,8 @@
 //! The types here are the parts of a world that hold no lease; a type that holds an OSD's state stands in `specs/`.
 #![tactic(auto)]
 
-use xt_base::{Capability, FileId, Location, Msg, NodeId, Op, Retry, Seq};
+use xt_base::{FileId, NodeId, Seq};
+use xt_messages::{Capability, Location, Msg, Op, Retry};
 
 /// How many nodes a schedule may declare.
 pub const NODES: u64 = 64;
@@ -72,7 +73,7 @@ pub struct ClientState {
 }
 
 ghost use Rattle.std.specs.Prelude.{◌≡◌, ℕ, Some, None, List, [], ◌∷◌};
-ghost use Rattle.xt_base.specs.declared.status.Rule.TheVariants as rule;
+ghost use Rattle.xt_messages.specs.declared.status.Rule.TheVariants as rule;
 ghost use Rattle.time_line.specs.declared.entry.Entry.{Entry};
 ghost use Rattle.time_line.specs.declared.line.Line.{Line};
 ghost use Rattle.cluster_runs.specs.World.{World};

@@ -2,7 +2,7 @@
 use Rattle.std.proofs.Common.{ℕ, ◌<◌, ◌^◌, List, [], ◌∷◌, ◌++◌, refl, arith, zero, suc}
 use Rattle.std.specs.Prelude.{slice_index}
 use Rattle.std.specs.List.{AllByRecursion}
-use Rattle.xt_base.specs.Limits.{FitsBytes}
+use Rattle.xt_base.specs.FieldLimits.{FitsBytes}
 use Rattle.xt_base.specs.TimeSettings.{AreTimes}
 use Rattle.time_line.specs.declared.line.Line.{Line}
 use Rattle.time_line.specs.declared.line.Line.TheVariants as line

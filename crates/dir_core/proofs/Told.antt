@@ -4,13 +4,13 @@ use Rattle.std.specs.Prelude.{fold}
 use Rattle.std.specs.Option.{option_to_list}
 use Rattle.std.proofs.lemmas.List.Sums.{fold-append}
 use Rattle.xt_base.specs.declared.ids.NodeId.{NodeId}
-use Rattle.xt_base.specs.declared.registry.RegistryReq.{RegistryReq}
-use Rattle.xt_base.specs.declared.message.Payload.{Payload}
-use Rattle.xt_base.specs.declared.message.Payload.TheVariants as payload
-use Rattle.xt_base.specs.declared.event.Event.{Event}
-use Rattle.xt_base.specs.declared.event.Event.TheVariants as event
-use Rattle.xt_base.specs.declared.record.Record.{Record}
-use Rattle.xt_base.specs.declared.registry.RegistryAnswer.{RegistryAnswer}
+use Rattle.xt_messages.specs.declared.registry.RegistryReq.{RegistryReq}
+use Rattle.xt_messages.specs.declared.message.Payload.{Payload}
+use Rattle.xt_messages.specs.declared.message.Payload.TheVariants as payload
+use Rattle.xt_messages.specs.declared.event.Event.{Event}
+use Rattle.xt_messages.specs.declared.event.Event.TheVariants as event
+use Rattle.xt_messages.specs.declared.record.Record.{Record}
+use Rattle.xt_messages.specs.declared.registry.RegistryAnswer.{RegistryAnswer}
 use Rattle.kept_answers.specs.declared.Standing.{Standing}
 use Rattle.kept_answers.specs.declared.Standing.TheVariants as standing
 use Rattle.kept_answers.specs.Standings.{standing_of}

@@ -1,6 +1,6 @@
 ghost use Rattle.std.specs.Prelude.{◌≡◌, ◌≤◌, [], ◌∷◌, length, None, IfOk, OnOk, OnErr, Ok, All};
 ghost use Rattle.kept_answers.specs.Standings.{with_answer};
-ghost use Rattle.xt_base.specs.Limits.{FitsRecord};
+ghost use Rattle.xt_messages.specs.Limits.{FitsRecord};
 ghost use Rattle.capabilities.specs.Stops.{is_stop};
 ghost use Rattle.registry_table.specs.Registry.{is_recorded, outcome_of};
 ghost use Rattle.registry_table.specs.Plans.{applied};
@@ -11,10 +11,8 @@ use kept_answers::{KeptAnswers, Standing};
 use registry_table::{Plan, Registry};
 use std::alloc::Global;
 use std::marker::Model;
-use xt_base::{
-    Copies, DIR_NODE, Event, Logged, Msg, NodeId, Octets, OptionalBox, OutOfMemory, Payload,
-    Record, RegistryAnswer, RegistryReq, Seq,
-};
+use xt_base::{Copies, DIR_NODE, NodeId, Octets, OptionalBox, OutOfMemory, Seq};
+use xt_messages::{Event, Logged, Msg, Payload, Record, RegistryAnswer, RegistryReq};
 use xt_protocol::Turned;
 
 /// The directory service. Contracts see its secret and its state.

@@ -9,8 +9,8 @@ mod directory;
 
 ghost use Rattle.std.specs.Prelude.{◌≡◌, ◌++◌, List};
 ghost use Rattle.std.specs.Option.{option_to_list};
-ghost use Rattle.xt_base.specs.declared.event.Event.{Event};
-ghost use Rattle.xt_base.specs.declared.record.Record.{Record};
+ghost use Rattle.xt_messages.specs.declared.event.Event.{Event};
+ghost use Rattle.xt_messages.specs.declared.record.Record.{Record};
 ghost use Rattle.dir_core.specs.Steps.{dir_of, step_of_dir};
 
 pub use directory::Dir;

@@ -5,7 +5,7 @@ use Rattle.std.specs.BTreeMap.{get}
 use Rattle.disk_model.specs.Changes.{Memory}
 use Rattle.disk_model.specs.declared.plan.Stop.{Stop}
 use Rattle.xt_base.specs.declared.ids.NodeId.{NodeId}
-use Rattle.xt_base.specs.declared.record.Record.{Record}
+use Rattle.xt_messages.specs.declared.record.Record.{Record}
 use Rattle.node_disks.specs.Ends.{IsReadAfter}
 use Rattle.node_disks.specs.Stored.{Stored, none_stored}
 use Rattle.disk_hull.specs.declared.disk_hull.DiskHull.{DiskHull}

@@ -1,9 +1,10 @@
 ghost use Rattle.std.specs.Prelude.{◌≡◌, ◌<◌, ◌≤◌, ◌^◌, length, IfOk};
-ghost use Rattle.xt_base.specs.Limits.{FitsMessage};
+ghost use Rattle.xt_messages.specs.Limits.{FitsMessage};
 
 use std::alloc::{AllocError, Global};
-use xt_base::{Boot, FRAME, Msg, NodeId, Octets, OutOfMemory};
+use xt_base::{Boot, FRAME, NodeId, Octets, OutOfMemory};
 use xt_frames::{decode, encode};
+use xt_messages::Msg;
 use xt_parts::{Joiner, cut, joins_in_order};
 
 /// The boot that each part names: who joins these parts knows of no other.

@@ -2,7 +2,7 @@
 ghost use Rattle.std.specs.Prelude.{◌≡◌, ◌==◌, false, [], ℕ, IfOk, IfErr, OnOk, OnErr, if◌then◌else◌};
 ghost use Rattle.disk_model.specs.Changes.{memory_kept};
 ghost use Rattle.disk_model.specs.Disk.{IsImage};
-ghost use Rattle.xt_base.specs.Limits.{FitsRecord};
+ghost use Rattle.xt_messages.specs.Limits.{FitsRecord};
 ghost use Rattle.xt_protocol.specs.Folds.{IsInPlace, fold_of, logged_of};
 ghost use Rattle.world_hull.specs.Answers.{IsFullOrMemory, IsFullExactly};
 ghost use Rattle.world_hull.specs.Appends.{IsInAppend, IsAppended, AreOthersSame, kept_by};
@@ -17,7 +17,8 @@ use node_disks::NodeStore;
 use std::alloc::Global;
 use std::collections::BTreeMap;
 use world_hull::{BodyErr, Hull, Kept, WorldErr};
-use xt_base::{FileId, Msg, NodeId, Octets, OutOfMemory, Record, Stamp};
+use xt_base::{FileId, NodeId, Octets, OutOfMemory, Stamp};
+use xt_messages::{Msg, Record};
 
 /// Each node's records on a disk of its own. A node without one has no record.
 #[derive(Drop)]

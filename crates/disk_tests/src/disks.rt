@@ -7,7 +7,8 @@ use std::alloc::Global;
 use std::process::Abort;
 use std::test::*;
 use world_hull::{BodyErr, Hull, Kept};
-use xt_base::{Boot, Epoch, FileId, Msg, NodeId, Payload, Record, RegistryReq, Stamp, VolumeId};
+use xt_base::{Boot, Epoch, FileId, NodeId, Stamp, VolumeId};
+use xt_messages::{Msg, Payload, Record, RegistryReq};
 
 /// What is told of a call that was to answer otherwise.
 const OTHERWISE: &str = "a call answers otherwise";

@@ -6,7 +6,8 @@ use std::alloc::Global;
 use std::process::Abort;
 use std::test::*;
 use world_hull::{Hull, Kept, ListHull};
-use xt_base::{Boot, NodeId, Record};
+use xt_base::{Boot, NodeId};
+use xt_messages::Record;
 
 /// How the first append of a node ends, and how many records the node then has.
 fn first_append(rt: &impl Abort, alloc: Global, stop: Option<Stop>) -> (Kept, usize)

@@ -3,7 +3,8 @@ use replica_records::{BodyErr, Folding, RecordErr, RecordLog, fold, read_record,
 use std::alloc::Global;
 use std::process::Abort;
 use std::test::*;
-use xt_base::{Boot, Epoch, FileId, NodeId, Octets, Record, Stamp, VolumeId};
+use xt_base::{Boot, Epoch, FileId, NodeId, Octets, Stamp, VolumeId};
+use xt_messages::Record;
 
 /// One of each kind, with file 3 of the nil volume; the last with a node and without.
 static SPELLINGS: [&[u8]; 8] = [

@@ -1,4 +1,4 @@
-ghost use Rattle.xt_base.specs.Limits.{FitsFile};
+ghost use Rattle.xt_messages.specs.Limits.{FitsFile};
 
 use disk_model::MemoryDisk;
 use object_store::{AppendErr, Store, StoreErr};
@@ -6,8 +6,9 @@ use replica_records::{Bodies, BodyErr};
 use std::alloc::Global;
 use std::process::Abort;
 use std::test::*;
-use xt_base::{Boot, CallList, Epoch, FileId, NodeId, Octets, Record, Stamp, VolumeId};
+use xt_base::{Boot, CallList, Epoch, FileId, NodeId, Octets, Stamp, VolumeId};
 use xt_journal::{Journal, LoadErr, Placed};
+use xt_messages::Record;
 
 /// What is told of a call that was to answer otherwise.
 pub const OTHERWISE: &str = "a call answers otherwise";

@@ -9,7 +9,8 @@ use crate::news::{Expiry, News};
 use flease_lease::{Asked, Asking, Awake, Free, Held, Renewal, Turn, Writing, Written};
 use std::marker::Model;
 use std::mem;
-use xt_base::{Ballot, Lease, Members, NodeId, Payload};
+use xt_base::{Ballot, Lease, Members, NodeId};
+use xt_messages::Payload;
 
 /// How a file's lease stands.
 #[derive(Drop)]

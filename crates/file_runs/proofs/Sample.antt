@@ -1,7 +1,7 @@
 -- The sample, step by step.
 use Rattle.std.proofs.Common.{◌≡◌, ℕ, [], ◌∷◌, refl, inl, inr, arith, Some, None}
 use Rattle.std.specs.Prelude.{suc, zero, ◌<◌, slice_index}
-use Rattle.xt_base.specs.declared.file.Op.TheVariants as op
+use Rattle.xt_messages.specs.declared.file.Op.TheVariants as op
 use Rattle.osd_rows.specs.Asks.{serves_all}
 use Rattle.osd_rows.specs.AskRows.{refusal_of, ask_handled}
 use Rattle.osd_rows.specs.Choice.{chosen_of, difference}

@@ -5,8 +5,8 @@ use Rattle.std.specs.List.{fold}
 use Rattle.std.proofs.lemmas.Bool.Decides.{nat_tests}
 use Rattle.xt_base.specs.declared.ids.NodeId.{NodeId}
 use Rattle.xt_base.specs.declared.ids.OpId.{OpId}
-use Rattle.xt_base.specs.declared.file.Op.{Op}
-use Rattle.xt_base.specs.declared.file.Op.TheVariants as op
+use Rattle.xt_messages.specs.declared.file.Op.{Op}
+use Rattle.xt_messages.specs.declared.file.Op.TheVariants as op
 use Rattle.time_line.specs.Content.{place_of, content_of, range_of}
 use Rattle.time_line.specs.declared.entry.Entry.{Entry}
 use Rattle.time_line.specs.declared.entry.Entry.TheVariants as entry

@@ -7,7 +7,8 @@ use crate::free::Free;
 use crate::proposer::{Proposer, has_run_out, is_inside};
 use flease_register::{Round, Targets, Took};
 use std::marker::Model;
-use xt_base::{Ballot, Boot, Lease, Members, NodeId, Payload};
+use xt_base::{Ballot, Boot, Lease, Members, NodeId};
+use xt_messages::Payload;
 
 /// A lease that this node holds until its end, and perhaps a round that renews it.
 #[derive(Drop)]

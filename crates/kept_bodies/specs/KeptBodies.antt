@@ -1,7 +1,7 @@
 -- what a call that reads a body answers
 use Rattle.std.specs.Prelude.{ℕ, ◌≡◌, List, Option, Some, None, Result, Ok, Err, IfSome, IfNone}
 use Rattle.xt_base.specs.Faults.{Rose}
-use Rattle.xt_base.specs.declared.record.Record.{Record}
+use Rattle.xt_messages.specs.declared.record.Record.{Record}
 use Rattle.kept_bodies.specs.declared.errors.BodyErr.{BodyErr}
 use Rattle.kept_bodies.specs.declared.errors.BodyErr.TheVariants as error
 use Rattle.kept_bodies.specs.declared.errors.StepErr.{StepErr}

@@ -5,14 +5,14 @@ use Rattle.std.proofs.lemmas.Bool.Decides.{nat_tests}
 use Rattle.xt_base.specs.MemberList.{has_node, are_distinct}
 use Rattle.xt_base.specs.declared.ids.NodeId.{NodeId}
 use Rattle.xt_base.specs.declared.ids.OpId.{OpId}
-use Rattle.xt_base.specs.declared.file.Capability.{Capability}
-use Rattle.xt_base.specs.declared.file.Kind.{Kind}
-use Rattle.xt_base.specs.declared.file.Kind.TheVariants as kind
-use Rattle.xt_base.specs.declared.file.Location.{Location}
-use Rattle.xt_base.specs.declared.file.Op.{Op}
-use Rattle.xt_base.specs.declared.message.Payload.{Payload}
-use Rattle.xt_base.specs.declared.message.Payload.TheVariants as payload
-use Rattle.xt_base.specs.declared.reply.Reply.{Reply}
+use Rattle.xt_messages.specs.declared.file.Capability.{Capability}
+use Rattle.xt_messages.specs.declared.file.Kind.{Kind}
+use Rattle.xt_messages.specs.declared.file.Kind.TheVariants as kind
+use Rattle.xt_messages.specs.declared.file.Location.{Location}
+use Rattle.xt_messages.specs.declared.file.Op.{Op}
+use Rattle.xt_messages.specs.declared.message.Payload.{Payload}
+use Rattle.xt_messages.specs.declared.message.Payload.TheVariants as payload
+use Rattle.xt_messages.specs.declared.reply.Reply.{Reply}
 use Rattle.xt_protocol.specs.LeaseRows.{LeaseState, Proposer, free, asking, writing, held, can_ask, round_starts}
 use Rattle.xt_protocol.specs.Register.{empty_seat}
 use Rattle.osd_rows.specs.declared.Asks.{Asks}
@@ -34,9 +34,9 @@ use Rattle.osd_rows.specs.FileSteps.{ask_comes}
 use Rattle.osd_rows.specs.OsdSteps.{file_concerned}
 use Rattle.osd_invariants.specs.Sound.{AreOne, IsHeld, IsSound}
 use Rattle.cluster_runs.specs.NodeSteps.{to_itself}
-use Rattle.xt_base.specs.declared.file.FileHead.{FileHead}
-use Rattle.xt_base.specs.declared.record.FileRow.{FileRow}
-use Rattle.xt_base.specs.declared.record.Record.{Record}
+use Rattle.xt_messages.specs.declared.file.FileHead.{FileHead}
+use Rattle.xt_messages.specs.declared.record.FileRow.{FileRow}
+use Rattle.xt_messages.specs.declared.record.Record.{Record}
 use Rattle.osd_rows.specs.declared.PrimaryState.{PrimaryState}
 use Rattle.osd_rows.specs.Primaries.{Ground, Led, is_ready_in}
 use Rattle.osd_rows.specs.Turns.{joined}

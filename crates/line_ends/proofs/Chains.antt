@@ -3,10 +3,10 @@ use Rattle.std.proofs.Common.{◌≡◌, ℕ, ◌≤◌, ◌+◌, inl, inr, Bool
 use Rattle.std.specs.Prelude.{◌&&◌, ◌||◌, not, cond}
 use Rattle.xt_base.specs.declared.ids.NodeId.{NodeId}
 use Rattle.xt_base.specs.declared.ids.FileId.{FileId}
-use Rattle.xt_base.specs.declared.message.Msg.{Msg}
-use Rattle.xt_base.specs.declared.message.Payload.{Payload}
-use Rattle.xt_base.specs.declared.message.Payload.TheVariants as payload
-use Rattle.xt_base.specs.declared.record.FileRow.{FileRow}
+use Rattle.xt_messages.specs.declared.message.Msg.{Msg}
+use Rattle.xt_messages.specs.declared.message.Payload.{Payload}
+use Rattle.xt_messages.specs.declared.message.Payload.TheVariants as payload
+use Rattle.xt_messages.specs.declared.record.FileRow.{FileRow}
 use Rattle.xt_protocol.specs.FileIds.{is_file, is_before}
 use Rattle.xt_protocol.specs.Folds.{new_row}
 use Rattle.xt_protocol.specs.LeaseRows.{Awake}

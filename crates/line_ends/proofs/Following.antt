@@ -3,10 +3,10 @@ use Rattle.std.proofs.Common.{◌≡◌, ℕ, ◌≤◌, ◌+◌, ◌*◌, Bool,
 use Rattle.std.specs.Prelude.{◌&&◌, not, cond}
 use Rattle.std.proofs.lemmas.Bool.{and_parts}
 use Rattle.xt_base.specs.declared.ids.NodeId.{NodeId}
-use Rattle.xt_base.specs.declared.message.Msg.{Msg}
-use Rattle.xt_base.specs.declared.message.Payload.{Payload}
-use Rattle.xt_base.specs.declared.record.FileRow.{FileRow}
-use Rattle.xt_base.specs.declared.record.Record.{Record}
+use Rattle.xt_messages.specs.declared.message.Msg.{Msg}
+use Rattle.xt_messages.specs.declared.message.Payload.{Payload}
+use Rattle.xt_messages.specs.declared.record.FileRow.{FileRow}
+use Rattle.xt_messages.specs.declared.record.Record.{Record}
 use Rattle.lease_safety.specs.State.{Has}
 use Rattle.osd_rows.specs.declared.Place.{Place}
 use Rattle.osd_rows.specs.declared.Asks.{Asks}
@@ -29,7 +29,7 @@ use Rattle.line_ends.proofs.Standing.{IfAbout, HeadStands, IfMessage, IfTenure}
 use Rattle.line_ends.proofs.Tests.{false_true, not_both, not_below_self}
 use Rattle.line_ends.proofs.Mine.{token, mine-append}
 use Rattle.xt_base.specs.declared.ids.Epoch.{Epoch}
-use Rattle.xt_base.specs.declared.file.FileHead.{FileHead}
+use Rattle.xt_messages.specs.declared.file.FileHead.{FileHead}
 use Rattle.xt_protocol.specs.Stamps.{is_earlier}
 use Rattle.lease_runs.proofs.Tests.{when}
 use Rattle.line_ends.proofs.Rows.{six_if, four_if, Body, ground, IfLeads, Row, Next, plain, readied, is_new, left, one_if, next_stands}

@@ -2,7 +2,7 @@
 use Rattle.std.proofs.Common.{◌≡◌, ◌≤◌, true, false, sym, ap, subst, ◌∙◌, Option, Some, None, le_trans}
 use Rattle.xt_base.specs.declared.ids.NodeId.{NodeId}
 use Rattle.xt_base.specs.declared.ids.Epoch.{Epoch}
-use Rattle.xt_base.specs.declared.file.FileHead.{FileHead}
+use Rattle.xt_messages.specs.declared.file.FileHead.{FileHead}
 use Rattle.xt_protocol.specs.Stamps.{is_epoch, is_earlier}
 use Rattle.replica_safety.proofs.Orders.{is_one, not_after, not_before_self, same_self, up_to_before, up_to_trans}
 use Rattle.osd_rows.specs.declared.Progress.{Progress}

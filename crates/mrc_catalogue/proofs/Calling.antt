@@ -1,9 +1,9 @@
 -- what the calls on the volumes say of an outcome
 use Rattle.std.proofs.Common.{◌≡◌, ◌∙◌, refl, sym, subst}
 use Rattle.std.specs.Prelude.{Ok, Err}
-use Rattle.xt_base.specs.declared.meta.MetaRefusal.{MetaRefusal}
-use Rattle.xt_base.specs.declared.meta.MetaAnswer.{MetaAnswer}
-use Rattle.xt_base.specs.declared.meta.MetaAnswer.TheVariants as answer
+use Rattle.xt_messages.specs.declared.meta.MetaRefusal.{MetaRefusal}
+use Rattle.xt_messages.specs.declared.meta.MetaAnswer.{MetaAnswer}
+use Rattle.xt_messages.specs.declared.meta.MetaAnswer.TheVariants as answer
 use Rattle.volume_rows.specs.Rows.{Volumes}
 use Rattle.volume_rows.specs.Requests.{Outcome}
 use Rattle.volume_tree.specs.declared.TreeErr.TheVariants as failed

@@ -3,7 +3,7 @@ use Rattle.std.proofs.Common.{◌≡◌, ℕ, List, [], ◌∷◌, ◌++◌, ref
 use Rattle.std.specs.Prelude.{◌==◌, ◌&&◌, ◌||◌, not, fold}
 use Rattle.std.proofs.lemmas.Grind.{common_steps}
 use Rattle.xt_base.specs.declared.ids.NodeId.{NodeId}
-use Rattle.xt_base.specs.declared.registry.RegistryRow.{RegistryRow}
+use Rattle.xt_messages.specs.declared.registry.RegistryRow.{RegistryRow}
 use Rattle.xt_base.specs.MemberList.{has_node, are_distinct}
 use Rattle.mrc_rows.specs.Steps.{with_node, nodes_of}
 

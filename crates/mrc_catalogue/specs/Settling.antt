@@ -1,7 +1,7 @@
 -- answers that hold no list, so that a copy of one takes no memory
 use Rattle.std.specs.Prelude.{◌≡◌, Result, Ok, Err}
-use Rattle.xt_base.specs.declared.meta.MetaAnswer.{MetaAnswer}
-use Rattle.xt_base.specs.declared.meta.MetaAnswer.TheVariants as answer
+use Rattle.xt_messages.specs.declared.meta.MetaAnswer.{MetaAnswer}
+use Rattle.xt_messages.specs.declared.meta.MetaAnswer.TheVariants as answer
 use Rattle.volume_rows.specs.Rows.{Volumes}
 use Rattle.volume_rows.specs.Requests.{Outcome}
 use Rattle.mrc_rows.specs.Requests.{Settlement}

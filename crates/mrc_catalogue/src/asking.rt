@@ -1,5 +1,6 @@
 use volume_rows::Asker;
-use xt_base::{MetaReq, NodeId};
+use xt_base::NodeId;
+use xt_messages::MetaReq;
 
 /// What a request meets: the secret, of 1 to 64 bytes, the OSDs that there are, and the clock.
 #[derive(Clone, Copy)]

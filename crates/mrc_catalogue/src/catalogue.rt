@@ -1,6 +1,6 @@
 ghost use Rattle.std.specs.Prelude.{◌≡◌, ◌≤◌, ◌<◌, false, length, OnOk, OnErr, IfOk, Some};
 ghost use Rattle.indexmap.specs.IndexMap.{spare};
-ghost use Rattle.xt_base.specs.declared.meta.MetaReq.TheVariants as ask;
+ghost use Rattle.xt_messages.specs.declared.meta.MetaReq.TheVariants as ask;
 ghost use Rattle.kept_answers.specs.Standings.{standing_of};
 ghost use Rattle.volume_rows.specs.Paths.{path_in};
 ghost use Rattle.volume_rows.specs.Rows.{Volumes};
@@ -26,10 +26,8 @@ use std::alloc::{AllocError, Global};
 use std::marker::Model;
 use volume_rows::{Asker, Granting, Picked, path_in, volume_id};
 use volume_tree::{Tree, TreeErr};
-use xt_base::{
-    FileId, Logged, Members, MetaAnswer, MetaRefusal, MetaReq, Name, NodeId, OutOfMemory, Record,
-    SizeMark,
-};
+use xt_base::{FileId, Members, Name, NodeId, OutOfMemory, SizeMark};
+use xt_messages::{Logged, MetaAnswer, MetaRefusal, MetaReq, Record};
 
 /// What the records tell: the volumes, the files that were ever made, and what each client was answered last.
 #[derive(Drop)]

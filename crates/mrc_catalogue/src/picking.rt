@@ -7,9 +7,8 @@ ghost use Rattle.mrc_catalogue.specs.Picking.{WantsSome};
 use replica_lists::{PickErr, pick};
 use std::alloc::{AllocError, Global};
 use volume_rows::Picked;
-use xt_base::{
-    Kind, Location, Mark, Marks, Members, MetaReq, NodeId, OutOfMemory, RegistryRow, Seq, has_node,
-};
+use xt_base::{Members, NodeId, OutOfMemory, Seq, has_node};
+use xt_messages::{Kind, Location, Mark, Marks, MetaReq, RegistryRow};
 
 /// The nodes of rows, each once.
 pub fn nodes_of(alloc: Global, rows: &[RegistryRow]) -> Result<Vec<NodeId>, OutOfMemory>

@@ -8,7 +8,8 @@ use crate::catalogue::Catalogue;
 use crate::settling::{Settling, TO_TRUNCATE, grant_settled, report_settled};
 use std::alloc::Global;
 use volume_rows::{Asker, Granting};
-use xt_base::{COUNTS, MetaAnswer, MetaRefusal, MetaReq, OutOfMemory};
+use xt_base::{COUNTS, OutOfMemory};
+use xt_messages::{MetaAnswer, MetaRefusal, MetaReq};
 
 /// What is to come of a fresh request.
 #[derive(Drop)]

@@ -8,7 +8,8 @@ use mrc_rows::{LIFE, NewSizes};
 use std::alloc::{AllocError, Global};
 use truncate_epochs::merge;
 use volume_rows::Granting;
-use xt_base::{Capability, MetaAnswer, MetaRefusal, OutOfMemory, SizeMark};
+use xt_base::{OutOfMemory, SizeMark};
+use xt_messages::{Capability, MetaAnswer, MetaRefusal};
 
 /// The want of a grant that is only to read.
 const TO_READ: u8 = 1;

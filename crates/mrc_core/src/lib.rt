@@ -8,9 +8,9 @@
 mod mrc;
 mod serving;
 
-ghost use Rattle.xt_base.specs.Limits.{FitsPayload, FitsRecord};
-ghost use Rattle.xt_base.specs.declared.message.Payload.{Payload};
-ghost use Rattle.xt_base.specs.declared.record.Record.{Record};
+ghost use Rattle.xt_messages.specs.Limits.{FitsPayload, FitsRecord};
+ghost use Rattle.xt_messages.specs.declared.message.Payload.{Payload};
+ghost use Rattle.xt_messages.specs.declared.record.Record.{Record};
 ghost use Rattle.mrc_catalogue.specs.Picking.{CanHear, CanTake};
 
 pub use mrc::Mrc;

@@ -14,10 +14,8 @@ use std::alloc::Global;
 use std::marker::Model;
 use step_outputs::{message, quiet, sends_one};
 use volume_rows::Asker;
-use xt_base::{
-    DIR_NODE, Event, FileId, MRC_NODE, Msg, NodeId, Octets, OutOfMemory, Payload, Record,
-    RegistryAnswer, RegistryReq,
-};
+use xt_base::{DIR_NODE, FileId, MRC_NODE, NodeId, Octets, OutOfMemory};
+use xt_messages::{Event, Msg, Payload, Record, RegistryAnswer, RegistryReq};
 use xt_protocol::Turned;
 
 /// The kind of a row of the registry that is an OSD's.

@@ -13,10 +13,8 @@ use mrc_catalogue::{
 };
 use std::alloc::Global;
 use step_outputs::{message, quiet, sends_one};
-use xt_base::{
-    Copies, Logged, MRC_NODE, Marks, Members, MetaAnswer, Msg, Msgs, NodeId, OptionalBox,
-    OutOfMemory, Payload, Record, Seq,
-};
+use xt_base::{Copies, MRC_NODE, Members, NodeId, OptionalBox, OutOfMemory, Seq};
+use xt_messages::{Logged, Marks, MetaAnswer, Msg, Msgs, Payload, Record};
 use xt_protocol::Turned;
 
 /// An answer to a client.

@@ -8,11 +8,11 @@
 ghost use Rattle.std.specs.Prelude.{◌≡◌, ◌++◌, ℕ, Option, List};
 ghost use Rattle.std.specs.Option.{option_to_list};
 ghost use Rattle.xt_base.specs.declared.ids.NodeId.{NodeId};
-ghost use Rattle.xt_base.specs.declared.event.Event.{Event};
-ghost use Rattle.xt_base.specs.declared.record.Record.{Record};
-ghost use Rattle.xt_base.specs.declared.meta.MetaReq.{MetaReq};
-ghost use Rattle.xt_base.specs.declared.meta.MetaRefusal.{MetaRefusal};
-ghost use Rattle.xt_base.specs.declared.meta.MetaAnswer.TheVariants.{Refused};
+ghost use Rattle.xt_messages.specs.declared.event.Event.{Event};
+ghost use Rattle.xt_messages.specs.declared.record.Record.{Record};
+ghost use Rattle.xt_messages.specs.declared.meta.MetaReq.{MetaReq};
+ghost use Rattle.xt_messages.specs.declared.meta.MetaRefusal.{MetaRefusal};
+ghost use Rattle.xt_messages.specs.declared.meta.MetaAnswer.TheVariants.{Refused};
 ghost use Rattle.kept_answers.specs.Standings.{with_answer};
 ghost use Rattle.volume_rows.specs.declared.Asker.{Asker};
 ghost use Rattle.volume_rows.specs.declared.Picked.{Picked};

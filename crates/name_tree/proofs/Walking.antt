@@ -9,8 +9,8 @@ use Rattle.std.specs.List.{cons_option}
 use Rattle.std.specs.List.Sorted.{IsStrictlySortedBy}
 use Rattle.std.specs.Map.{lookup}
 use Rattle.std.proofs.lemmas.List.{length-map}
-use Rattle.xt_base.specs.declared.meta.MetaRefusal.{MetaRefusal}
-use Rattle.xt_base.specs.declared.meta.MetaRefusal.TheVariants as refusal
+use Rattle.xt_messages.specs.declared.meta.MetaRefusal.{MetaRefusal}
+use Rattle.xt_messages.specs.declared.meta.MetaRefusal.TheVariants as refusal
 use Rattle.volume_rows.specs.declared.Asker.{Asker}
 use Rattle.volume_rows.specs.declared.Entry.{Entry}
 use Rattle.volume_rows.specs.Paths.{Name, Path, name_in, parent_of}

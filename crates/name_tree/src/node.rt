@@ -9,7 +9,8 @@ use std::collections::BTreeMap;
 use std::marker::Model;
 use std::ops::Bound;
 use volume_rows::{Asker, Content, Entry, passes};
-use xt_base::{MetaRefusal, Name, Names, OutOfMemory, Seq};
+use xt_base::{Name, OutOfMemory, Seq};
+use xt_messages::{MetaRefusal, Names};
 
 /// How many names an answer has at most.
 const PAGE: usize = 512;

@@ -1,7 +1,7 @@
 -- lists of nodes as code has them
 use Rattle.std.specs.Prelude.{ℕ, ◌≡◌, ◌+◌, ◌<◌, List, map, slice_index_or, slice_set}
 use Rattle.std.specs.Option.{option_map, IfSome}
-use Rattle.xt_base.specs.declared.record.Record.{Record}
+use Rattle.xt_messages.specs.declared.record.Record.{Record}
 use Rattle.xt_base.specs.declared.TheConstants.{COUNTS}
 use Rattle.cluster_runs.specs.World.{Node}
 use Rattle.cluster_runs.specs.Lines.{reads_clock}

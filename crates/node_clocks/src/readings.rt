@@ -1,6 +1,6 @@
 //! The clocks of running nodes, as the rules on them see them.
 ghost use Rattle.std.specs.Prelude.{◌≡◌, ℕ, List};
-ghost use Rattle.xt_base.specs.declared.record.Record.{Record};
+ghost use Rattle.xt_messages.specs.declared.record.Record.{Record};
 ghost use Rattle.cluster_runs.specs.Rules.{are_apart, least_where, lesser, reading_where};
 ghost use Rattle.node_clocks.specs.Hosts.{nodes_of};
 ghost use Rattle.node_clocks.specs.Clocks.{reading_of, test_of};

@@ -4,7 +4,8 @@ ghost use Rattle.cluster_runs.specs.Rules.{called_file};
 ghost use Rattle.cluster_runs.specs.Lines.{declared_file, declared_capability, operation_of};
 
 use std::alloc::Global;
-use xt_base::{COUNTS, Call, Capability, Copies, FileId, Location, Op, OutOfMemory, VolumeId};
+use xt_base::{COUNTS, Copies, FileId, OutOfMemory, VolumeId};
+use xt_messages::{Call, Capability, Location, Op};
 
 /// The file that a schedule declares under this number.
 pub fn declared_file(number: u64) -> FileId

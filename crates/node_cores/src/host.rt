@@ -18,7 +18,8 @@ use osd_core::Osd;
 use replica_client::ReplicaClient;
 use std::alloc::Global;
 use std::marker::Model;
-use xt_base::{Boot, Call, Event, Folded, Location, NodeId, Op, OutOfMemory, Times};
+use xt_base::{Boot, NodeId, OutOfMemory, Times};
+use xt_messages::{Call, Event, Folded, Location, Op};
 use xt_protocol::Turned;
 
 /// A declared node without its records. Contracts see its id, its role, its times and how it runs.

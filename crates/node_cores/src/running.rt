@@ -12,7 +12,8 @@ use kept_bodies::Bodies;
 use osd_core::Osd;
 use replica_client::ReplicaClient;
 use std::alloc::AllocError;
-use xt_base::{Boot, Call, Event, Location, NodeId, Op, OutOfMemory};
+use xt_base::{Boot, NodeId, OutOfMemory};
+use xt_messages::{Call, Event, Location, Op};
 use xt_protocol::Turned;
 
 /// The state of a running node, by its role.

@@ -6,8 +6,8 @@ use Rattle.std.proofs.lemmas.Result.{err_from_is_err_and}
 use Rattle.std.specs.Result.{IsErrAnd}
 use Rattle.xt_base.specs.Faults.{counted}
 use Rattle.disk_model.specs.declared.disk.Disk.{Ghosts}
-use Rattle.xt_base.specs.Limits.{FitsRecord}
-use Rattle.xt_base.specs.declared.record.Record.{Record}
+use Rattle.xt_messages.specs.Limits.{FitsRecord}
+use Rattle.xt_messages.specs.declared.record.Record.{Record}
 use Rattle.replica_records.specs.RecordText.{record_text}
 use Rattle.replica_records.proofs.PayloadLength.{text_bound}
 use Rattle.xt_journal.specs.Access.{place_of, limit_of}

@@ -8,8 +8,8 @@ use Rattle.disk_model.specs.declared.plan.Stop.{Stop}
 use Rattle.disk_model.specs.Changes.{Memory}
 use Rattle.disk_model.specs.Disk.{Kept, IsFilled}
 use Rattle.disk_model.specs.Plan.{planned}
-use Rattle.xt_base.specs.Limits.{FitsRecord}
-use Rattle.xt_base.specs.declared.record.Record.{Record}
+use Rattle.xt_messages.specs.Limits.{FitsRecord}
+use Rattle.xt_messages.specs.declared.record.Record.{Record}
 use Rattle.xt_protocol.specs.Folds.{fold_of, IsInPlace}
 use Rattle.replica_records.specs.RecordText.{record_text}
 use Rattle.xt_journal.specs.Append.{IsStopped, payloads_after_stop}

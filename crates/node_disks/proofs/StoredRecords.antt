@@ -5,8 +5,8 @@ use Rattle.std.proofs.Math.Seq.{take-nil}
 use Rattle.std.proofs.Props.{props}
 use Rattle.std.proofs.lemmas.List.{map-append}
 use Rattle.std.specs.Coded.{Coded-set, coded_list}
-use Rattle.xt_base.specs.contracts.record.Record as record_type
-use Rattle.xt_base.specs.declared.record.Record.{Record}
+use Rattle.xt_messages.specs.contracts.record.Record as record_type
+use Rattle.xt_messages.specs.declared.record.Record.{Record}
 use Rattle.replica_records.specs.RecordText.{record_text}
 use Rattle.xt_journal.specs.declared.placed.Placed.{Placed}
 use Rattle.disk_model.specs.Changes.{Memory, Change, memory_kept, kept_after, MightHaveLeft}

@@ -2,7 +2,7 @@
 use Rattle.std.specs.Prelude.{ℕ, ◌≡◌, ◌≤◌, nat_le, Bool, false, List}
 use Rattle.disk_model.specs.Changes.{Memory, memory_kept}
 use Rattle.disk_model.specs.Plan.{planned}
-use Rattle.xt_base.specs.declared.record.Record.{Record}
+use Rattle.xt_messages.specs.declared.record.Record.{Record}
 use Rattle.xt_journal.specs.Format.{StandsFor, end_of}
 use Rattle.xt_journal.specs.Loaded.{IsReady}
 use Rattle.object_store.specs.Texts.{texts_of, AreRecords}

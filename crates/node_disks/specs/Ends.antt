@@ -3,7 +3,7 @@ use Rattle.std.specs.Prelude.{ℕ, List, [], ◌∷◌, ◌++◌}
 use Rattle.disk_model.specs.Changes.{Memory, memory_kept, MightHaveLeft}
 use Rattle.disk_model.specs.Disk.{IsImage, IsFilled, at_rest}
 use Rattle.disk_model.specs.declared.plan.Stop.{Stop}
-use Rattle.xt_base.specs.declared.record.Record.{Record}
+use Rattle.xt_messages.specs.declared.record.Record.{Record}
 use Rattle.replica_records.specs.RecordText.{record_text}
 use Rattle.xt_journal.specs.Append.{payloads_after_stop}
 use Rattle.xt_journal.specs.Format.{StandsFor}

@@ -1,6 +1,6 @@
 -- how much room a node's journal has
 use Rattle.std.specs.Prelude.{ℕ, ◌+◌, nat_lt, if◌then◌else◌, Some, None, List, length}
-use Rattle.xt_base.specs.declared.record.Record.{Record}
+use Rattle.xt_messages.specs.declared.record.Record.{Record}
 use Rattle.replica_records.specs.RecordText.{record_text}
 use Rattle.xt_journal.specs.Format.{end_of}
 use Rattle.object_store.specs.Texts.{texts_of}

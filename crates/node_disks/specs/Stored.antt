@@ -1,7 +1,7 @@
 -- a node that keeps its records on a disk
 use Rattle.std.specs.Prelude.{List, [], None}
 use Rattle.disk_model.specs.Changes.{Memory}
-use Rattle.xt_base.specs.declared.record.Record.{Record}
+use Rattle.xt_messages.specs.declared.record.Record.{Record}
 
 -- its records in order, and the disk on which they stand
 pub record Stored : Type 0 where

@@ -3,8 +3,8 @@ ghost use Rattle.std.specs.Prelude.{◌≡◌, ◌++◌, ◌∷◌, ◌≤◌, [
 ghost use Rattle.disk_model.specs.Changes.{memory_kept};
 ghost use Rattle.disk_model.specs.Disk.{IsImage};
 ghost use Rattle.disk_model.specs.Plan.{planned};
-ghost use Rattle.xt_base.specs.Limits.{FitsRecord};
-ghost use Rattle.xt_base.specs.declared.record.Record.{Record};
+ghost use Rattle.xt_messages.specs.Limits.{FitsRecord};
+ghost use Rattle.xt_messages.specs.declared.record.Record.{Record};
 ghost use Rattle.xt_protocol.specs.Folds.{fold_of, IsInPlace, body_kept};
 ghost use Rattle.xt_journal.specs.Access as journal;
 ghost use Rattle.xt_journal.specs.Format.{StandsFor, KeepsJournal, end_of};
@@ -24,8 +24,9 @@ use object_store::{AppendErr, Store, StoreErr};
 use std::alloc::{AllocError, Global};
 use std::marker::Model;
 use world_hull::{BodyErr, WorldErr};
-use xt_base::{CallList, Copies, FileId, Octets, OutOfMemory, Record, Stamp};
+use xt_base::{CallList, Copies, FileId, Octets, OutOfMemory, Stamp};
 use xt_journal::{Journal, LoadErr, Placed};
+use xt_messages::Record;
 
 /// The records of a node on a disk that doesn't fail. Contracts see their list, and the disk.
 #[derive(Drop)]

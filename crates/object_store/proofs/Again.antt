@@ -1,9 +1,9 @@
 -- payloads of records that are read again
 use Rattle.std.proofs.Common.{◌≡◌, ℕ, suc, List, [], ◌∷◌, ◌++◌, Ok, refl, ap, ◌∙◌, sym, subst, arith}
 use Rattle.std.specs.List.{All, fold}
-use Rattle.xt_base.specs.Limits.{FitsRecord}
-use Rattle.xt_base.specs.declared.record.Folded.{Folded}
-use Rattle.xt_base.specs.declared.record.Record.{Record}
+use Rattle.xt_messages.specs.Limits.{FitsRecord}
+use Rattle.xt_messages.specs.declared.record.Folded.{Folded}
+use Rattle.xt_messages.specs.declared.record.Record.{Record}
 use Rattle.xt_protocol.specs.Folds.{folded_after, nothing_kept, fold_of, IsInPlace, AreInPlace}
 use Rattle.replica_records.specs.RecordText.{record_text}
 use Rattle.replica_records.specs.RecordFields.{recorded}

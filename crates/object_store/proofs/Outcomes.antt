@@ -2,7 +2,7 @@
 use Rattle.std.proofs.Common.{◌≡◌, ◌+◌, ◌≤◌, ◌<◌, ◌++◌, ◌∷◌, [], ℕ, Bool, List, length, sym, ◌∙◌, ap, subst, zero-add}
 use Rattle.disk_model.specs.Disk.{Kept, LeavesOnly}
 use Rattle.xt_base.specs.Faults.{counted}
-use Rattle.xt_base.specs.declared.record.Record.{Record}
+use Rattle.xt_messages.specs.declared.record.Record.{Record}
 use Rattle.replica_records.specs.RecordText.{record_text}
 use Rattle.xt_journal.specs.Append.{IsStopped, IsWithOrWithout}
 use Rattle.xt_journal.specs.Calls.{GoesOn}

@@ -3,9 +3,9 @@ use Rattle.std.proofs.Common.{◌≡◌, ℕ, ◌+◌, ◌<◌, suc, List, [], �
 use Rattle.std.specs.List.{fold}
 use Rattle.std.proofs.lemmas.List.{map-append, take_more, take_all}
 use Rattle.std.proofs.lemmas.List.Elements.{All-push}
-use Rattle.xt_base.specs.Limits.{FitsRecord}
-use Rattle.xt_base.specs.declared.record.Folded.{Folded}
-use Rattle.xt_base.specs.declared.record.Record.{Record}
+use Rattle.xt_messages.specs.Limits.{FitsRecord}
+use Rattle.xt_messages.specs.declared.record.Folded.{Folded}
+use Rattle.xt_messages.specs.declared.record.Record.{Record}
 use Rattle.xt_protocol.specs.Folds.{folded_after, nothing_kept, fold_of, IsInPlace, AreInPlace}
 use Rattle.replica_records.specs.RecordText.{record_text}
 use Rattle.xt_journal.specs.declared.placed.Placed.{Placed}

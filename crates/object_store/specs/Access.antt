@@ -1,7 +1,7 @@
 -- What a store shows.
 use Rattle.std.specs.Prelude.{List}
 use Rattle.disk_model.specs.declared.disk.Disk.{Ghosts}
-use Rattle.xt_base.specs.declared.record.Record.{Record}
+use Rattle.xt_messages.specs.declared.record.Record.{Record}
 use Rattle.xt_journal.specs.declared.journal.Journal.{Journal}
 use Rattle.xt_journal.specs.Access as journal
 use Rattle.replica_records.specs.Logs.{records_in}

@@ -1,6 +1,6 @@
 -- what records and their payloads are to one another
 use Rattle.std.specs.Prelude.{ℕ, ◌≡◌, List}
-use Rattle.xt_base.specs.declared.record.Record.{Record}
+use Rattle.xt_messages.specs.declared.record.Record.{Record}
 use Rattle.object_store.specs.Texts.{texts_of, AreRecords, IsFirstBad}
 
 -- The payloads of records are those of no other records.

@@ -3,7 +3,7 @@ use Rattle.std.specs.Prelude.{ℕ, ◌+◌, ◌<◌, ◌≤◌, ◌≡◌, List,
 use Rattle.disk_model.specs.declared.disk.Disk.{Ghosts}
 use Rattle.disk_model.specs.Disk.{IsImage, LeavesOnly}
 use Rattle.xt_base.specs.Faults.{counted, fault_count_after}
-use Rattle.xt_base.specs.declared.record.Record.{Record}
+use Rattle.xt_messages.specs.declared.record.Record.{Record}
 use Rattle.xt_journal.specs.Access.{place_of, limit_of}
 use Rattle.xt_journal.specs.Append.{IsStopped, IsWithOrWithout}
 use Rattle.xt_journal.specs.Calls.{AllSucceed, GoesOn}

@@ -1,8 +1,8 @@
 -- records and their payloads
 use Rattle.std.specs.Prelude.{ℕ, ◌≡◌, List, ◌∷◌, ◌++◌, length, map}
 use Rattle.std.specs.List.{All}
-use Rattle.xt_base.specs.Limits.{FitsRecord}
-use Rattle.xt_base.specs.declared.record.Record.{Record}
+use Rattle.xt_messages.specs.Limits.{FitsRecord}
+use Rattle.xt_messages.specs.declared.record.Record.{Record}
 use Rattle.xt_protocol.specs.Folds.{nothing_kept, fold_of, IsInPlace, AreInPlace}
 use Rattle.replica_records.specs.RecordText.{record_text}
 

@@ -1,7 +1,7 @@
 //! Records from the payloads of a journal.
 ghost use Rattle.std.specs.Prelude.{◌≡◌, IfOk, IfSome, IfNone};
-ghost use Rattle.xt_base.specs.Limits.{FitsRecord};
-ghost use Rattle.xt_base.specs.declared.record.Record.{Record};
+ghost use Rattle.xt_messages.specs.Limits.{FitsRecord};
+ghost use Rattle.xt_messages.specs.declared.record.Record.{Record};
 ghost use Rattle.xt_protocol.specs.Folds.{IsInPlace};
 ghost use Rattle.replica_records.specs.RecordText.{record_text};
 ghost use Rattle.xt_journal.specs.Reading.{payloads_of};
@@ -10,8 +10,9 @@ ghost use Rattle.object_store.specs.declared.loading.Trouble.TheVariants.{OutOfM
 
 use replica_records::{Folding, RecordErr, RecordLog, read_record};
 use std::alloc::{AllocError, Global};
-use xt_base::{OutOfMemory, Record};
+use xt_base::OutOfMemory;
 use xt_journal::Placed;
+use xt_messages::Record;
 
 /// Why payloads aren't read as records.
 #[derive(Clone, Copy, PartialEq, Eq)]

@@ -1,12 +1,13 @@
 //! What may fail before a record is put.
 ghost use Rattle.std.specs.Prelude.{◌≡◌, ◌<◌, ◌≤◌, ◌^◌, IfOk, OnOk, length};
-ghost use Rattle.xt_base.specs.Limits.{FitsRecord};
+ghost use Rattle.xt_messages.specs.Limits.{FitsRecord};
 ghost use Rattle.replica_records.specs.Logs.{records_in, HasRoom};
 ghost use Rattle.replica_records.specs.RecordText.{record_text};
 
 use replica_records::{RecordLog, record_bytes};
 use std::alloc::Global;
-use xt_base::{Copies, Octets, OutOfMemory, Record};
+use xt_base::{Copies, Octets, OutOfMemory};
+use xt_messages::Record;
 
 /// Makes room for a record, and gives its bytes and another one like it.
 pub fn prepared(

@@ -11,8 +11,8 @@ use crate::preparing::prepared;
 use disk_model::Disk;
 use replica_records::RecordLog;
 use std::alloc::Global;
-use xt_base::Record;
 use xt_journal::{Journal, Placed};
+use xt_messages::Record;
 
 /// The records of a node, each of them on a disk and in memory.
 #[derive(Drop)]
@@ -27,7 +27,7 @@ pub struct Store<D: Disk> {
 
 impl<D: Disk> Store<D> {
     ghost use Rattle.std.specs.Prelude.{◌≡◌};
-    ghost use Rattle.xt_base.specs.Limits.{FitsRecord};
+    ghost use Rattle.xt_messages.specs.Limits.{FitsRecord};
     ghost use Rattle.xt_protocol.specs.Folds.{fold_of, IsInPlace};
     ghost use Rattle.xt_journal.specs.Reading.{payloads_of};
     ghost use Rattle.object_store.specs.Access as store;

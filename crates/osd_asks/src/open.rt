@@ -8,7 +8,8 @@ use std::alloc::{AllocError, Global};
 use std::marker::Model;
 use std::mem;
 use step_outputs::reply_to;
-use xt_base::{Copies, FileId, Msgs, NodeId, OpId, OutOfMemory, Reply, Seq};
+use xt_base::{Copies, FileId, NodeId, OpId, OutOfMemory, Seq};
+use xt_messages::{Msgs, Reply};
 
 /// How many asks of a file may wait.
 const WAITING: usize = 64;

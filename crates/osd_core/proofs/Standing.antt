@@ -8,7 +8,7 @@ use Rattle.std.specs.Ordering.{is_eq, is_lt, ordering_index, ordering_reverse}
 use Rattle.std.specs.declared.cmp.Ordering.{Ordering}
 use Rattle.std.specs.declared.cmp.Ordering.TheVariants.{Less, Equal, Greater}
 use Rattle.xt_base.specs.declared.ids.FileId.{FileId}
-use Rattle.xt_base.specs.declared.record.FileRow.{FileRow}
+use Rattle.xt_messages.specs.declared.record.FileRow.{FileRow}
 use Rattle.xt_protocol.specs.FileIds.{is_file, is_before, file_cmp}
 use Rattle.xt_protocol.specs.Folds.{new_row}
 use Rattle.xt_protocol.specs.LeaseRows.{Awake}

@@ -3,11 +3,11 @@ use Rattle.std.proofs.Common.{◌≡◌, ℕ, ◌+◌, ◌<◌, ◌≤◌, Bool,
 use Rattle.std.proofs.lemmas.List.{append-nil, map-append, take_more, take_more_set, take_all, drop_more}
 use Rattle.xt_base.specs.declared.ids.FileId.{FileId}
 use Rattle.xt_base.specs.declared.ids.Stamp.{Stamp}
-use Rattle.xt_base.specs.declared.file.Capability.{Capability}
-use Rattle.xt_base.specs.declared.message.Msg.{Msg}
-use Rattle.xt_base.specs.declared.event.Mark.{Mark}
-use Rattle.xt_base.specs.declared.record.Record.{Record}
-use Rattle.xt_base.specs.declared.record.FileRow.{FileRow}
+use Rattle.xt_messages.specs.declared.file.Capability.{Capability}
+use Rattle.xt_messages.specs.declared.message.Msg.{Msg}
+use Rattle.xt_messages.specs.declared.event.Mark.{Mark}
+use Rattle.xt_messages.specs.declared.record.Record.{Record}
+use Rattle.xt_messages.specs.declared.record.FileRow.{FileRow}
 use Rattle.xt_protocol.specs.LeaseRows.{Awake}
 use Rattle.xt_protocol.specs.declared.Turned.{Turned}
 use Rattle.xt_protocol.proofs.Folds.{row_after-file}

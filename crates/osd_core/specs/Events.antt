@@ -1,7 +1,7 @@
 -- which events an OSD handles
-use Rattle.xt_base.specs.Limits.{FitsMessage}
-use Rattle.xt_base.specs.declared.event.Event.{Event}
-use Rattle.xt_base.specs.declared.event.Event.TheVariants as event
+use Rattle.xt_messages.specs.Limits.{FitsMessage}
+use Rattle.xt_messages.specs.declared.event.Event.{Event}
+use Rattle.xt_messages.specs.declared.event.Event.TheVariants as event
 
 -- a message that is delivered is within its limits
 abbrev pub FitsEvent : Event → Type 0

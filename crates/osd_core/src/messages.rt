@@ -5,7 +5,8 @@ ghost use Rattle.osd_core.specs.Keys.{FitsKey, sealed_by, stops_by};
 
 use capabilities::{CapErr, check, is_stop};
 use std::alloc::{AllocError, Global};
-use xt_base::{Capability, FileId, Octets, OutOfMemory, Payload};
+use xt_base::{FileId, Octets, OutOfMemory};
+use xt_messages::{Capability, Payload};
 
 /// The file that a message concerns, if any.
 pub fn file_concerned(payload: &Payload) -> Option<FileId>

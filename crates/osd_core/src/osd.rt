@@ -15,7 +15,8 @@ use kept_bodies::{Bodies, StepErr};
 use std::alloc::Global;
 use std::marker::Model;
 use step_outputs::quiet;
-use xt_base::{Boot, Event, Folded, Msg, NodeId, Octets, OutOfMemory, Times};
+use xt_base::{Boot, NodeId, Octets, OutOfMemory, Times};
+use xt_messages::{Event, Folded, Msg};
 use xt_protocol::Turned;
 
 /// An OSD of replicated files. Contracts see its key and its state.

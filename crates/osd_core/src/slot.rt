@@ -1,5 +1,5 @@
 ghost use Rattle.std.specs.Prelude.{◌≡◌, ◌<◌, ◌^◌, IfOk};
-ghost use Rattle.xt_base.specs.Limits.{FitsPayload};
+ghost use Rattle.xt_messages.specs.Limits.{FitsPayload};
 ghost use Rattle.xt_protocol.specs.Folds.{new_row};
 ghost use Rattle.xt_protocol.specs.LeaseRows.{Awake};
 ghost use Rattle.xt_protocol.specs.SeenBodies.{body_by};
@@ -16,7 +16,8 @@ use record_folds::new_head;
 use std::alloc::Global;
 use std::mem;
 use step_outputs::quiet;
-use xt_base::{FileId, FileRow, HeldSet, Msg, OutOfMemory};
+use xt_base::{FileId, OutOfMemory};
+use xt_messages::{FileRow, HeldSet, Msg};
 use xt_protocol::Turned;
 
 /// A file at an OSD: what its records say of it, until a message concerns it.

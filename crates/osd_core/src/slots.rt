@@ -1,8 +1,8 @@
 ghost use Rattle.std.specs.Prelude.{◌≡◌, ◌<◌, ◌^◌, ℕ, List, Bool, IfOk, OnOk, IsTrue};
-ghost use Rattle.xt_base.specs.Limits.{FitsPayload};
+ghost use Rattle.xt_messages.specs.Limits.{FitsPayload};
 ghost use Rattle.xt_base.specs.declared.ids.FileId.{FileId};
 ghost use Rattle.xt_base.specs.declared.ids.Stamp.{Stamp};
-ghost use Rattle.xt_base.specs.declared.file.Capability.{Capability};
+ghost use Rattle.xt_messages.specs.declared.file.Capability.{Capability};
 ghost use Rattle.xt_protocol.specs.LeaseRows.{Awake};
 ghost use Rattle.xt_protocol.specs.SeenBodies.{body_by};
 ghost use Rattle.kept_bodies.specs.KeptBodies.{fault_of, ReadsOnly};
@@ -19,7 +19,8 @@ use kept_bodies::{Bodies, StepErr};
 use osd_files::Woken;
 use std::alloc::Global;
 use step_outputs::{extend, message, quiet, sends_one};
-use xt_base::{DIR_NODE, FileId, FileTable, Msg, NodeId, OutOfMemory, Payload, RegistryReq};
+use xt_base::{DIR_NODE, FileId, NodeId, OutOfMemory};
+use xt_messages::{FileTable, Msg, Payload, RegistryReq};
 use xt_protocol::Turned;
 
 /// The kind of an OSD in the registry.

@@ -5,7 +5,7 @@ use Rattle.std.specs.List.{best_of}
 use Rattle.std.proofs.lemmas.List.{get_or_default}
 use Rattle.std.proofs.lemmas.List.MinMax.{best_of_keeps, best_of_takes}
 use Rattle.xt_base.specs.declared.ids.NodeId.{NodeId}
-use Rattle.xt_base.specs.declared.file.FileHead.{FileHead}
+use Rattle.xt_messages.specs.declared.file.FileHead.{FileHead}
 use Rattle.osd_rows.specs.Choice.{is_better, chosen_of}
 use Rattle.osd_decisions.specs.Reports.{best_report}
 

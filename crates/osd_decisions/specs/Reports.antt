@@ -1,7 +1,7 @@
 -- the best of the reports that were counted
 use Rattle.std.specs.Prelude.{Option, Some, None, List, [], ◌∷◌}
 use Rattle.xt_base.specs.declared.ids.NodeId.{NodeId}
-use Rattle.xt_base.specs.declared.file.FileHead.{FileHead}
+use Rattle.xt_messages.specs.declared.file.FileHead.{FileHead}
 use Rattle.osd_rows.specs.Choice.{chosen_of}
 
 -- none where there is none

@@ -8,7 +8,8 @@ ghost use Rattle.osd_decisions.specs.Reports.{best_report};
 
 use std::alloc::Global;
 use version_lists::{has_version, held_rise, is_below, is_held, is_stamp};
-use xt_base::{FileHead, NodeId, ObjectVersion, OutOfMemory, Seq, Versions};
+use xt_base::{NodeId, OutOfMemory, Seq};
+use xt_messages::{FileHead, ObjectVersion, Versions};
 
 /// Whether the first report is better than the second, for a primary on this node.
 pub fn is_better(own: NodeId, a: NodeId, first: &FileHead, b: NodeId, second: &FileHead) -> bool

@@ -4,7 +4,8 @@ ghost use Rattle.osd_decisions.specs.Shown.{shown_standing};
 ghost use Rattle.version_lists.specs.Rising.{HeadRises};
 
 use version_lists::session_of;
-use xt_base::{CLIENTS, FileHead, Op, OpId, Reply, Session, SizeMark};
+use xt_base::{CLIENTS, OpId, SizeMark};
+use xt_messages::{FileHead, Op, Reply, Session};
 
 /// How a write stands to a head.
 #[derive(Drop)]

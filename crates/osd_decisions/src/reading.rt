@@ -1,6 +1,6 @@
 ghost use Rattle.std.specs.Prelude.{◌≡◌, [], List, IfOk};
-ghost use Rattle.xt_base.specs.declared.file.FileHead.{FileHead};
-ghost use Rattle.xt_base.specs.declared.file.ObjectVersion.{ObjectVersion};
+ghost use Rattle.xt_messages.specs.declared.file.FileHead.{FileHead};
+ghost use Rattle.xt_messages.specs.declared.file.ObjectVersion.{ObjectVersion};
 ghost use Rattle.xt_protocol.specs.Objects as plain;
 ghost use Rattle.xt_protocol.specs.SeenBodies.{body_by};
 ghost use Rattle.osd_rows.specs.Serving.{reads_under};
@@ -13,7 +13,8 @@ use kept_bodies::{Bodies, StepErr, behind, cut_or_filled, readable, seen};
 use osd_rows::{Place, Progress, Tenure};
 use std::alloc::Global;
 use version_lists::version_of;
-use xt_base::{FileHead, FileId, Octets, Op, Reply, Stamp};
+use xt_base::{FileId, Octets, Stamp};
+use xt_messages::{FileHead, Op, Reply};
 
 /// The body of an object in its present version: empty where it has none.
 pub fn present_body<B: Bodies>(

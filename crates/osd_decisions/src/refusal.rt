@@ -3,7 +3,8 @@ ghost use Rattle.osd_rows.specs.FileStates.{Site};
 ghost use Rattle.osd_rows.specs.AskRows as rows;
 ghost use Rattle.osd_rows.specs.Asks as asks;
 
-use xt_base::{Capability, Denial, Kind, Location, NodeId, Op, Reply};
+use xt_base::NodeId;
+use xt_messages::{Capability, Denial, Kind, Location, Op, Reply};
 
 /// Whether an operation is a read.
 pub fn is_read(op: &Op) -> bool

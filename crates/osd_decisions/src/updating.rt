@@ -1,5 +1,5 @@
 ghost use Rattle.std.specs.Prelude.{◌≡◌, ◌<◌, ◌≤◌, ◌^◌, ◌+◌, ◌*◌, length, take, [], IsTrue, if◌then◌else◌, IfOk};
-ghost use Rattle.xt_base.specs.Limits.{FitsOp};
+ghost use Rattle.xt_messages.specs.Limits.{FitsOp};
 ghost use Rattle.xt_protocol.specs.SeenBodies.{body_by};
 ghost use Rattle.osd_rows.specs.Writes as rows;
 ghost use Rattle.kept_bodies.specs.KeptBodies.{fault_of, ReadsOnly};
@@ -9,9 +9,8 @@ use crate::reading::present_body;
 use kept_bodies::{Bodies, StepErr, overlay};
 use std::alloc::Global;
 use version_lists::version_of;
-use xt_base::{
-    FileHead, FileId, NO_OBJECT, Octets, Op, OpId, OutOfMemory, SizeMark, Stamp, Update,
-};
+use xt_base::{FileId, NO_OBJECT, Octets, OpId, OutOfMemory, SizeMark, Stamp};
+use xt_messages::{FileHead, Op, Update};
 
 /// The update of a write: the greater size, and the old body with the bytes over it.
 fn written<B: Bodies>(

@@ -3,10 +3,10 @@ use Rattle.std.proofs.Common.{◌≡◌, ℕ, Bool, true, false, refl, sym, subs
 use Rattle.std.specs.Prelude.{IfSome, max, nat_lt, ◌||◌}
 use Rattle.std.proofs.lemmas.Bool.{ltb-true}
 use Rattle.xt_base.specs.declared.ids.NodeId.{NodeId}
-use Rattle.xt_base.specs.declared.file.FileHead.{FileHead}
-use Rattle.xt_base.specs.declared.record.FileRow.{FileRow}
+use Rattle.xt_messages.specs.declared.file.FileHead.{FileHead}
+use Rattle.xt_messages.specs.declared.record.FileRow.{FileRow}
 use Rattle.xt_base.specs.declared.TheConstants.{COUNTS}
-use Rattle.xt_base.specs.Limits.{FitsEpoch, is_at_most}
+use Rattle.xt_messages.specs.Limits.{FitsEpoch, is_at_most}
 use Rattle.xt_protocol.specs.declared.Turned.{Turned}
 use Rattle.osd_rows.specs.declared.Place.{Place}
 use Rattle.osd_rows.specs.PrimaryRows.{epoch_drawn, epoch_above}

@@ -1,15 +1,15 @@
 -- what an ask that is let in does, by what the code stores
 use Rattle.std.proofs.Common.{◌≡◌, ◌∙◌, ℕ, refl, ap, sym, Option, Some, None}
 use Rattle.xt_base.specs.declared.ids.OpId.{OpId}
-use Rattle.xt_base.specs.declared.file.Location.{Location}
-use Rattle.xt_base.specs.declared.file.Capability.{Capability}
-use Rattle.xt_base.specs.declared.file.Op.{Op}
+use Rattle.xt_messages.specs.declared.file.Location.{Location}
+use Rattle.xt_messages.specs.declared.file.Capability.{Capability}
+use Rattle.xt_messages.specs.declared.file.Op.{Op}
 use Rattle.xt_protocol.specs.declared.Turned.{Turned}
 use Rattle.osd_rows.specs.declared.WaitingAsk.{WaitingAsk}
 use Rattle.osd_rows.specs.FileStates.{FileState, Site, steps_to, and_then}
 use Rattle.osd_rows.specs.Turns.{keeps}
 use Rattle.osd_rows.specs.AskRows.{ask_rows, ask_let_in, view_record, waiting_ask, ask_handled, refusal_of}
-use Rattle.xt_base.specs.declared.reply.Reply.{Reply}
+use Rattle.xt_messages.specs.declared.reply.Reply.{Reply}
 use Rattle.osd_files.specs.Asking.{first_list, list_after}
 use Rattle.osd_files.proofs.Rows.{behind_it}
 

@@ -2,8 +2,8 @@
 use Rattle.std.proofs.Common.{◌≡◌, ◌∙◌, ℕ, Bool, true, false, refl, ap, sym, subst, cond, Option, Some, None, List, []}
 use Rattle.xt_base.specs.declared.ids.FileId.{FileId}
 use Rattle.xt_base.specs.declared.ids.Stamp.{Stamp}
-use Rattle.xt_base.specs.declared.file.Capability.{Capability}
-use Rattle.xt_base.specs.declared.reply.Reply.{Reply}
+use Rattle.xt_messages.specs.declared.file.Capability.{Capability}
+use Rattle.xt_messages.specs.declared.reply.Reply.{Reply}
 use Rattle.xt_protocol.specs.declared.Turned.{Turned}
 use Rattle.xt_protocol.specs.LeaseRows.{Awake, LeaseState, free, asking, writing, held, lease_expired, has_run_out, has_turn, round_over, renewal_left}
 use Rattle.file_lease.specs.declared.news.Expiry.{Expiry}

@@ -4,15 +4,15 @@ use Rattle.std.specs.Prelude.{◌==◌, nat_lt}
 use Rattle.std.specs.Result.{IfOk}
 use Rattle.xt_base.specs.declared.ids.FileId.{FileId}
 use Rattle.xt_base.specs.Faults.{Rose}
-use Rattle.xt_base.specs.declared.record.Record.{Record}
+use Rattle.xt_messages.specs.declared.record.Record.{Record}
 use Rattle.xt_base.specs.declared.ids.Stamp.{Stamp}
-use Rattle.xt_base.specs.declared.file.Capability.{Capability}
+use Rattle.xt_messages.specs.declared.file.Capability.{Capability}
 use Rattle.xt_protocol.specs.declared.Turned.{Turned}
 use Rattle.osd_rows.specs.FileStates.{FileState, Site, FileStep}
 use Rattle.osd_rows.specs.Primaries.{idle}
 use Rattle.osd_rows.specs.Turns.{joined}
 use Rattle.xt_base.specs.declared.ids.NodeId.{NodeId}
-use Rattle.xt_base.specs.declared.message.Payload.{Payload}
+use Rattle.xt_messages.specs.declared.message.Payload.{Payload}
 use Rattle.xt_protocol.specs.LeaseRows.{Awake, LeaseState, LeaseNews, on_answer}
 use Rattle.osd_rows.specs.FileLeases.{answer_comes, end_after_answer, lease_news}
 use Rattle.osd_rows.specs.Overdue.{no_lease_for_all, lease_lapses}

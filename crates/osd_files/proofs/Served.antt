@@ -1,7 +1,7 @@
 -- what becomes of an ask, by what the code tests
 use Rattle.std.proofs.Common.{◌≡◌, ◌∙◌, ℕ, Bool, true, false, refl, ap, sym, Option, Some, None, cond}
 use Rattle.std.specs.Prelude.{◌&&◌, is_some}
-use Rattle.xt_base.specs.declared.record.Record.{Record}
+use Rattle.xt_messages.specs.declared.record.Record.{Record}
 use Rattle.xt_protocol.specs.declared.Turned.{Turned}
 use Rattle.xt_protocol.specs.LeaseRows.{LeaseState, Proposer, Turn, free, asking, writing, held, has_turn}
 use Rattle.file_lease.specs.Moves.{turn_of, is_free, IsSettled}

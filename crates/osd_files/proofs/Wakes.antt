@@ -1,8 +1,8 @@
 -- what a Wake makes of a file, by its lease
 use Rattle.std.proofs.Common.{◌≡◌, ◌∙◌, ℕ, Bool, true, false, refl, ap, sym, Option, Some, None, cond}
 use Rattle.std.specs.Prelude.{is_some}
-use Rattle.xt_base.specs.declared.file.Location.{Location}
-use Rattle.xt_base.specs.declared.record.Record.{Record}
+use Rattle.xt_messages.specs.declared.file.Location.{Location}
+use Rattle.xt_messages.specs.declared.record.Record.{Record}
 use Rattle.xt_protocol.specs.declared.Turned.{Turned}
 use Rattle.xt_protocol.specs.LeaseRows.{LeaseState, Held, Turn, free, asking, writing, held, has_turn}
 use Rattle.file_lease.specs.Moves.{turn_of, IsSettled}

@@ -4,10 +4,10 @@ use Rattle.xt_base.specs.declared.ids.NodeId.{NodeId}
 use Rattle.xt_base.specs.declared.ids.FileId.{FileId}
 use Rattle.xt_base.specs.declared.ids.Ballot.{Ballot}
 use Rattle.xt_base.specs.declared.ids.Boot.{Boot}
-use Rattle.xt_base.specs.declared.message.Payload.TheVariants as payload
+use Rattle.xt_messages.specs.declared.message.Payload.TheVariants as payload
 use Rattle.xt_protocol.specs.declared.Turned.{Turned}
 use Rattle.osd_rows.specs.Turns.{sends, message}
-use Rattle.xt_base.specs.declared.file.Location.{Location}
+use Rattle.xt_messages.specs.declared.file.Location.{Location}
 use Rattle.flease_register.specs.declared.acceptor.ReadAnswer.{ReadAnswer}
 use Rattle.flease_register.specs.declared.acceptor.ReadAnswer.TheVariants as read
 use Rattle.flease_register.specs.declared.acceptor.WriteAnswer.{WriteAnswer}

@@ -7,9 +7,9 @@ use Rattle.xt_base.specs.declared.ids.FileId.{FileId}
 use Rattle.osd_rows.specs.FileStates.{FileState, Site, FileStep, steps_to}
 use Rattle.osd_rows.specs.ReplicaRows.{fetched_from}
 use Rattle.osd_rows.specs.Turns.{sends, message}
-use Rattle.xt_base.specs.declared.file.Location.{Location}
-use Rattle.xt_base.specs.declared.record.Record.{Record}
-use Rattle.xt_base.specs.declared.record.Record.TheVariants as kept
+use Rattle.xt_messages.specs.declared.file.Location.{Location}
+use Rattle.xt_messages.specs.declared.record.Record.{Record}
+use Rattle.xt_messages.specs.declared.record.Record.TheVariants as kept
 use Rattle.osd_rows.specs.declared.Asks.{Asks}
 use Rattle.osd_rows.specs.declared.WaitingAsk.{WaitingAsk}
 

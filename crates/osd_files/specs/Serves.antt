@@ -1,8 +1,8 @@
 -- how asks that wait are served behind a row of the primary, and what a call on a file does then
 use Rattle.std.specs.Prelude.{Bool, ◌≡◌, ◌&&◌, not, if◌then◌else◌, List}
-use Rattle.xt_base.specs.declared.file.FileHead.{FileHead}
-use Rattle.xt_base.specs.declared.file.ObjectVersion.{ObjectVersion}
-use Rattle.xt_base.specs.declared.record.Record.{Record}
+use Rattle.xt_messages.specs.declared.file.FileHead.{FileHead}
+use Rattle.xt_messages.specs.declared.file.ObjectVersion.{ObjectVersion}
+use Rattle.xt_messages.specs.declared.record.Record.{Record}
 use Rattle.xt_protocol.specs.declared.Turned.{Turned}
 use Rattle.osd_rows.specs.declared.Asks.{Asks}
 use Rattle.osd_rows.specs.declared.PrimaryState.{PrimaryState}

@@ -1,12 +1,12 @@
 -- what always holds of a file at an OSD, and what a file's steps are in the words of its callers
 use Rattle.std.specs.Prelude.{◌≡◌, ℕ, Bool, List, IfSome}
-use Rattle.xt_base.specs.Limits.{FitsHead, FitsStripe}
+use Rattle.xt_messages.specs.Limits.{FitsHead, FitsStripe}
 use Rattle.xt_base.specs.declared.ids.FileId.{FileId}
 use Rattle.xt_base.specs.declared.ids.Stamp.{Stamp}
-use Rattle.xt_base.specs.declared.file.Capability.{Capability}
-use Rattle.xt_base.specs.declared.message.Payload.{Payload}
-use Rattle.xt_base.specs.declared.message.Payload.TheVariants as payload
-use Rattle.xt_base.specs.declared.record.FileRow.{FileRow}
+use Rattle.xt_messages.specs.declared.file.Capability.{Capability}
+use Rattle.xt_messages.specs.declared.message.Payload.{Payload}
+use Rattle.xt_messages.specs.declared.message.Payload.TheVariants as payload
+use Rattle.xt_messages.specs.declared.record.FileRow.{FileRow}
 use Rattle.xt_protocol.specs.declared.Turned.{Turned}
 use Rattle.osd_rows.specs.FileStates.{FileState, Site, FileStep}
 use Rattle.osd_rows.specs.FileSteps.{wake_of_file}

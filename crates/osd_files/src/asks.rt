@@ -1,8 +1,8 @@
 ghost use Rattle.std.specs.Prelude.{◌≡◌, ◌<◌, ◌^◌, ◌+◌, ◌/◌, ℕ, List, Bool, true, false, Option, Some, None, IfOk, IsTrue, IfSome, is_some, ◌&&◌};
-ghost use Rattle.xt_base.specs.Limits.{FitsOp, FitsStripe};
-ghost use Rattle.xt_base.specs.declared.file.Capability.{Capability};
-ghost use Rattle.xt_base.specs.declared.file.FileHead.{FileHead};
-ghost use Rattle.xt_base.specs.declared.file.ObjectVersion.{ObjectVersion};
+ghost use Rattle.xt_messages.specs.Limits.{FitsOp, FitsStripe};
+ghost use Rattle.xt_messages.specs.declared.file.Capability.{Capability};
+ghost use Rattle.xt_messages.specs.declared.file.FileHead.{FileHead};
+ghost use Rattle.xt_messages.specs.declared.file.ObjectVersion.{ObjectVersion};
 ghost use Rattle.xt_protocol.specs.LeaseRows.{Proposer, free};
 ghost use Rattle.xt_protocol.specs.SeenBodies.{body_by};
 ghost use Rattle.file_lease.specs.Moves.{IsSettled, is_free, turn_of};
@@ -32,7 +32,8 @@ use osd_decisions::{is_read, refusal_of};
 use osd_rows::WaitingAsk;
 use std::alloc::Global;
 use step_outputs::{answers, keeps, quiet, tells};
-use xt_base::{Capability, Copies, FileId, Lease, NodeId, Op, OpId, OutOfMemory, Reply, Times};
+use xt_base::{Copies, FileId, Lease, NodeId, OpId, OutOfMemory, Times};
+use xt_messages::{Capability, Op, Reply};
 use xt_protocol::Turned;
 
 /// Read served: the reply, and its mark.

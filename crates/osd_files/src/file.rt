@@ -1,5 +1,5 @@
 ghost use Rattle.std.specs.Prelude.{◌≡◌, ◌<◌, ◌^◌, Bool, IfOk};
-ghost use Rattle.xt_base.specs.Limits.{FitsPayload};
+ghost use Rattle.xt_messages.specs.Limits.{FitsPayload};
 ghost use Rattle.xt_protocol.specs.SeenBodies.{body_by};
 ghost use Rattle.kept_bodies.specs.KeptBodies.{fault_of, ReadsOnly};
 ghost use Rattle.osd_rows.specs.FileStates.{file_from};
@@ -14,7 +14,8 @@ use flease_lease::Awake;
 use kept_bodies::{Bodies, StepErr};
 use std::alloc::Global;
 use std::marker::Model;
-use xt_base::{FileId, FileRow, NodeId, OutOfMemory, Payload};
+use xt_base::{FileId, NodeId, OutOfMemory};
+use xt_messages::{FileRow, Payload};
 use xt_protocol::Turned;
 
 /// A file at an OSD that is awake. Contracts see the OSD, and the file's state in the rows' terms.

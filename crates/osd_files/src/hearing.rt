@@ -1,5 +1,5 @@
 ghost use Rattle.std.specs.Prelude.{◌≡◌, [], ℕ, List, IfOk};
-ghost use Rattle.xt_base.specs.Limits.{FitsEpoch, FitsHead, FitsUpdate};
+ghost use Rattle.xt_messages.specs.Limits.{FitsEpoch, FitsHead, FitsUpdate};
 ghost use Rattle.osd_rows.specs.Primaries.{if_any};
 ghost use Rattle.osd_rows.specs.ReplicaRows as replica;
 ghost use Rattle.osd_rows.specs.FileSteps as rows;
@@ -17,9 +17,8 @@ use osd_rows::Acted;
 use replica_state::fetched_from;
 use std::alloc::Global;
 use step_outputs::{message, sends_one};
-use xt_base::{
-    Epoch, FileHead, Msgs, NodeId, Octets, OptionalBox, OutOfMemory, Payload, Seq, Stamp, Update,
-};
+use xt_base::{Epoch, NodeId, Octets, OptionalBox, OutOfMemory, Seq, Stamp};
+use xt_messages::{FileHead, Msgs, Payload, Update};
 use xt_protocol::Turned;
 
 /// The answer to whoever asked, if there is one.

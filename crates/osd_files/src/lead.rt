@@ -1,16 +1,16 @@
 ghost use Rattle.std.specs.Prelude.{◌≡◌, ◌≤◌, ◌+◌, ◌/◌, IfOk, IfNone, IfSome, OnErr, List, None, Some, is_none, is_some};
-ghost use Rattle.xt_base.specs.Limits.{FitsStripe};
+ghost use Rattle.xt_messages.specs.Limits.{FitsStripe};
 ghost use Rattle.osd_invariants.specs.Sound.{IsStored};
 ghost use Rattle.osd_rows.specs.Primaries as rows;
-ghost use Rattle.xt_base.specs.declared.reply.Reply.TheVariants as reply;
+ghost use Rattle.xt_messages.specs.declared.reply.Reply.TheVariants as reply;
 ghost use Rattle.xt_base.specs.declared.ids.NodeId.{NodeId};
 ghost use Rattle.xt_base.specs.declared.ids.FileId.{FileId};
 ghost use Rattle.osd_rows.specs.PrimaryRows.{epoch_drawn, hears};
 ghost use Rattle.osd_rows.specs.Serving.{reads, wakes, writes};
 ghost use Rattle.std.specs.Option.{option_map};
-ghost use Rattle.xt_base.specs.Limits.{FitsOp};
-ghost use Rattle.xt_base.specs.declared.file.FileHead.{FileHead};
-ghost use Rattle.xt_base.specs.declared.file.ObjectVersion.{ObjectVersion};
+ghost use Rattle.xt_messages.specs.Limits.{FitsOp};
+ghost use Rattle.xt_messages.specs.declared.file.FileHead.{FileHead};
+ghost use Rattle.xt_messages.specs.declared.file.ObjectVersion.{ObjectVersion};
 ghost use Rattle.version_lists.specs.Rising.{HeadRises};
 ghost use Rattle.kept_bodies.specs.KeptBodies.{fault_of, ReadsOnly};
 ghost use Rattle.replica_primary.specs.Written.{ground};
@@ -25,9 +25,8 @@ use replica_primary::{Phase, Primary};
 use std::alloc::Global;
 use std::marker::Model;
 use step_outputs::quiet;
-use xt_base::{
-    FileHead, FileId, HeldSet, Location, NodeId, Op, OpId, OutOfMemory, Payload, Record, Reply,
-};
+use xt_base::{FileId, NodeId, OpId, OutOfMemory};
+use xt_messages::{FileHead, HeldSet, Location, Op, Payload, Record, Reply};
 use xt_protocol::Turned;
 
 /// Where a file is, and the primary that stands on that.

@@ -20,7 +20,8 @@ use crate::serving::asks_follow;
 use file_lease::FileLease;
 use kept_bodies::{Bodies, StepErr};
 use step_outputs::quiet;
-use xt_base::{NodeId, Payload};
+use xt_base::NodeId;
+use xt_messages::Payload;
 use xt_protocol::Turned;
 
 /// The primary hears a message in its turn, and its own replica notes what it records.

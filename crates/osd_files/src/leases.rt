@@ -1,8 +1,8 @@
 ghost use Rattle.std.specs.Prelude.{◌≡◌, ◌<◌, ◌^◌, ℕ, List, Bool, Option, None, IfOk, IfSome, OnOk, OnErr, map, if◌then◌else◌};
-ghost use Rattle.xt_base.specs.declared.file.Location.{Location};
+ghost use Rattle.xt_messages.specs.declared.file.Location.{Location};
 ghost use Rattle.xt_base.specs.declared.ids.NodeId.{NodeId};
 ghost use Rattle.xt_base.specs.declared.ids.Boot.{Boot};
-ghost use Rattle.xt_base.specs.declared.message.Payload.TheVariants as payload;
+ghost use Rattle.xt_messages.specs.declared.message.Payload.TheVariants as payload;
 ghost use Rattle.xt_protocol.specs.LeaseRows.{renewal_takes_under};
 ghost use Rattle.file_lease.specs.Moves.{IsSettled};
 ghost use Rattle.osd_invariants.specs.Sound.{IsStored, ListUnder};
@@ -21,10 +21,8 @@ use flease_register::{ReadAnswer, WriteAnswer};
 use replica_state::Replica;
 use std::alloc::Global;
 use step_outputs::{message, quiet, sends, sends_one, shows};
-use xt_base::{
-    Ballot, Boot, FileId, Lease, Mark, Msgs, NodeId, OptionalBox, OutOfMemory, Payload, Record,
-    Reply, Seq,
-};
+use xt_base::{Ballot, Boot, FileId, Lease, NodeId, OptionalBox, OutOfMemory, Seq};
+use xt_messages::{Mark, Msgs, Payload, Record, Reply};
 use xt_protocol::Turned;
 
 /// The message that answers a Read.

@@ -8,7 +8,8 @@ ghost use Rattle.file_lease.specs.Moves.{IsSettled};
 use crate::parts::Parts;
 use file_lease::Expiry;
 use step_outputs::{quiet, sends};
-use xt_base::{OutOfMemory, Reply};
+use xt_base::OutOfMemory;
+use xt_messages::Reply;
 use xt_protocol::Turned;
 
 /// All asks are told that there is no lease: the issued one unless it was told, then those that wait.

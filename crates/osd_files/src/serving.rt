@@ -1,8 +1,8 @@
 ghost use Rattle.std.specs.Prelude.{◌≡◌, ◌<◌, ◌^◌, ◌&&◌, List, false, not, IfOk, is_some};
 ghost use Rattle.std.specs.List.{AllByRecursion};
-ghost use Rattle.xt_base.specs.Limits.{FitsOp};
-ghost use Rattle.xt_base.specs.declared.file.FileHead.{FileHead};
-ghost use Rattle.xt_base.specs.declared.file.ObjectVersion.{ObjectVersion};
+ghost use Rattle.xt_messages.specs.Limits.{FitsOp};
+ghost use Rattle.xt_messages.specs.declared.file.FileHead.{FileHead};
+ghost use Rattle.xt_messages.specs.declared.file.ObjectVersion.{ObjectVersion};
 ghost use Rattle.kept_bodies.specs.KeptBodies.{fault_of, ReadsOnly};
 ghost use Rattle.osd_invariants.specs.Sound.{IsStored};
 ghost use Rattle.osd_invariants.specs.OpenAsks.{IsWithinLimits};

@@ -11,7 +11,7 @@ use flease_register::Acceptor;
 use osd_asks::OpenAsks;
 use replica_state::Replica;
 use std::alloc::Global;
-use xt_base::FileRow;
+use xt_messages::FileRow;
 
 /// A file at an OSD that has just started, from what its records say.
 pub fn file_from(alloc: Global, awake: &Awake, row: FileRow) -> Parts

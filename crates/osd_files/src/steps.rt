@@ -1,6 +1,6 @@
 ghost use Rattle.std.specs.Prelude.{◌≡◌, ◌<◌, ◌^◌, Bool, IfOk};
-ghost use Rattle.xt_base.specs.Limits.{FitsOp, FitsPayload, FitsStripe};
-ghost use Rattle.xt_base.specs.declared.file.Capability.{Capability};
+ghost use Rattle.xt_messages.specs.Limits.{FitsOp, FitsPayload, FitsStripe};
+ghost use Rattle.xt_messages.specs.declared.file.Capability.{Capability};
 ghost use Rattle.xt_protocol.specs.SeenBodies.{body_by};
 ghost use Rattle.file_lease.specs.Moves.{IsSettled};
 ghost use Rattle.kept_bodies.specs.KeptBodies.{fault_of, ReadsOnly};
@@ -18,7 +18,8 @@ use crate::overdue::expire;
 use crate::parts::Parts;
 use kept_bodies::{Bodies, StepErr};
 use step_outputs::quiet;
-use xt_base::{Capability, Kind, NodeId, Op, OpId, Payload};
+use xt_base::{NodeId, OpId};
+use xt_messages::{Capability, Kind, Op, Payload};
 use xt_protocol::Turned;
 
 /// An ask by the kind of its file; those of striped files do nothing yet.

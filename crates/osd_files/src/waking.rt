@@ -1,5 +1,5 @@
 ghost use Rattle.std.specs.Prelude.{◌≡◌, ◌<◌, ◌^◌, ℕ, List, Bool, IfOk};
-ghost use Rattle.xt_base.specs.declared.message.Payload.TheVariants as payload;
+ghost use Rattle.xt_messages.specs.declared.message.Payload.TheVariants as payload;
 ghost use Rattle.xt_protocol.specs.LeaseRows.{Held, held};
 ghost use Rattle.file_lease.specs.Moves.{IsSettled};
 ghost use Rattle.osd_invariants.specs.Sound.{IsStored, ListUnder};
@@ -14,7 +14,8 @@ use crate::overdue::expire;
 use crate::parts::Parts;
 use std::alloc::Global;
 use step_outputs::{message, quiet, sends};
-use xt_base::{Ballot, FileId, Members, Msgs, NodeId, OutOfMemory, Payload, Seq};
+use xt_base::{Ballot, FileId, Members, NodeId, OutOfMemory, Seq};
+use xt_messages::{Msgs, Payload};
 use xt_protocol::Turned;
 
 /// What a Wake gives at a file: of what was overdue, and of what is sent again or renewed.

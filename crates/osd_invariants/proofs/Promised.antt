@@ -4,8 +4,8 @@ use Rattle.std.specs.Prelude.{cond}
 use Rattle.xt_base.specs.declared.ids.NodeId.{NodeId}
 use Rattle.xt_base.specs.declared.ids.FileId.{FileId}
 use Rattle.xt_base.specs.declared.ids.Epoch.{Epoch}
-use Rattle.xt_base.specs.declared.message.Payload.TheVariants as payload
-use Rattle.xt_base.specs.declared.record.Record.TheVariants as kept
+use Rattle.xt_messages.specs.declared.message.Payload.TheVariants as payload
+use Rattle.xt_messages.specs.declared.record.Record.TheVariants as kept
 use Rattle.osd_rows.specs.declared.Acted.{Acted}
 use Rattle.xt_protocol.specs.Stamps.{is_earlier}
 use Rattle.osd_rows.specs.ReplicaRows.{gathered, kept_after, refused, after_record, only}

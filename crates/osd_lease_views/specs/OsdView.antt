@@ -1,8 +1,8 @@
 -- what the step of an OSD shows of the lease of each file
 use Rattle.std.specs.Prelude.{◌≡◌, ℕ, false, max, Some, [], map, flat_map}
 use Rattle.xt_base.specs.declared.ids.FileId.{FileId}
-use Rattle.xt_base.specs.declared.message.Msg.{Msg}
-use Rattle.xt_base.specs.declared.event.Event.TheVariants as event
+use Rattle.xt_messages.specs.declared.message.Msg.{Msg}
+use Rattle.xt_messages.specs.declared.event.Event.TheVariants as event
 use Rattle.xt_protocol.specs.FileIds.{is_file}
 use Rattle.xt_protocol.specs.LeaseRows.{Awake, awake_at}
 use Rattle.osd_rows.specs.FileStates.{FileState, Site, FileStep, and_then}

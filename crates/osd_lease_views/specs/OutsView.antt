@@ -2,7 +2,7 @@
 use Rattle.std.specs.Prelude.{◌≡◌, false, []}
 use Rattle.xt_base.specs.declared.ids.NodeId.{NodeId}
 use Rattle.xt_base.specs.declared.ids.FileId.{FileId}
-use Rattle.xt_base.specs.declared.message.Payload.{Payload}
+use Rattle.xt_messages.specs.declared.message.Payload.{Payload}
 use Rattle.xt_protocol.specs.FileIds.{is_file}
 use Rattle.osd_rows.specs.FileStates.{FileState, Site, FileStep}
 use Rattle.osd_rows.specs.FileSteps.{step_of_file}

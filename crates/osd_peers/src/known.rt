@@ -4,7 +4,8 @@ ghost use Rattle.osd_rows.specs.Primaries as rows;
 
 use osd_rows::Nodes;
 use version_lists::has_version;
-use xt_base::{HeldPairs, NodeId, ObjectVersion, OutOfMemory, has_node};
+use xt_base::{NodeId, OutOfMemory, has_node};
+use xt_messages::{HeldPairs, ObjectVersion};
 
 /// Puts the node among these, once.
 pub fn add_node(nodes: &mut Nodes, node: NodeId) -> Result<(), OutOfMemory>

@@ -4,7 +4,8 @@ ghost use Rattle.osd_rows.specs.Primaries as rows;
 use osd_rows::{Peer, PeerState};
 use std::alloc::Global;
 use step_outputs::message;
-use xt_base::{Copies, Epoch, FileId, Msgs, NodeId, OutOfMemory, Payload, Seq};
+use xt_base::{Copies, Epoch, FileId, NodeId, OutOfMemory, Seq};
+use xt_messages::{Msgs, Payload};
 
 /// What was sent last to a peer that is brought up to date: a body or a head.
 pub fn last_sent(

@@ -1,14 +1,14 @@
 -- the head after an update still rises, and it is the one that the record makes, whatever else is kept of the file
 use Rattle.std.proofs.Common.{◌≡◌, ◌==◌, true, List, refl, ap}
 use Rattle.std.specs.Prelude.{Option, Some, None}
-use Rattle.xt_base.specs.declared.file.ObjectVersion.{ObjectVersion}
-use Rattle.xt_base.specs.declared.file.FileHead.{FileHead}
-use Rattle.xt_base.specs.declared.file.Update.{Update}
-use Rattle.xt_base.specs.declared.record.Record.{Record}
-use Rattle.xt_base.specs.declared.record.Record.TheVariants as kept
-use Rattle.xt_base.specs.declared.record.FileRow.{FileRow}
+use Rattle.xt_messages.specs.declared.file.ObjectVersion.{ObjectVersion}
+use Rattle.xt_messages.specs.declared.file.FileHead.{FileHead}
+use Rattle.xt_messages.specs.declared.file.Update.{Update}
+use Rattle.xt_messages.specs.declared.record.Record.{Record}
+use Rattle.xt_messages.specs.declared.record.Record.TheVariants as kept
+use Rattle.xt_messages.specs.declared.record.FileRow.{FileRow}
 use Rattle.xt_base.specs.declared.TheConstants.{NO_OBJECT}
-use Rattle.xt_base.specs.Limits.{rise}
+use Rattle.xt_messages.specs.Limits.{rise}
 use Rattle.xt_protocol.specs.Heads.{head_after, versions_below}
 use Rattle.osd_rows.specs.ReplicaRows.{kept_after}
 use Rattle.version_lists.specs.Rising.{HeadRises}

@@ -9,13 +9,13 @@ mod plain;
 mod serving;
 
 ghost use Rattle.std.specs.Prelude.{◌≡◌, Option};
-ghost use Rattle.xt_base.specs.declared.record.Record.{Record};
-ghost use Rattle.xt_base.specs.declared.record.FileRow.{FileRow};
+ghost use Rattle.xt_messages.specs.declared.record.Record.{Record};
+ghost use Rattle.xt_messages.specs.declared.record.FileRow.{FileRow};
 ghost use Rattle.osd_rows.specs.ReplicaRows.{kept_after};
 ghost use Rattle.osd_plain.specs.Rows.{PlainFile, plain_after};
 
 pub use plain::Plain;
-use xt_base::{Record, Reply};
+use xt_messages::{Record, Reply};
 
 /// What a step gives: at most one record, which is kept first, and then at most one reply.
 #[derive(Drop)]

@@ -1,5 +1,6 @@
 ghost use Rattle.std.specs.Prelude.{◌≡◌, ◌≤◌, false, Some, IfOk, OnErr};
-ghost use Rattle.xt_base.specs.Limits.{FitsLocation, FitsOp, FitsOpId, IsCount};
+ghost use Rattle.xt_base.specs.FieldLimits.{IsCount};
+ghost use Rattle.xt_messages.specs.Limits.{FitsLocation, FitsOp, FitsOpId};
 ghost use Rattle.xt_protocol.specs.SeenBodies.{body_by};
 ghost use Rattle.osd_rows.specs.AskRows.{leaves_object};
 ghost use Rattle.kept_bodies.specs.KeptBodies.{fault_of, ReadsOnly};
@@ -14,10 +15,8 @@ use osd_decisions::{Standing, standing_of};
 use std::alloc::Global;
 use std::marker::Model;
 use version_lists::update_head;
-use xt_base::{
-    FileHead, FileId, Location, NodeId, OBJECTS, Octets, Op, OpId, OutOfMemory, Record, Reply,
-    Update,
-};
+use xt_base::{FileId, NodeId, OBJECTS, Octets, OpId, OutOfMemory};
+use xt_messages::{FileHead, Location, Op, Record, Reply, Update};
 
 /// A striped file at one of its members. Contracts see the file, the member and the head over the objects that it owns.
 #[derive(Drop)]

@@ -1,5 +1,5 @@
 ghost use Rattle.std.specs.Prelude.{◌≡◌, ◌≤◌, length, IfOk};
-ghost use Rattle.xt_base.specs.Limits.{FitsOp};
+ghost use Rattle.xt_messages.specs.Limits.{FitsOp};
 ghost use Rattle.xt_protocol.specs.SeenBodies.{body_by};
 ghost use Rattle.xt_protocol.specs.Heads.{head_after};
 ghost use Rattle.osd_rows.specs.ReplicaRows.{head_fits};
@@ -12,10 +12,8 @@ use kept_bodies::{Bodies, StepErr, behind, cut_or_filled};
 use osd_decisions::{present_body, update_of};
 use std::alloc::Global;
 use version_lists::{sessions_after, version_of, versions_after};
-use xt_base::{
-    CLIENTS, COUNTS, Denial, Epoch, FileHead, FileId, Members, NodeId, OBJECTS, Op, OpId, Reply,
-    Stamp, Update,
-};
+use xt_base::{CLIENTS, COUNTS, Epoch, FileId, Members, NodeId, OBJECTS, OpId, Stamp};
+use xt_messages::{Denial, FileHead, Op, Reply, Update};
 
 /// Nothing comes of an operation.
 pub fn nothing() -> PlainActed

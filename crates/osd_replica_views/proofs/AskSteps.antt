@@ -2,9 +2,9 @@
 use Rattle.std.proofs.Common.{ℕ, List, [], ◌∷◌, refl, sym, subst, inl, inr, Option, Some, None}
 use Rattle.std.specs.List.{AllByRecursion}
 use Rattle.xt_base.specs.declared.ids.NodeId.{NodeId}
-use Rattle.xt_base.specs.declared.file.Op.{Op}
-use Rattle.xt_base.specs.declared.message.Payload.{Payload}
-use Rattle.xt_base.specs.declared.message.Payload.TheVariants as payload
+use Rattle.xt_messages.specs.declared.file.Op.{Op}
+use Rattle.xt_messages.specs.declared.message.Payload.{Payload}
+use Rattle.xt_messages.specs.declared.message.Payload.TheVariants as payload
 use Rattle.osd_rows.specs.Asks.{no_asks}
 use Rattle.osd_rows.specs.FileStates.{FileState, Site, FileStep, and_then}
 use Rattle.osd_rows.specs.FileSteps.{step_of_file, wake_of_file}

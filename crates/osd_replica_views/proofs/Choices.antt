@@ -3,7 +3,7 @@ use Rattle.std.proofs.Common.{◌≡◌, Bool, true, false, List, [], ◌∷◌,
 use Rattle.std.specs.Prelude.{cond, nat_lt}
 use Rattle.std.specs.List.{best_of, fold, cons_option}
 use Rattle.xt_base.specs.declared.ids.NodeId.{NodeId}
-use Rattle.xt_base.specs.declared.file.FileHead.{FileHead}
+use Rattle.xt_messages.specs.declared.file.FileHead.{FileHead}
 use Rattle.xt_protocol.specs.Stamps.{is_stamp, is_below}
 use Rattle.xt_protocol.proofs.Stamps.{stamp-equal}
 use Rattle.osd_rows.specs.Choice.{is_better, chosen_of}

@@ -2,7 +2,7 @@
 use Rattle.std.proofs.Common.{◌≡◌, ℕ, ◌⊎◌, List, [], ◌∷◌, refl, sym, ap, ◌∙◌, subst, inl, inr, if◌then◌else◌, ◌==◌, Some}
 use Rattle.std.specs.Prelude.{cond}
 use Rattle.xt_base.specs.declared.ids.NodeId.{NodeId}
-use Rattle.xt_base.specs.declared.file.FileHead.{FileHead}
+use Rattle.xt_messages.specs.declared.file.FileHead.{FileHead}
 use Rattle.osd_rows.specs.Primaries.{peer_in, with_peer, reported}
 use Rattle.osd_rows.specs.declared.Peer.{Peer}
 use Rattle.osd_rows.specs.declared.PeerState.{PeerState}

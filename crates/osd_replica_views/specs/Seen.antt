@@ -7,14 +7,14 @@ use Rattle.xt_base.specs.declared.ids.FileId.{FileId}
 use Rattle.xt_base.specs.declared.ids.Epoch.{Epoch}
 use Rattle.xt_base.specs.declared.ids.OpId.{OpId}
 use Rattle.xt_base.specs.declared.ids.Stamp.{Stamp}
-use Rattle.xt_base.specs.declared.event.Mark.{Mark}
-use Rattle.xt_base.specs.declared.event.Mark.TheVariants as mark
-use Rattle.xt_base.specs.declared.file.FileHead.{FileHead}
-use Rattle.xt_base.specs.declared.file.ObjectVersion.{ObjectVersion}
-use Rattle.xt_base.specs.declared.file.Op.{Op}
-use Rattle.xt_base.specs.declared.file.Op.TheVariants as op
-use Rattle.xt_base.specs.declared.message.Msg.{Msg}
-use Rattle.xt_base.specs.declared.record.FileRow.{FileRow}
+use Rattle.xt_messages.specs.declared.event.Mark.{Mark}
+use Rattle.xt_messages.specs.declared.event.Mark.TheVariants as mark
+use Rattle.xt_messages.specs.declared.file.FileHead.{FileHead}
+use Rattle.xt_messages.specs.declared.file.ObjectVersion.{ObjectVersion}
+use Rattle.xt_messages.specs.declared.file.Op.{Op}
+use Rattle.xt_messages.specs.declared.file.Op.TheVariants as op
+use Rattle.xt_messages.specs.declared.message.Msg.{Msg}
+use Rattle.xt_messages.specs.declared.record.FileRow.{FileRow}
 use Rattle.xt_protocol.specs.declared.Turned.{Turned}
 use Rattle.xt_protocol.specs.Objects.{readable}
 use Rattle.xt_protocol.specs.Stamps.{has_version}

@@ -7,7 +7,7 @@
 #![tactic(auto)]
 
 ghost use Rattle.std.specs.Prelude.{ℕ, List};
-ghost use Rattle.xt_base.specs.declared.file.Op.{Op};
+ghost use Rattle.xt_messages.specs.declared.file.Op.{Op};
 ghost use Rattle.osd_replica_views.specs.FileView.{AlwaysShowsFile, AlwaysStops, LeavesOthers, AsksStay};
 
 /// Each step of a file on a message that was sent, and on a Wake, is a list of small steps of its node in the world of heads: what is

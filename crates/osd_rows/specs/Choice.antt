@@ -2,8 +2,8 @@
 use Rattle.std.specs.Prelude.{Bool, ◌&&◌, ◌||◌, ◌==◌, nat_lt, not, List, filter}
 use Rattle.std.specs.List.{best_of}
 use Rattle.xt_base.specs.declared.ids.NodeId.{NodeId}
-use Rattle.xt_base.specs.declared.file.ObjectVersion.{ObjectVersion}
-use Rattle.xt_base.specs.declared.file.FileHead.{FileHead}
+use Rattle.xt_messages.specs.declared.file.ObjectVersion.{ObjectVersion}
+use Rattle.xt_messages.specs.declared.file.FileHead.{FileHead}
 use Rattle.xt_protocol.specs.Stamps.{is_stamp, is_below, has_version}
 
 -- whether the first report is better: a greater stamp; among equal ones the own node's, and then the least node's

@@ -3,14 +3,14 @@ use Rattle.std.specs.Prelude.{ℕ, Bool, ◌&&◌, ◌==◌, nat_lt, nat_le, not
 use Rattle.xt_base.specs.declared.ids.FileId.{FileId}
 use Rattle.xt_base.specs.declared.ids.Epoch.{Epoch}
 use Rattle.xt_base.specs.declared.ids.Stamp.{Stamp}
-use Rattle.xt_base.specs.declared.file.ObjectVersion.{ObjectVersion}
-use Rattle.xt_base.specs.declared.file.FileHead.{FileHead}
-use Rattle.xt_base.specs.declared.file.Update.{Update}
-use Rattle.xt_base.specs.declared.message.Payload.{Payload}
-use Rattle.xt_base.specs.declared.message.Payload.TheVariants as payload
-use Rattle.xt_base.specs.declared.record.Record.{Record}
-use Rattle.xt_base.specs.declared.record.Record.TheVariants as kept
-use Rattle.xt_base.specs.declared.record.FileRow.{FileRow}
+use Rattle.xt_messages.specs.declared.file.ObjectVersion.{ObjectVersion}
+use Rattle.xt_messages.specs.declared.file.FileHead.{FileHead}
+use Rattle.xt_messages.specs.declared.file.Update.{Update}
+use Rattle.xt_messages.specs.declared.message.Payload.{Payload}
+use Rattle.xt_messages.specs.declared.message.Payload.TheVariants as payload
+use Rattle.xt_messages.specs.declared.record.Record.{Record}
+use Rattle.xt_messages.specs.declared.record.Record.TheVariants as kept
+use Rattle.xt_messages.specs.declared.record.FileRow.{FileRow}
 use Rattle.xt_base.specs.declared.TheConstants.{OBJECTS, CLIENTS, COUNTS}
 use Rattle.xt_protocol.specs.Heads.{head_after}
 use Rattle.xt_protocol.specs.Folds.{row_after, body_of}

@@ -4,10 +4,8 @@
 //! The types here are the states that the rows change. A type that holds a lease's state stands in `specs/`.
 #![tactic(auto)]
 
-use xt_base::{
-    Epoch, FileHead, FileId, HeldPairs, NodeId, ObjectVersion, Octets, Op, OpId, Payload, Record,
-    Seq, Stamp, Update, Versions,
-};
+use xt_base::{Epoch, FileId, NodeId, Octets, OpId, Seq, Stamp};
+use xt_messages::{FileHead, HeldPairs, ObjectVersion, Op, Payload, Record, Update, Versions};
 
 /// Where a replica stands: its node, its file, and the size of the file's objects in bytes.
 #[derive(Clone, Copy, PartialEq, Eq)]
@@ -132,7 +130,7 @@ pub struct Asks {
 }
 
 ghost use Rattle.std.specs.Prelude.{◌≡◌, ℕ, max, None, List, [], ◌∷◌};
-ghost use Rattle.xt_base.specs.declared.event.Event.{Event};
+ghost use Rattle.xt_messages.specs.declared.event.Event.{Event};
 ghost use Rattle.xt_protocol.specs.LeaseRows.{awake_at};
 ghost use Rattle.osd_rows.specs.OsdSteps.{Outside, OsdState, step_of_osd};
 ghost use Rattle.osd_rows.specs.Examples.{marks_of, trio, alone, alone_marks, catching_up, catching_up_marks, turns_edge, turns_edge_marks, repeats, repeats_marks, forgotten_promises, vanished, vanished_marks, found, found_marks, silence, silence_marks, told_to, outrun, outrun_reply, deadline, deadline_reply, behind_issued, behind_issued_marks, committed_then, too_far_reply, file_1, ahead, shorter, taken, missed, epoch_of, promised_head, promises, refuses, stamp_of};

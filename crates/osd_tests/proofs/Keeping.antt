@@ -5,19 +5,19 @@ use Rattle.std.specs.Option.{IfSome}
 use Rattle.std.specs.List.{AllByRecursion, fold}
 use Rattle.disk_model.specs.declared.plan.Stop.{Stop}
 use Rattle.xt_base.specs.TimeSettings.{TimeSettings, AreTimes}
-use Rattle.xt_base.specs.Limits.{FitsLocation, FitsStripe}
+use Rattle.xt_messages.specs.Limits.{FitsLocation, FitsStripe}
 use Rattle.xt_base.specs.declared.ids.NodeId.{NodeId}
 use Rattle.xt_base.specs.declared.ids.Boot.{Boot}
-use Rattle.xt_base.specs.declared.file.Location.{Location}
-use Rattle.xt_base.specs.declared.record.FileRow.{FileRow}
-use Rattle.xt_base.specs.declared.record.Folded.{Folded}
-use Rattle.xt_base.specs.declared.record.Record.TheVariants as kept
+use Rattle.xt_messages.specs.declared.file.Location.{Location}
+use Rattle.xt_messages.specs.declared.record.FileRow.{FileRow}
+use Rattle.xt_messages.specs.declared.record.Folded.{Folded}
+use Rattle.xt_messages.specs.declared.record.Record.TheVariants as kept
 use Rattle.xt_protocol.specs.declared.Turned.{Turned}
 use Rattle.xt_base.specs.declared.ids.FileId.{FileId}
-use Rattle.xt_base.specs.declared.event.Event.{Event}
-use Rattle.xt_base.specs.declared.event.Event.TheVariants as event
-use Rattle.xt_base.specs.declared.message.Msg.{Msg}
-use Rattle.xt_base.specs.declared.record.Record.{Record}
+use Rattle.xt_messages.specs.declared.event.Event.{Event}
+use Rattle.xt_messages.specs.declared.event.Event.TheVariants as event
+use Rattle.xt_messages.specs.declared.message.Msg.{Msg}
+use Rattle.xt_messages.specs.declared.record.Record.{Record}
 use Rattle.xt_protocol.specs.FileIds.{is_file}
 use Rattle.xt_protocol.specs.Folds.{fold_of, folded_after, nothing_kept, row_in, new_row}
 use Rattle.xt_protocol.specs.LeaseRows.{Silent, Awake, awake_at, is_silent}

@@ -1,9 +1,9 @@
 //! An OSD on a disk: frames come in, and frames go out.
 ghost use Rattle.std.specs.Prelude.{◌≡◌, ◌<◌, ◌^◌, ◌++◌, ◌∷◌, [], Some};
 ghost use Rattle.std.specs.List.{AllByRecursion};
-ghost use Rattle.xt_base.specs.Limits.{FitsMessage, FitsRecord};
+ghost use Rattle.xt_messages.specs.Limits.{FitsMessage, FitsRecord};
 ghost use Rattle.xt_base.specs.TimeSettings.{AreTimes};
-ghost use Rattle.xt_base.specs.declared.record.Record.TheVariants as kept;
+ghost use Rattle.xt_messages.specs.declared.record.Record.TheVariants as kept;
 ghost use Rattle.xt_protocol.specs.Folds.{IsInPlace, fold_of};
 ghost use Rattle.osd_core.specs.Events.{FitsEvent};
 ghost use Rattle.world_hull.specs.Appends.{IsInAppend, kept_by};
@@ -21,10 +21,9 @@ use std::marker::Model;
 use std::mem;
 use std::process::Abort;
 use step_outputs::quiet;
-use xt_base::{
-    Boot, COUNTS, Copies, Event, FileId, Folded, Marks, Msg, NodeId, Octets, Record, Stamp, Times,
-};
+use xt_base::{Boot, COUNTS, Copies, FileId, NodeId, Octets, Stamp, Times};
 use xt_frames::{decode, encode};
+use xt_messages::{Event, Folded, Marks, Msg, Record};
 use xt_protocol::Turned;
 
 /// What is told where a test stops that can't go on.
@@ -103,7 +102,7 @@ pub struct Node {
 
 impl Model for Node {
     ghost use Rattle.std.specs.Prelude.{List};
-    ghost use Rattle.xt_base.specs.declared.record.Record.{Record};
+    ghost use Rattle.xt_messages.specs.declared.record.Record.{Record};
     ghost use Rattle.osd_tests.specs.Keeping.{IsNode};
 
     ghost Value = { List Record };

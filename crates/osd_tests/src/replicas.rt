@@ -1,6 +1,6 @@
 //! A replica: a promise that is torn, and a head with older versions.
 ghost use Rattle.std.specs.Prelude.{Some};
-ghost use Rattle.xt_base.specs.Limits.{FitsHead};
+ghost use Rattle.xt_messages.specs.Limits.{FitsHead};
 ghost use Rattle.world_hull.specs.Appends.{IsInAppend};
 
 use crate::node::{Node, OTHERWISE};
@@ -10,10 +10,8 @@ use replica_state::{Acted, Replica};
 use std::alloc::Global;
 use std::process::Abort;
 use version_lists::hold;
-use xt_base::{
-    Copies, Epoch, FileHead, FileId, HeldSet, NodeId, ObjectVersion, Payload, Record, Stamp, Times,
-    VolumeId,
-};
+use xt_base::{Copies, Epoch, FileId, NodeId, Stamp, Times, VolumeId};
+use xt_messages::{FileHead, HeldSet, ObjectVersion, Payload, Record};
 
 /// The frame of a Gather of file 1 from a node to node 2, with the epoch of this number and that node.
 const fn gather(node: u8, number: u8) -> [u8; 50] {

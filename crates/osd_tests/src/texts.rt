@@ -3,8 +3,9 @@ use crate::node::{Letter, OTHERWISE};
 use hex::encode;
 use std::alloc::Global;
 use std::process::Abort;
-use xt_base::{Mark, Octets, OpId, Payload, Reply};
+use xt_base::{Octets, OpId};
 use xt_frames::decode;
+use xt_messages::{Mark, Payload, Reply};
 
 /// The kinds of messages, by the number that a frame has as its sixth byte, from 1 on.
 static KINDS: [&str; 19] = [

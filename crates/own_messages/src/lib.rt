@@ -11,7 +11,8 @@ ghost use Rattle.own_messages.specs.Own.{IsNext};
 use std::alloc::Global;
 use std::collections::VecDeque;
 use std::marker::Model;
-use xt_base::{Msg, Msgs, NodeId, OutOfMemory};
+use xt_base::{NodeId, OutOfMemory};
+use xt_messages::{Msg, Msgs};
 
 /// The messages of the stepping node to itself that it hasn't handled. Contracts see the list, the next one first.
 #[derive(Drop)]
@@ -21,7 +22,7 @@ pub struct OwnMessages {
 
 impl Model for OwnMessages {
     ghost use Rattle.std.specs.Prelude.{List};
-    ghost use Rattle.xt_base.specs.declared.message.Msg.{Msg};
+    ghost use Rattle.xt_messages.specs.declared.message.Msg.{Msg};
 
     ghost Value = { List Msg };
 

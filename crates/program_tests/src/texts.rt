@@ -4,10 +4,8 @@ use std::alloc::Global;
 use std::process::Abort;
 use std::test::*;
 use time_line::{Entry, Line};
-use xt_base::{
-    Answered, Answers, AskRefusal, Call, Limited, NodeId, Octets, OpId, Outcome, Retry, Rule,
-    Status,
-};
+use xt_base::{NodeId, Octets, OpId};
+use xt_messages::{Answered, Answers, AskRefusal, Call, Limited, Outcome, Retry, Rule, Status};
 
 /// Lines that a schedule may have behind its first.
 static LINES: &str = "\
@@ -144,13 +142,23 @@ static FIRST: [&str; 3] = [
     "times 1099511627775 549755813887",
 ];
 
+/// The line must be read, and printed as it was.
+fn must_be_read(rt: &impl Abort, alloc: Global, text: &str, first: bool) {
+    assert!(rt; is_read(alloc, text, first), "{text}");
+}
+
+/// No line may be spelled so.
+fn must_be_malformed(rt: &impl Abort, alloc: Global, text: &str, first: bool) {
+    assert!(rt; is_malformed(alloc, text, first), "{text}");
+}
+
 #[test]
 fn lines_are_read(rt: HostRuntime) {
     for text in LINES.split('\n') {
-        assert!(rt; is_read(rt.alloc(), text, false), "{text}");
+        must_be_read(&rt, rt.alloc(), text, false);
     }
     for text in &FIRST {
-        assert!(rt; is_read(rt.alloc(), text, true), "{text}");
+        must_be_read(&rt, rt.alloc(), text, true);
     }
 }
 
@@ -172,13 +180,13 @@ static TIMES: [&str; 3] = ["times 1000 500", "times 1000 0", "times 109951162777
 #[test]
 fn other_lines_are_malformed(rt: HostRuntime) {
     for text in MALFORMED.split('\n') {
-        assert!(rt; is_malformed(rt.alloc(), text, false), "{text}");
+        must_be_malformed(&rt, rt.alloc(), text, false);
     }
     for text in &OTHERS {
-        assert!(rt; is_malformed(rt.alloc(), text, false), "{text}");
+        must_be_malformed(&rt, rt.alloc(), text, false);
     }
     for text in &TIMES {
-        assert!(rt; is_malformed(rt.alloc(), text, true), "{text}");
+        must_be_malformed(&rt, rt.alloc(), text, true);
     }
 }
 

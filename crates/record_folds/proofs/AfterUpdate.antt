@@ -2,12 +2,12 @@
 use Rattle.std.proofs.Common.{◌≡◌, ◌↔◌, ◌⊎◌, inl, inr, ◌==◌, ◌+◌, ◌<◌, ◌^◌, ◌-◌, true, false, List, ap, ◌∙◌, arith}
 use Rattle.std.proofs.lemmas.Bool.Decides.{nat_tests}
 use Rattle.std.specs.List.{AllByRecursion}
-use Rattle.xt_base.specs.Limits.{rise, FitsUpdate, FitsStamp, FitsOpId, FitsMark, IsObjectOrNone, FitsVersion, FitsSession, FitsHead, is_at_most}
+use Rattle.xt_messages.specs.Limits.{rise, FitsUpdate, FitsStamp, FitsOpId, FitsMark, IsObjectOrNone, FitsVersion, FitsSession, FitsHead, is_at_most}
 use Rattle.xt_base.specs.declared.ids.Epoch.{Epoch}
-use Rattle.xt_base.specs.declared.file.ObjectVersion.{ObjectVersion}
-use Rattle.xt_base.specs.declared.file.Session.{Session}
-use Rattle.xt_base.specs.declared.file.FileHead.{FileHead}
-use Rattle.xt_base.specs.declared.file.Update.{Update}
+use Rattle.xt_messages.specs.declared.file.ObjectVersion.{ObjectVersion}
+use Rattle.xt_messages.specs.declared.file.Session.{Session}
+use Rattle.xt_messages.specs.declared.file.FileHead.{FileHead}
+use Rattle.xt_messages.specs.declared.file.Update.{Update}
 use Rattle.xt_base.specs.declared.TheConstants.{NO_OBJECT}
 use Rattle.xt_protocol.specs.Heads.{first_epoch, versions_below, head_after}
 use Rattle.xt_protocol.specs.Folds.{FollowsHead}

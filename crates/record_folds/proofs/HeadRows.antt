@@ -4,8 +4,8 @@ use Rattle.std.proofs.lemmas.Grind.{common_steps}
 use Rattle.std.proofs.Math.ListN.{set}
 use Rattle.std.proofs.Math.Seq.{take-suc}
 use Rattle.xt_base.specs.declared.ids.Stamp.{Stamp}
-use Rattle.xt_base.specs.declared.file.ObjectVersion.{ObjectVersion}
-use Rattle.xt_base.specs.declared.file.Session.{Session}
+use Rattle.xt_messages.specs.declared.file.ObjectVersion.{ObjectVersion}
+use Rattle.xt_messages.specs.declared.file.Session.{Session}
 use Rattle.xt_protocol.specs.Heads.{with_version, with_session}
 
 passed : {R : Type 0} (rows rest : List R) (i : ℕ) (d : R) → i < length rows → take i rows ++ (get_or rows i d ∷ rest) ≡ take (i + 1) rows ++ rest

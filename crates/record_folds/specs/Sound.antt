@@ -1,12 +1,12 @@
 -- what a folding knows of its rows: their lists rise, and are within their limits where the records were
 use Rattle.std.specs.Prelude.{◌≤◌, Bool, List, length, IsTrue}
 use Rattle.std.specs.List.{AllByRecursion}
-use Rattle.xt_base.specs.Limits.{FitsEpoch, FitsStamp, FitsOpId, FitsVersion, FitsSession, FitsHead, IsObjectOrNone}
-use Rattle.xt_base.specs.declared.file.FileHead.{FileHead}
-use Rattle.xt_base.specs.declared.record.FileRow.{FileRow}
-use Rattle.xt_base.specs.declared.record.Record.{Record}
-use Rattle.xt_base.specs.declared.record.Record.TheVariants as kept
-use Rattle.xt_base.specs.declared.file.Update.{Update}
+use Rattle.xt_messages.specs.Limits.{FitsEpoch, FitsStamp, FitsOpId, FitsVersion, FitsSession, FitsHead, IsObjectOrNone}
+use Rattle.xt_messages.specs.declared.file.FileHead.{FileHead}
+use Rattle.xt_messages.specs.declared.record.FileRow.{FileRow}
+use Rattle.xt_messages.specs.declared.record.Record.{Record}
+use Rattle.xt_messages.specs.declared.record.Record.TheVariants as kept
+use Rattle.xt_messages.specs.declared.file.Update.{Update}
 use Rattle.xt_base.specs.declared.TheConstants.{CLIENTS, OBJECTS}
 use Rattle.xt_protocol.specs.Heads.{head_after}
 use Rattle.version_lists.specs.Rising.{HeadRises}

@@ -1,7 +1,7 @@
 ghost use Rattle.std.specs.Prelude.{◌≡◌, ◌↔◌, IsTrue, IfOk, IfSome, OnOk, OnErr, MatchOption, Contains, None, Some};
 ghost use Rattle.std.specs.List.{All};
 ghost use Rattle.xt_protocol.specs.Heads.{head_after};
-ghost use Rattle.xt_base.specs.Limits.{FitsRecord, FitsUpdate, is_at_most};
+ghost use Rattle.xt_messages.specs.Limits.{FitsRecord, FitsUpdate, is_at_most};
 ghost use Rattle.xt_protocol.specs.Folds.{row_in, with_row, new_row, row_after, body_of, held_after, boot_after, rows_after, file_of, folded_after, nothing_kept, fold_of, FollowsHead, IsInPlace};
 ghost use Rattle.record_folds.specs.RowPlaces.{FilesRise, IsFilePlace};
 ghost use Rattle.record_folds.specs.Sound.{FitsFold, IsSoundRow, AreSoundRows};
@@ -11,10 +11,8 @@ use crate::order::{are_held, fits_fold, follows_fitting, follows_head};
 use std::alloc::Global;
 use std::marker::Model;
 use version_lists::hold;
-use xt_base::{
-    Boot, Copies, Epoch, FileHead, FileId, FileRow, FileTable, Folded, HeldSet, NO_OBJECT,
-    ObjectVersion, OutOfMemory, Record, Seq, Stamp, Update,
-};
+use xt_base::{Boot, Copies, Epoch, FileId, NO_OBJECT, OutOfMemory, Seq, Stamp};
+use xt_messages::{FileHead, FileRow, FileTable, Folded, HeldSet, ObjectVersion, Record, Update};
 use xt_wire::is_at_most;
 
 /// What records say, taken one by one. Contracts see what those so far say.
@@ -26,7 +24,7 @@ pub struct Folding {
 }
 
 impl Model for Folding {
-    ghost use Rattle.xt_base.specs.declared.record.Folded.{Folded};
+    ghost use Rattle.xt_messages.specs.declared.record.Folded.{Folded};
     ghost use Rattle.record_folds.specs.Sound.{AreSoundRows};
 
     ghost Value = { Folded };

@@ -3,10 +3,8 @@ ghost use Rattle.xt_protocol.specs.Heads.{version_of, session_of, with_version, 
 ghost use Rattle.record_folds.specs.RowPlaces.{versions_after, IsVersionPlace, IsSessionPlace};
 
 use std::alloc::Global;
-use xt_base::{
-    Copies, Epoch, FileHead, NO_OBJECT, NodeId, ObjectVersion, OpId, OutOfMemory, Seq, Session,
-    SizeMark, Stamp, Update,
-};
+use xt_base::{Copies, Epoch, NO_OBJECT, NodeId, OpId, OutOfMemory, Seq, SizeMark, Stamp};
+use xt_messages::{FileHead, ObjectVersion, Session, Update};
 
 /// The stamp of a count of writes outside any primary's tenure.
 pub fn plain_stamp(count: u64) -> Stamp

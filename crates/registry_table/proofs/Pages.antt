@@ -6,7 +6,7 @@ use Rattle.std.specs.BTreeMap.Range.{entries_between, range_contains}
 use Rattle.std.specs.declared.ops.Bound.TheVariants.{Excluded, Unbounded}
 use Rattle.std.proofs.Math.Seq.{take-append_seam}
 use Rattle.std.proofs.lemmas.Grind.{common_steps}
-use Rattle.xt_base.specs.declared.registry.RegistryRow.{RegistryRow}
+use Rattle.xt_messages.specs.declared.registry.RegistryRow.{RegistryRow}
 use Rattle.registry_table.specs.declared.registry.Registered.{Registered}
 use Rattle.registry_table.specs.Registry.{Rows, shown, is_listed}
 

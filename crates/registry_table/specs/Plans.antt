@@ -1,7 +1,7 @@
 -- what a change that was worked out makes of the registry
 use Rattle.std.specs.Prelude.{◌≡◌, ◌<◌, ◌+◌, ◌^◌}
-use Rattle.xt_base.specs.declared.registry.RegistryReq.{RegistryReq}
-use Rattle.xt_base.specs.declared.registry.RegistryReq.TheVariants as wish
+use Rattle.xt_messages.specs.declared.registry.RegistryReq.{RegistryReq}
+use Rattle.xt_messages.specs.declared.registry.RegistryReq.TheVariants as wish
 use Rattle.registry_table.specs.declared.registry.Change.{Change}
 use Rattle.registry_table.specs.declared.registry.Change.TheVariants as change
 use Rattle.registry_table.specs.Registry.{Rows, row_of, version_in, with_row, without_row}

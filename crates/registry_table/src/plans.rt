@@ -4,7 +4,8 @@ ghost use Rattle.registry_table.specs.Plans.{applied, HasRoom};
 
 use crate::registry::{Change, Registered, Registry};
 use std::alloc::Global;
-use xt_base::{COUNTS, Copies, Name, NodeId, OutOfMemory, RegistryAnswer, RegistryReq};
+use xt_base::{COUNTS, Copies, Name, NodeId, OutOfMemory};
+use xt_messages::{RegistryAnswer, RegistryReq};
 
 /// What comes of a request: what it does to the registry, and what is answered.
 #[derive(Drop)]

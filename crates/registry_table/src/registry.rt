@@ -7,7 +7,8 @@ use std::alloc::Global;
 use std::collections::BTreeMap;
 use std::marker::Model;
 use std::ops::Bound;
-use xt_base::{Copies, Name, NodeId, OutOfMemory, RegistryRow, RegistryRows, Seq};
+use xt_base::{Copies, Name, NodeId, OutOfMemory, Seq};
+use xt_messages::{RegistryRow, RegistryRows};
 
 /// How many rows an answer has at most.
 const PAGE: usize = 256;

@@ -1,17 +1,15 @@
 //! Whom a call asks, and what it sends.
 ghost use Rattle.std.specs.Prelude.{◌≡◌, ◌∷◌, [], IfOk, IsSome, Some};
-ghost use Rattle.xt_base.specs.declared.message.Payload.TheVariants as payload;
-ghost use Rattle.xt_base.specs.declared.event.Mark.TheVariants as mark;
+ghost use Rattle.xt_messages.specs.declared.message.Payload.TheVariants as payload;
+ghost use Rattle.xt_messages.specs.declared.event.Mark.TheVariants as mark;
 ghost use Rattle.osd_rows.specs.Turns as turns;
 ghost use Rattle.cluster_runs.specs.Clients as rows;
 
 use cluster_runs::{RunningCall, Tried};
 use std::alloc::Global;
 use step_outputs::{message, one};
-use xt_base::{
-    Call, Capability, Copies, Mark, Marks, Members, Msgs, NodeId, Op, OptionalBox, OutOfMemory,
-    Outcome, Payload, Seq,
-};
+use xt_base::{Copies, Members, NodeId, OptionalBox, OutOfMemory, Seq};
+use xt_messages::{Call, Capability, Mark, Marks, Msgs, Op, Outcome, Payload};
 use xt_protocol::Turned;
 
 /// The first member.

@@ -4,7 +4,7 @@ ghost use Rattle.cluster_runs.specs.declared.ClientState.{ClientState};
 ghost use Rattle.cluster_runs.specs.Steps.{stays};
 ghost use Rattle.cluster_runs.specs.Clients as rows;
 ghost use Rattle.osd_rows.specs.Turns as turns;
-ghost use Rattle.xt_base.specs.declared.event.Mark.TheVariants as mark;
+ghost use Rattle.xt_messages.specs.declared.event.Mark.TheVariants as mark;
 ghost use Rattle.replica_client.specs.Views.{Acts, CallActs, ended_by};
 ghost use Rattle.replica_client.specs.Again.{asks_first, again_of_client};
 
@@ -16,9 +16,9 @@ use std::alloc::Global;
 use std::marker::Model;
 use std::mem;
 use step_outputs::{one, quiet, sends};
-use xt_base::{
-    AskRefusal, COUNTS, Call, Capability, Copies, Event, FileId, Marks, Msgs, NodeId, Octets, Op,
-    OutOfMemory, Outcome, Payload, Reply, Retry, Seq, Times,
+use xt_base::{COUNTS, Copies, FileId, NodeId, Octets, OutOfMemory, Seq, Times};
+use xt_messages::{
+    AskRefusal, Call, Capability, Event, Marks, Msgs, Op, Outcome, Payload, Reply, Retry,
 };
 use xt_protocol::Turned;
 

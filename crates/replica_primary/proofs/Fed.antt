@@ -1,8 +1,8 @@
 -- a body that is staged or missed feeds its peer on, as the code tells it
 use Rattle.std.proofs.Common.{◌≡◌, ℕ, Option, Some, None, List, refl, ap, ◌∙◌}
 use Rattle.xt_base.specs.declared.ids.NodeId.{NodeId}
-use Rattle.xt_base.specs.declared.file.ObjectVersion.{ObjectVersion}
-use Rattle.xt_base.specs.declared.file.FileHead.{FileHead}
+use Rattle.xt_messages.specs.declared.file.ObjectVersion.{ObjectVersion}
+use Rattle.xt_messages.specs.declared.file.FileHead.{FileHead}
 use Rattle.osd_rows.specs.declared.PeerState.{PeerState}
 use Rattle.osd_rows.specs.declared.PeerState.TheVariants as peer
 use Rattle.osd_rows.specs.declared.Tenure.{Tenure}

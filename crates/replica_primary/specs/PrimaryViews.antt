@@ -1,6 +1,6 @@
 -- a primary as contracts see it
 use Rattle.std.specs.Prelude.{Option, Some, None}
-use Rattle.xt_base.specs.declared.file.FileHead.{FileHead}
+use Rattle.xt_messages.specs.declared.file.FileHead.{FileHead}
 use Rattle.osd_rows.specs.declared.Place.{Place}
 use Rattle.osd_rows.specs.declared.Tenure.{Tenure}
 use Rattle.osd_rows.specs.declared.PrimaryState.{PrimaryState}

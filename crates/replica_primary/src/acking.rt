@@ -1,8 +1,8 @@
 ghost use Rattle.std.specs.Prelude.{◌≡◌, ◌∷◌, if◌then◌else◌, [], ℕ, List, None, Some, MatchOption, IfOk, IsTrue, OnOk};
-ghost use Rattle.xt_base.specs.declared.file.ObjectVersion.{ObjectVersion};
+ghost use Rattle.xt_messages.specs.declared.file.ObjectVersion.{ObjectVersion};
 ghost use Rattle.xt_base.specs.declared.ids.Stamp.{Stamp};
-ghost use Rattle.xt_base.specs.declared.message.Payload.TheVariants as payload;
-ghost use Rattle.xt_base.specs.declared.record.Record.{Record};
+ghost use Rattle.xt_messages.specs.declared.message.Payload.TheVariants as payload;
+ghost use Rattle.xt_messages.specs.declared.record.Record.{Record};
 ghost use Rattle.osd_rows.specs.declared.Progress.TheVariants as progress;
 ghost use Rattle.osd_rows.specs.Turns.{message, quiet, sends};
 ghost use Rattle.osd_rows.specs.Primaries.{carries, is_active_in, issued_in};
@@ -18,9 +18,8 @@ use osd_rows::{IssuedUpdate, PeerState, Peers, Place, Progress, Tenure};
 use std::alloc::Global;
 use step_outputs::{answers, join, message, quiet, sends_one, shows};
 use version_lists::is_below;
-use xt_base::{
-    Copies, FileHead, Mark, NodeId, Octets, OptionalBox, OutOfMemory, Payload, Seq, Stamp, Update,
-};
+use xt_base::{Copies, NodeId, Octets, OptionalBox, OutOfMemory, Seq, Stamp};
+use xt_messages::{FileHead, Mark, Payload, Update};
 use xt_protocol::Turned;
 
 /// Whether an acknowledgement makes the peer current: it isn't below the head that was sent to it, or it is the own node's.

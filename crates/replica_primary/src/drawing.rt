@@ -1,5 +1,5 @@
 ghost use Rattle.std.specs.Prelude.{◌≡◌, IfOk};
-ghost use Rattle.xt_base.specs.declared.message.Payload.TheVariants as payload;
+ghost use Rattle.xt_messages.specs.declared.message.Payload.TheVariants as payload;
 ghost use Rattle.osd_rows.specs.Primaries.{nodes_of};
 ghost use Rattle.osd_rows.specs.PrimaryRows as rows;
 ghost use Rattle.osd_rows.specs.Turns.{to_each};
@@ -9,9 +9,8 @@ use osd_peers::unknown_peers;
 use osd_rows::{Nodes, Peer, Place, Progress, Tenure};
 use std::alloc::Global;
 use step_outputs::{message, quiet};
-use xt_base::{
-    COUNTS, Epoch, FileHead, Msgs, NodeId, OptionalBox, OutOfMemory, Payload, Record, Seq,
-};
+use xt_base::{COUNTS, Epoch, NodeId, OptionalBox, OutOfMemory, Seq};
+use xt_messages::{FileHead, Msgs, Payload, Record};
 use xt_protocol::Turned;
 
 /// A tenure that begins, none where no number is left, and what is sent then.

@@ -1,6 +1,6 @@
 ghost use Rattle.std.specs.Prelude.{◌≡◌, ℕ, List, None, Some, IfOk};
-ghost use Rattle.xt_base.specs.declared.file.ObjectVersion.{ObjectVersion};
-ghost use Rattle.xt_base.specs.declared.file.FileHead.{FileHead};
+ghost use Rattle.xt_messages.specs.declared.file.ObjectVersion.{ObjectVersion};
+ghost use Rattle.xt_messages.specs.declared.file.FileHead.{FileHead};
 ghost use Rattle.osd_rows.specs.declared.PeerState.{PeerState};
 ghost use Rattle.osd_rows.specs.Primaries as rows;
 ghost use Rattle.osd_rows.specs.PrimaryRows.{body_missed, body_staged, feeds, goes_on, target_in, with_state};
@@ -16,10 +16,8 @@ use osd_rows::{Peer, PeerState, Place, Progress, Tenure};
 use std::alloc::Global;
 use step_outputs::{quiet, sends};
 use version_lists::{is_epoch, is_stamp};
-use xt_base::{
-    Copies, Epoch, FileHead, FileId, HeldPairs, NodeId, ObjectVersion, Octets, OutOfMemory, Seq,
-    Stamp,
-};
+use xt_base::{Copies, Epoch, FileId, NodeId, Octets, OutOfMemory, Seq, Stamp};
+use xt_messages::{FileHead, HeldPairs, ObjectVersion};
 use xt_protocol::Turned;
 
 /// A body as a row sees it: the one that was just fetched, else the one that is kept.

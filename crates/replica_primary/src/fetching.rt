@@ -1,7 +1,7 @@
 ghost use Rattle.std.specs.Prelude.{◌≡◌, ℕ, List, None, Some, IfOk};
 ghost use Rattle.xt_base.specs.declared.ids.FileId.{FileId};
-ghost use Rattle.xt_base.specs.declared.file.FileHead.{FileHead};
-ghost use Rattle.xt_base.specs.declared.file.ObjectVersion.{ObjectVersion};
+ghost use Rattle.xt_messages.specs.declared.file.FileHead.{FileHead};
+ghost use Rattle.xt_messages.specs.declared.file.ObjectVersion.{ObjectVersion};
 ghost use Rattle.osd_rows.specs.declared.PeerState.{PeerState};
 ghost use Rattle.osd_rows.specs.declared.Progress.TheVariants as progress;
 ghost use Rattle.osd_rows.specs.Primaries.{peer_in};
@@ -22,9 +22,8 @@ use std::alloc::Global;
 use std::mem;
 use step_outputs::quiet;
 use version_lists::{holds, is_version};
-use xt_base::{
-    Copies, FileHead, FileId, HeldSet, NodeId, ObjectVersion, Octets, OutOfMemory, Record,
-};
+use xt_base::{Copies, FileId, NodeId, Octets, OutOfMemory};
+use xt_messages::{FileHead, HeldSet, ObjectVersion, Record};
 use xt_protocol::Turned;
 
 /// A fetched body, unless it is held.

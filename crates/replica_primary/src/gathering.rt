@@ -1,8 +1,8 @@
 ghost use Rattle.std.specs.Prelude.{◌≡◌, ◌∷◌, ◌++◌, [], ℕ, List, None, Some, IfOk, OnOk};
 ghost use Rattle.xt_base.specs.declared.ids.FileId.{FileId};
-ghost use Rattle.xt_base.specs.declared.file.ObjectVersion.{ObjectVersion};
-ghost use Rattle.xt_base.specs.declared.file.FileHead.{FileHead};
-ghost use Rattle.xt_base.specs.declared.message.Payload.TheVariants as payload;
+ghost use Rattle.xt_messages.specs.declared.file.ObjectVersion.{ObjectVersion};
+ghost use Rattle.xt_messages.specs.declared.file.FileHead.{FileHead};
+ghost use Rattle.xt_messages.specs.declared.message.Payload.TheVariants as payload;
 ghost use Rattle.osd_rows.specs.declared.Progress.{Progress};
 ghost use Rattle.osd_rows.specs.declared.PeerState.TheVariants as peer;
 ghost use Rattle.osd_rows.specs.Primaries.{last_to_each, report_of, reports_of, target_of, with_peer};
@@ -21,9 +21,8 @@ use osd_peers::{last_to_each, set_peer};
 use osd_rows::{Peer, PeerState, Peers, Place, Progress, Tenure};
 use std::alloc::Global;
 use step_outputs::{join, message, quiet, sends, sends_one};
-use xt_base::{
-    Copies, Epoch, FileHead, NodeId, ObjectVersion, OutOfMemory, Payload, Seq, Versions,
-};
+use xt_base::{Copies, Epoch, NodeId, OutOfMemory, Seq};
+use xt_messages::{FileHead, ObjectVersion, Payload, Versions};
 use xt_protocol::Turned;
 
 /// The head that a peer has reported.

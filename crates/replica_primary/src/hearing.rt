@@ -1,8 +1,8 @@
 ghost use Rattle.std.specs.Prelude.{◌≡◌, ◌∷◌, [], ℕ, List, Some, IfOk, IsTrue, OnErr, OnOk};
-ghost use Rattle.xt_base.specs.declared.file.ObjectVersion.{ObjectVersion};
-ghost use Rattle.xt_base.specs.declared.file.FileHead.{FileHead};
-ghost use Rattle.xt_base.specs.declared.message.Payload.TheVariants as payload;
-ghost use Rattle.xt_base.specs.declared.record.Record.{Record};
+ghost use Rattle.xt_messages.specs.declared.file.ObjectVersion.{ObjectVersion};
+ghost use Rattle.xt_messages.specs.declared.file.FileHead.{FileHead};
+ghost use Rattle.xt_messages.specs.declared.message.Payload.TheVariants as payload;
+ghost use Rattle.xt_messages.specs.declared.record.Record.{Record};
 ghost use Rattle.xt_protocol.specs.Folds.{body_of};
 ghost use Rattle.osd_rows.specs.declared.PeerState.{PeerState};
 ghost use Rattle.osd_rows.specs.Primaries.{is_reported, is_unknown, nodes_of, peer_in, with_peer};
@@ -28,7 +28,8 @@ use osd_rows::{Peer, PeerState, Peers, Place, PrimaryState, Tenure};
 use std::alloc::Global;
 use step_outputs::{message, quiet, sends_one};
 use version_lists::{is_earlier, is_epoch};
-use xt_base::{Epoch, FileHead, HeldSet, NodeId, ObjectVersion, OutOfMemory, Payload, Stamp};
+use xt_base::{Epoch, NodeId, OutOfMemory, Stamp};
+use xt_messages::{FileHead, HeldSet, ObjectVersion, Payload};
 use xt_protocol::Turned;
 
 /// Whether nothing is known of this peer.

@@ -3,7 +3,8 @@ ghost use Rattle.std.specs.Prelude.{◌≡◌, IfOk};
 use osd_rows::{Progress, Tenure};
 use std::alloc::Global;
 use std::mem;
-use xt_base::{Octets, OptionalBox, OutOfMemory, Record, Stamp};
+use xt_base::{Octets, OptionalBox, OutOfMemory, Stamp};
+use xt_messages::Record;
 use xt_protocol::Turned;
 
 /// What a message makes of a tenure.

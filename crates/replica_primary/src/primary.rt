@@ -2,9 +2,9 @@ ghost use Rattle.std.specs.Prelude.{◌≡◌, List, None, Some, MatchOption, If
 ghost use Rattle.osd_rows.specs.Primaries as rows;
 ghost use Rattle.osd_rows.specs.PrimaryRows.{epoch_drawn, hears};
 ghost use Rattle.osd_rows.specs.Serving.{reads, wakes, writes};
-ghost use Rattle.xt_base.specs.declared.file.FileHead.{FileHead};
-ghost use Rattle.xt_base.specs.declared.file.ObjectVersion.{ObjectVersion};
-ghost use Rattle.xt_base.specs.Limits.{FitsOp, FitsStripe};
+ghost use Rattle.xt_messages.specs.declared.file.FileHead.{FileHead};
+ghost use Rattle.xt_messages.specs.declared.file.ObjectVersion.{ObjectVersion};
+ghost use Rattle.xt_messages.specs.Limits.{FitsOp, FitsStripe};
 ghost use Rattle.kept_bodies.specs.KeptBodies.{fault_of, ReadsOnly};
 ghost use Rattle.version_lists.specs.Rising.{HeadRises};
 ghost use Rattle.replica_primary.specs.Written.{ground};
@@ -25,7 +25,8 @@ use osd_rows::{Peer, PeerState, Place, PrimaryState, Progress, Tenure};
 use std::alloc::Global;
 use std::marker::Model;
 use step_outputs::quiet;
-use xt_base::{FileHead, FileId, HeldSet, Members, NodeId, Op, OpId, OutOfMemory, Payload, Reply};
+use xt_base::{FileId, Members, NodeId, OpId, OutOfMemory};
+use xt_messages::{FileHead, HeldSet, Op, Payload, Reply};
 use xt_protocol::Turned;
 
 /// The primary of one file at one node. Contracts see where it stands and its state.
@@ -54,7 +55,7 @@ impl Model for Primary {
 
     ghost view = { λ p. record { place = p.place; state = p.state } };
 
-    ghost use Rattle.xt_base.specs.Limits.{FitsStripe};
+    ghost use Rattle.xt_messages.specs.Limits.{FitsStripe};
     ghost use Rattle.osd_decisions.specs.Committed.{CommittedUnder};
 
     ghost invariant = { λ p. FitsStripe p.place.stripe × CommittedUnder p.state.tenure };

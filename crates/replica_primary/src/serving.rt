@@ -1,10 +1,10 @@
 ghost use Rattle.std.specs.Prelude.{◌≡◌, ◌∷◌, ◌≤◌, ◌&&◌, ◌==◌, not, [], ℕ, List, None, Some, IfOk};
-ghost use Rattle.xt_base.specs.declared.file.ObjectVersion.{ObjectVersion};
-ghost use Rattle.xt_base.specs.declared.file.FileHead.{FileHead};
-ghost use Rattle.xt_base.specs.declared.record.Record.{Record};
-ghost use Rattle.xt_base.specs.declared.event.Mark.TheVariants as mark;
-ghost use Rattle.xt_base.specs.declared.message.Payload.TheVariants as payload;
-ghost use Rattle.xt_base.specs.Limits.{FitsOp};
+ghost use Rattle.xt_messages.specs.declared.file.ObjectVersion.{ObjectVersion};
+ghost use Rattle.xt_messages.specs.declared.file.FileHead.{FileHead};
+ghost use Rattle.xt_messages.specs.declared.record.Record.{Record};
+ghost use Rattle.xt_messages.specs.declared.event.Mark.TheVariants as mark;
+ghost use Rattle.xt_messages.specs.declared.message.Payload.TheVariants as payload;
+ghost use Rattle.xt_messages.specs.Limits.{FitsOp};
 ghost use Rattle.osd_rows.specs.declared.Progress.TheVariants as progress;
 ghost use Rattle.osd_rows.specs.Turns.{to_each};
 ghost use Rattle.osd_rows.specs.Writes.{standing};
@@ -23,9 +23,9 @@ use osd_rows::{IssuedUpdate, Nodes, Peer, PeerState, Place, PrimaryState, Progre
 use std::alloc::Global;
 use step_outputs::{answers, message, quiet, tells};
 use xt_base::{
-    COUNTS, Copies, FileHead, FileId, Mark, Msgs, NodeId, OBJECTS, Octets, Op, OpId, OptionalBox,
-    OutOfMemory, Payload, Seq, Stamp, Update,
+    COUNTS, Copies, FileId, NodeId, OBJECTS, Octets, OpId, OptionalBox, OutOfMemory, Seq, Stamp,
 };
+use xt_messages::{FileHead, Mark, Msgs, Op, Payload, Update};
 use xt_protocol::Turned;
 
 /// What comes of a write: the update that it issues, if it issues one, and what is sent then.

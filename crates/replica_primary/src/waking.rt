@@ -6,7 +6,8 @@ use osd_peers::{last_sent, send_any};
 use osd_rows::{IssuedUpdate, Peer, PeerState, Place, PrimaryState, Progress, Tenure};
 use std::alloc::Global;
 use step_outputs::{message, quiet, sends, sends_one};
-use xt_base::{Copies, Epoch, FileId, Msgs, NodeId, OutOfMemory, Payload, Seq, has_node};
+use xt_base::{Copies, Epoch, FileId, NodeId, OutOfMemory, Seq, has_node};
+use xt_messages::{Msgs, Payload};
 use xt_protocol::Turned;
 
 /// An unknown peer is asked anew.

@@ -2,7 +2,7 @@
 use Rattle.std.proofs.Common.{◌≤◌, List, ◌++◌, length, Option, Some, None, arith}
 use Rattle.std.proofs.lemmas.List.{length-append}
 use Rattle.xt_base.specs.declared.ids.NodeId.{NodeId}
-use Rattle.xt_base.specs.Limits.{FitsMembers, FitsLogged, FitsRecord}
+use Rattle.xt_messages.specs.Limits.{FitsMembers, FitsLogged, FitsRecord}
 use Rattle.xt_fields.specs.BasicFields.{word_bytes, long_bytes, octets_bytes}
 use Rattle.xt_wire.specs.IdFields.{node_bytes, file_bytes, epoch_bytes, stamp_bytes}
 use Rattle.xt_wire.specs.FileFields.{location_bytes, update_bytes, head_bytes}
@@ -10,10 +10,10 @@ use Rattle.xt_wire.specs.MetaFields.{meta_req_bytes}
 use Rattle.xt_wire.proofs.FileLaws.{members_few}
 use Rattle.xt_fields.proofs.BasicLaws.{word-length, long-length}
 use Rattle.std.specs.Prelude.{IfSome}
-use Rattle.xt_base.specs.declared.record.Logged.{Logged}
-use Rattle.xt_base.specs.declared.record.Logged.TheVariants as logged
-use Rattle.xt_base.specs.declared.record.Record.{Record}
-use Rattle.xt_base.specs.declared.record.Record.TheVariants as kept
+use Rattle.xt_messages.specs.declared.record.Logged.{Logged}
+use Rattle.xt_messages.specs.declared.record.Logged.TheVariants as logged
+use Rattle.xt_messages.specs.declared.record.Record.{Record}
+use Rattle.xt_messages.specs.declared.record.Record.TheVariants as kept
 use Rattle.replica_records.specs.RecordText.{nodes_bytes, logged_bytes, record_text}
 use Rattle.xt_wire.proofs.FieldLengths.{file_len, epoch_len, stamp_len, octets_len, members_len, location_len, update_len, head_len, meta_req_len, registry_req_len, meta_req_bound, registry_req_bound}
 

@@ -1,7 +1,7 @@
 -- what a log of records shows
 use Rattle.std.specs.Prelude.{◌<◌, List}
 use Rattle.std.specs.Vec.{vec_capacity, vec_len}
-use Rattle.xt_base.specs.declared.record.Record.{Record}
+use Rattle.xt_messages.specs.declared.record.Record.{Record}
 use Rattle.replica_records.specs.declared.log.RecordLog.{RecordLog}
 use Rattle.replica_records.specs.Places.{HasRoomFor}
 

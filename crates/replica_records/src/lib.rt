@@ -20,4 +20,4 @@ pub use record_folds::{
     Folding, fold, head_after, new_head, plain_stamp, session_of, sessions_with, take_update,
     version_of,
 };
-pub use xt_base::{FileRow, FileTable, Folded, HeldPairs, Keep, Record};
+pub use xt_messages::{FileRow, FileTable, Folded, HeldPairs, Keep, Record};

@@ -3,7 +3,8 @@ ghost use Rattle.replica_records.specs.Places.{ArePlacesIn, are_places_prop};
 use crate::places::{BodyKey, Places, body_in};
 use kept_bodies::BodyErr;
 use std::alloc::Global;
-use xt_base::{Copies, FileId, Octets, OutOfMemory, Record, Stamp};
+use xt_base::{Copies, FileId, Octets, OutOfMemory, Stamp};
+use xt_messages::Record;
 
 /// The records of one node in memory, and where the last record stands that put each body.
 #[derive(Drop)]

@@ -1,6 +1,6 @@
 ghost use Rattle.std.specs.Prelude.{◌≡◌, ◌<◌, ◌≤◌, ◌^◌, length, IfOk, MatchResult, Ok};
-ghost use Rattle.xt_base.specs.Limits.{FitsRecord};
-ghost use Rattle.xt_base.specs.declared.record.Record.{Record};
+ghost use Rattle.xt_messages.specs.Limits.{FitsRecord};
+ghost use Rattle.xt_messages.specs.declared.record.Record.{Record};
 ghost use Rattle.replica_records.specs.declared.errors.RecordErr.TheVariants.{OutOfMemory};
 ghost use Rattle.replica_records.specs.RecordText.{record_text};
 ghost use Rattle.replica_records.specs.RecordFields.{Gives, recorded};
@@ -9,7 +9,8 @@ use crate::errors::RecordErr;
 use crate::reading::record_at;
 use crate::writing::put_record;
 use std::alloc::Global;
-use xt_base::{Octets, OutOfMemory, Record};
+use xt_base::{Octets, OutOfMemory};
+use xt_messages::Record;
 use xt_wire::{FieldReader, FieldWriter};
 
 /// Room for most records, in bytes: those with a body make room for it.

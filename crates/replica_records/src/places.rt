@@ -5,7 +5,8 @@ ghost use Rattle.replica_records.specs.Places.{body_in};
 
 use std::alloc::Global;
 use std::collections::BTreeMap;
-use xt_base::{FileId, NO_OBJECT, OutOfMemory, Record, Stamp};
+use xt_base::{FileId, NO_OBJECT, OutOfMemory, Stamp};
+use xt_messages::Record;
 
 /// Which version of which object of which file.
 #[derive(Clone, Copy, PartialEq, Eq, PartialOrd, Ord)]
@@ -64,7 +65,7 @@ impl BodyKey {
 
 impl Places {
     ghost use Rattle.std.specs.Prelude.{◌≡◌, ◌++◌, ◌∷◌, [], List, OnOk, OnErr, length};
-    ghost use Rattle.xt_base.specs.declared.record.Record.{Record};
+    ghost use Rattle.xt_messages.specs.declared.record.Record.{Record};
     ghost use Rattle.replica_records.specs.Places.{ArePlacesIn, HasRoomFor, place_in};
 
     /// The places in no records.

@@ -5,7 +5,8 @@ ghost use Rattle.xt_wire.specs.IdFields.{node_at};
 ghost use Rattle.replica_records.specs.RecordFields.{nodes_at, logged_at, meta_logged_at, registry_logged_at, record_at, boot_record_at, promise_record_at, update_record_at, stage_record_at, head_record_at, view_record_at, meta_record_at};
 
 use std::alloc::Global;
-use xt_base::{BODY, Logged, Members, NodeId, Record};
+use xt_base::{BODY, Members, NodeId};
+use xt_messages::{Logged, Record};
 use xt_wire::{FieldErr, FieldReader, ReadFiles, ReadIds, ReadRequests};
 
 /// The longest `bytes` field, in bytes.

@@ -1,5 +1,5 @@
 ghost use Rattle.std.specs.Prelude.{◌≡◌, ◌<◌, ◌^◌, ◌++◌, length, OnOk};
-ghost use Rattle.xt_base.specs.Limits.{IsObject, FitsHead, FitsUpdate, FitsMetaReq, FitsRegistryReq, FitsLogged, FitsRecord};
+ghost use Rattle.xt_messages.specs.Limits.{IsObject, FitsHead, FitsUpdate, FitsMetaReq, FitsRegistryReq, FitsLogged, FitsRecord};
 ghost use Rattle.xt_fields.specs.BasicFields.{byte_bytes, word_bytes, long_bytes, octets_bytes};
 ghost use Rattle.xt_wire.specs.IdFields.{node_bytes, boot_bytes, file_bytes, epoch_bytes, stamp_bytes};
 ghost use Rattle.xt_wire.specs.FileFields.{location_bytes, update_bytes, head_bytes};
@@ -7,10 +7,8 @@ ghost use Rattle.xt_wire.specs.MetaFields.{meta_req_bytes};
 ghost use Rattle.xt_wire.specs.RegistryFields.{registry_req_bytes};
 ghost use Rattle.replica_records.specs.RecordText.{nodes_bytes, logged_bytes, record_text};
 
-use xt_base::{
-    Boot, Epoch, FileHead, FileId, Location, Logged, Members, MetaReq, NodeId, OutOfMemory, Record,
-    RegistryReq, Stamp, Update,
-};
+use xt_base::{Boot, Epoch, FileId, Members, NodeId, OutOfMemory, Stamp};
+use xt_messages::{FileHead, Location, Logged, MetaReq, Record, RegistryReq, Update};
 use xt_wire::{FieldWriter, WriteFiles, WriteIds, WriteRequests};
 
 /// A record.

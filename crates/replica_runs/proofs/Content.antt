@@ -4,9 +4,9 @@ use Rattle.std.specs.Prelude.{min, max, nat_lt}
 use Rattle.std.proofs.lemmas.Bool.Decides.{nat_tests}
 use Rattle.std.proofs.lemmas.Bool.{cases_eq, cases_lt}
 use Rattle.std.proofs.lemmas.List.{places, map-append}
-use Rattle.xt_base.specs.declared.file.Op.{Op}
-use Rattle.xt_base.specs.declared.file.Op.TheVariants.{Read, Write, Truncate}
-use Rattle.xt_base.specs.declared.file.Update.{Update}
+use Rattle.xt_messages.specs.declared.file.Op.{Op}
+use Rattle.xt_messages.specs.declared.file.Op.TheVariants.{Read, Write, Truncate}
+use Rattle.xt_messages.specs.declared.file.Update.{Update}
 use Rattle.xt_base.specs.declared.TheConstants.{NO_OBJECT, OBJECTS}
 use Rattle.xt_base.specs.Overlay.{overlay, cut_or_filled}
 use Rattle.time_line.specs.Content.{place_of, content_after, content_from, content_of, range_of}

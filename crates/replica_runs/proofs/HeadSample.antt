@@ -3,8 +3,8 @@ use Rattle.std.proofs.Common.{◌≡◌, ℕ, suc, ◌*◌, ◌<◌, true, [], �
 use Rattle.std.specs.Prelude.{nat_lt, count_by, is_some, slice_index, zero}
 use Rattle.std.proofs.lemmas.Bool.Decides.{nat_tests}
 use Rattle.xt_base.specs.declared.TheConstants.{NO_OBJECT}
-use Rattle.xt_base.specs.declared.file.Op.TheVariants as op
-use Rattle.xt_base.specs.declared.file.FileHead.{FileHead}
+use Rattle.xt_messages.specs.declared.file.Op.TheVariants as op
+use Rattle.xt_messages.specs.declared.file.FileHead.{FileHead}
 use Rattle.xt_protocol.specs.Heads.{first_epoch}
 use Rattle.osd_rows.specs.ReplicaRows.{gathered, headed, updated}
 use Rattle.osd_rows.specs.Writes.{standing}

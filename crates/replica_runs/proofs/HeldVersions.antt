@@ -4,10 +4,10 @@ use Rattle.std.proofs.lemmas.Bool.{and_from}
 use Rattle.std.proofs.lemmas.Bool.Decides.{nat_tests}
 use Rattle.xt_base.specs.declared.TheConstants.{NO_OBJECT}
 use Rattle.xt_base.specs.declared.ids.Stamp.{Stamp}
-use Rattle.xt_base.specs.declared.file.ObjectVersion.{ObjectVersion}
-use Rattle.xt_base.specs.declared.file.Update.{Update}
-use Rattle.xt_base.specs.declared.record.FileRow.{FileRow}
-use Rattle.xt_base.specs.declared.record.Record.TheVariants as kept
+use Rattle.xt_messages.specs.declared.file.ObjectVersion.{ObjectVersion}
+use Rattle.xt_messages.specs.declared.file.Update.{Update}
+use Rattle.xt_messages.specs.declared.record.FileRow.{FileRow}
+use Rattle.xt_messages.specs.declared.record.Record.TheVariants as kept
 use Rattle.xt_protocol.specs.FileIds.{is_file}
 use Rattle.xt_protocol.specs.Folds.{body_put, makes_body, held_after}
 use Rattle.xt_protocol.specs.Folds as folds

@@ -5,7 +5,7 @@ use Rattle.replica_safety.specs.Rules.{Start}
 use Rattle.replica_runs.specs.Made.{bodies_of}
 use Rattle.std.proofs.lemmas.Bool.{cases_eq}
 use Rattle.xt_base.specs.declared.TheConstants.{NO_OBJECT}
-use Rattle.xt_base.specs.declared.file.FileHead.{FileHead}
+use Rattle.xt_messages.specs.declared.file.FileHead.{FileHead}
 use Rattle.xt_protocol.specs.Heads.{new_head, head_after, version_of}
 use Rattle.replica_safety.specs.Epochs.{Epoch, Stamp, Write}
 use Rattle.replica_safety.specs.Lists.{Has}

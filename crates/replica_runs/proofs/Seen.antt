@@ -2,7 +2,7 @@
 use Rattle.std.proofs.Common.{◌≡◌, ℕ, suc, pred, zero, ◌≤◌, ◌<◌, Bool, true, false, List, [], ◌∷◌, ◌++◌, length, take, refl, sym, ap, ap₂, ◌∙◌, subst, arith, ◌==◌, append-nil, length-append, Some}
 use Rattle.std.specs.Prelude.{slice_get}
 use Rattle.std.proofs.Math.Seq.{take-append_seam}
-use Rattle.xt_base.specs.declared.file.Op.{Op}
+use Rattle.xt_messages.specs.declared.file.Op.{Op}
 use Rattle.replica_safety.specs.Epochs.{Write, Head}
 use Rattle.replica_safety.specs.Protocol.{Act, Activated, Issued, Committed, State}
 use Rattle.replica_safety.specs.Rules.{Start}

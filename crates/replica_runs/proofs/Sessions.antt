@@ -2,10 +2,10 @@
 use Rattle.std.proofs.Common.{◌≡◌, ◌≢◌, ℕ, suc, pred, zero, ◌≤◌, ◌⊎◌, inl, inr, List, [], ◌∷◌, ◌++◌, refl, ap, sym, ◌∙◌, subst, arith, ◌==◌, if◌then◌else◌, append_assoc, append-nil, Option, Some, None}
 use Rattle.std.specs.Prelude.{nat_lt, slice_get}
 use Rattle.std.proofs.lemmas.Bool.{cases_eq}
-use Rattle.xt_base.specs.declared.file.FileHead.{FileHead}
-use Rattle.xt_base.specs.declared.file.Op.{Op}
-use Rattle.xt_base.specs.declared.file.Session.{Session}
-use Rattle.xt_base.specs.declared.file.Update.{Update}
+use Rattle.xt_messages.specs.declared.file.FileHead.{FileHead}
+use Rattle.xt_messages.specs.declared.file.Op.{Op}
+use Rattle.xt_messages.specs.declared.file.Session.{Session}
+use Rattle.xt_messages.specs.declared.file.Update.{Update}
 use Rattle.xt_protocol.specs.Heads.{new_head, session_of, with_session}
 use Rattle.replica_safety.specs.Lists.{Has}
 use Rattle.replica_safety.proofs.Lists.{has-append}

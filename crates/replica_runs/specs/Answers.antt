@@ -1,6 +1,6 @@
 -- What clients see of the line: the bytes of reads, and that no answer is older than one before it; and the heads of an epoch.
 use Rattle.std.specs.Prelude.{◌≡◌, ℕ, suc, ◌+◌, ◌-◌, ◌*◌, ◌≤◌, min, List, [], ◌∷◌, ◌++◌, length, take, drop}
-use Rattle.xt_base.specs.declared.file.Op.{Op}
+use Rattle.xt_messages.specs.declared.file.Op.{Op}
 use Rattle.xt_base.specs.Overlay.{cut_or_filled}
 use Rattle.time_line.specs.Content.{place_of, content_of, range_of}
 use Rattle.replica_safety.specs.Epochs.{Epoch, Write, Head}

@@ -1,7 +1,7 @@
 -- What the entries of a file tell: its line of writes, by their ids, and what fits it.
 use Rattle.std.specs.Prelude.{◌≡◌, ◌⊎◌, ℕ, suc, pred, ◌+◌, ◌-◌, ◌*◌, ◌≤◌, ◌==◌, if◌then◌else◌, min, List, [], ◌∷◌, ◌++◌, length, map, drop, slice_get, Some}
-use Rattle.xt_base.specs.declared.file.Op.{Op}
-use Rattle.xt_base.specs.declared.file.Op.TheVariants as op
+use Rattle.xt_messages.specs.declared.file.Op.{Op}
+use Rattle.xt_messages.specs.declared.file.Op.TheVariants as op
 use Rattle.xt_base.specs.Overlay.{cut_or_filled}
 use Rattle.time_line.specs.Content.{place_of, content_of, range_of}
 use Rattle.replica_safety.specs.Epochs.{name}

@@ -4,11 +4,11 @@ use Rattle.std.specs.Prelude.{◌≡◌, ℕ, Bool, true, List, [], ◌∷◌, �
 use Rattle.xt_base.specs.declared.TheConstants.{NO_OBJECT}
 use Rattle.xt_base.specs.declared.ids.Epoch.{Epoch}
 use Rattle.xt_base.specs.declared.ids.Stamp.{Stamp}
-use Rattle.xt_base.specs.declared.file.FileHead.{FileHead}
-use Rattle.xt_base.specs.declared.file.Update.{Update}
-use Rattle.xt_base.specs.declared.message.Payload.{Payload}
-use Rattle.xt_base.specs.declared.message.Payload.TheVariants as payload
-use Rattle.xt_base.specs.declared.record.FileRow.{FileRow}
+use Rattle.xt_messages.specs.declared.file.FileHead.{FileHead}
+use Rattle.xt_messages.specs.declared.file.Update.{Update}
+use Rattle.xt_messages.specs.declared.message.Payload.{Payload}
+use Rattle.xt_messages.specs.declared.message.Payload.TheVariants as payload
+use Rattle.xt_messages.specs.declared.record.FileRow.{FileRow}
 use Rattle.xt_protocol.specs.Folds as folds
 use Rattle.xt_protocol.specs.Stamps.{has_version}
 use Rattle.replica_safety.specs.Epochs.{at_node}

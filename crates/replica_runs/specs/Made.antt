@@ -1,8 +1,8 @@
 -- What an update does to the file's content, object by object, and what it is made from.
 use Rattle.std.specs.Prelude.{◌≡◌, ℕ, suc, ◌+◌, ◌*◌, ◌<◌, ◌≤◌, ◌==◌, ◌⊎◌, nat_lt, max, if◌then◌else◌, List, [], ◌∷◌, length, take, map}
-use Rattle.xt_base.specs.declared.file.Op.{Op}
-use Rattle.xt_base.specs.declared.file.Op.TheVariants.{Read, Write, Truncate}
-use Rattle.xt_base.specs.declared.file.Update.{Update}
+use Rattle.xt_messages.specs.declared.file.Op.{Op}
+use Rattle.xt_messages.specs.declared.file.Op.TheVariants.{Read, Write, Truncate}
+use Rattle.xt_messages.specs.declared.file.Update.{Update}
 use Rattle.xt_base.specs.declared.TheConstants.{NO_OBJECT, OBJECTS}
 use Rattle.xt_base.specs.Overlay.{overlay}
 use Rattle.replica_safety.specs.Epochs.{name}

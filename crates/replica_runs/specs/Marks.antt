@@ -1,6 +1,6 @@
 -- What the marks tell: one line of writes, and answers that show it.
 use Rattle.std.specs.Prelude.{◌≡◌, ℕ, pred, ◌≤◌, List, [], ◌∷◌, ◌++◌, slice_get, Some}
-use Rattle.xt_base.specs.declared.file.Op.{Op}
+use Rattle.xt_messages.specs.declared.file.Op.{Op}
 use Rattle.std.specs.Prelude.{false}
 use Rattle.xt_protocol.specs.Stamps.{is_earlier}
 use Rattle.replica_safety.specs.Epochs.{Write, name}

@@ -2,7 +2,7 @@
 pub use Rattle.xt_base.specs.declared.ids.Epoch.{Epoch}
 pub use Rattle.xt_base.specs.declared.ids.Stamp.{Stamp}
 use Rattle.std.specs.Prelude.{◌≡◌, ℕ, true, false, ◌==◌, List, length, if◌then◌else◌}
-use Rattle.xt_base.specs.declared.file.Update.{Update}
+use Rattle.xt_messages.specs.declared.file.Update.{Update}
 use Rattle.xt_protocol.specs.Stamps.{is_epoch, is_below}
 
 -- A stamp is before another one, or not after it.

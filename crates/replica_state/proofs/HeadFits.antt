@@ -4,12 +4,12 @@ use Rattle.std.specs.List.{AllByRecursion}
 use Rattle.std.proofs.lemmas.Bool.{and_parts}
 use Rattle.std.proofs.lemmas.Bool.Decides.{nat_tests}
 use Rattle.xt_base.specs.declared.ids.Epoch.{Epoch}
-use Rattle.xt_base.specs.declared.file.ObjectVersion.{ObjectVersion}
-use Rattle.xt_base.specs.declared.file.Session.{Session}
-use Rattle.xt_base.specs.declared.file.FileHead.{FileHead}
-use Rattle.xt_base.specs.declared.file.Update.{Update}
+use Rattle.xt_messages.specs.declared.file.ObjectVersion.{ObjectVersion}
+use Rattle.xt_messages.specs.declared.file.Session.{Session}
+use Rattle.xt_messages.specs.declared.file.FileHead.{FileHead}
+use Rattle.xt_messages.specs.declared.file.Update.{Update}
 use Rattle.xt_base.specs.declared.TheConstants.{OBJECTS, CLIENTS, COUNTS, NO_OBJECT}
-use Rattle.xt_base.specs.Limits.{FitsEpoch, FitsHead, FitsVersion, FitsSession, FitsUpdate, is_at_most, rise}
+use Rattle.xt_messages.specs.Limits.{FitsEpoch, FitsHead, FitsVersion, FitsSession, FitsUpdate, is_at_most, rise}
 use Rattle.xt_protocol.specs.Stamps.{is_earlier}
 use Rattle.xt_protocol.specs.Heads.{head_after, versions_below}
 use Rattle.xt_protocol.specs.Folds.{held_after, body_of}

@@ -1,11 +1,11 @@
 ghost use Rattle.std.specs.Prelude.{◌≡◌, ℕ, List, IfOk, IfSome, IfNone, OnOk, OnErr, IsTrue, MatchOption, None, Some, unwrap_or};
 ghost use Rattle.xt_base.specs.declared.ids.Stamp.{Stamp};
-ghost use Rattle.xt_base.specs.declared.file.ObjectVersion.{ObjectVersion};
-ghost use Rattle.xt_base.specs.declared.record.Record.TheVariants as kept;
-ghost use Rattle.xt_base.specs.Limits.{is_at_most};
+ghost use Rattle.xt_messages.specs.declared.file.ObjectVersion.{ObjectVersion};
+ghost use Rattle.xt_messages.specs.declared.record.Record.TheVariants as kept;
+ghost use Rattle.xt_messages.specs.Limits.{is_at_most};
 ghost use Rattle.xt_protocol.specs.Stamps.{with_held};
 ghost use Rattle.osd_rows.specs.declared.Acted.{Acted};
-ghost use Rattle.xt_base.specs.declared.message.Payload.TheVariants as payload;
+ghost use Rattle.xt_messages.specs.declared.message.Payload.TheVariants as payload;
 ghost use Rattle.osd_rows.specs.ReplicaRows.{unanswered, only, after_record, refused, behind, as_promised, staged, stage_record, first_missing, head_offered, headed, head_fits, update_offered, updated};
 ghost use Rattle.xt_protocol.specs.Heads.{head_after};
 ghost use Rattle.version_lists.specs.Rising.{HeadRises};
@@ -13,10 +13,8 @@ ghost use Rattle.version_lists.specs.Rising.{HeadRises};
 use osd_rows::Acted;
 use std::alloc::Global;
 use version_lists::{hold, holds, is_below, is_earlier, is_epoch, sessions_after, versions_after};
-use xt_base::{
-    CLIENTS, COUNTS, Copies, Epoch, FileHead, FileId, HeldSet, OBJECTS, ObjectVersion, Octets,
-    OutOfMemory, Payload, Record, Stamp, Update,
-};
+use xt_base::{CLIENTS, COUNTS, Copies, Epoch, FileId, OBJECTS, Octets, OutOfMemory, Stamp};
+use xt_messages::{FileHead, HeldSet, ObjectVersion, Payload, Record, Update};
 
 /// Nothing comes of a message.
 pub fn unanswered() -> Acted

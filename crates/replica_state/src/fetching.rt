@@ -6,7 +6,8 @@ ghost use Rattle.kept_bodies.specs.KeptBodies.{fault_of, ReadsOnly};
 use kept_bodies::{Bodies, StepErr, seen};
 use std::alloc::Global;
 use version_lists::holds;
-use xt_base::{Epoch, FileId, HeldSet, ObjectVersion, Payload, Stamp};
+use xt_base::{Epoch, FileId, Stamp};
+use xt_messages::{HeldSet, ObjectVersion, Payload};
 
 /// Fetched from: the body of a version that is held, whatever is promised; one that isn't held is missing.
 #[tactic(auto, unfolding(osd_rows::specs::ReplicaRows::fetched_from))]

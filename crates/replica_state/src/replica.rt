@@ -1,5 +1,5 @@
 ghost use Rattle.std.specs.Prelude.{◌≡◌, IfOk, OnOk, OnErr};
-ghost use Rattle.xt_base.specs.Limits.{FitsEpoch, FitsHead, FitsUpdate};
+ghost use Rattle.xt_messages.specs.Limits.{FitsEpoch, FitsHead, FitsUpdate};
 ghost use Rattle.xt_protocol.specs.Folds.{row_after};
 ghost use Rattle.osd_rows.specs.ReplicaRows.{kept_after, gathered, staged, headed, updated};
 ghost use Rattle.replica_state.specs.Kept.{kept_row, IsNotable};
@@ -12,10 +12,8 @@ use osd_rows::Acted;
 use std::alloc::Global;
 use std::marker::Model;
 use version_lists::{hold, is_earlier, take_update};
-use xt_base::{
-    Copies, Epoch, FileHead, FileId, HeldSet, ObjectVersion, Octets, OutOfMemory, Payload, Record,
-    Stamp, Update,
-};
+use xt_base::{Copies, Epoch, FileId, Octets, OutOfMemory, Stamp};
+use xt_messages::{FileHead, HeldSet, ObjectVersion, Payload, Record, Update};
 
 /// A replica of one file. Contracts see what is kept of the file, without where its content is kept.
 #[derive(Drop)]
@@ -28,8 +26,8 @@ pub struct Replica {
 
 impl Model for Replica {
     ghost use Rattle.std.specs.Prelude.{None};
-    ghost use Rattle.xt_base.specs.declared.record.FileRow.{FileRow};
-    ghost use Rattle.xt_base.specs.Limits.{FitsHead};
+    ghost use Rattle.xt_messages.specs.declared.record.FileRow.{FileRow};
+    ghost use Rattle.xt_messages.specs.Limits.{FitsHead};
 
     ghost Value = { FileRow };
 

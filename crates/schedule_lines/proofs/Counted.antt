@@ -1,7 +1,7 @@
 -- the counts of faults where a line isn't read, and where something is put
 use Rattle.std.proofs.Common.{◌≡◌, ℕ, Option, Some, List, refl, sym, subst, inl, inr}
-use Rattle.xt_base.specs.declared.status.Status.{Status}
-use Rattle.xt_base.specs.declared.status.Status.TheVariants as status
+use Rattle.xt_messages.specs.declared.status.Status.{Status}
+use Rattle.xt_messages.specs.declared.status.Status.TheVariants as status
 use Rattle.schedule_lines.specs.NextLine.{StopsReading, CountsFaults}
 use Rattle.schedule_lines.specs.declared.next.NextLine.TheVariants as next
 use Rattle.schedule_lines.specs.Putting.{IsPut, IsFinished}

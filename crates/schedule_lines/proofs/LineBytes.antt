@@ -5,15 +5,16 @@ use Rattle.std.specs.List.{AllByRecursion}
 use Rattle.std.specs.Fmt.{decimal}
 use Rattle.std.proofs.lemmas.Fmt.{length-decimal-le_wide}
 use Rattle.xt_base.specs.declared.ids.NodeId.{NodeId}
-use Rattle.xt_base.specs.declared.file.Kind.{Kind}
-use Rattle.xt_base.specs.declared.file.Kind.TheVariants.{Replicated, Striped}
-use Rattle.xt_base.specs.declared.event.Call.{Call}
-use Rattle.xt_base.specs.declared.event.Call.TheVariants as call
+use Rattle.xt_messages.specs.declared.file.Kind.{Kind}
+use Rattle.xt_messages.specs.declared.file.Kind.TheVariants.{Replicated, Striped}
+use Rattle.xt_messages.specs.declared.event.Call.{Call}
+use Rattle.xt_messages.specs.declared.event.Call.TheVariants as call
 use Rattle.time_line.specs.declared.line.Line.{Line}
 use Rattle.time_line.specs.declared.line.Line.TheVariants as line
 use Rattle.schedule_text.specs.Words.{behind, spaced, hex_of, hex_pair}
 use Rattle.schedule_text.specs.CallText.{call_name, call_words, node_words, kind_word}
-use Rattle.xt_base.specs.Limits.{AreBytes, FitsNode}
+use Rattle.xt_base.specs.FieldLimits.{AreBytes}
+use Rattle.xt_messages.specs.Limits.{FitsNode}
 use Rattle.time_line.specs.Bounds.{FitsCall}
 use Rattle.schedule_text.specs.LineText.{line_words, line_text, IsLine, IsCall}
 use Rattle.schedule_text.proofs.WordsAgain.{IsWord, IsWord-tested, decimal-IsWord, hex-IsWord}

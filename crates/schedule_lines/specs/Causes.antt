@@ -1,8 +1,8 @@
 -- What becomes of the counts of faults of a source and a sink. A fault ends the job that meets it, and is told with its
 -- count, so a job that ends otherwise met none.
 use Rattle.std.specs.Prelude.{ℕ, ◌≡◌, ◌⊎◌, Option, Some, None}
-use Rattle.xt_base.specs.declared.status.Status.{Status}
-use Rattle.xt_base.specs.declared.status.Status.TheVariants as status
+use Rattle.xt_messages.specs.declared.status.Status.{Status}
+use Rattle.xt_messages.specs.declared.status.Status.TheVariants as status
 use Rattle.xt_base.specs.Faults.{Rose}
 
 -- the sink's count of faults rose exactly where it is told to have failed, with that count

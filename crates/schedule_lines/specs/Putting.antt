@@ -1,7 +1,7 @@
 -- what is put to a sink, and what comes of it
 use Rattle.std.specs.Prelude.{ℕ, ◌≡◌, ◌⊎◌, Option, Some, None, List, []}
-use Rattle.xt_base.specs.declared.status.Status.{Status}
-use Rattle.xt_base.specs.declared.status.Status.TheVariants as status
+use Rattle.xt_messages.specs.declared.status.Status.{Status}
+use Rattle.xt_messages.specs.declared.status.Status.TheVariants as status
 use Rattle.node_links.specs.Streams.{Puts}
 use Rattle.schedule_text.specs.StatusText.{last_line}
 use Rattle.schedule_lines.specs.Fronts.{PutsFront}

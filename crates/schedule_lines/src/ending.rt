@@ -7,7 +7,8 @@ use node_links::Sink;
 use schedule_text::{print_entries, print_status};
 use std::alloc::Global;
 use time_line::Entry;
-use xt_base::{Failed, Status};
+use xt_base::Failed;
+use xt_messages::Status;
 
 /// Puts the text. A status comes where the sink failed.
 fn put_text<K: Sink>(out: &mut K, text: &[u8]) -> Option<Status>

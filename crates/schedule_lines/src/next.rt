@@ -6,7 +6,7 @@ use node_links::Source;
 use schedule_text::{LineErr, read_line};
 use std::alloc::Global;
 use time_line::{LINE_BYTES, LINES, Line};
-use xt_base::{Limited, Status};
+use xt_messages::{Limited, Status};
 
 /// The next line of a schedule, or why there is none.
 #[derive(Drop)]

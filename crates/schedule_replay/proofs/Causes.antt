@@ -1,6 +1,6 @@
 -- the counts of faults where a line is done or refused
 use Rattle.std.proofs.Common.{◌≡◌, ℕ, refl, sym, subst, inl}
-use Rattle.xt_base.specs.declared.status.Status.{Status}
+use Rattle.xt_messages.specs.declared.status.Status.{Status}
 use Rattle.world_hull.specs.declared.errors.WorldErr.{WorldErr}
 use Rattle.world_hull.specs.declared.errors.WorldErr.TheVariants as error
 use Rattle.schedule_lines.specs.Causes.{HasCause}

@@ -1,11 +1,11 @@
 -- a schedule whose lines are all good is replayed whole
 use Rattle.std.proofs.Common.{◌≡◌, ◌≢◌, ◌∙◌, ℕ, suc, ◌+◌, ◌≤◌, ◌==◌, ◌⊎◌, Option, Some, None, List, [], ◌∷◌, ◌++◌, length, length-append, refl, sym, ap, subst, inl, inr, append_assoc, append-nil, arith}
 use Rattle.std.specs.List.{fold}
-use Rattle.xt_base.specs.declared.status.Limited.{Limited}
-use Rattle.xt_base.specs.declared.status.Limited.TheVariants as limited
-use Rattle.xt_base.specs.declared.status.Rule.{Rule}
-use Rattle.xt_base.specs.declared.status.Status.{Status}
-use Rattle.xt_base.specs.declared.status.Status.TheVariants as status
+use Rattle.xt_messages.specs.declared.status.Limited.{Limited}
+use Rattle.xt_messages.specs.declared.status.Limited.TheVariants as limited
+use Rattle.xt_messages.specs.declared.status.Rule.{Rule}
+use Rattle.xt_messages.specs.declared.status.Status.{Status}
+use Rattle.xt_messages.specs.declared.status.Status.TheVariants as status
 use Rattle.node_links.specs.Streams.{Takes, Puts}
 use Rattle.xt_base.specs.Faults.{Rose}
 use Rattle.time_line.specs.declared.line.Line.{Line}

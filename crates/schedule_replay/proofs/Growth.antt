@@ -1,15 +1,15 @@
 -- The steps of a line add entries behind those that are there, and leave the lines so far as they are.
 use Rattle.std.proofs.Common.{◌≡◌, ◌∙◌, ℕ, zero, suc, Bool, true, false, if◌then◌else◌, ◌-◌, ◌+◌, arith, nat_lt, take, length, slice_get, Option, Some, None, Result, Ok, Err, List, [], ◌∷◌, ◌++◌, refl, sym, ap, subst, append_assoc, append-nil}
 use Rattle.xt_base.specs.declared.ids.NodeId.{NodeId}
-use Rattle.xt_base.specs.declared.file.Location.{Location}
-use Rattle.xt_base.specs.declared.file.Op.{Op}
-use Rattle.xt_base.specs.declared.event.Call.{Call}
-use Rattle.xt_base.specs.declared.event.Event.{Event}
-use Rattle.xt_base.specs.declared.event.Event.TheVariants as event
-use Rattle.xt_base.specs.declared.message.Msg.{Msg}
-use Rattle.xt_base.specs.declared.record.Record.{Record}
-use Rattle.xt_base.specs.declared.record.Record.TheVariants as kept
-use Rattle.xt_base.specs.declared.status.Limited.TheVariants as limited
+use Rattle.xt_messages.specs.declared.file.Location.{Location}
+use Rattle.xt_messages.specs.declared.file.Op.{Op}
+use Rattle.xt_messages.specs.declared.event.Call.{Call}
+use Rattle.xt_messages.specs.declared.event.Event.{Event}
+use Rattle.xt_messages.specs.declared.event.Event.TheVariants as event
+use Rattle.xt_messages.specs.declared.message.Msg.{Msg}
+use Rattle.xt_messages.specs.declared.record.Record.{Record}
+use Rattle.xt_messages.specs.declared.record.Record.TheVariants as kept
+use Rattle.xt_messages.specs.declared.status.Limited.TheVariants as limited
 use Rattle.xt_base.specs.declared.TheConstants.{COUNTS}
 use Rattle.disk_model.specs.declared.plan.Stop.{Stop}
 use Rattle.xt_protocol.specs.declared.Turned.{Turned}

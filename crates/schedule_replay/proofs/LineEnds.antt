@@ -1,7 +1,7 @@
 -- how a replay goes on or ends with its next line
 use Rattle.std.proofs.Common.{◌≡◌, ◌∙◌, ℕ, ◌+◌, ◌-◌, ◌<◌, ◌==◌, Option, Some, Result, Ok, Err, List, [], ◌++◌, length, length-append, take, drop, refl, sym, ap, subst, inl, inr, arith}
 use Rattle.std.proofs.Math.Seq.{drop-append_seam, take-length}
-use Rattle.xt_base.specs.declared.status.Status.{Status}
+use Rattle.xt_messages.specs.declared.status.Status.{Status}
 use Rattle.node_links.specs.Streams.{Takes, Puts}
 use Rattle.time_line.specs.declared.line.Line.{Line}
 use Rattle.time_line.specs.declared.entry.Entry.{Entry}

@@ -1,8 +1,8 @@
 -- what a replay takes and puts, and why it ends
 use Rattle.std.specs.Prelude.{ℕ, ◌==◌, ◌≡◌, ◌<◌, ◌≤◌, ◌+◌, ◌⊎◌, Option, Some, None, List, [], ◌∷◌, ◌++◌, length}
-use Rattle.xt_base.specs.declared.status.Limited.TheVariants as limited
-use Rattle.xt_base.specs.declared.status.Status.{Status}
-use Rattle.xt_base.specs.declared.status.Status.TheVariants as status
+use Rattle.xt_messages.specs.declared.status.Limited.TheVariants as limited
+use Rattle.xt_messages.specs.declared.status.Status.{Status}
+use Rattle.xt_messages.specs.declared.status.Status.TheVariants as status
 use Rattle.node_links.specs.Streams.{Takes, IsAtEnd, Puts}
 use Rattle.time_line.specs.declared.line.Line.{Line}
 use Rattle.time_line.specs.declared.entry.Entry.{Entry}

@@ -16,7 +16,8 @@ use schedule_lines::{finish, take_byte};
 use std::alloc::Global;
 use time_line::LINES;
 use world_hull::Hull;
-use xt_base::{Failed, Limited, Status};
+use xt_base::Failed;
+use xt_messages::{Limited, Status};
 
 /// Ends a replay behind as many lines as a schedule may have.
 fn past_last<S: Source, K: Sink>(alloc: Global, src: &mut S, out: &mut K) -> Status

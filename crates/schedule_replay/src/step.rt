@@ -10,7 +10,7 @@ use schedule_lines::{NextLine, finish, next_line, put_entries};
 use std::alloc::Global;
 use time_line::{LINES, Line};
 use world_hull::{Hull, WorldErr};
-use xt_base::Status;
+use xt_messages::Status;
 
 /// The status with which a line ends a replay that isn't done.
 fn status_of(number: u64, error: WorldErr) -> Status

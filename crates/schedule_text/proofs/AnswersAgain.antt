@@ -11,9 +11,9 @@ use Rattle.std.proofs.lemmas.List.{take_at}
 use Rattle.std.proofs.lemmas.List.Folds.{prefix_len-append}
 use Rattle.std.proofs.lemmas.Str.Parse.{digit_from_value}
 use Rattle.std.proofs.Math.Seq.{drop-append-add}
-use Rattle.xt_base.specs.declared.reply.Answered.{Answered}
-use Rattle.xt_base.specs.declared.reply.Retry.{Retry}
-use Rattle.xt_base.specs.declared.reply.Retry.TheVariants as retry
+use Rattle.xt_messages.specs.declared.reply.Answered.{Answered}
+use Rattle.xt_messages.specs.declared.reply.Retry.{Retry}
+use Rattle.xt_messages.specs.declared.reply.Retry.TheVariants as retry
 use Rattle.time_line.specs.Bounds.{FitsRetry, FitsAnswered}
 use Rattle.schedule_text.specs.Words.{spaced}
 use Rattle.schedule_text.specs.OutcomeText.{retry_text, answer_word, answer_words}

@@ -2,16 +2,17 @@
 use Rattle.std.proofs.Common.{◌≡◌, ℕ, ◌*◌, ◌^◌, ◌<◌, ◌≤◌, Bool, List, [], ◌∷◌, Some, refl, sym, ap, subst, ◌∙◌, arith}
 use Rattle.std.specs.Prelude.{codes}
 use Rattle.std.specs.Fmt.{decimal}
-use Rattle.xt_base.specs.declared.file.Kind.{Kind}
-use Rattle.xt_base.specs.declared.file.Kind.TheVariants.{Replicated}
-use Rattle.xt_base.specs.declared.file.Location.{Location}
-use Rattle.xt_base.specs.declared.event.Call.{Call}
-use Rattle.xt_base.specs.declared.event.Call.TheVariants as call
+use Rattle.xt_messages.specs.declared.file.Kind.{Kind}
+use Rattle.xt_messages.specs.declared.file.Kind.TheVariants.{Replicated}
+use Rattle.xt_messages.specs.declared.file.Location.{Location}
+use Rattle.xt_messages.specs.declared.event.Call.{Call}
+use Rattle.xt_messages.specs.declared.event.Call.TheVariants as call
 use Rattle.time_line.specs.declared.line.Line.{Line}
 use Rattle.time_line.specs.declared.line.Line.TheVariants as line
 use Rattle.xt_base.specs.declared.ids.NodeId.{NodeId}
 use Rattle.schedule_text.specs.Words.{spaced, hex_of, hex_pair}
-use Rattle.xt_base.specs.Limits.{AreBytes, FitsLocation, FitsMembers}
+use Rattle.xt_base.specs.FieldLimits.{AreBytes}
+use Rattle.xt_messages.specs.Limits.{FitsLocation, FitsMembers}
 use Rattle.time_line.specs.Bounds.{FitsCall}
 use Rattle.schedule_text.specs.LineText.{line_text, line_words, IsLine, IsPlace, IsCall}
 use Rattle.schedule_text.specs.CallText.{call_name, call_words, node_words, file_words}

@@ -7,7 +7,7 @@ use Rattle.std.proofs.lemmas.Bool.{leb-true, lt-ltb, ltb-true}
 use Rattle.std.proofs.lemmas.Fmt.{decimal_is_IsNumeral_wide}
 use Rattle.xt_base.specs.MemberList.{are_members, are_distinct}
 use Rattle.xt_base.specs.declared.ids.NodeId.{NodeId}
-use Rattle.xt_base.specs.Limits.{FitsNode, FitsMembers}
+use Rattle.xt_messages.specs.Limits.{FitsNode, FitsMembers}
 use Rattle.schedule_text.specs.Words.{behind, spaced}
 use Rattle.schedule_text.specs.CallText.{node_words}
 use Rattle.schedule_text.specs.Reading.{first_word, other_words, each_word}

@@ -5,15 +5,15 @@ use Rattle.std.specs.List.{AllByRecursion}
 use Rattle.std.specs.Fmt.{decimal}
 use Rattle.xt_base.specs.declared.ids.NodeId.{NodeId}
 use Rattle.xt_base.specs.declared.ids.OpId.{OpId}
-use Rattle.xt_base.specs.declared.event.Call.{Call}
-use Rattle.xt_base.specs.declared.event.Call.TheVariants as call
-use Rattle.xt_base.specs.declared.event.Outcome.{Outcome}
-use Rattle.xt_base.specs.declared.event.Outcome.TheVariants as outcome
-use Rattle.xt_base.specs.declared.status.AskRefusal.{AskRefusal}
-use Rattle.xt_base.specs.declared.status.AskRefusal.TheVariants as refusal
-use Rattle.xt_base.specs.declared.file.Kind.{Kind}
-use Rattle.xt_base.specs.declared.file.Kind.TheVariants.{Replicated, Striped}
-use Rattle.xt_base.specs.Limits.{FitsNode}
+use Rattle.xt_messages.specs.declared.event.Call.{Call}
+use Rattle.xt_messages.specs.declared.event.Call.TheVariants as call
+use Rattle.xt_messages.specs.declared.event.Outcome.{Outcome}
+use Rattle.xt_messages.specs.declared.event.Outcome.TheVariants as outcome
+use Rattle.xt_messages.specs.declared.status.AskRefusal.{AskRefusal}
+use Rattle.xt_messages.specs.declared.status.AskRefusal.TheVariants as refusal
+use Rattle.xt_messages.specs.declared.file.Kind.{Kind}
+use Rattle.xt_messages.specs.declared.file.Kind.TheVariants.{Replicated, Striped}
+use Rattle.xt_messages.specs.Limits.{FitsNode}
 use Rattle.time_line.specs.declared.entry.Entry.{Entry}
 use Rattle.time_line.specs.declared.entry.Entry.TheVariants as entry
 use Rattle.time_line.specs.Bounds.{FitsCall, FitsOutcome, FitsRefusal, FitsPosition}

@@ -13,7 +13,7 @@ use Rattle.std.proofs.lemmas.List.Sums.{fold-append}
 use Rattle.std.proofs.lemmas.Fmt.{decimal_is_IsNumeral_wide, decimal_by_steps_wide}
 use Rattle.std.proofs.lemmas.Str.Parse.{digit_from_value}
 use Rattle.std.proofs.lemmas.Bool.Decides.{nat_tests}
-use Rattle.xt_base.specs.Limits.{AreBytes}
+use Rattle.xt_base.specs.FieldLimits.{AreBytes}
 use Rattle.schedule_text.specs.Words.{spaced, hex_of, hex_pair, hex_digit}
 use Rattle.schedule_text.specs.Reading.{first_word, other_words, with_digit, number_of, number_at, digit_of, byte_of, bytes_of}
 

@@ -2,15 +2,15 @@
 use Rattle.std.specs.Prelude.{ℕ, List, [], ◌∷◌, ◌+◌, ◌/◌, ◌%◌, ◌==◌, if◌then◌else◌, map, codes}
 use Rattle.std.specs.Fmt.{decimal}
 use Rattle.xt_base.specs.declared.ids.NodeId.{NodeId}
-use Rattle.xt_base.specs.declared.file.Location.{Location}
-use Rattle.xt_base.specs.declared.file.Kind.{Kind}
-use Rattle.xt_base.specs.declared.file.Kind.TheVariants.{Replicated, Striped}
-use Rattle.xt_base.specs.declared.event.Call.{Call}
-use Rattle.xt_base.specs.declared.event.Call.TheVariants as call
-use Rattle.xt_base.specs.declared.meta.MetaReq.{MetaReq}
-use Rattle.xt_base.specs.declared.meta.MetaReq.TheVariants as request
-use Rattle.xt_base.specs.declared.registry.RegistryReq.{RegistryReq}
-use Rattle.xt_base.specs.declared.registry.RegistryReq.TheVariants as row
+use Rattle.xt_messages.specs.declared.file.Location.{Location}
+use Rattle.xt_messages.specs.declared.file.Kind.{Kind}
+use Rattle.xt_messages.specs.declared.file.Kind.TheVariants.{Replicated, Striped}
+use Rattle.xt_messages.specs.declared.event.Call.{Call}
+use Rattle.xt_messages.specs.declared.event.Call.TheVariants as call
+use Rattle.xt_messages.specs.declared.meta.MetaReq.{MetaReq}
+use Rattle.xt_messages.specs.declared.meta.MetaReq.TheVariants as request
+use Rattle.xt_messages.specs.declared.registry.RegistryReq.{RegistryReq}
+use Rattle.xt_messages.specs.declared.registry.RegistryReq.TheVariants as row
 use Rattle.schedule_text.specs.Words.{hex_of}
 
 -- rep where each OSD has all objects, str where they are striped

@@ -3,8 +3,8 @@ use Rattle.std.specs.Prelude.{ℕ, List, if◌then◌else◌, Option, Some, None
 use Rattle.std.specs.Str.{bytes_eq}
 use Rattle.xt_base.specs.MemberList.{are_members}
 use Rattle.xt_base.specs.declared.ids.NodeId.{NodeId}
-use Rattle.xt_base.specs.declared.file.Kind.TheVariants.{Replicated}
-use Rattle.xt_base.specs.declared.event.Call.TheVariants as call
+use Rattle.xt_messages.specs.declared.file.Kind.TheVariants.{Replicated}
+use Rattle.xt_messages.specs.declared.event.Call.TheVariants as call
 use Rattle.time_line.specs.declared.line.Line.{Line}
 use Rattle.time_line.specs.declared.line.Line.TheVariants as line
 use Rattle.schedule_text.specs.Reading.{number_of, number_at, first_word, other_words, each_word, byte_of, bytes_of}

@@ -1,23 +1,23 @@
 -- the end of a call in words
 use Rattle.std.specs.Prelude.{ℕ, List, [], ◌∷◌, ◌++◌, map, codes}
 use Rattle.std.specs.Fmt.{decimal}
-use Rattle.xt_base.specs.declared.reply.Denial.{Denial}
-use Rattle.xt_base.specs.declared.reply.Denial.TheVariants as denial
-use Rattle.xt_base.specs.declared.reply.Retry.{Retry}
-use Rattle.xt_base.specs.declared.reply.Retry.TheVariants as retry
-use Rattle.xt_base.specs.declared.reply.Answered.{Answered}
-use Rattle.xt_base.specs.declared.status.AskRefusal.{AskRefusal}
-use Rattle.xt_base.specs.declared.status.AskRefusal.TheVariants as ask
-use Rattle.xt_base.specs.declared.meta.MetaRefusal.{MetaRefusal}
-use Rattle.xt_base.specs.declared.meta.MetaRefusal.TheVariants as refusal
-use Rattle.xt_base.specs.declared.meta.RowKind.{RowKind}
-use Rattle.xt_base.specs.declared.meta.RowKind.TheVariants.{Directory, File}
-use Rattle.xt_base.specs.declared.event.MetaOutcome.{MetaOutcome}
-use Rattle.xt_base.specs.declared.event.MetaOutcome.TheVariants as meta
-use Rattle.xt_base.specs.declared.event.RegistryOutcome.{RegistryOutcome}
-use Rattle.xt_base.specs.declared.event.RegistryOutcome.TheVariants as registry
-use Rattle.xt_base.specs.declared.event.Outcome.{Outcome}
-use Rattle.xt_base.specs.declared.event.Outcome.TheVariants as outcome
+use Rattle.xt_messages.specs.declared.reply.Denial.{Denial}
+use Rattle.xt_messages.specs.declared.reply.Denial.TheVariants as denial
+use Rattle.xt_messages.specs.declared.reply.Retry.{Retry}
+use Rattle.xt_messages.specs.declared.reply.Retry.TheVariants as retry
+use Rattle.xt_messages.specs.declared.reply.Answered.{Answered}
+use Rattle.xt_messages.specs.declared.status.AskRefusal.{AskRefusal}
+use Rattle.xt_messages.specs.declared.status.AskRefusal.TheVariants as ask
+use Rattle.xt_messages.specs.declared.meta.MetaRefusal.{MetaRefusal}
+use Rattle.xt_messages.specs.declared.meta.MetaRefusal.TheVariants as refusal
+use Rattle.xt_messages.specs.declared.meta.RowKind.{RowKind}
+use Rattle.xt_messages.specs.declared.meta.RowKind.TheVariants.{Directory, File}
+use Rattle.xt_messages.specs.declared.event.MetaOutcome.{MetaOutcome}
+use Rattle.xt_messages.specs.declared.event.MetaOutcome.TheVariants as meta
+use Rattle.xt_messages.specs.declared.event.RegistryOutcome.{RegistryOutcome}
+use Rattle.xt_messages.specs.declared.event.RegistryOutcome.TheVariants as registry
+use Rattle.xt_messages.specs.declared.event.Outcome.{Outcome}
+use Rattle.xt_messages.specs.declared.event.Outcome.TheVariants as outcome
 use Rattle.schedule_text.specs.Words.{hex_or_dash}
 use Rattle.schedule_text.specs.CallText.{mode_word, node_words}
 

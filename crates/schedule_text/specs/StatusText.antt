@@ -1,14 +1,14 @@
 -- the last line of a job, as its status says
 use Rattle.std.specs.Prelude.{ℕ, List, [], ◌∷◌, ◌++◌, codes}
 use Rattle.std.specs.Fmt.{decimal}
-use Rattle.xt_base.specs.declared.status.Rule.{Rule}
-use Rattle.xt_base.specs.declared.status.Rule.TheVariants as rule
-use Rattle.xt_base.specs.declared.status.Limited.{Limited}
-use Rattle.xt_base.specs.declared.status.Limited.TheVariants as limited
-use Rattle.xt_base.specs.declared.status.Refusal.{Refusal}
-use Rattle.xt_base.specs.declared.status.Refusal.TheVariants as refusal
-use Rattle.xt_base.specs.declared.status.Status.{Status}
-use Rattle.xt_base.specs.declared.status.Status.TheVariants as status
+use Rattle.xt_messages.specs.declared.status.Rule.{Rule}
+use Rattle.xt_messages.specs.declared.status.Rule.TheVariants as rule
+use Rattle.xt_messages.specs.declared.status.Limited.{Limited}
+use Rattle.xt_messages.specs.declared.status.Limited.TheVariants as limited
+use Rattle.xt_messages.specs.declared.status.Refusal.{Refusal}
+use Rattle.xt_messages.specs.declared.status.Refusal.TheVariants as refusal
+use Rattle.xt_messages.specs.declared.status.Status.{Status}
+use Rattle.xt_messages.specs.declared.status.Status.TheVariants as status
 use Rattle.schedule_text.specs.Words.{spaced, hex_of}
 use Rattle.schedule_text.specs.OutcomeText.{answer_words, ask_refusal_words, meta_refusal_words}
 

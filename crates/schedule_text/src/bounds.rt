@@ -1,11 +1,12 @@
 ghost use Rattle.std.specs.Prelude.{◌≡◌, ◌<◌, ◌^◌, ◌↔◌, IsTrue, nat_lt};
 ghost use Rattle.std.specs.List.{list_all};
-ghost use Rattle.xt_base.specs.Limits.{FitsStripe, FitsMembers, FitsLocation};
+ghost use Rattle.xt_messages.specs.Limits.{FitsStripe, FitsMembers, FitsLocation};
 ghost use Rattle.time_line.specs.Bounds.{FitsCall};
 ghost use Rattle.schedule_text.specs.LineText.{IsLine, IsPlace, IsCall};
 
 use time_line::Line;
-use xt_base::{BODY, COUNTS, Call, Kind, Location, Members, NodeId, Times};
+use xt_base::{BODY, COUNTS, Members, NodeId, Times};
+use xt_messages::{Call, Kind, Location};
 
 /// Whether a stripe is 1,024 to 131,072 bytes, in steps of 1,024.
 pub(crate) fn is_stripe(stripe: u32) -> bool

@@ -4,7 +4,8 @@ ghost use Rattle.schedule_text.specs.Words.{behind, hex_of};
 ghost use Rattle.schedule_text.specs.CallText.{call_name, call_words, kind_word, meta_words, mode_word, name_or_dash, registry_words, want_word};
 
 use crate::spelling::{kind_word, push_bytes, push_node, push_number, push_word};
-use xt_base::{Call, Kind, MetaReq, Name, NodeId, Octets, OutOfMemory, RegistryReq};
+use xt_base::{Name, NodeId, Octets, OutOfMemory};
+use xt_messages::{Call, Kind, MetaReq, RegistryReq};
 
 /// Appends ` F OBJ AT LEN`.
 fn push_read(

@@ -15,7 +15,8 @@ use crate::spelling::{
 };
 use std::alloc::Global;
 use time_line::{Entry, Halt};
-use xt_base::{Boot, Call, NodeId, Octets, OpId, OutOfMemory, Outcome};
+use xt_base::{Boot, NodeId, Octets, OpId, OutOfMemory};
+use xt_messages::{Call, Outcome};
 
 /// Appends ` CLIENT NUMBER`.
 fn push_id(out: &mut Vec<u8>, id: OpId) -> Result<(), OutOfMemory>

@@ -5,7 +5,8 @@ use crate::nodes::{members_at, node_at};
 use crate::words::{byte_of, bytes_of, cut, u8_at, u32_at, u64_at, u128_at};
 use std::alloc::Global;
 use time_line::Line;
-use xt_base::{Call, Kind, Location, OutOfMemory};
+use xt_base::OutOfMemory;
+use xt_messages::{Call, Kind, Location};
 
 /// `times L E`
 #[tactic(auto, unfolding(crate::specs::LineReading::times_at))]

@@ -14,7 +14,8 @@ use crate::spelling::{
 };
 use std::alloc::Global;
 use time_line::Line;
-use xt_base::{Call, NodeId, Octets, OutOfMemory};
+use xt_base::{NodeId, Octets, OutOfMemory};
+use xt_messages::Call;
 
 /// Why a line isn't read.
 #[derive(Clone, Copy, PartialEq, Eq)]

@@ -8,9 +8,10 @@ use crate::call::push_mode;
 use crate::spelling::{
     push_bytes_or_dash, push_digits, push_node, push_nodes, push_number, push_word,
 };
-use xt_base::{
-    Answered, AskRefusal, Denial, MetaOutcome, MetaRefusal, Name, NodeId, Octets, OutOfMemory,
-    Outcome, RegistryOutcome, RegistryRow, Retry, RowKind, SizeMark,
+use xt_base::{Name, NodeId, Octets, OutOfMemory, SizeMark};
+use xt_messages::{
+    Answered, AskRefusal, Denial, MetaOutcome, MetaRefusal, Outcome, RegistryOutcome, RegistryRow,
+    Retry, RowKind,
 };
 
 /// The number of a denial.

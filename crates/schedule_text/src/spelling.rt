@@ -3,7 +3,8 @@ ghost use Rattle.std.specs.Fmt.{decimal};
 ghost use Rattle.schedule_text.specs.Words.{behind, spaced, hex_digit, hex_pair, hex_of, hex_or_dash};
 ghost use Rattle.schedule_text.specs.CallText.{file_words, kind_word, node_words};
 
-use xt_base::{Kind, Location, NodeId, OutOfMemory};
+use xt_base::{NodeId, OutOfMemory};
+use xt_messages::{Kind, Location};
 
 /// Appends a number below 2^64.
 #[tactic(auto, using(crate::proofs::Digits::digits_behind, crate::proofs::Digits::one_digit))]

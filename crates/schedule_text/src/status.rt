@@ -8,7 +8,8 @@ use crate::outcome::{
 };
 use crate::spelling::{push_bytes, push_number, push_wide_number, push_word};
 use std::alloc::Global;
-use xt_base::{Limited, NodeId, Octets, OutOfMemory, Refusal, Rule, Status};
+use xt_base::{NodeId, Octets, OutOfMemory};
+use xt_messages::{Limited, Refusal, Rule, Status};
 
 /// Appends ` drift A B`.
 fn push_drift(out: &mut Vec<u8>, a: u64, b: u64) -> Result<(), OutOfMemory>

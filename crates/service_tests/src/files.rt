@@ -2,7 +2,8 @@ use crate::serving::{ASIDE, Ask, Asker, KEPT, Kept, OTHERWISE, Row, Told, run};
 use mrc_core::Mrc;
 use std::process::Abort;
 use std::test::*;
-use xt_base::{FileId, MetaRefusal, NodeId, VolumeId};
+use xt_base::{FileId, NodeId, VolumeId};
+use xt_messages::MetaRefusal;
 
 const ANN: Asker = (1, 1);
 

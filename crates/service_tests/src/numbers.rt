@@ -1,6 +1,7 @@
 use crate::serving::{ASIDE, Ask, Asker, KEPT, Row, Told, run};
 use std::test::*;
-use xt_base::{MetaRefusal, NodeId};
+use xt_base::NodeId;
+use xt_messages::MetaRefusal;
 
 const ANN: Asker = (1, 1);
 

@@ -3,7 +3,8 @@ use dir_core::Dir;
 use std::alloc::Global;
 use std::process::Abort;
 use std::test::*;
-use xt_base::{DIR_NODE, Event, Msg, Name, NodeId, Payload, RegistryAnswer, RegistryReq};
+use xt_base::{DIR_NODE, Name, NodeId};
+use xt_messages::{Event, Msg, Payload, RegistryAnswer, RegistryReq};
 use xt_protocol::Turned;
 
 /// Who asks, and under which number; `s` to set node 1 as an OSD at `a`, `g` to get it, `l` to list a kind, `r` to remove it;

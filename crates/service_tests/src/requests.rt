@@ -1,6 +1,7 @@
 use crate::serving::{ASIDE, Ask, Asker, KEPT, Kept, Row, Told, run};
 use std::test::*;
-use xt_base::{Denial, MetaRefusal, NodeId};
+use xt_base::NodeId;
+use xt_messages::{Denial, MetaRefusal};
 
 /// The owner of the volume, one of the owner's group, and another user.
 const ANN: Asker = (1, 1);

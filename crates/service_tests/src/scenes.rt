@@ -3,10 +3,11 @@ ghost use Rattle.std.specs.Prelude.{◌<◌, ◌^◌};
 use client_core::{CallErr, CallResult, Client};
 use std::alloc::Global;
 use std::process::Abort;
-use xt_base::{
-    Answered, AskRefusal, COUNTS, Call, Capability, Denial, Event, FileId, Kind, Location, Mark,
-    Members, MetaAnswer, MetaRefusal, MetaReq, Msg, Name, NodeId, Octets, Payload, RegistryAnswer,
-    RegistryReq, RegistryRow, Reply, Retry, RowKind, Seq, SizeMark, Times, VolumeId,
+use xt_base::{COUNTS, FileId, Members, Name, NodeId, Octets, Seq, SizeMark, Times, VolumeId};
+use xt_messages::{
+    Answered, AskRefusal, Call, Capability, Denial, Event, Kind, Location, Mark, MetaAnswer,
+    MetaRefusal, MetaReq, Msg, Payload, RegistryAnswer, RegistryReq, RegistryRow, Reply, Retry,
+    RowKind,
 };
 use xt_protocol::Turned;
 

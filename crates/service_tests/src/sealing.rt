@@ -3,7 +3,8 @@ use hex::FromHex;
 use std::alloc::Global;
 use std::process::Abort;
 use std::test::*;
-use xt_base::{Capability, Denial, FileId, Kind, Location, Members, NodeId, Payload, VolumeId};
+use xt_base::{FileId, Members, NodeId, VolumeId};
+use xt_messages::{Capability, Denial, Kind, Location, Payload};
 
 /// What is told where a test stops that can't go on.
 pub const OTHERWISE: &str = "a call answers otherwise";

@@ -3,9 +3,10 @@ ghost use Rattle.mrc_catalogue.specs.Picking.{CanHear, WantsSome};
 use mrc_core::Mrc;
 use std::alloc::Global;
 use std::process::Abort;
-use xt_base::{
-    Capability, Denial, Event, Kind, MRC_NODE, Mark, MetaAnswer, MetaRefusal, MetaReq, Msg, Name,
-    NodeId, OutOfMemory, Payload, Record, RegistryAnswer, RegistryRow, RowKind, Seq, SizeMark,
+use xt_base::{MRC_NODE, Name, NodeId, OutOfMemory, Seq, SizeMark};
+use xt_messages::{
+    Capability, Denial, Event, Kind, Mark, MetaAnswer, MetaRefusal, MetaReq, Msg, Payload, Record,
+    RegistryAnswer, RegistryRow, RowKind,
 };
 use xt_protocol::Turned;
 

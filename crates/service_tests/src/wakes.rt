@@ -3,7 +3,8 @@ use mrc_core::Mrc;
 use std::alloc::Global;
 use std::process::Abort;
 use std::test::*;
-use xt_base::{DIR_NODE, Event, MRC_NODE, NodeId, Payload, RegistryReq};
+use xt_base::{DIR_NODE, MRC_NODE, NodeId};
+use xt_messages::{Event, Payload, RegistryReq};
 use xt_protocol::Turned;
 
 /// Whether a request of number 0 is for the first OSDs.

@@ -6,9 +6,9 @@ use Rattle.std.proofs.lemmas.List.{append-nil, length-set, set-set}
 use Rattle.world_leases.proofs.Tables.{node_in-new}
 use Rattle.disk_model.specs.declared.plan.Stop.{Stop}
 use Rattle.xt_base.specs.declared.ids.NodeId.{NodeId}
-use Rattle.xt_base.specs.declared.message.Msg.{Msg}
-use Rattle.xt_base.specs.declared.record.Record.{Record}
-use Rattle.xt_base.specs.declared.status.Limited.{Limited}
+use Rattle.xt_messages.specs.declared.message.Msg.{Msg}
+use Rattle.xt_messages.specs.declared.record.Record.{Record}
+use Rattle.xt_messages.specs.declared.status.Limited.{Limited}
 use Rattle.xt_protocol.specs.declared.Turned.{Turned}
 use Rattle.time_line.specs.declared.entry.Halt.{Halt}
 use Rattle.time_line.specs.declared.entry.Halt.TheVariants as halt
@@ -25,7 +25,7 @@ use Rattle.world_tables.proofs.Limits.{within_limits_is}
 use Rattle.world_hull.specs.Appends.{kept_by}
 use Rattle.world_hull.specs.declared.errors.WorldErr.{WorldErr}
 use Rattle.std.specs.List.{AllByRecursion}
-use Rattle.xt_base.specs.Limits.{FitsMessage}
+use Rattle.xt_messages.specs.Limits.{FitsMessage}
 use Rattle.world_nodes.specs.Nodes.{NodesView, IsAt, kept_when}
 use Rattle.step_endings.specs.Steps.{Around, Working, WentOn, IsUntold, Tells, cause_of}
 use Rattle.step_endings.specs.Endings.{given, hindrance, cause_against, IsGiven, Halts, ended, ended_whole, ended_sending, ended_in_append, halt_of}

@@ -1,9 +1,9 @@
 -- what hinders a step, by what the hull and the messages tell
 use Rattle.std.proofs.Common.{◌≡◌, Option, Some, None, Err, List, refl, ap, sym, ◌∙◌, subst}
 use Rattle.std.specs.Option.{IfSome}
-use Rattle.xt_base.specs.declared.message.Msg.{Msg}
-use Rattle.xt_base.specs.declared.record.Record.{Record}
-use Rattle.xt_base.specs.declared.status.Limited.{Limited}
+use Rattle.xt_messages.specs.declared.message.Msg.{Msg}
+use Rattle.xt_messages.specs.declared.record.Record.{Record}
+use Rattle.xt_messages.specs.declared.status.Limited.{Limited}
 use Rattle.cluster_runs.specs.declared.Sent.{Sent}
 use Rattle.cluster_runs.specs.World.{World, Node}
 use Rattle.cluster_runs.specs.NodeSteps.{Room, Overflow, has_no_room, overflow_of}

@@ -4,10 +4,10 @@ use Rattle.std.specs.Option.{IfSome}
 use Rattle.disk_model.specs.declared.plan.Stop.{Stop}
 use Rattle.time_line.specs.declared.entry.Halt.{Halt}
 use Rattle.time_line.specs.declared.entry.Halt.TheVariants as halt
-use Rattle.xt_base.specs.declared.event.Mark.{Mark}
-use Rattle.xt_base.specs.declared.message.Msg.{Msg}
-use Rattle.xt_base.specs.declared.record.Record.{Record}
-use Rattle.xt_base.specs.declared.status.Limited.{Limited}
+use Rattle.xt_messages.specs.declared.event.Mark.{Mark}
+use Rattle.xt_messages.specs.declared.message.Msg.{Msg}
+use Rattle.xt_messages.specs.declared.record.Record.{Record}
+use Rattle.xt_messages.specs.declared.status.Limited.{Limited}
 use Rattle.xt_protocol.specs.declared.Turned.{Turned}
 use Rattle.cluster_runs.specs.World.{World, Node, Running, with_node}
 use Rattle.cluster_runs.specs.NodeSteps.{Room, Cause, came_to, has_no_room, Doing, numbered, one_more, overflow_of, within_limits, after_turn, to_itself, loses_own, cut_in_sending, stopped_in_append}

@@ -1,8 +1,8 @@
 -- a line at work, and what a step makes of it
 use Rattle.std.specs.Prelude.{ℕ, Bool, ◌≡◌, ◌-◌, List, Option, Some, None, Result, Ok, Err}
 use Rattle.xt_base.specs.declared.TheConstants.{COUNTS}
-use Rattle.xt_base.specs.declared.status.Limited.{Limited}
-use Rattle.xt_base.specs.declared.status.Limited.TheVariants as limited
+use Rattle.xt_messages.specs.declared.status.Limited.{Limited}
+use Rattle.xt_messages.specs.declared.status.Limited.TheVariants as limited
 use Rattle.time_line.specs.declared.TheConstants.{LINES, LINE_BYTES}
 use Rattle.time_line.specs.declared.line.Line.{Line}
 use Rattle.cluster_runs.specs.declared.TheConstants.{MESSAGES, MESSAGE_BYTES, NODES}

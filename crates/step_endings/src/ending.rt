@@ -6,7 +6,8 @@ use disk_model::Stop;
 use node_cores::Moment;
 use time_line::Halt;
 use world_hull::Kept;
-use xt_base::{Msg, Msgs, OptionalBox, Record};
+use xt_base::OptionalBox;
+use xt_messages::{Msg, Msgs, Record};
 
 /// How the step of a running node ends.
 #[derive(Clone, Copy, PartialEq, Eq)]

@@ -4,7 +4,8 @@ ghost use Rattle.cluster_runs.specs.NodeSteps.{entry_of};
 
 use std::alloc::Global;
 use time_line::Entry;
-use xt_base::{Mark, Marks, NodeId, OutOfMemory};
+use xt_base::{NodeId, OutOfMemory};
+use xt_messages::{Mark, Marks};
 
 /// The line of the trace for a mark of a node.
 fn entry_of(node: NodeId, mark: Mark) -> Entry

@@ -5,7 +5,8 @@ ghost use Rattle.step_endings.specs.Steps.{limit_of};
 use cluster_runs::{MESSAGE_BYTES, MESSAGES, NODES};
 use time_line::{LINE_BYTES, LINES};
 use world_hull::WorldErr;
-use xt_base::{COUNTS, Limited};
+use xt_base::COUNTS;
+use xt_messages::Limited;
 
 /// The limit of a count.
 fn limit_of(what: Limited) -> u64

@@ -1,6 +1,6 @@
 ghost use Rattle.std.specs.Prelude.{◌≡◌, ◌<◌, ◌++◌, Some, length, IfErr, IfSome, OnOk};
 ghost use Rattle.std.specs.List.{AllByRecursion};
-ghost use Rattle.xt_base.specs.Limits.{FitsMessage};
+ghost use Rattle.xt_messages.specs.Limits.{FitsMessage};
 ghost use Rattle.cluster_runs.specs.World.{Node, Running};
 ghost use Rattle.cluster_runs.specs.NodeSteps.{end_of_step, numbered};
 ghost use Rattle.cluster_fits.specs.Fits.{FitsPlan, FitsNext, FitsTurned, FitsRunning};
@@ -20,7 +20,8 @@ use time_line::{Entry, Halt};
 use world_hull::{Hull, WorldErr};
 use world_nodes::Nodes;
 use world_tables::SentMessages;
-use xt_base::{Marks, Msg, Msgs, NodeId, OptionalBox, Record};
+use xt_base::{NodeId, OptionalBox};
+use xt_messages::{Marks, Msg, Msgs, Record};
 use xt_protocol::Turned;
 
 /// What the steps of nodes change in a world: its nodes, the messages and the trace.

@@ -9,10 +9,8 @@ ghost use Rattle.osd_rows.specs.Turns as rows;
 
 use std::alloc::Global;
 use std::mem;
-use xt_base::{
-    Copies, FileId, Mark, Marks, Msg, Msgs, NodeId, Octets, OpId, OptionalBox, OutOfMemory,
-    Payload, Record, Reply, Seq, SizeMark,
-};
+use xt_base::{Copies, FileId, NodeId, Octets, OpId, OptionalBox, OutOfMemory, Seq, SizeMark};
+use xt_messages::{Mark, Marks, Msg, Msgs, Payload, Record, Reply};
 use xt_protocol::Turned;
 
 /// Nothing comes of a row.

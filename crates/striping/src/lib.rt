@@ -7,7 +7,7 @@
 
 ghost use Rattle.std.specs.Prelude.{◌≡◌, ◌≤◌, ◌<◌, ◌+◌, ◌-◌, ◌*◌, ◌/◌, ◌%◌, ◌^◌, ℕ, List, map, IfOk};
 ghost use Rattle.std.specs.List.{concat};
-ghost use Rattle.xt_base.specs.Limits.{FitsStripe};
+ghost use Rattle.xt_messages.specs.Limits.{FitsStripe};
 ghost use Rattle.time_line.specs.Content.{range_of};
 ghost use Rattle.striping.specs.declared.Piece.{Piece};
 ghost use Rattle.striping.specs.Cover.{IsPieceFrom, Covers, bytes_of};

@@ -1,7 +1,7 @@
 -- the content of a file, as a flat list of bytes
 use Rattle.std.specs.Prelude.{ℕ, List, [], ◌∷◌, ◌+◌, ◌*◌, take, drop}
-use Rattle.xt_base.specs.declared.file.Op.{Op}
-use Rattle.xt_base.specs.declared.file.Op.TheVariants.{Read, Write, Truncate}
+use Rattle.xt_messages.specs.declared.file.Op.{Op}
+use Rattle.xt_messages.specs.declared.file.Op.TheVariants.{Read, Write, Truncate}
 use Rattle.xt_base.specs.Overlay.{overlay, cut_or_filled}
 
 -- where a place of an object lies in the file

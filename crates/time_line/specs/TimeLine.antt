@@ -8,12 +8,12 @@ use Rattle.xt_base.specs.TimeSettings.{TimeSettings}
 use Rattle.xt_base.specs.declared.ids.NodeId.{NodeId}
 use Rattle.xt_base.specs.declared.ids.OpId.{OpId}
 use Rattle.xt_base.specs.declared.ids.Boot.{Boot}
-use Rattle.xt_base.specs.declared.file.Op.{Op}
-use Rattle.xt_base.specs.declared.file.Op.TheVariants as op
-use Rattle.xt_base.specs.declared.file.Kind.TheVariants as kind
-use Rattle.xt_base.specs.declared.file.Location.{Location}
-use Rattle.xt_base.specs.declared.event.Call.{Call}
-use Rattle.xt_base.specs.declared.event.Call.TheVariants as call
+use Rattle.xt_messages.specs.declared.file.Op.{Op}
+use Rattle.xt_messages.specs.declared.file.Op.TheVariants as op
+use Rattle.xt_messages.specs.declared.file.Kind.TheVariants as kind
+use Rattle.xt_messages.specs.declared.file.Location.{Location}
+use Rattle.xt_messages.specs.declared.event.Call.{Call}
+use Rattle.xt_messages.specs.declared.event.Call.TheVariants as call
 use Rattle.time_line.specs.Content.{content_of}
 use Rattle.time_line.specs.declared.entry.Entry.{Entry}
 use Rattle.time_line.specs.declared.entry.Entry.TheVariants as entry

@@ -1,4 +1,5 @@
-use xt_base::{Boot, Call, Location, NodeId, Octets, OpId, Outcome};
+use xt_base::{Boot, NodeId, Octets, OpId};
+use xt_messages::{Call, Location, Outcome};
 
 /// How a node stopped.
 #[derive(Clone, Copy, PartialEq, Eq)]

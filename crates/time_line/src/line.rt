@@ -1,4 +1,5 @@
-use xt_base::{Call, Location, NodeId};
+use xt_base::NodeId;
+use xt_messages::{Call, Location};
 
 /// A line of a schedule.
 pub enum Line {

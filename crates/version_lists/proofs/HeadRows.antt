@@ -4,9 +4,9 @@ use Rattle.std.proofs.lemmas.Bool.Decides.{nat_tests}
 use Rattle.std.proofs.lemmas.List.{get_or_default}
 use Rattle.std.specs.List.Sorted.{IsPartitionPoint, IsPartitionedBy}
 use Rattle.std.specs.Prelude.{Ok, Err}
-use Rattle.xt_base.specs.declared.file.ObjectVersion.{ObjectVersion}
-use Rattle.xt_base.specs.declared.file.Session.{Session}
-use Rattle.xt_base.specs.Limits.{rise}
+use Rattle.xt_messages.specs.declared.file.ObjectVersion.{ObjectVersion}
+use Rattle.xt_messages.specs.declared.file.Session.{Session}
+use Rattle.xt_messages.specs.Limits.{rise}
 use Rattle.xt_protocol.specs.Heads.{version_of, with_version, versions_below, session_of, with_session}
 use Rattle.version_lists.specs.Rising.{rises, is_object_before, is_client_before, IsVersionPlace, IsSessionPlace}
 use Rattle.version_lists.proofs.Puts.{Orders, IsPlace, put, partitioned, set_there, insert_there, found_at, none_same}

@@ -6,7 +6,7 @@ use Rattle.std.specs.Ordering.{is_eq, is_lt, match_ordering}
 use Rattle.std.specs.declared.cmp.Ordering.{Ordering}
 use Rattle.std.specs.declared.cmp.Ordering.TheVariants.{Less, Equal, Greater}
 use Rattle.std.specs.BTreeSet.{BTreeSet, contains_by, insert_key}
-use Rattle.xt_base.specs.declared.file.ObjectVersion.{ObjectVersion}
+use Rattle.xt_messages.specs.declared.file.ObjectVersion.{ObjectVersion}
 use Rattle.xt_protocol.specs.Stamps.{is_version, comes_before, has_version, with_held}
 use Rattle.xt_protocol.specs.VersionOrder.{version_cmp}
 use Rattle.xt_protocol.proofs.Stamps.{is_version-cmp, comes_before-cmp}

@@ -1,10 +1,10 @@
 -- lists that rise, and where an item stands in one
 use Rattle.std.specs.Prelude.{ℕ, Bool, true, false, ◌&&◌, ◌≡◌, ◌<◌, ◌≤◌, nat_lt, Some, None, Result, Ok, Err, List, [], ◌∷◌, length, map, slice_index_or, slice_set, IsTrue}
 use Rattle.std.specs.List.{insert}
-use Rattle.xt_base.specs.declared.file.ObjectVersion.{ObjectVersion}
-use Rattle.xt_base.specs.declared.file.Session.{Session}
-use Rattle.xt_base.specs.declared.file.FileHead.{FileHead}
-use Rattle.xt_base.specs.Limits.{rise}
+use Rattle.xt_messages.specs.declared.file.ObjectVersion.{ObjectVersion}
+use Rattle.xt_messages.specs.declared.file.Session.{Session}
+use Rattle.xt_messages.specs.declared.file.FileHead.{FileHead}
+use Rattle.xt_messages.specs.Limits.{rise}
 use Rattle.xt_protocol.specs.Stamps.{comes_before, has_version, with_held}
 use Rattle.xt_protocol.specs.Heads.{version_of, with_version, session_of, with_session}
 

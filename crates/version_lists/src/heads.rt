@@ -1,5 +1,5 @@
 ghost use Rattle.std.specs.Prelude.{◌≡◌, ◌≤◌, IsTrue, OnOk, OnErr, map, length};
-ghost use Rattle.xt_base.specs.Limits.{rise};
+ghost use Rattle.xt_messages.specs.Limits.{rise};
 ghost use Rattle.xt_protocol.specs.Heads.{head_after};
 ghost use Rattle.xt_protocol.specs.Folds.{held_after};
 ghost use Rattle.version_lists.specs.Rising.{HeadRises};
@@ -7,7 +7,8 @@ ghost use Rattle.version_lists.specs.Rising.{HeadRises};
 use crate::held::hold;
 use crate::sessions::{put_session, sessions_with};
 use crate::versions::{drop_versions, objects_below, put_version, versions_with};
-use xt_base::{FileHead, HeldSet, NO_OBJECT, ObjectVersion, OutOfMemory, Session, Update};
+use xt_base::{NO_OBJECT, OutOfMemory};
+use xt_messages::{FileHead, HeldSet, ObjectVersion, Session, Update};
 
 /// The session that an update makes its client's last one.
 fn session_made(update: &Update) -> Session

@@ -3,7 +3,8 @@ ghost use Rattle.xt_protocol.specs.Stamps.{has_version, with_held};
 ghost use Rattle.version_lists.specs.Rising.{held_rise, IsHeldPlace};
 
 use crate::orders::{comes_before, is_version};
-use xt_base::{HeldSet, ObjectVersion, OutOfMemory};
+use xt_base::OutOfMemory;
+use xt_messages::{HeldSet, ObjectVersion};
 
 /// Whether each of these versions comes before the next one.
 pub fn held_rise(versions: &[ObjectVersion]) -> bool

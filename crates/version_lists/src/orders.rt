@@ -1,7 +1,8 @@
 ghost use Rattle.std.specs.Prelude.{◌≡◌};
 ghost use Rattle.xt_protocol.specs.Stamps.{is_epoch, is_earlier, is_stamp, is_below, is_version, comes_before};
 
-use xt_base::{Epoch, ObjectVersion, Stamp};
+use xt_base::{Epoch, Stamp};
+use xt_messages::ObjectVersion;
 
 /// Whether two epochs are one.
 pub fn is_epoch(a: Epoch, b: Epoch) -> bool

@@ -1,9 +1,10 @@
 ghost use Rattle.std.specs.Prelude.{◌≡◌, ◌≤◌, ◌<◌, IsTrue, map, length, vec_len, vec_capacity};
-ghost use Rattle.xt_base.specs.Limits.{rise};
+ghost use Rattle.xt_messages.specs.Limits.{rise};
 ghost use Rattle.xt_protocol.specs.Heads.{session_of, with_session};
 ghost use Rattle.version_lists.specs.Rising.{IsSessionPlace};
 
-use xt_base::{NodeId, Session};
+use xt_base::NodeId;
+use xt_messages::Session;
 
 /// Where a client's session stands, or else belongs, among sessions that rise by client.
 fn session_place(sessions: &[Session], client: NodeId) -> Result<usize, usize>

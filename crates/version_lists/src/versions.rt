@@ -1,10 +1,11 @@
 ghost use Rattle.std.specs.Prelude.{◌≡◌, ◌≤◌, ◌<◌, IsTrue, map, take, length, vec_len, vec_capacity};
 ghost use Rattle.xt_base.specs.declared.ids.Stamp.{Stamp};
-ghost use Rattle.xt_base.specs.Limits.{rise};
+ghost use Rattle.xt_messages.specs.Limits.{rise};
 ghost use Rattle.xt_protocol.specs.Heads.{version_of, with_version, versions_below};
 ghost use Rattle.version_lists.specs.Rising.{IsVersionPlace};
 
-use xt_base::{ObjectVersion, Stamp};
+use xt_base::Stamp;
+use xt_messages::ObjectVersion;
 
 /// Where the version of an object stands, or else belongs, among versions that rise by object.
 fn version_place(versions: &[ObjectVersion], object: u64) -> Result<usize, usize>

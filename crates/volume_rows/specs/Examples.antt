@@ -1,12 +1,12 @@
 -- what a few requests come to, from no volumes
 use Rattle.std.specs.Prelude.{ℕ, List, [], ◌∷◌, ◌++◌, replicate, codes}
-use Rattle.xt_base.specs.declared.file.Kind.TheVariants as kind
-use Rattle.xt_base.specs.declared.meta.MetaReq.{MetaReq}
-use Rattle.xt_base.specs.declared.meta.MetaReq.TheVariants as ask
-use Rattle.xt_base.specs.declared.meta.MetaRefusal.TheVariants as refusal
-use Rattle.xt_base.specs.declared.meta.MetaAnswer.{MetaAnswer}
-use Rattle.xt_base.specs.declared.meta.MetaAnswer.TheVariants as answer
-use Rattle.xt_base.specs.declared.meta.RowKind.TheVariants as row_kind
+use Rattle.xt_messages.specs.declared.file.Kind.TheVariants as kind
+use Rattle.xt_messages.specs.declared.meta.MetaReq.{MetaReq}
+use Rattle.xt_messages.specs.declared.meta.MetaReq.TheVariants as ask
+use Rattle.xt_messages.specs.declared.meta.MetaRefusal.TheVariants as refusal
+use Rattle.xt_messages.specs.declared.meta.MetaAnswer.{MetaAnswer}
+use Rattle.xt_messages.specs.declared.meta.MetaAnswer.TheVariants as answer
+use Rattle.xt_messages.specs.declared.meta.RowKind.TheVariants as row_kind
 use Rattle.volume_rows.specs.declared.Asker.{Asker}
 use Rattle.volume_rows.specs.declared.Picked.{Picked}
 use Rattle.volume_rows.specs.declared.Picked.TheVariants as picked

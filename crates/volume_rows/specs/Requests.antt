@@ -1,14 +1,14 @@
 -- what comes of a request to the volumes
 use Rattle.std.specs.Prelude.{ℕ, ◌+◌, nat_le, if◌then◌else◌, Option, Some, None, List, [], ◌∷◌, length}
-use Rattle.xt_base.specs.declared.file.Location.{Location}
-use Rattle.xt_base.specs.declared.meta.MetaReq.{MetaReq}
-use Rattle.xt_base.specs.declared.meta.MetaReq.TheVariants as ask
-use Rattle.xt_base.specs.declared.meta.MetaRefusal.{MetaRefusal}
-use Rattle.xt_base.specs.declared.meta.MetaRefusal.TheVariants as refusal
-use Rattle.xt_base.specs.declared.meta.MetaAnswer.{MetaAnswer}
-use Rattle.xt_base.specs.declared.meta.MetaAnswer.TheVariants as answer
-use Rattle.xt_base.specs.declared.meta.RowKind.{RowKind}
-use Rattle.xt_base.specs.declared.meta.RowKind.TheVariants as row_kind
+use Rattle.xt_messages.specs.declared.file.Location.{Location}
+use Rattle.xt_messages.specs.declared.meta.MetaReq.{MetaReq}
+use Rattle.xt_messages.specs.declared.meta.MetaReq.TheVariants as ask
+use Rattle.xt_messages.specs.declared.meta.MetaRefusal.{MetaRefusal}
+use Rattle.xt_messages.specs.declared.meta.MetaRefusal.TheVariants as refusal
+use Rattle.xt_messages.specs.declared.meta.MetaAnswer.{MetaAnswer}
+use Rattle.xt_messages.specs.declared.meta.MetaAnswer.TheVariants as answer
+use Rattle.xt_messages.specs.declared.meta.RowKind.{RowKind}
+use Rattle.xt_messages.specs.declared.meta.RowKind.TheVariants as row_kind
 use Rattle.volume_rows.specs.declared.Asker.{Asker}
 use Rattle.volume_rows.specs.declared.Entry.{Entry}
 use Rattle.volume_rows.specs.declared.Content.{Content}

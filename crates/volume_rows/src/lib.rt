@@ -14,7 +14,8 @@ pub use paths::path_in;
 pub use rights::{
     NO_READ, NO_SEARCH, NO_WRITE, NOT_OWNER, READ, SEARCH, WRITE, allows, is_directory, passes,
 };
-use xt_base::{FileId, Location, SizeMark};
+use xt_base::{FileId, SizeMark};
+use xt_messages::Location;
 
 /// What is kept of a file: its number, where its content is, the truncate epoch that was issued last, and its size as it was
 /// reported.

@@ -2,7 +2,7 @@ ghost use Rattle.std.specs.Prelude.{◌≡◌, ◌<◌, ◌≤◌, Some};
 ghost use Rattle.volume_rows.specs.Rights.{scale_of, allows, is_directory, passes};
 
 use crate::{Asker, Content, Entry};
-use xt_base::MetaRefusal;
+use xt_messages::MetaRefusal;
 
 /// What a bit of a mode allows.
 pub const READ: u16 = 4;

@@ -1,8 +1,8 @@
 -- the tests of a rename, in two parts
 use Rattle.std.proofs.Common.{◌≡◌, ◌∙◌, ◌<◌, List, [], ◌∷◌, map, length, refl, sym, ap, arith, ℕ, Bor}
 use Rattle.std.specs.Prelude.{Option, Some, None}
-use Rattle.xt_base.specs.declared.meta.MetaRefusal.{MetaRefusal}
-use Rattle.xt_base.specs.declared.meta.MetaAnswer.TheVariants as answer
+use Rattle.xt_messages.specs.declared.meta.MetaRefusal.{MetaRefusal}
+use Rattle.xt_messages.specs.declared.meta.MetaAnswer.TheVariants as answer
 use Rattle.volume_rows.specs.declared.Asker.{Asker}
 use Rattle.volume_rows.specs.Paths.{Path}
 use Rattle.volume_rows.specs.Rows.{Volumes, entry_at, renamed}

@@ -1,8 +1,8 @@
 -- what tests that pass say of a path
 use Rattle.std.proofs.Common.{◌≡◌, ℕ, ◌<◌, List, [], ◌∷◌, ◌++◌, map, length, refl, sym, subst, arith, Bool, true, false, append-nil, append_assoc, Bor}
 use Rattle.std.specs.Prelude.{Option, Some, None}
-use Rattle.xt_base.specs.declared.meta.MetaRefusal.{MetaRefusal}
-use Rattle.xt_base.specs.declared.meta.MetaRefusal.TheVariants as refusal
+use Rattle.xt_messages.specs.declared.meta.MetaRefusal.{MetaRefusal}
+use Rattle.xt_messages.specs.declared.meta.MetaRefusal.TheVariants as refusal
 use Rattle.volume_rows.specs.declared.Asker.{Asker}
 use Rattle.volume_rows.specs.declared.Entry.{Entry}
 use Rattle.volume_rows.specs.Paths.{Name, Path, parent_of}

@@ -1,7 +1,7 @@
 -- what the list below the root has of the whole tree's
 use Rattle.std.proofs.Common.{◌≡◌, ◌∙◌, ℕ, List, [], ◌∷◌, ◌++◌, map, drop, refl, sym, ap, subst, Bool, true, false, cond}
 use Rattle.std.specs.Prelude.{Option, fold}
-use Rattle.xt_base.specs.declared.meta.MetaRefusal.{MetaRefusal}
+use Rattle.xt_messages.specs.declared.meta.MetaRefusal.{MetaRefusal}
 use Rattle.volume_rows.specs.declared.Asker.{Asker}
 use Rattle.volume_rows.specs.declared.Entry.{Entry}
 use Rattle.volume_rows.specs.Paths.{Name, Path, is_within}

@@ -1,11 +1,11 @@
 -- what a call on the volumes gives
 use Rattle.std.specs.Prelude.{◌≡◌, ◌<◌, ◌^◌, Option, None, Result, Ok, Err}
-use Rattle.xt_base.specs.declared.meta.MetaRefusal.{MetaRefusal}
-use Rattle.xt_base.specs.declared.meta.MetaRefusal.TheVariants as refusal
-use Rattle.xt_base.specs.declared.meta.MetaAnswer.{MetaAnswer}
-use Rattle.xt_base.specs.declared.meta.MetaAnswer.TheVariants as answer
-use Rattle.xt_base.specs.declared.meta.MetaReq.{MetaReq}
-use Rattle.xt_base.specs.declared.meta.MetaReq.TheVariants as ask
+use Rattle.xt_messages.specs.declared.meta.MetaRefusal.{MetaRefusal}
+use Rattle.xt_messages.specs.declared.meta.MetaRefusal.TheVariants as refusal
+use Rattle.xt_messages.specs.declared.meta.MetaAnswer.{MetaAnswer}
+use Rattle.xt_messages.specs.declared.meta.MetaAnswer.TheVariants as answer
+use Rattle.xt_messages.specs.declared.meta.MetaReq.{MetaReq}
+use Rattle.xt_messages.specs.declared.meta.MetaReq.TheVariants as ask
 use Rattle.volume_rows.specs.declared.Granting.{Granting}
 use Rattle.volume_tree.specs.declared.TreeErr.{TreeErr}
 use Rattle.volume_tree.specs.declared.TreeErr.TheVariants as failed

@@ -2,7 +2,7 @@
 use Rattle.std.specs.Prelude.{ℕ, ◌≡◌, ◌≤◌, ◌==◌, ◌+◌, true, if◌then◌else◌, Option, Some, None, List, [], ◌∷◌, map, filter_map, drop}
 use Rattle.std.specs.BTreeMap.{BTreeMap, get}
 use Rattle.std.specs.Ordering.{nat_cmp}
-use Rattle.xt_base.specs.declared.file.Location.{Location}
+use Rattle.xt_messages.specs.declared.file.Location.{Location}
 use Rattle.volume_rows.specs.declared.Asker.{Asker}
 use Rattle.volume_rows.specs.declared.Entry.{Entry}
 use Rattle.volume_rows.specs.declared.Stored.{Stored}

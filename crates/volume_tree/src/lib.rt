@@ -10,7 +10,7 @@ mod tree;
 
 use std::alloc::AllocError;
 pub use tree::Tree;
-use xt_base::MetaRefusal;
+use xt_messages::MetaRefusal;
 
 /// Why a call on the volumes changes nothing.
 #[derive(Drop)]

@@ -4,7 +4,7 @@ ghost use Rattle.volume_rows.specs.Rows.{entry_at, rows_within, mark_of};
 ghost use Rattle.volume_rows.specs.Rights.{first_of, ancestors, there, absent, parent_writable, same_volume, outside, unless, file};
 ghost use Rattle.volume_rows.specs.Requests.{has_names, kind_of, directory_made, file_made, path_renamed, file_unlinked, directory_removed, entry_told, names_listed, mode_set};
 ghost use Rattle.volume_rows.specs.Grants.{granted_at, file_at, wanted, epoch_granted};
-ghost use Rattle.xt_base.specs.declared.meta.MetaRefusal.TheVariants.{OtherVolume};
+ghost use Rattle.xt_messages.specs.declared.meta.MetaRefusal.TheVariants.{OtherVolume};
 ghost use Rattle.volume_tree.specs.declared.TreeErr.TheVariants.{OutOfMemory};
 ghost use Rattle.volume_tree.specs.Calls.{Comes, Grants, IsBadPath};
 
@@ -15,7 +15,8 @@ use volume_rows::{
     Asker, Content, Entry, Granting, NO_READ, NO_WRITE, NOT_OWNER, Picked, READ, WRITE, allows,
     is_directory, path_in, volume_of,
 };
-use xt_base::{FileId, MetaAnswer, MetaRefusal, Name, RowKind, SizeMark};
+use xt_base::{FileId, Name, SizeMark};
+use xt_messages::{MetaAnswer, MetaRefusal, RowKind};
 
 /// The names of the path that a text spells, at least so many.
 pub fn names_of<'a>(alloc: Global, path: &'a Name, least: usize) -> Result<Vec<&'a str>, TreeErr>

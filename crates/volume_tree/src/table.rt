@@ -12,7 +12,8 @@ use std::alloc::Global;
 use std::collections::BTreeMap;
 use std::marker::Model;
 use volume_rows::{Asker, Content, Entry, Stored, volume_of};
-use xt_base::{FileId, Location, MetaRefusal, Names, OutOfMemory, SizeMark, VolumeId};
+use xt_base::{FileId, OutOfMemory, SizeMark, VolumeId};
+use xt_messages::{Location, MetaRefusal, Names};
 
 /// The number of the first file.
 const FIRST: u64 = 1_000_000;

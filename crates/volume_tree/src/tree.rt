@@ -14,7 +14,8 @@ use crate::table::Table;
 use std::alloc::Global;
 use std::marker::Model;
 use volume_rows::{Asker, Granting, Picked, path_in};
-use xt_base::{FileId, MetaAnswer, MetaReq, Name, OutOfMemory, SizeMark};
+use xt_base::{FileId, Name, OutOfMemory, SizeMark};
+use xt_messages::{MetaAnswer, MetaReq};
 
 /// All volumes. Contracts see the flat list of their rows, and the number that the next file gets.
 #[derive(Drop)]

@@ -2,24 +2,24 @@
 use Rattle.std.proofs.Common.{◌≡◌, ℕ, inl, inr, List, [], ◌∷◌, refl, subst, sym, arith, Option, Some, None, Bool, true, false}
 use Rattle.std.specs.Prelude.{cond, max, not, filter, nat_le, ◌==◌, ◌&&◌, if◌then◌else◌}
 use Rattle.std.proofs.lemmas.Bool.Decides.{nat_tests}
-use Rattle.xt_base.specs.Limits.{FitsOp}
+use Rattle.xt_messages.specs.Limits.{FitsOp}
 use Rattle.xt_base.specs.TimeSettings.{TimeSettings}
 use Rattle.xt_base.specs.declared.ids.NodeId.{NodeId}
 use Rattle.xt_base.specs.declared.ids.OpId.{OpId}
-use Rattle.xt_base.specs.declared.reply.Reply.{Reply}
-use Rattle.xt_base.specs.declared.reply.Reply.TheVariants as reply
-use Rattle.xt_base.specs.declared.reply.Retry.{Retry}
-use Rattle.xt_base.specs.declared.reply.Retry.TheVariants as retry
-use Rattle.xt_base.specs.declared.message.Msg.{Msg}
-use Rattle.xt_base.specs.declared.message.Payload.{Payload}
-use Rattle.xt_base.specs.declared.message.Payload.TheVariants as payload
-use Rattle.xt_base.specs.declared.event.Event.{Event}
-use Rattle.xt_base.specs.declared.event.Event.TheVariants as event
-use Rattle.xt_base.specs.declared.event.Mark.{Mark}
-use Rattle.xt_base.specs.declared.event.Mark.TheVariants as mark
-use Rattle.xt_base.specs.declared.event.Outcome.{Outcome}
-use Rattle.xt_base.specs.declared.event.Outcome.TheVariants as outcome
-use Rattle.xt_base.specs.declared.status.AskRefusal.TheVariants as refusal
+use Rattle.xt_messages.specs.declared.reply.Reply.{Reply}
+use Rattle.xt_messages.specs.declared.reply.Reply.TheVariants as reply
+use Rattle.xt_messages.specs.declared.reply.Retry.{Retry}
+use Rattle.xt_messages.specs.declared.reply.Retry.TheVariants as retry
+use Rattle.xt_messages.specs.declared.message.Msg.{Msg}
+use Rattle.xt_messages.specs.declared.message.Payload.{Payload}
+use Rattle.xt_messages.specs.declared.message.Payload.TheVariants as payload
+use Rattle.xt_messages.specs.declared.event.Event.{Event}
+use Rattle.xt_messages.specs.declared.event.Event.TheVariants as event
+use Rattle.xt_messages.specs.declared.event.Mark.{Mark}
+use Rattle.xt_messages.specs.declared.event.Mark.TheVariants as mark
+use Rattle.xt_messages.specs.declared.event.Outcome.{Outcome}
+use Rattle.xt_messages.specs.declared.event.Outcome.TheVariants as outcome
+use Rattle.xt_messages.specs.declared.status.AskRefusal.TheVariants as refusal
 use Rattle.lease_safety.specs.State.{Has}
 use Rattle.time_line.specs.declared.entry.Entry.{Entry}
 use Rattle.cluster_runs.specs.declared.RunningCall.{RunningCall}

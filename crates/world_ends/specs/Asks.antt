@@ -1,10 +1,10 @@
 -- what stands in the trace behind each ask that was ever sent
 use Rattle.std.specs.Prelude.{◌≡◌, Some, List, [], ◌++◌}
-use Rattle.xt_base.specs.Limits.{FitsOp}
+use Rattle.xt_messages.specs.Limits.{FitsOp}
 use Rattle.xt_base.specs.declared.ids.NodeId.{NodeId}
-use Rattle.xt_base.specs.declared.message.Msg.{Msg}
-use Rattle.xt_base.specs.declared.message.Payload.{Payload}
-use Rattle.xt_base.specs.declared.message.Payload.TheVariants as payload
+use Rattle.xt_messages.specs.declared.message.Msg.{Msg}
+use Rattle.xt_messages.specs.declared.message.Payload.{Payload}
+use Rattle.xt_messages.specs.declared.message.Payload.TheVariants as payload
 use Rattle.lease_safety.specs.State.{Has}
 use Rattle.time_line.specs.declared.entry.Entry.{Entry}
 use Rattle.time_line.specs.TimeLine.{id_of, operation_begun}

@@ -3,8 +3,8 @@ use Rattle.std.proofs.Common.{◌≡◌, ℕ, List, [], ◌∷◌, refl, arith, 
 use Rattle.std.specs.Prelude.{cond, max, ◌≤◌, ◌==◌}
 use Rattle.std.proofs.lemmas.Bool.Decides.{nat_tests}
 use Rattle.xt_base.specs.declared.ids.FileId.{FileId}
-use Rattle.xt_base.specs.declared.file.Op.{Op}
-use Rattle.xt_base.specs.declared.message.Msg.{Msg}
+use Rattle.xt_messages.specs.declared.file.Op.{Op}
+use Rattle.xt_messages.specs.declared.message.Msg.{Msg}
 use Rattle.xt_protocol.specs.LeaseRows.{Silent}
 use Rattle.osd_rows.specs.OsdSteps.{OsdState}
 use Rattle.osd_rows.specs.Overdue.{expired}

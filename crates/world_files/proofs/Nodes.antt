@@ -5,7 +5,7 @@ use Rattle.std.specs.Option.{option_map}
 use Rattle.std.proofs.lemmas.Bool.Decides.{nat_tests}
 use Rattle.std.proofs.Math.Path.{fun_ext}
 use Rattle.xt_base.specs.declared.ids.FileId.{FileId}
-use Rattle.xt_base.specs.declared.record.Record.{Record}
+use Rattle.xt_messages.specs.declared.record.Record.{Record}
 use Rattle.replica_safety.specs.Epochs.{at_node}
 use Rattle.osd_rows.specs.FileStates.{FileState}
 use Rattle.file_runs.specs.FileRuns.{FileNode, FileWorld, keeping}

@@ -2,11 +2,11 @@
 use Rattle.std.proofs.Common.{◌≡◌, ℕ, List, [], ◌∷◌, ◌++◌, map, refl, ap, sym, ◌∙◌, subst, Option, Some, None, Bool, true, false}
 use Rattle.std.specs.Prelude.{◌==◌, cond, if◌then◌else◌}
 use Rattle.std.specs.Option.{option_or}
-use Rattle.xt_base.specs.Limits.{FitsLocation}
+use Rattle.xt_messages.specs.Limits.{FitsLocation}
 use Rattle.xt_base.specs.declared.ids.NodeId.{NodeId}
-use Rattle.xt_base.specs.declared.event.Mark.{Mark}
-use Rattle.xt_base.specs.declared.event.Mark.TheVariants as mark
-use Rattle.xt_base.specs.declared.file.Location.{Location}
+use Rattle.xt_messages.specs.declared.event.Mark.{Mark}
+use Rattle.xt_messages.specs.declared.event.Mark.TheVariants as mark
+use Rattle.xt_messages.specs.declared.file.Location.{Location}
 use Rattle.osd_lease_views.specs.ActsView.{AreActs}
 use Rattle.cluster_runs.specs.declared.DeclaredFile.{DeclaredFile}
 use Rattle.time_line.specs.declared.entry.Entry.{Entry}

@@ -4,10 +4,10 @@ use Rattle.std.specs.Prelude.{cond, ◌&&◌, ◌==◌, unwrap_or}
 use Rattle.std.proofs.Math.Path.{fun_ext}
 use Rattle.xt_base.specs.declared.ids.FileId.{FileId}
 use Rattle.xt_base.specs.declared.ids.Stamp.{Stamp}
-use Rattle.xt_base.specs.declared.record.Record.{Record}
-use Rattle.xt_base.specs.declared.record.Record.TheVariants as kept
-use Rattle.xt_base.specs.declared.record.FileRow.{FileRow}
-use Rattle.xt_base.specs.declared.record.Folded.{Folded}
+use Rattle.xt_messages.specs.declared.record.Record.{Record}
+use Rattle.xt_messages.specs.declared.record.Record.TheVariants as kept
+use Rattle.xt_messages.specs.declared.record.FileRow.{FileRow}
+use Rattle.xt_messages.specs.declared.record.Folded.{Folded}
 use Rattle.xt_protocol.specs.FileIds.{is_file}
 use Rattle.xt_protocol.specs.Stamps.{is_stamp}
 use Rattle.xt_protocol.specs.Folds.{fold_of, row_in, row_after, rows_after, file_of, makes_body, body_put, body_kept, newer}

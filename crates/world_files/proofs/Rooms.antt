@@ -2,7 +2,7 @@
 use Rattle.std.proofs.Common.{◌≡◌, ℕ, inl, inr, List, [], ◌∷◌, ◌++◌, refl}
 use Rattle.std.specs.Prelude.{◌⊎◌}
 use Rattle.xt_base.specs.declared.ids.FileId.{FileId}
-use Rattle.xt_base.specs.declared.file.Op.{Op}
+use Rattle.xt_messages.specs.declared.file.Op.{Op}
 use Rattle.xt_protocol.specs.LeaseRows.{LeaseState, free, asking, writing, held}
 use Rattle.osd_invariants.specs.Sound.{IsHeld}
 use Rattle.osd_replica_views.specs.FileView.{IsFree}

@@ -2,20 +2,20 @@
 use Rattle.std.proofs.Common.{◌≡◌, ◌≢◌, ℕ, inl, inr, List, [], ◌∷◌, ◌++◌, refl, ap, sym, ◌∙◌, subst, Option, Some, Bool, true, false}
 use Rattle.std.specs.Prelude.{◌⊎◌, ◌==◌, max}
 use Rattle.xt_base.specs.declared.ids.FileId.{FileId}
-use Rattle.xt_base.specs.declared.event.Event as NodeEvent
-use Rattle.xt_base.specs.declared.event.Event.TheVariants as event
-use Rattle.xt_base.specs.declared.file.Op.{Op}
+use Rattle.xt_messages.specs.declared.event.Event as NodeEvent
+use Rattle.xt_messages.specs.declared.event.Event.TheVariants as event
+use Rattle.xt_messages.specs.declared.file.Op.{Op}
 use Rattle.xt_base.specs.declared.ids.Epoch.{Epoch}
 use Rattle.xt_base.specs.declared.ids.Stamp.{Stamp}
-use Rattle.xt_base.specs.declared.message.Payload.TheVariants as payload
-use Rattle.xt_base.specs.declared.record.Record.{Record}
+use Rattle.xt_messages.specs.declared.message.Payload.TheVariants as payload
+use Rattle.xt_messages.specs.declared.record.Record.{Record}
 use Rattle.replica_safety.specs.Epochs.{at_node}
 use Rattle.osd_rows.specs.FileSteps.{step_of_file}
 use Rattle.file_runs.specs.FileRuns.{acted, keeping}
 use Rattle.world_files.specs.Seen.{nodes_seen}
 use Rattle.world_files.specs.Asks.{IsOutside}
 use Rattle.world_files.proofs.Asks.{outside_is_idle}
-use Rattle.xt_base.specs.declared.message.Msg.{Msg}
+use Rattle.xt_messages.specs.declared.message.Msg.{Msg}
 use Rattle.xt_protocol.specs.LeaseRows.{lease_expired}
 use Rattle.lease_safety.specs.State.{Has}
 use Rattle.osd_rows.specs.Overdue.{expired}

@@ -1,10 +1,10 @@
 -- what the nodes of a file do where a node of the world steps, stops or starts
 use Rattle.std.specs.Prelude.{◌≡◌, ◌⊎◌, false, ℕ, Some, None, List, ◌∷◌, [], ◌++◌, max, map}
 use Rattle.xt_base.specs.declared.ids.FileId.{FileId}
-use Rattle.xt_base.specs.declared.event.Event.{Event}
-use Rattle.xt_base.specs.declared.event.Event.TheVariants as event
-use Rattle.xt_base.specs.declared.message.Msg.{Msg}
-use Rattle.xt_base.specs.declared.record.Record.{Record}
+use Rattle.xt_messages.specs.declared.event.Event.{Event}
+use Rattle.xt_messages.specs.declared.event.Event.TheVariants as event
+use Rattle.xt_messages.specs.declared.message.Msg.{Msg}
+use Rattle.xt_messages.specs.declared.record.Record.{Record}
 use Rattle.xt_protocol.specs.FileIds.{is_file}
 use Rattle.xt_protocol.specs.LeaseRows.{awake_at}
 use Rattle.time_line.specs.declared.entry.Halt.{Halt}

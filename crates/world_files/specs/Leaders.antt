@@ -1,8 +1,8 @@
 -- that a step of a node is an event that may come in the file's world, and that who leads still holds behind it
 use Rattle.std.specs.Prelude.{◌≡◌, ℕ, Some, None, List}
 use Rattle.xt_base.specs.declared.ids.FileId.{FileId}
-use Rattle.xt_base.specs.declared.file.Op.{Op}
-use Rattle.xt_base.specs.declared.message.Msg.{Msg}
+use Rattle.xt_messages.specs.declared.file.Op.{Op}
+use Rattle.xt_messages.specs.declared.message.Msg.{Msg}
 use Rattle.osd_invariants.specs.Sound.{IsHeld}
 use Rattle.osd_rows.specs.FileStates.{FileStep}
 use Rattle.osd_rows.specs.OsdSteps.{OsdState}

@@ -1,8 +1,8 @@
 -- what a step of a file rests on, and who holds the file
 use Rattle.std.specs.Prelude.{◌≡◌, ℕ, Some, List}
 use Rattle.xt_base.specs.declared.ids.FileId.{FileId}
-use Rattle.xt_base.specs.declared.file.Op.{Op}
-use Rattle.xt_base.specs.declared.message.Msg.{Msg}
+use Rattle.xt_messages.specs.declared.file.Op.{Op}
+use Rattle.xt_messages.specs.declared.message.Msg.{Msg}
 use Rattle.osd_rows.specs.OsdSteps.{OsdState}
 use Rattle.osd_rows.specs.declared.Tenure.{Tenure}
 use Rattle.osd_replica_views.specs.FileView.{settled, IsFree}

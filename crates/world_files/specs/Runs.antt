@@ -1,10 +1,10 @@
 -- Each file of a world is a run of that file among OSDs.
 use Rattle.std.specs.Prelude.{◌≡◌, ◌⊎◌, ℕ, true, Some, List, [], ◌++◌}
-use Rattle.xt_base.specs.Limits.{FitsLocation}
+use Rattle.xt_messages.specs.Limits.{FitsLocation}
 use Rattle.xt_base.specs.declared.ids.FileId.{FileId}
-use Rattle.xt_base.specs.declared.file.Location.{Location}
-use Rattle.xt_base.specs.declared.file.Op.{Op}
-use Rattle.xt_base.specs.declared.message.Msg.{Msg}
+use Rattle.xt_messages.specs.declared.file.Location.{Location}
+use Rattle.xt_messages.specs.declared.file.Op.{Op}
+use Rattle.xt_messages.specs.declared.message.Msg.{Msg}
 use Rattle.osd_rows.specs.OsdSteps.{file_concerned}
 use Rattle.replica_safety.specs.Lists.{Has}
 use Rattle.replica_runs.specs.HeadOrder.{AreOnOneOrder, AreChanges, IssuesComeFirst, order_of}

@@ -1,7 +1,7 @@
 -- what a world shows of one file: at each node its state, the records of it that are kept, and the bodies
 use Rattle.std.specs.Prelude.{◌≡◌, ℕ, false, Option, Some, None, List, []}
 use Rattle.xt_base.specs.declared.ids.FileId.{FileId}
-use Rattle.xt_base.specs.declared.record.Record.{Record}
+use Rattle.xt_messages.specs.declared.record.Record.{Record}
 use Rattle.xt_protocol.specs.FileIds.{is_file}
 use Rattle.xt_protocol.specs.Folds.{fold_of, row_in, file_of}
 use Rattle.osd_rows.specs.FileStates.{FileState}

@@ -1,8 +1,8 @@
 -- what the trace of a world tells of a file, and what the tales of the file's world do
 use Rattle.std.specs.Prelude.{◌≡◌, ◌≤◌, false, ◌==◌, ℕ, None, List, [], ◌∷◌, ◌++◌, map}
 use Rattle.xt_base.specs.declared.ids.NodeId.{NodeId}
-use Rattle.xt_base.specs.declared.event.Mark.{Mark}
-use Rattle.xt_base.specs.declared.file.Op.{Op}
+use Rattle.xt_messages.specs.declared.event.Mark.{Mark}
+use Rattle.xt_messages.specs.declared.file.Op.{Op}
 use Rattle.osd_rows.specs.FileStates.{FileState, Site}
 use Rattle.osd_lease_views.specs.ActsView.{AreActs}
 use Rattle.replica_safety.specs.Lists.{AreDistinct}

@@ -1,7 +1,7 @@
 -- that nobody else leads where a step leaves the lease held
 use Rattle.std.specs.Prelude.{◌≡◌, ◌⊎◌, ℕ, List}
 use Rattle.xt_base.specs.declared.ids.FileId.{FileId}
-use Rattle.xt_base.specs.declared.message.Msg.{Msg}
+use Rattle.xt_messages.specs.declared.message.Msg.{Msg}
 use Rattle.xt_protocol.specs.LeaseRows.{lease_expired}
 use Rattle.osd_invariants.specs.Sound.{IsHeld}
 use Rattle.osd_lease_views.specs.LeaseView.{settled_row}

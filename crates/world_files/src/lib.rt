@@ -7,7 +7,7 @@
 
 ghost use Rattle.std.specs.Prelude.{◌≡◌, ℕ, Option, None, List, [], ◌∷◌, ◌++◌};
 ghost use Rattle.xt_base.specs.declared.ids.FileId.{FileId};
-ghost use Rattle.xt_base.specs.declared.record.Record.{Record};
+ghost use Rattle.xt_messages.specs.declared.record.Record.{Record};
 ghost use Rattle.osd_rows.specs.FileStates.{FileState};
 ghost use Rattle.file_runs.specs.FileRuns.{keeping};
 ghost use Rattle.cluster_runs.specs.NodeSteps.{one_more, Room};

@@ -2,7 +2,7 @@
 use Rattle.std.specs.Prelude.{ℕ, ◌≡◌, ◌==◌, ◌≤◌, false, List, [], ◌∷◌, ◌++◌, Option, Some, None, if◌then◌else◌}
 use Rattle.disk_model.specs.declared.plan.Stop.{Stop}
 use Rattle.xt_base.specs.declared.ids.NodeId.{NodeId}
-use Rattle.xt_base.specs.declared.record.Record.{Record}
+use Rattle.xt_messages.specs.declared.record.Record.{Record}
 use Rattle.cluster_runs.specs.NodeSteps.{keeps_record}
 use Rattle.world_hull.specs.declared.hull.Kept.{Kept}
 use Rattle.world_hull.specs.declared.hull.Kept.TheVariants.{Done, StoppedKept, StoppedLost}

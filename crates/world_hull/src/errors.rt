@@ -1,5 +1,6 @@
 use std::alloc::AllocFailed;
-use xt_base::{Limited, OutOfMemory, Rule};
+use xt_base::OutOfMemory;
+use xt_messages::{Limited, Rule};
 
 /// Why a line wasn't done.
 #[derive(Clone, Copy)]

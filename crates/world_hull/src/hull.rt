@@ -1,6 +1,6 @@
 ghost use Rattle.std.specs.Prelude.{◌≡◌, ℕ, List, IfOk, IfErr, OnErr};
-ghost use Rattle.xt_base.specs.declared.record.Record.{Record};
-ghost use Rattle.xt_base.specs.Limits.{FitsMessage, FitsRecord};
+ghost use Rattle.xt_messages.specs.declared.record.Record.{Record};
+ghost use Rattle.xt_messages.specs.Limits.{FitsMessage, FitsRecord};
 ghost use Rattle.xt_protocol.specs.Folds.{IsInPlace, fold_of, logged_of, body_kept};
 ghost use Rattle.cluster_runs.specs.NodeSteps.{Room};
 ghost use Rattle.world_hull.specs.Answers.{IsFullOrMemory, IsFullExactly, GivesBody};
@@ -10,7 +10,8 @@ use crate::errors::WorldErr;
 use disk_model::{OPEN_GATE, Stop};
 use kept_bodies::BodyErr;
 use std::alloc::Global;
-use xt_base::{FileId, Msg, NodeId, Octets, Record, Stamp};
+use xt_base::{FileId, NodeId, Octets, Stamp};
+use xt_messages::{Msg, Record};
 
 /// How an append ended.
 #[derive(Clone, Copy, PartialEq, Eq)]

@@ -10,7 +10,8 @@ use kept_bodies::BodyErr;
 use replica_records::RecordLog;
 use std::alloc::Global;
 use std::collections::BTreeMap;
-use xt_base::{Copies, FileId, Msg, NodeId, Octets, OutOfMemory, Record, Stamp};
+use xt_base::{Copies, FileId, NodeId, Octets, OutOfMemory, Stamp};
+use xt_messages::{Msg, Record};
 
 /// The records of each node in memory.
 #[derive(Drop)]

@@ -8,11 +8,11 @@ use Rattle.xt_base.specs.declared.TheConstants.{COUNTS}
 use Rattle.xt_base.specs.declared.ids.NodeId.{NodeId}
 use Rattle.xt_base.specs.declared.ids.FileId.{FileId}
 use Rattle.xt_base.specs.declared.ids.Boot.{Boot}
-use Rattle.xt_base.specs.declared.message.Msg.{Msg}
-use Rattle.xt_base.specs.declared.record.Record.{Record}
-use Rattle.xt_base.specs.declared.record.Record.TheVariants as kept
-use Rattle.xt_base.specs.declared.record.Folded.{Folded}
-use Rattle.xt_base.specs.declared.record.FileRow.{FileRow}
+use Rattle.xt_messages.specs.declared.message.Msg.{Msg}
+use Rattle.xt_messages.specs.declared.record.Record.{Record}
+use Rattle.xt_messages.specs.declared.record.Record.TheVariants as kept
+use Rattle.xt_messages.specs.declared.record.Folded.{Folded}
+use Rattle.xt_messages.specs.declared.record.FileRow.{FileRow}
 use Rattle.xt_protocol.specs.FileIds.{is_file}
 use Rattle.xt_protocol.specs.Folds.{fold_of}
 use Rattle.xt_protocol.proofs.Folds.{fold_of-push}

@@ -3,8 +3,8 @@ use Rattle.std.proofs.Common.{◌≡◌, ◌≢◌, ℕ, inl, inr, List, [], ◌
 use Rattle.std.proofs.lemmas.List.{append-nil}
 use Rattle.xt_base.specs.TimeSettings.{TimeSettings}
 use Rattle.xt_base.specs.declared.ids.NodeId.{NodeId}
-use Rattle.xt_base.specs.declared.file.Location.{Location}
-use Rattle.xt_base.specs.declared.record.Record.{Record}
+use Rattle.xt_messages.specs.declared.file.Location.{Location}
+use Rattle.xt_messages.specs.declared.record.Record.{Record}
 use Rattle.lease_runs.specs.LeaseWorld.{LeaseSetting, IsSeenAs, starts, start_lease_world}
 use Rattle.lease_runs.proofs.Seen as seen_steps
 use Rattle.cluster_runs.specs.declared.DeclaredFile.{DeclaredFile}

@@ -5,8 +5,8 @@ use Rattle.std.proofs.lemmas.List.{append-nil}
 use Rattle.std.proofs.lemmas.Bool.Decides.{nat_tests}
 use Rattle.xt_base.specs.declared.ids.NodeId.{NodeId}
 use Rattle.xt_base.specs.declared.ids.FileId.{FileId}
-use Rattle.xt_base.specs.declared.event.Mark.{Mark}
-use Rattle.xt_base.specs.declared.event.Mark.TheVariants as mark
+use Rattle.xt_messages.specs.declared.event.Mark.{Mark}
+use Rattle.xt_messages.specs.declared.event.Mark.TheVariants as mark
 use Rattle.xt_protocol.specs.LeaseRows.{LeaseState, Held, free, asking, writing, held, has_turn, has_run_out, round_over, renewal_left, lease_expired}
 use Rattle.lease_runs.specs.LeaseWorld.{LeaseSetting, LeaseNode, told_now, IsHolding, HasTurn}
 use Rattle.osd_invariants.specs.Sound.{IsHeld}

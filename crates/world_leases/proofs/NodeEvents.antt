@@ -4,22 +4,22 @@ use Rattle.std.specs.Prelude.{◌==◌, ◌&&◌, cond, max, nat_lt, nat_le, not
 use Rattle.xt_base.specs.TimeSettings.{TimeSettings}
 use Rattle.xt_base.specs.declared.ids.NodeId.{NodeId}
 use Rattle.xt_base.specs.declared.ids.Boot.{Boot}
-use Rattle.xt_base.specs.declared.file.Capability.{Capability}
-use Rattle.xt_base.specs.declared.file.Op.{Op}
-use Rattle.xt_base.specs.declared.message.Msg.{Msg}
-use Rattle.xt_base.specs.declared.message.Payload.{Payload}
-use Rattle.xt_base.specs.declared.message.Payload.TheVariants as payload
-use Rattle.xt_base.specs.declared.reply.Reply.{Reply}
-use Rattle.xt_base.specs.declared.reply.Reply.TheVariants as reply
-use Rattle.xt_base.specs.declared.reply.Retry.{Retry}
-use Rattle.xt_base.specs.declared.reply.Retry.TheVariants as retry
-use Rattle.xt_base.specs.declared.record.Record.{Record}
-use Rattle.xt_base.specs.declared.event.Call.{Call}
-use Rattle.xt_base.specs.declared.event.Event.{Event}
-use Rattle.xt_base.specs.declared.event.Event.TheVariants as event
-use Rattle.xt_base.specs.declared.event.Outcome.{Outcome}
-use Rattle.xt_base.specs.declared.event.Outcome.TheVariants as outcome
-use Rattle.xt_base.specs.declared.status.AskRefusal.TheVariants as refusal
+use Rattle.xt_messages.specs.declared.file.Capability.{Capability}
+use Rattle.xt_messages.specs.declared.file.Op.{Op}
+use Rattle.xt_messages.specs.declared.message.Msg.{Msg}
+use Rattle.xt_messages.specs.declared.message.Payload.{Payload}
+use Rattle.xt_messages.specs.declared.message.Payload.TheVariants as payload
+use Rattle.xt_messages.specs.declared.reply.Reply.{Reply}
+use Rattle.xt_messages.specs.declared.reply.Reply.TheVariants as reply
+use Rattle.xt_messages.specs.declared.reply.Retry.{Retry}
+use Rattle.xt_messages.specs.declared.reply.Retry.TheVariants as retry
+use Rattle.xt_messages.specs.declared.record.Record.{Record}
+use Rattle.xt_messages.specs.declared.event.Call.{Call}
+use Rattle.xt_messages.specs.declared.event.Event.{Event}
+use Rattle.xt_messages.specs.declared.event.Event.TheVariants as event
+use Rattle.xt_messages.specs.declared.event.Outcome.{Outcome}
+use Rattle.xt_messages.specs.declared.event.Outcome.TheVariants as outcome
+use Rattle.xt_messages.specs.declared.status.AskRefusal.TheVariants as refusal
 use Rattle.xt_base.specs.declared.TheConstants.{COUNTS}
 use Rattle.xt_protocol.specs.LeaseRows.{Silent}
 use Rattle.lease_safety.specs.State.{Has}

@@ -1,6 +1,6 @@
 -- the worlds of a run are in order
 use Rattle.std.proofs.Common.{◌≡◌, ℕ, List, [], ap, ◌∙◌, subst, Option, Some, None, true}
-use Rattle.xt_base.specs.declared.message.Msg.{Msg}
+use Rattle.xt_messages.specs.declared.message.Msg.{Msg}
 use Rattle.cluster_runs.specs.World.{World, node_in}
 use Rattle.cluster_runs.specs.Lines.{Next, finished, opens, goes_on, ends}
 use Rattle.world_leases.specs.Worlds.{CoreFits, UpFits, LeasesHold, Leads, OneLeads, IsInOrder, IsNextInOrder}

@@ -4,7 +4,7 @@ use Rattle.std.specs.Prelude.{◌⊎◌, ◌==◌}
 use Rattle.std.specs.Option.{option_map}
 use Rattle.std.proofs.lemmas.Bool.Decides.{nat_tests}
 use Rattle.std.proofs.lemmas.Bool.{cases_eq}
-use Rattle.xt_base.specs.declared.file.Location.{Location}
+use Rattle.xt_messages.specs.declared.file.Location.{Location}
 use Rattle.cluster_runs.specs.declared.DeclaredFile.{DeclaredFile}
 use Rattle.cluster_runs.specs.World.{Node, node_in, with_node, file_in}
 use Rattle.cluster_runs.specs.Lines.{ticked}

@@ -5,15 +5,15 @@ use Rattle.std.specs.Prelude.{◌⊎◌, not, cond, nat_lt, Result, Ok, Err, len
 use Rattle.std.specs.Option.{option_or}
 use Rattle.std.proofs.lemmas.Bool.Decides.{nat_tests}
 use Rattle.xt_base.specs.declared.ids.NodeId.{NodeId}
-use Rattle.xt_base.specs.declared.file.Location.{Location}
-use Rattle.xt_base.specs.declared.file.Op.{Op}
-use Rattle.xt_base.specs.declared.message.Msg.{Msg}
-use Rattle.xt_base.specs.declared.record.Record.{Record}
-use Rattle.xt_base.specs.declared.record.Record.TheVariants as kept
-use Rattle.xt_base.specs.declared.event.Call.{Call}
-use Rattle.xt_base.specs.declared.event.Event.TheVariants as event
-use Rattle.xt_base.specs.declared.status.Rule.{Rule}
-use Rattle.xt_base.specs.declared.status.Limited.TheVariants as limited
+use Rattle.xt_messages.specs.declared.file.Location.{Location}
+use Rattle.xt_messages.specs.declared.file.Op.{Op}
+use Rattle.xt_messages.specs.declared.message.Msg.{Msg}
+use Rattle.xt_messages.specs.declared.record.Record.{Record}
+use Rattle.xt_messages.specs.declared.record.Record.TheVariants as kept
+use Rattle.xt_messages.specs.declared.event.Call.{Call}
+use Rattle.xt_messages.specs.declared.event.Event.TheVariants as event
+use Rattle.xt_messages.specs.declared.status.Rule.{Rule}
+use Rattle.xt_messages.specs.declared.status.Limited.TheVariants as limited
 use Rattle.xt_base.specs.declared.TheConstants.{COUNTS}
 use Rattle.time_line.specs.declared.entry.Halt.TheVariants as halt
 use Rattle.lease_safety.specs.State.{Has}
@@ -37,7 +37,7 @@ use Rattle.world_leases.proofs.Tables.{node_in-new, node_in-id}
 use Rattle.world_leases.proofs.Clocks.{close_by}
 use Rattle.std.specs.Prelude.{take, drop}
 use Rattle.std.proofs.lemmas.List.{append-nil, take-append-drop}
-use Rattle.xt_base.specs.declared.event.Event.{Event}
+use Rattle.xt_messages.specs.declared.event.Event.{Event}
 use Rattle.xt_protocol.specs.declared.Turned.{Turned}
 use Rattle.time_line.specs.declared.entry.Halt.{Halt}
 use Rattle.lease_safety.specs.Legal.{IsClose}
@@ -50,7 +50,7 @@ use Rattle.cluster_runs.specs.Rules.{first_stranger, file_twice}
 use Rattle.cluster_runs.specs.Runs.{with_line, after, after_refusal, run_of}
 use Rattle.std.specs.Prelude.{◌<◌, ◌^◌}
 use Rattle.xt_base.specs.TimeSettings.{AreTimes}
-use Rattle.xt_base.specs.Limits.{FitsNode, FitsLocation}
+use Rattle.xt_messages.specs.Limits.{FitsNode, FitsLocation}
 use Rattle.time_line.specs.Bounds.{AreLines, FitsLine, FitsCall, FitsLater}
 use Rattle.cluster_runs.specs.Rules.{has_call, busy, no_client, no_called_file}
 use Rattle.std.specs.List.{fold, AllByRecursion}

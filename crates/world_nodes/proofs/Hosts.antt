@@ -8,7 +8,7 @@ use Rattle.std.proofs.lemmas.List.{length-map, map-append, get_or_default, take_
 use Rattle.lease_runs.proofs.Tests.{same_node}
 use Rattle.xt_base.specs.TimeSettings.{TimeSettings}
 use Rattle.xt_base.specs.declared.ids.NodeId.{NodeId}
-use Rattle.xt_base.specs.declared.record.Record.{Record}
+use Rattle.xt_messages.specs.declared.record.Record.{Record}
 use Rattle.cluster_runs.specs.World.{Node, node_in, with_node}
 use Rattle.node_cores.specs.Hosts.{HostView, node_of}
 use Rattle.node_clocks.specs.Hosts.{nodes_of}

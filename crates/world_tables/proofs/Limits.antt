@@ -1,7 +1,7 @@
 -- The limits of a step are those of the messages behind it.
 use Rattle.std.proofs.Common.{◌≡◌, Bool, true, false, cond, Some, None, Ok, Err, refl}
 use Rattle.std.specs.Prelude.{nat_lt, length}
-use Rattle.xt_base.specs.declared.status.Limited.TheVariants as limited
+use Rattle.xt_messages.specs.declared.status.Limited.TheVariants as limited
 use Rattle.cluster_runs.specs.declared.TheConstants.{MESSAGES, MESSAGE_BYTES}
 use Rattle.cluster_runs.specs.NodeSteps.{Doing, frame_bytes, came_to, within_limits}
 use Rattle.world_tables.specs.Limits.{limit_passed, within}

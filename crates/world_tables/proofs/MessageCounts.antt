@@ -6,8 +6,8 @@ use Rattle.std.proofs.lemmas.List.Sums.{sum_by-cons, sum_by-append, sum_by-set}
 use Rattle.std.proofs.lemmas.Option.{slice_get-get_or, slice_get_past}
 use Rattle.std.proofs.lemmas.Bool.{cases_eq, cases_lt}
 use Rattle.std.specs.Prelude.{min, sum_by, slice_get}
-use Rattle.xt_base.specs.FrameLength.{frame_length}
-use Rattle.xt_base.specs.declared.message.Msg.{Msg}
+use Rattle.xt_messages.specs.FrameLength.{frame_length}
+use Rattle.xt_messages.specs.declared.message.Msg.{Msg}
 use Rattle.world_tables.specs.Within64.{within_64}
 use Rattle.cluster_runs.specs.declared.Sent.{Sent}
 use Rattle.cluster_runs.specs.NodeSteps.{pending}

@@ -1,8 +1,8 @@
 -- what the messages are asked for: one of them, and the limit that they pass
 use Rattle.std.specs.Prelude.{ℕ, Bool, ◌≡◌, ◌-◌, nat_lt, if◌then◌else◌, Option, Some, None, Result, Ok, Err, List, length, slice_get}
-use Rattle.xt_base.specs.declared.message.Msg.{Msg}
-use Rattle.xt_base.specs.declared.status.Limited.{Limited}
-use Rattle.xt_base.specs.declared.status.Limited.TheVariants as limited
+use Rattle.xt_messages.specs.declared.message.Msg.{Msg}
+use Rattle.xt_messages.specs.declared.status.Limited.{Limited}
+use Rattle.xt_messages.specs.declared.status.Limited.TheVariants as limited
 use Rattle.cluster_runs.specs.declared.TheConstants.{MESSAGES, MESSAGE_BYTES}
 use Rattle.cluster_runs.specs.declared.Sent.{Sent}
 use Rattle.cluster_runs.specs.NodeSteps.{Cause, came_to, Doing, frame_bytes}

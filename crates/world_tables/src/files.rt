@@ -6,7 +6,8 @@ use cluster_runs::DeclaredFile;
 use std::alloc::{AllocError, Global};
 use std::collections::BTreeMap;
 use std::marker::Model;
-use xt_base::{Location, OutOfMemory};
+use xt_base::OutOfMemory;
+use xt_messages::Location;
 
 /// The declared files, in order. Contracts see the list.
 #[derive(Drop)]

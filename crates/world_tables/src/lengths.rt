@@ -1,10 +1,11 @@
 ghost use Rattle.std.specs.Prelude.{◌≡◌, ◌≤◌, ◌+◌, ◌*◌, length, sum_by};
-ghost use Rattle.xt_base.specs.FrameLength.{octets_length, text_length, report_length, location_length, capability_length, head_length, update_length, op_length, reply_length, meta_req_length, meta_refusal_length, meta_answer_length, registry_req_length, row_length, registry_answer_length, payload_length, frame_length};
+ghost use Rattle.xt_messages.specs.FrameLength.{octets_length, text_length, report_length, location_length, capability_length, head_length, update_length, op_length, reply_length, meta_req_length, meta_refusal_length, meta_answer_length, registry_req_length, row_length, registry_answer_length, payload_length, frame_length};
 ghost use Rattle.world_tables.specs.Within64.{within_64};
 
-use xt_base::{
-    Capability, FileHead, Lease, Location, MetaAnswer, MetaRefusal, MetaReq, Msg, Name, Octets, Op,
-    Payload, RegistryAnswer, RegistryReq, RegistryRow, Reply, Update,
+use xt_base::{Lease, Name, Octets};
+use xt_messages::{
+    Capability, FileHead, Location, MetaAnswer, MetaRefusal, MetaReq, Msg, Op, Payload,
+    RegistryAnswer, RegistryReq, RegistryRow, Reply, Update,
 };
 
 fn octets_length(bytes: &Octets) -> u64

@@ -1,6 +1,6 @@
 //! The messages that were sent, with which of them are pending.
 ghost use Rattle.std.specs.Prelude.{◌≡◌, ◌++◌, ◌∷◌, [], ◌+◌, ◌-◌, ◌<◌, ◌≤◌, length, map, sum_by, slice_get, None, OnOk, OnErr, IfOk, IfSome, MatchOption};
-ghost use Rattle.xt_base.specs.FrameLength.{frame_length};
+ghost use Rattle.xt_messages.specs.FrameLength.{frame_length};
 ghost use Rattle.world_tables.specs.Within64.{within_64};
 ghost use Rattle.cluster_runs.specs.NodeSteps.{pending, frame_bytes};
 ghost use Rattle.cluster_runs.specs.Lines.{least_pending, no_longer_pending};
@@ -11,7 +11,8 @@ use crate::lengths::frame_length;
 use cluster_runs::{MESSAGE_BYTES, MESSAGES, Sent};
 use std::alloc::Global;
 use std::marker::Model;
-use xt_base::{Limited, Msg, Msgs, OutOfMemory};
+use xt_base::OutOfMemory;
+use xt_messages::{Limited, Msg, Msgs};
 
 /// Every message that was ever sent, in order of sending, with which of them are pending. Contracts see the list. The
 /// messages are numbered from 1.

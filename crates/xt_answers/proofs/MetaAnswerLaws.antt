@@ -1,13 +1,13 @@
 -- answers of the metadata server
 use Rattle.std.proofs.Common.{◌≡◌, ℕ, ◌^◌, List, ◌++◌, Ok, refl, lit<}
-use Rattle.xt_base.specs.declared.meta.MetaRefusal.{MetaRefusal}
-use Rattle.xt_base.specs.declared.meta.RowKind.{RowKind}
-use Rattle.xt_base.specs.declared.meta.MetaAnswer.{MetaAnswer}
-use Rattle.xt_base.specs.declared.meta.MetaRefusal.TheVariants as refusal
-use Rattle.xt_base.specs.declared.meta.RowKind.TheVariants as row_kind
-use Rattle.xt_base.specs.declared.meta.MetaAnswer.TheVariants as answer
+use Rattle.xt_messages.specs.declared.meta.MetaRefusal.{MetaRefusal}
+use Rattle.xt_messages.specs.declared.meta.RowKind.{RowKind}
+use Rattle.xt_messages.specs.declared.meta.MetaAnswer.{MetaAnswer}
+use Rattle.xt_messages.specs.declared.meta.MetaRefusal.TheVariants as refusal
+use Rattle.xt_messages.specs.declared.meta.RowKind.TheVariants as row_kind
+use Rattle.xt_messages.specs.declared.meta.MetaAnswer.TheVariants as answer
 use Rattle.xt_fields.specs.Reading.{Field, made}
-use Rattle.xt_base.specs.Limits.{FitsMetaRefusal, FitsMetaAnswer, FitsNames}
+use Rattle.xt_messages.specs.Limits.{FitsMetaRefusal, FitsMetaAnswer, FitsNames}
 use Rattle.xt_fields.specs.BasicFields.{byte_bytes, byte_at, tagged}
 use Rattle.xt_answers.specs.ReplyFields.{denial_bytes}
 use Rattle.xt_answers.specs.MetaAnswers.{refusal_bytes, refusal_arms, forbidden_at, too_few_at, report_denied_at, names_bytes, names_at, row_kind_bytes, row_kind_arms, row_kind_at, meta_answer_bytes, meta_answer_arms, meta_answer_at, names_answer_at, row_answer_at, granted_at}

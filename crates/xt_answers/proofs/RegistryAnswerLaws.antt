@@ -1,9 +1,9 @@
 -- answers of the directory service
 use Rattle.std.proofs.Common.{◌≡◌, ℕ, ◌^◌, List, ◌++◌, Ok, refl, lit<}
-use Rattle.xt_base.specs.declared.registry.RegistryRow.{RegistryRow}
-use Rattle.xt_base.specs.declared.registry.RegistryAnswer.{RegistryAnswer}
-use Rattle.xt_base.specs.declared.registry.RegistryAnswer.TheVariants as told
-use Rattle.xt_base.specs.Limits.{FitsRegistryAnswer, FitsRow, FitsRows}
+use Rattle.xt_messages.specs.declared.registry.RegistryRow.{RegistryRow}
+use Rattle.xt_messages.specs.declared.registry.RegistryAnswer.{RegistryAnswer}
+use Rattle.xt_messages.specs.declared.registry.RegistryAnswer.TheVariants as told
+use Rattle.xt_messages.specs.Limits.{FitsRegistryAnswer, FitsRow, FitsRows}
 use Rattle.xt_fields.specs.BasicFields.{byte_at, tagged}
 use Rattle.xt_answers.specs.RegistryAnswers.{row_bytes, row_at, rows_bytes, rows_at, registry_answer_bytes, registry_answer_arms, registry_answer_at, done_at, changed_at, row_told_at, rows_told_at}
 use Rattle.xt_fields.specs.OneSpelling.{IsField}

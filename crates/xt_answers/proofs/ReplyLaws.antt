@@ -1,10 +1,10 @@
 -- replies of an OSD
 use Rattle.std.proofs.Common.{◌≡◌, ℕ, List, ◌++◌, Ok, refl}
-use Rattle.xt_base.specs.declared.reply.Denial.{Denial}
-use Rattle.xt_base.specs.declared.reply.Reply.{Reply}
-use Rattle.xt_base.specs.declared.reply.Denial.TheVariants as denial
-use Rattle.xt_base.specs.declared.reply.Reply.TheVariants as reply
-use Rattle.xt_base.specs.Limits.{FitsReply}
+use Rattle.xt_messages.specs.declared.reply.Denial.{Denial}
+use Rattle.xt_messages.specs.declared.reply.Reply.{Reply}
+use Rattle.xt_messages.specs.declared.reply.Denial.TheVariants as denial
+use Rattle.xt_messages.specs.declared.reply.Reply.TheVariants as reply
+use Rattle.xt_messages.specs.Limits.{FitsReply}
 use Rattle.xt_fields.specs.BasicFields.{byte_at, tagged}
 use Rattle.xt_answers.specs.ReplyFields.{denial_bytes, denial_arms, denial_at, reply_bytes, reply_arms, reply_at, ok_reply_at, no_lease_at, no_majority_at, elsewhere_at, denied_at, old_list_at, old_epoch_at, too_far_at}
 use Rattle.xt_fields.specs.OneSpelling.{IsField}

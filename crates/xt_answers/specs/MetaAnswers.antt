@@ -1,12 +1,12 @@
 -- answers of the metadata server as fields
 use Rattle.std.specs.Prelude.{ℕ, List, ◌++◌, length, Ok, Err, ◌==◌, if◌then◌else◌}
 use Rattle.std.specs.List.{flat_map}
-use Rattle.xt_base.specs.declared.meta.MetaRefusal.{MetaRefusal}
-use Rattle.xt_base.specs.declared.meta.MetaRefusal.TheVariants as refusal
-use Rattle.xt_base.specs.declared.meta.RowKind.{RowKind}
-use Rattle.xt_base.specs.declared.meta.RowKind.TheVariants as row_kind
-use Rattle.xt_base.specs.declared.meta.MetaAnswer.{MetaAnswer}
-use Rattle.xt_base.specs.declared.meta.MetaAnswer.TheVariants as answer
+use Rattle.xt_messages.specs.declared.meta.MetaRefusal.{MetaRefusal}
+use Rattle.xt_messages.specs.declared.meta.MetaRefusal.TheVariants as refusal
+use Rattle.xt_messages.specs.declared.meta.RowKind.{RowKind}
+use Rattle.xt_messages.specs.declared.meta.RowKind.TheVariants as row_kind
+use Rattle.xt_messages.specs.declared.meta.MetaAnswer.{MetaAnswer}
+use Rattle.xt_messages.specs.declared.meta.MetaAnswer.TheVariants as answer
 use Rattle.xt_fields.specs.declared.fault.FieldErr.TheVariants as fault
 use Rattle.xt_fields.specs.Reading.{Field, ◌&◌, made}
 use Rattle.xt_fields.specs.BasicFields.{byte_bytes, half_bytes, word_bytes, text_bytes, byte_at, half_at, word_at, text_at, within, counted, tagged}

@@ -1,9 +1,9 @@
 -- answers of the directory service as fields
 use Rattle.std.specs.Prelude.{ℕ, List, ◌++◌, length, Ok, Err, ◌==◌, if◌then◌else◌}
 use Rattle.std.specs.List.{flat_map}
-use Rattle.xt_base.specs.declared.registry.RegistryRow.{RegistryRow}
-use Rattle.xt_base.specs.declared.registry.RegistryAnswer.{RegistryAnswer}
-use Rattle.xt_base.specs.declared.registry.RegistryAnswer.TheVariants as told
+use Rattle.xt_messages.specs.declared.registry.RegistryRow.{RegistryRow}
+use Rattle.xt_messages.specs.declared.registry.RegistryAnswer.{RegistryAnswer}
+use Rattle.xt_messages.specs.declared.registry.RegistryAnswer.TheVariants as told
 use Rattle.xt_fields.specs.declared.fault.FieldErr.TheVariants as fault
 use Rattle.xt_fields.specs.Reading.{Field, ◌&◌, made}
 use Rattle.xt_fields.specs.BasicFields.{byte_bytes, word_bytes, long_bytes, text_bytes, byte_at, word_at, count_at, text_at, counted, tagged}

@@ -1,10 +1,10 @@
 -- replies of an OSD as fields
 use Rattle.std.specs.Prelude.{ℕ, List, ◌++◌, Ok, Err, ◌==◌, if◌then◌else◌}
 use Rattle.xt_base.specs.declared.TheConstants.{BODY}
-use Rattle.xt_base.specs.declared.reply.Denial.{Denial}
-use Rattle.xt_base.specs.declared.reply.Denial.TheVariants as denial
-use Rattle.xt_base.specs.declared.reply.Reply.{Reply}
-use Rattle.xt_base.specs.declared.reply.Reply.TheVariants as reply
+use Rattle.xt_messages.specs.declared.reply.Denial.{Denial}
+use Rattle.xt_messages.specs.declared.reply.Denial.TheVariants as denial
+use Rattle.xt_messages.specs.declared.reply.Reply.{Reply}
+use Rattle.xt_messages.specs.declared.reply.Reply.TheVariants as reply
 use Rattle.xt_fields.specs.declared.fault.FieldErr.TheVariants as fault
 use Rattle.xt_fields.specs.Reading.{Field, ◌&◌, made}
 use Rattle.xt_fields.specs.BasicFields.{byte_bytes, word_bytes, long_bytes, octets_bytes, byte_at, long_at, count_at, octets_at, tagged}

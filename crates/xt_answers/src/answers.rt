@@ -1,6 +1,6 @@
 ghost use Rattle.std.specs.Prelude.{◌≡◌, ◌++◌, OnOk, OnErr};
-ghost use Rattle.xt_base.specs.Limits.{FitsMetaAnswer, FitsNames, FitsRegistryAnswer, FitsRow, FitsRows};
-ghost use Rattle.xt_base.specs.declared.meta.MetaAnswer.TheVariants.{Refused};
+ghost use Rattle.xt_messages.specs.Limits.{FitsMetaAnswer, FitsNames, FitsRegistryAnswer, FitsRow, FitsRows};
+ghost use Rattle.xt_messages.specs.declared.meta.MetaAnswer.TheVariants.{Refused};
 ghost use Rattle.xt_fields.specs.Reading.{Gives, made};
 ghost use Rattle.xt_fields.specs.BasicFields.{byte_bytes, half_bytes, word_bytes, long_bytes, text_at, list_at};
 ghost use Rattle.xt_wire.specs.IdFields.{mark_bytes};
@@ -11,11 +11,12 @@ ghost use Rattle.xt_answers.specs.RegistryAnswers.{row_bytes, row_at, rows_bytes
 
 use crate::reply::{ReadReplies, WriteReplies};
 use std::alloc::Global;
-use xt_base::{
-    Capability, Denial, MetaAnswer, MetaRefusal, Names, OutOfMemory, RegistryAnswer, RegistryRow,
-    RegistryRows, RowKind, Seq, SizeMark,
-};
+use xt_base::{OutOfMemory, Seq, SizeMark};
 use xt_fields::{FieldErr, FieldReader, FieldWriter};
+use xt_messages::{
+    Capability, Denial, MetaAnswer, MetaRefusal, Names, RegistryAnswer, RegistryRow, RegistryRows,
+    RowKind,
+};
 use xt_wire::{ReadFiles, ReadIds, WriteFiles, WriteIds};
 
 /// The longest name in a list of names, and the longest address, in bytes.

@@ -1,14 +1,15 @@
 ghost use Rattle.std.specs.Prelude.{◌≡◌, ◌≢◌, ◌<◌, ◌^◌, ◌++◌, length, OnOk, OnErr, IfErr};
 ghost use Rattle.xt_fields.specs.declared.fault.FieldErr.TheVariants.{OutOfMemory};
-ghost use Rattle.xt_base.specs.Limits.{FitsReply};
+ghost use Rattle.xt_messages.specs.Limits.{FitsReply};
 ghost use Rattle.xt_fields.specs.Reading.{Gives};
 ghost use Rattle.xt_fields.specs.BasicFields.{byte_bytes, word_bytes, long_bytes, octets_bytes};
 ghost use Rattle.xt_wire.specs.IdFields.{node_bytes, mark_bytes};
 ghost use Rattle.xt_answers.specs.ReplyFields.{denial_at, denial_arms, denial_bytes, reply_at, reply_arms, reply_bytes, ok_reply_at, no_lease_at, no_majority_at, elsewhere_at, denied_at, old_list_at, old_epoch_at, too_far_at};
 
 use std::alloc::Global;
-use xt_base::{BODY, Denial, NodeId, OutOfMemory, Reply, SizeMark};
+use xt_base::{BODY, NodeId, OutOfMemory, SizeMark};
 use xt_fields::{FieldErr, FieldReader, FieldWriter};
+use xt_messages::{Denial, Reply};
 use xt_wire::{ReadFiles, ReadIds, WriteIds};
 
 /// The longest `bytes` field, in bytes.

@@ -1,4 +1,4 @@
-ghost use Rattle.xt_base.specs.Limits.{FitsMetaAnswer, FitsRegistryAnswer, FitsReply};
+ghost use Rattle.xt_messages.specs.Limits.{FitsMetaAnswer, FitsRegistryAnswer, FitsReply};
 ghost use Rattle.xt_fields.specs.OneSpelling.{IsField};
 ghost use Rattle.xt_answers.specs.ReplyFields.{reply_bytes, reply_at};
 ghost use Rattle.xt_answers.specs.MetaAnswers.{meta_answer_bytes, meta_answer_at};

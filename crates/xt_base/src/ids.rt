@@ -1,8 +1,16 @@
+use crate::lists::{Copies, OutOfMemory};
+use std::alloc::Global;
 use std::marker::Model;
 
 /// A node: an OSD, the MRC, the DIR or a client.
 #[derive(Clone, Copy, PartialEq, Eq, PartialOrd, Ord)]
 pub struct NodeId(pub u32);
+
+impl Copies for NodeId {
+    fn copy(&self, _alloc: Global) -> Result<NodeId, OutOfMemory> {
+        Ok(*self)
+    }
+}
 
 /// A start of a node, counted from 1, below 2^62.
 #[derive(Clone, Copy, PartialEq, Eq, PartialOrd)]

@@ -1,43 +1,24 @@
-//! The types that every part of xtfs speaks of: nodes, files, ballots, leases, epochs, stamps, locations,
-//! capabilities, operations, messages, calls, marks, records and statuses.
+//! The values that every part of xtfs speaks of: nodes, files, ballots, leases, epochs, stamps, members, times, bytes, texts and lists.
 //!
-//! Contracts see each of them as plain data: a number as a number, a list as a list, a text as its bytes.
-//! What holds a list is not `Copy` and has `copy`, which gives an equal value or wants memory. The limits of
-//! the fields stand in `specs/Limits.antt`.
+//! Contracts see each of them as plain data: a number as a number, a list as a list, a text as its bytes. What holds a list is
+//! not `Copy` and has `copy`, which gives an equal value or wants memory. The limits of numbers, bytes and texts stand in
+//! `specs/FieldLimits.antt`.
 #![tactic(auto)]
 
 mod address;
-mod event;
-mod file;
 mod ids;
 mod lists;
 mod members;
-mod message;
-mod meta;
 mod optional_box;
 mod outside;
-mod record;
-mod registry;
-mod reply;
-mod status;
 mod times;
 
 pub use address::Address;
-pub use event::{Call, Event, Mark, Marks, MetaOutcome, Outcome, RegistryOutcome};
-pub use file::{
-    Capability, FileHead, Kind, Location, ObjectVersion, Op, Session, Sessions, Update, Versions,
-};
 pub use ids::{Ballot, Boot, Epoch, FileId, Lease, NodeId, OpId, SizeMark, Stamp, VolumeId};
 pub use lists::{Copies, Name, Octets, OutOfMemory, Seq, Words};
 pub use members::{BadMembers, Members, has_node};
-pub use message::{Msg, Msgs, Payload};
-pub use meta::{MetaAnswer, MetaRefusal, MetaReq, Names, RowKind};
 pub use optional_box::OptionalBox;
 pub use outside::{CallList, Failed};
-pub use record::{FileRow, FileTable, Folded, HeldPairs, HeldSet, Keep, KeepBody, Logged, Record};
-pub use registry::{RegistryAnswer, RegistryReq, RegistryRow, RegistryRows};
-pub use reply::{Answered, Answers, Denial, Reply, Retry};
-pub use status::{AskRefusal, Limited, Refusal, Rule, Status};
 pub use times::{BadTimes, Times, majority};
 
 /// The node of the directory service.

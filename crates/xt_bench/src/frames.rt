@@ -1,10 +1,11 @@
 ghost use Rattle.std.specs.Prelude.{IfOk};
-ghost use Rattle.xt_base.specs.Limits.{FitsMessage};
+ghost use Rattle.xt_messages.specs.Limits.{FitsMessage};
 
 use anyhow::{Context, Result, ensure};
 use std::alloc::Global;
-use xt_base::{BODY, Epoch, FileId, Msg, NodeId, Octets, Payload, Stamp, VolumeId};
+use xt_base::{BODY, Epoch, FileId, NodeId, Octets, Stamp, VolumeId};
 use xt_frames::{decode, encode};
+use xt_messages::{Msg, Payload};
 
 /// A message that sends an object of so many bytes.
 fn object_of(alloc: Global, size: usize) -> Result<Msg>

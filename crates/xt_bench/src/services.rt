@@ -2,9 +2,8 @@ use anyhow::Result;
 use capabilities::hmac;
 use dir_core::Dir;
 use std::alloc::Global;
-use xt_base::{
-    DIR_NODE, Event, Msg, Name, NodeId, OutOfMemory, Payload, RegistryAnswer, RegistryReq,
-};
+use xt_base::{DIR_NODE, Name, NodeId, OutOfMemory};
+use xt_messages::{Event, Msg, Payload, RegistryAnswer, RegistryReq};
 use xt_protocol::Turned;
 
 /// The key of the service, and of tags.

@@ -1,5 +1,5 @@
 ghost use Rattle.std.specs.Prelude.{◌≤◌, ◌<◌, ◌^◌, IfOk, length};
-ghost use Rattle.xt_base.specs.Limits.{FitsRecord};
+ghost use Rattle.xt_messages.specs.Limits.{FitsRecord};
 
 use crate::done::Done;
 use crate::journals::longer;
@@ -9,10 +9,11 @@ use object_store::Store;
 use replica_records::record_bytes;
 use std::alloc::Global;
 use xt_base::{
-    CallList, Epoch, FileId, NO_OBJECT, NodeId, Octets, OpId, OutOfMemory, Record, SizeMark, Stamp,
-    Update, VolumeId,
+    CallList, Epoch, FileId, NO_OBJECT, NodeId, Octets, OpId, OutOfMemory, SizeMark, Stamp,
+    VolumeId,
 };
 use xt_journal::Journal;
+use xt_messages::{Record, Update};
 
 /// How many objects the file has.
 const OBJECTS: u32 = 4_096;

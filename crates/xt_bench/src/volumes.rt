@@ -3,7 +3,8 @@ use anyhow::{Result, bail};
 use std::alloc::Global;
 use volume_rows::{Asker, Picked};
 use volume_tree::Tree;
-use xt_base::{COUNTS, Kind, Location, Members, Name, NodeId};
+use xt_base::{COUNTS, Members, Name, NodeId};
+use xt_messages::{Kind, Location};
 
 /// Who asks.
 const ASKER: Asker = Asker { user: 1, group: 1 };

@@ -9,7 +9,7 @@ use Rattle.std.proofs.lemmas.Bool.{cases_lt, ltb-false, le-ltb, ltb-true, lt-ltb
 use Rattle.std.proofs.lemmas.List.{take_at, drop_at, take-append-drop, length-append, length-take, get_or-drop, get_or-take, get_or_past}
 use Rattle.std.proofs.lemmas.Nat.{be_bytes_2, be_bytes_4, be_bytes_8, from_be_bytes-to_be_bytes_2, from_be_bytes-to_be_bytes_4, from_be_bytes-to_be_bytes_8}
 use Rattle.std.proofs.lemmas.Str.{IsUtf8-from_is_utf8, is_utf8-from_IsUtf8}
-use Rattle.xt_base.specs.Limits.{AreBytes, IsCount, FitsBytes, FitsText, FitsPath, FitsName, FitsTag}
+use Rattle.xt_base.specs.FieldLimits.{AreBytes, IsCount, FitsBytes, FitsText, FitsPath, FitsName, FitsTag}
 use Rattle.xt_fields.specs.declared.fault.FieldErr.TheVariants as fault
 use Rattle.xt_fields.specs.Reading.{Field, ◌>>=◌}
 use Rattle.xt_fields.specs.BasicFields.{byte_bytes, half_bytes, word_bytes, long_bytes, byte_at, number_at, half_at, word_at, long_at, count_at, raw_at, octets_bytes, octets_at, text_bytes, text_at, utf8_at, within, list_at, counted, tagged}

@@ -1,6 +1,6 @@
 -- what it means that a field is the one spelling of its values
 use Rattle.std.specs.Prelude.{◌≡◌, ℕ, List, ◌++◌, Ok}
-use Rattle.xt_base.specs.Limits.{AreBytes}
+use Rattle.xt_base.specs.FieldLimits.{AreBytes}
 use Rattle.xt_fields.specs.Reading.{Field}
 
 -- a text was taken from the front, and its value is within limits

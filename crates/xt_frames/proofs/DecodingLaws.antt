@@ -3,8 +3,9 @@ use Rattle.std.proofs.Common.{◌≡◌, ℕ, suc, ◌+◌, ◌-◌, ◌≤◌, 
 use Rattle.std.specs.Prelude.{IfOk}
 use Rattle.std.proofs.lemmas.Bool.{ltb-false, le-ltb, eqb-true}
 use Rattle.std.proofs.lemmas.List.{append-nil, nil_from_length, take_at, drop_at, take-append-drop, length-append, length-take}
-use Rattle.xt_base.specs.Limits.{AreBytes, FitsMessage}
-use Rattle.xt_base.specs.declared.message.Msg.{Msg}
+use Rattle.xt_base.specs.FieldLimits.{AreBytes}
+use Rattle.xt_messages.specs.Limits.{FitsMessage}
+use Rattle.xt_messages.specs.declared.message.Msg.{Msg}
 use Rattle.xt_fields.specs.declared.fault.FieldErr.{FieldErr}
 use Rattle.xt_fields.specs.BasicFields.{word_bytes, byte_at, word_at}
 use Rattle.xt_fields.proofs.BasicLaws.{word_field, word-length, bytes-take}

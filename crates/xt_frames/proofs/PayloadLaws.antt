@@ -1,10 +1,11 @@
 -- the fields of each kind: what is read is spelled so, and what is spelled so is read
 use Rattle.std.proofs.Common.{◌≡◌, ℕ, true, false, cond, ltb, List, ◌∷◌, ◌++◌, Result, Ok, refl, sym, ap, subst, ◌∙◌, append_assoc, leb, ◌&&◌}
 use Rattle.xt_fields.specs.declared.fault.FieldErr.{FieldErr}
-use Rattle.xt_base.specs.Limits.{AreBytes, FitsPayload, FitsMessage}
-use Rattle.xt_base.specs.declared.message.Payload.{Payload}
-use Rattle.xt_base.specs.declared.message.Payload.TheVariants as payload
-use Rattle.xt_base.specs.declared.message.Msg.{Msg}
+use Rattle.xt_base.specs.FieldLimits.{AreBytes}
+use Rattle.xt_messages.specs.Limits.{FitsPayload, FitsMessage}
+use Rattle.xt_messages.specs.declared.message.Payload.{Payload}
+use Rattle.xt_messages.specs.declared.message.Payload.TheVariants as payload
+use Rattle.xt_messages.specs.declared.message.Msg.{Msg}
 use Rattle.xt_fields.specs.Reading.{Field, ◌>>=◌, ◌&◌}
 use Rattle.xt_fields.specs.BasicFields.{byte_bytes}
 use Rattle.xt_wire.specs.IdFields.{node_bytes, node_at}

@@ -1,7 +1,7 @@
 -- how a frame is read from the front of bytes, or the first fault in the order in which it is tested
 use Rattle.std.specs.Prelude.{◌≡◌, ℕ, ◌+◌, ◌-◌, List, length, take, drop, nat_lt, nat_le, ◌==◌, ◌&&◌, Result, Ok, Err, if◌then◌else◌}
 use Rattle.xt_base.specs.declared.TheConstants.{FRAME}
-use Rattle.xt_base.specs.declared.message.Msg.{Msg}
+use Rattle.xt_messages.specs.declared.message.Msg.{Msg}
 use Rattle.xt_fields.specs.declared.fault.FieldErr.{FieldErr}
 use Rattle.xt_fields.specs.declared.fault.FieldErr.TheVariants as field
 use Rattle.xt_fields.specs.BasicFields.{byte_at, word_at}

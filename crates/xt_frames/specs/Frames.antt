@@ -1,8 +1,8 @@
 -- the one frame of each message
 use Rattle.std.specs.Prelude.{ℕ, ◌+◌, List, ◌++◌, length}
-use Rattle.xt_base.specs.declared.message.Payload.{Payload}
-use Rattle.xt_base.specs.declared.message.Payload.TheVariants as payload
-use Rattle.xt_base.specs.declared.message.Msg.{Msg}
+use Rattle.xt_messages.specs.declared.message.Payload.{Payload}
+use Rattle.xt_messages.specs.declared.message.Payload.TheVariants as payload
+use Rattle.xt_messages.specs.declared.message.Msg.{Msg}
 use Rattle.xt_fields.specs.BasicFields.{byte_bytes, word_bytes, long_bytes, octets_bytes}
 use Rattle.xt_wire.specs.IdFields.{node_bytes, boot_bytes, file_bytes, ballot_bytes, epoch_bytes, stamp_bytes, lease_bytes, report_bytes}
 use Rattle.xt_wire.specs.FileFields.{capability_bytes, op_bytes, update_bytes, head_bytes}

@@ -1,9 +1,9 @@
 -- the fields of each kind, read from the front of bytes
 use Rattle.std.specs.Prelude.{ℕ, Err, nat_lt, ◌==◌, if◌then◌else◌}
 use Rattle.xt_base.specs.declared.TheConstants.{BODY}
-use Rattle.xt_base.specs.declared.message.Payload.{Payload}
-use Rattle.xt_base.specs.declared.message.Payload.TheVariants as payload
-use Rattle.xt_base.specs.declared.message.Msg.{Msg}
+use Rattle.xt_messages.specs.declared.message.Payload.{Payload}
+use Rattle.xt_messages.specs.declared.message.Payload.TheVariants as payload
+use Rattle.xt_messages.specs.declared.message.Msg.{Msg}
 use Rattle.xt_fields.specs.declared.fault.FieldErr.TheVariants as fault
 use Rattle.xt_fields.specs.Reading.{Field, ◌&◌, made}
 use Rattle.xt_fields.specs.BasicFields.{word_at, count_at, raw_at, octets_at}

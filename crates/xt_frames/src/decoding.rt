@@ -1,14 +1,15 @@
 ghost use Rattle.std.specs.Prelude.{◌≡◌, ℕ, ◌++◌, List, length, IfOk, Ok};
-ghost use Rattle.xt_base.specs.Limits.{FitsMessage};
-ghost use Rattle.xt_base.specs.declared.message.Msg.{Msg};
+ghost use Rattle.xt_messages.specs.Limits.{FitsMessage};
+ghost use Rattle.xt_messages.specs.declared.message.Msg.{Msg};
 ghost use Rattle.xt_frames.specs.Frames.{frame_of};
 ghost use Rattle.xt_frames.specs.Decoding.{Gives, part_of, head_at, message_of, decoded};
 
 use crate::fault::FrameErr;
 use crate::reading::message;
 use std::alloc::Global;
-use xt_base::{FRAME, Msg};
+use xt_base::FRAME;
 use xt_fields::FieldReader;
+use xt_messages::Msg;
 
 /// The version of frames.
 pub(crate) const VERSION: u8 = 1;

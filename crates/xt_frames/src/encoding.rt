@@ -1,15 +1,16 @@
 ghost use Rattle.std.specs.Prelude.{◌≡◌, ◌≤◌, ◌++◌, length, OnOk, IfOk};
 ghost use Rattle.xt_base.specs.declared.TheConstants.{FRAME};
-ghost use Rattle.xt_base.specs.Limits.{FitsMessage};
-ghost use Rattle.xt_base.specs.FrameLength.{frame_length};
+ghost use Rattle.xt_messages.specs.Limits.{FitsMessage};
+ghost use Rattle.xt_messages.specs.FrameLength.{frame_length};
 ghost use Rattle.xt_fields.specs.BasicFields.{word_bytes};
 ghost use Rattle.xt_frames.specs.Frames.{content_of, frame_of};
 
 use crate::decoding::VERSION;
 use crate::writing::{kind, put_payload};
 use std::alloc::Global;
-use xt_base::{Msg, Octets, OutOfMemory};
+use xt_base::{Octets, OutOfMemory};
 use xt_fields::FieldWriter;
+use xt_messages::Msg;
 use xt_wire::WriteIds;
 
 /// Room for most frames, in bytes: those of the longer ones make room for themselves.

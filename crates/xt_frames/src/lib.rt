@@ -1,6 +1,6 @@
 //! Messages as frames: a length, a version, a kind, two nodes and the fields of the kind.
 //!
-//! Each message within the limits of `xt_base` has one frame. `encode` gives it, `decode` reads it again whatever
+//! Each message within the limits of `xt_messages` has one frame. `encode` gives it, `decode` reads it again whatever
 //! follows it, and bytes that don't begin with a frame are refused for the first reason in a fixed order.
 #![tactic(auto)]
 

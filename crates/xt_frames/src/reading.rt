@@ -4,8 +4,9 @@ ghost use Rattle.xt_frames.specs.PayloadFields.{read_fields, promise_fields, wri
 
 use std::alloc::Global;
 use xt_answers::{ReadAnswers, ReadReplies};
-use xt_base::{BODY, Msg, Payload};
+use xt_base::BODY;
 use xt_fields::{FieldErr, FieldReader};
+use xt_messages::{Msg, Payload};
 use xt_wire::{ReadFiles, ReadIds, ReadRequests};
 
 /// The longest `bytes` field, in bytes.

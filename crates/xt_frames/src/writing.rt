@@ -1,5 +1,5 @@
 ghost use Rattle.std.specs.Prelude.{◌≡◌, ◌<◌, ◌^◌, ◌++◌, length, OnOk};
-ghost use Rattle.xt_base.specs.Limits.{IsObject, FitsHead, FitsUpdate, FitsOp, FitsReply, FitsMetaReq, FitsMetaAnswer, FitsRegistryReq, FitsRegistryAnswer, FitsPayload};
+ghost use Rattle.xt_messages.specs.Limits.{IsObject, FitsHead, FitsUpdate, FitsOp, FitsReply, FitsMetaReq, FitsMetaAnswer, FitsRegistryReq, FitsRegistryAnswer, FitsPayload};
 ghost use Rattle.xt_fields.specs.BasicFields.{byte_bytes, word_bytes, long_bytes, octets_bytes};
 ghost use Rattle.xt_wire.specs.IdFields.{node_bytes, boot_bytes, file_bytes, ballot_bytes, epoch_bytes, stamp_bytes, lease_bytes, report_bytes};
 ghost use Rattle.xt_wire.specs.FileFields.{capability_bytes, op_bytes, update_bytes, head_bytes};
@@ -11,11 +11,12 @@ ghost use Rattle.xt_answers.specs.RegistryAnswers.{registry_answer_bytes};
 ghost use Rattle.xt_frames.specs.Frames.{kind_of, payload_bytes};
 
 use xt_answers::{WriteAnswers, WriteReplies};
-use xt_base::{
-    Ballot, Boot, Capability, Epoch, FileHead, FileId, Lease, MetaAnswer, MetaReq, Op, OutOfMemory,
-    Payload, RegistryAnswer, RegistryReq, Reply, Stamp, Update,
-};
+use xt_base::{Ballot, Boot, Epoch, FileId, Lease, OutOfMemory, Stamp};
 use xt_fields::FieldWriter;
+use xt_messages::{
+    Capability, FileHead, MetaAnswer, MetaReq, Op, Payload, RegistryAnswer, RegistryReq, Reply,
+    Update,
+};
 use xt_wire::{WriteFiles, WriteIds, WriteRequests};
 
 /// The number of a payload's kind.

@@ -9,7 +9,7 @@ use Rattle.std.specs.Ordering.{is_eq, is_lt, nat_cmp, ordering_then, ordering_re
 use Rattle.std.specs.declared.cmp.Ordering.{Ordering}
 use Rattle.std.specs.declared.cmp.Ordering.TheVariants.{Less, Equal, Greater}
 use Rattle.xt_base.specs.declared.ids.Stamp.{Stamp}
-use Rattle.xt_base.specs.declared.file.ObjectVersion.{ObjectVersion}
+use Rattle.xt_messages.specs.declared.file.ObjectVersion.{ObjectVersion}
 use Rattle.xt_protocol.specs.Stamps.{is_stamp, is_version, comes_before, has_version, with_held}
 use Rattle.xt_protocol.specs.VersionOrder.{version_cmp}
 

@@ -4,8 +4,8 @@ use Rattle.xt_base.specs.declared.ids.NodeId.{NodeId}
 use Rattle.xt_base.specs.declared.ids.Boot.{Boot}
 use Rattle.xt_base.specs.declared.ids.Ballot.{Ballot}
 use Rattle.xt_base.specs.declared.ids.Lease.{Lease}
-use Rattle.xt_base.specs.declared.message.Payload.{Payload}
-use Rattle.xt_base.specs.declared.message.Payload.TheVariants as payload
+use Rattle.xt_messages.specs.declared.message.Payload.{Payload}
+use Rattle.xt_messages.specs.declared.message.Payload.TheVariants as payload
 use Rattle.xt_base.specs.TimeSettings.{TimeSettings}
 use Rattle.xt_protocol.specs.Register.{Round, new_round, lease_of, same_ballot, on_promise, takes_promise, Took, ignored, counted, write_to, alive, on_acceptance}
 

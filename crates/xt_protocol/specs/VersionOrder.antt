@@ -2,7 +2,7 @@
 use Rattle.std.specs.Ordering.{ordering_then, nat_cmp}
 use Rattle.std.specs.declared.cmp.Ordering.{Ordering}
 use Rattle.xt_base.specs.declared.ids.Stamp.{Stamp}
-use Rattle.xt_base.specs.declared.file.ObjectVersion.{ObjectVersion}
+use Rattle.xt_messages.specs.declared.file.ObjectVersion.{ObjectVersion}
 
 -- by epoch, then count
 abbrev pub stamp_cmp : Stamp → Stamp → Ordering

@@ -7,7 +7,8 @@
 
 ghost use Rattle.std.specs.Prelude.{◌≡◌};
 
-use xt_base::{Marks, Msgs, OptionalBox, Record};
+use xt_base::OptionalBox;
+use xt_messages::{Marks, Msgs, Record};
 
 /// What a step gives: at most one record, which is kept first; then its marks; then its messages, in order.
 pub struct Turned {

@@ -1,21 +1,22 @@
 -- locations, capabilities, operations, updates and heads
 use Rattle.std.proofs.Common.{◌≡◌, ◌≢◌, ℕ, zero, suc, eq-eqb, ◌^◌, ◌<◌, ◌≤◌, ◌%◌, ◌&&◌, Bool, true, false, cond, not, eqb, ltb, leb, List, ◌++◌, length, map, Ok, refl, sym, ap, subst, ◌∙◌, arith, inl, inr, lit<}
 use Rattle.xt_base.specs.declared.ids.NodeId.{NodeId}
-use Rattle.xt_base.specs.declared.file.Kind.{Kind}
-use Rattle.xt_base.specs.declared.file.Location.{Location}
-use Rattle.xt_base.specs.declared.file.Capability.{Capability}
-use Rattle.xt_base.specs.declared.file.Op.{Op}
-use Rattle.xt_base.specs.declared.file.Update.{Update}
-use Rattle.xt_base.specs.declared.file.ObjectVersion.{ObjectVersion}
-use Rattle.xt_base.specs.declared.file.Session.{Session}
-use Rattle.xt_base.specs.declared.file.FileHead.{FileHead}
-use Rattle.xt_base.specs.declared.file.Kind.TheVariants.{Replicated, Striped}
-use Rattle.xt_base.specs.declared.file.Op.TheVariants as op
+use Rattle.xt_messages.specs.declared.file.Kind.{Kind}
+use Rattle.xt_messages.specs.declared.file.Location.{Location}
+use Rattle.xt_messages.specs.declared.file.Capability.{Capability}
+use Rattle.xt_messages.specs.declared.file.Op.{Op}
+use Rattle.xt_messages.specs.declared.file.Update.{Update}
+use Rattle.xt_messages.specs.declared.file.ObjectVersion.{ObjectVersion}
+use Rattle.xt_messages.specs.declared.file.Session.{Session}
+use Rattle.xt_messages.specs.declared.file.FileHead.{FileHead}
+use Rattle.xt_messages.specs.declared.file.Kind.TheVariants.{Replicated, Striped}
+use Rattle.xt_messages.specs.declared.file.Op.TheVariants as op
 use Rattle.std.proofs.lemmas.Bool.{eqb-true, ne_eqb, eqb-false, leb-true, lt-ltb, ltb-true}
 use Rattle.std.proofs.Math.Dec.{eqb-suc-zero}
 use Rattle.xt_base.specs.MemberList.{are_members, are_distinct}
 use Rattle.xt_base.specs.declared.TheConstants.{NO_OBJECT}
-use Rattle.xt_base.specs.Limits.{rise, is_at_most, IsObjectOrNone, FitsMembers, FitsStripe, FitsLocation, FitsCapability, FitsOp, FitsUpdate, FitsVersion, FitsSession, FitsVersions, FitsSessions, FitsHead, FitsBytes}
+use Rattle.xt_base.specs.FieldLimits.{FitsBytes}
+use Rattle.xt_messages.specs.Limits.{rise, is_at_most, IsObjectOrNone, FitsMembers, FitsStripe, FitsLocation, FitsCapability, FitsOp, FitsUpdate, FitsVersion, FitsSession, FitsVersions, FitsSessions, FitsHead}
 use Rattle.xt_fields.specs.BasicFields.{word_bytes, octets_bytes, byte_at, word_at, tagged}
 use Rattle.xt_wire.specs.FileFields.{kind_bytes, kind_arms, kind_at, version_at, stripe_at, members_bytes, members_at, location_bytes, location_at, capability_bytes, capability_at, op_bytes, read_op_at, some_octets_at, write_op_at, truncate_op_at, op_arms, op_at, slot_bytes, slot_at, update_bytes, has_its_body, update_at, object_version_bytes, object_version_at, session_bytes, session_at, versions_bytes, versions_at, sessions_bytes, sessions_at, head_bytes, head_at}
 use Rattle.xt_fields.specs.OneSpelling.{IsField, Taken}

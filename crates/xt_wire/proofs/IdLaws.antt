@@ -1,7 +1,7 @@
 -- nodes, files, leases and epochs
 use Rattle.std.proofs.Common.{◌≡◌, ℕ, List, ◌++◌, Option, Some, None, Ok, refl}
 use Rattle.std.specs.Prelude.{IfSome}
-use Rattle.xt_base.specs.Limits.{FitsNode, FitsBoot, FitsFile, FitsBallot, FitsEpoch, FitsStamp, FitsLease, FitsOpId, FitsMark}
+use Rattle.xt_messages.specs.Limits.{FitsNode, FitsBoot, FitsFile, FitsBallot, FitsEpoch, FitsStamp, FitsLease, FitsOpId, FitsMark}
 use Rattle.xt_base.specs.declared.ids.NodeId.{NodeId}
 use Rattle.xt_base.specs.declared.ids.Boot.{Boot}
 use Rattle.xt_base.specs.declared.ids.FileId.{FileId}

@@ -1,8 +1,8 @@
 -- requests to the metadata server
 use Rattle.std.proofs.Common.{◌≡◌, ℕ, List, ◌++◌, Ok, refl, lit<}
-use Rattle.xt_base.specs.declared.meta.MetaReq.{MetaReq}
-use Rattle.xt_base.specs.declared.meta.MetaReq.TheVariants as ask
-use Rattle.xt_base.specs.Limits.{FitsMetaReq}
+use Rattle.xt_messages.specs.declared.meta.MetaReq.{MetaReq}
+use Rattle.xt_messages.specs.declared.meta.MetaReq.TheVariants as ask
+use Rattle.xt_messages.specs.Limits.{FitsMetaReq}
 use Rattle.xt_fields.specs.BasicFields.{byte_at, tagged}
 use Rattle.xt_wire.specs.MetaFields.{meta_req_bytes, meta_req_arms, meta_req_at, mkdir_at, create_at, rename_at, unlink_at, rmdir_at, list_names_at, stat_at, chmod_at, grant_at, size_report_at}
 use Rattle.xt_fields.specs.OneSpelling.{IsField}

@@ -1,8 +1,8 @@
 -- requests to the directory service
 use Rattle.std.proofs.Common.{◌≡◌, ℕ, List, ◌++◌, Ok, refl}
-use Rattle.xt_base.specs.declared.registry.RegistryReq.{RegistryReq}
-use Rattle.xt_base.specs.declared.registry.RegistryReq.TheVariants as wish
-use Rattle.xt_base.specs.Limits.{FitsRegistryReq}
+use Rattle.xt_messages.specs.declared.registry.RegistryReq.{RegistryReq}
+use Rattle.xt_messages.specs.declared.registry.RegistryReq.TheVariants as wish
+use Rattle.xt_messages.specs.Limits.{FitsRegistryReq}
 use Rattle.xt_fields.specs.BasicFields.{byte_at, tagged}
 use Rattle.xt_wire.specs.RegistryFields.{registry_req_bytes, registry_req_arms, registry_req_at, set_row_at, get_row_at, list_rows_at, remove_row_at}
 use Rattle.xt_fields.specs.OneSpelling.{IsField}

@@ -3,18 +3,18 @@ use Rattle.std.specs.Prelude.{ℕ, ◌^◌, ◌%◌, List, ◌++◌, length, map
 use Rattle.std.specs.List.{flat_map}
 use Rattle.xt_base.specs.MemberList.{are_members}
 use Rattle.xt_base.specs.declared.TheConstants.{BODY, CLIENTS, NO_OBJECT, OBJECTS}
-use Rattle.xt_base.specs.Limits.{rise, is_at_most}
+use Rattle.xt_messages.specs.Limits.{rise, is_at_most}
 use Rattle.xt_base.specs.declared.ids.NodeId.{NodeId}
-use Rattle.xt_base.specs.declared.file.Kind.{Kind}
-use Rattle.xt_base.specs.declared.file.Kind.TheVariants.{Replicated, Striped}
-use Rattle.xt_base.specs.declared.file.Location.{Location}
-use Rattle.xt_base.specs.declared.file.Capability.{Capability}
-use Rattle.xt_base.specs.declared.file.Op.{Op}
-use Rattle.xt_base.specs.declared.file.Op.TheVariants as op
-use Rattle.xt_base.specs.declared.file.Update.{Update}
-use Rattle.xt_base.specs.declared.file.ObjectVersion.{ObjectVersion}
-use Rattle.xt_base.specs.declared.file.Session.{Session}
-use Rattle.xt_base.specs.declared.file.FileHead.{FileHead}
+use Rattle.xt_messages.specs.declared.file.Kind.{Kind}
+use Rattle.xt_messages.specs.declared.file.Kind.TheVariants.{Replicated, Striped}
+use Rattle.xt_messages.specs.declared.file.Location.{Location}
+use Rattle.xt_messages.specs.declared.file.Capability.{Capability}
+use Rattle.xt_messages.specs.declared.file.Op.{Op}
+use Rattle.xt_messages.specs.declared.file.Op.TheVariants as op
+use Rattle.xt_messages.specs.declared.file.Update.{Update}
+use Rattle.xt_messages.specs.declared.file.ObjectVersion.{ObjectVersion}
+use Rattle.xt_messages.specs.declared.file.Session.{Session}
+use Rattle.xt_messages.specs.declared.file.FileHead.{FileHead}
 use Rattle.xt_fields.specs.declared.fault.FieldErr.TheVariants as fault
 use Rattle.xt_fields.specs.Reading.{Field, ◌&◌, made, fit}
 use Rattle.xt_fields.specs.BasicFields.{byte_bytes, word_bytes, long_bytes, octets_bytes, byte_at, word_at, long_at, count_at, raw_at, octets_at, within, counted, tagged}

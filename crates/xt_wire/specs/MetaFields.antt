@@ -1,7 +1,7 @@
 -- requests to the metadata server as fields
 use Rattle.std.specs.Prelude.{ℕ, List, ◌++◌, Err, ◌==◌, if◌then◌else◌}
-use Rattle.xt_base.specs.declared.meta.MetaReq.{MetaReq}
-use Rattle.xt_base.specs.declared.meta.MetaReq.TheVariants as ask
+use Rattle.xt_messages.specs.declared.meta.MetaReq.{MetaReq}
+use Rattle.xt_messages.specs.declared.meta.MetaReq.TheVariants as ask
 use Rattle.xt_fields.specs.declared.fault.FieldErr.TheVariants as fault
 use Rattle.xt_fields.specs.Reading.{Field, ◌&◌, made}
 use Rattle.xt_fields.specs.BasicFields.{byte_bytes, half_bytes, word_bytes, text_bytes, byte_at, half_at, text_at, within, tagged}

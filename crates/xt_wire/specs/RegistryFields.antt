@@ -1,7 +1,7 @@
 -- requests to the directory service as fields
 use Rattle.std.specs.Prelude.{ℕ, List, ◌++◌, Err, ◌==◌, if◌then◌else◌}
-use Rattle.xt_base.specs.declared.registry.RegistryReq.{RegistryReq}
-use Rattle.xt_base.specs.declared.registry.RegistryReq.TheVariants as wish
+use Rattle.xt_messages.specs.declared.registry.RegistryReq.{RegistryReq}
+use Rattle.xt_messages.specs.declared.registry.RegistryReq.TheVariants as wish
 use Rattle.xt_fields.specs.declared.fault.FieldErr.TheVariants as fault
 use Rattle.xt_fields.specs.Reading.{Field, ◌&◌, made}
 use Rattle.xt_fields.specs.BasicFields.{byte_bytes, long_bytes, text_bytes, byte_at, count_at, text_at, tagged}

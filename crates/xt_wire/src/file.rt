@@ -1,6 +1,6 @@
 ghost use Rattle.std.specs.Prelude.{◌≡◌, ◌≢◌, ◌≤◌, ◌<◌, ◌^◌, ◌++◌, length, map, take, OnOk, OnErr, IfErr, IfOk, Ok, Err};
 ghost use Rattle.xt_fields.specs.declared.fault.FieldErr.TheVariants.{OutOfMemory};
-ghost use Rattle.xt_base.specs.Limits.{IsObject, IsObjectOrNone, FitsOp, FitsUpdate, FitsVersion, FitsVersions, FitsSessions, FitsHead, rise, is_at_most};
+ghost use Rattle.xt_messages.specs.Limits.{IsObject, IsObjectOrNone, FitsOp, FitsUpdate, FitsVersion, FitsVersions, FitsSessions, FitsHead, rise, is_at_most};
 ghost use Rattle.xt_fields.specs.Reading.{Gives, Fails};
 ghost use Rattle.xt_fields.specs.BasicFields.{byte_bytes, word_bytes, long_bytes, octets_bytes, word_at, list_at};
 ghost use Rattle.xt_wire.specs.IdFields.{node_at};
@@ -9,10 +9,12 @@ ghost use Rattle.xt_wire.specs.FileFields.{kind_bytes, kind_at, kind_arms, versi
 use crate::ids::{ReadIds, WriteIds};
 use std::alloc::Global;
 use xt_base::{
-    BODY, CLIENTS, Capability, Epoch, FileHead, Kind, Location, Members, NO_OBJECT, NodeId,
-    OBJECTS, ObjectVersion, Octets, Op, OutOfMemory, Seq, Session, Sessions, Update, Versions,
+    BODY, CLIENTS, Epoch, Members, NO_OBJECT, NodeId, OBJECTS, Octets, OutOfMemory, Seq,
 };
 use xt_fields::{FieldErr, FieldReader, FieldWriter};
+use xt_messages::{
+    Capability, FileHead, Kind, Location, ObjectVersion, Op, Session, Sessions, Update, Versions,
+};
 
 /// The longest `bytes` field, in bytes.
 const BODY_LIMIT: u32 = BODY as u32;

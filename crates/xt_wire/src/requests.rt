@@ -1,5 +1,5 @@
 ghost use Rattle.std.specs.Prelude.{◌≡◌, ◌<◌, ◌^◌, ◌++◌, length, OnOk, OnErr};
-ghost use Rattle.xt_base.specs.Limits.{FitsMetaReq, FitsRegistryReq};
+ghost use Rattle.xt_messages.specs.Limits.{FitsMetaReq, FitsRegistryReq};
 ghost use Rattle.xt_fields.specs.Reading.{Gives};
 ghost use Rattle.xt_fields.specs.BasicFields.{byte_bytes, half_bytes, word_bytes, long_bytes, text_bytes};
 ghost use Rattle.xt_wire.specs.IdFields.{node_bytes, mark_bytes};
@@ -10,8 +10,9 @@ ghost use Rattle.xt_wire.specs.RegistryFields.{registry_req_bytes, registry_req_
 use crate::file::{ReadFiles, WriteFiles};
 use crate::ids::{ReadIds, WriteIds};
 use std::alloc::Global;
-use xt_base::{Capability, Kind, MetaReq, NodeId, OutOfMemory, RegistryReq, SizeMark};
+use xt_base::{NodeId, OutOfMemory, SizeMark};
 use xt_fields::{FieldErr, FieldReader, FieldWriter};
+use xt_messages::{Capability, Kind, MetaReq, RegistryReq};
 
 /// The longest address, in bytes.
 const ADDRESS_LIMIT: u16 = 255;

@@ -1,4 +1,4 @@
-ghost use Rattle.xt_base.specs.Limits.{FitsBallot, FitsBoot, FitsCapability, FitsEpoch, FitsFile, FitsHead, FitsLease, FitsLocation, FitsMark, FitsMetaReq, FitsNode, FitsOp, FitsOpId, FitsRegistryReq, FitsStamp, FitsUpdate};
+ghost use Rattle.xt_messages.specs.Limits.{FitsBallot, FitsBoot, FitsCapability, FitsEpoch, FitsFile, FitsHead, FitsLease, FitsLocation, FitsMark, FitsMetaReq, FitsNode, FitsOp, FitsOpId, FitsRegistryReq, FitsStamp, FitsUpdate};
 ghost use Rattle.xt_fields.specs.OneSpelling.{IsField};
 ghost use Rattle.xt_wire.specs.IdFields.{node_bytes, node_at, boot_bytes, boot_at, file_bytes, file_at, ballot_bytes, ballot_at, epoch_bytes, epoch_at, stamp_bytes, stamp_at, lease_bytes, lease_at, op_id_bytes, op_id_at, mark_bytes, mark_at};
 ghost use Rattle.xt_wire.specs.FileFields.{location_bytes, location_at, capability_bytes, capability_at, op_bytes, op_at, update_bytes, update_at, head_bytes, head_at};

@@ -1,5 +1,5 @@
 ghost use Rattle.std.specs.Prelude.{◌≡◌, ◌≢◌, ◌↔◌, IsTrue, codes};
-ghost use Rattle.xt_base.specs.declared.status.Status.TheVariants as status;
+ghost use Rattle.xt_messages.specs.declared.status.Status.TheVariants as status;
 ghost use Rattle.xt_base.specs.Faults.{Rose};
 ghost use Rattle.node_disks.specs.Room.{journal_overflow};
 ghost use Rattle.schedule_lines.specs.Causes.{HasCause};
@@ -11,7 +11,8 @@ use node_links::{Sink, Source};
 use schedule_lines::finish;
 use schedule_replay::replay;
 use std::alloc::Global;
-use xt_base::{Name, Status, Words};
+use xt_base::{Name, Words};
+use xt_messages::Status;
 
 /// Whether this is the word of a replay.
 fn is_replay_word(word: &Name) -> bool

@@ -10,7 +10,8 @@ use cluster_runs::NODES;
 use step_endings::limit;
 use time_line::{Entry, Line};
 use world_hull::{Hull, WorldErr};
-use xt_base::{Boot, Limited, Location, NodeId, Times};
+use xt_base::{Boot, NodeId, Times};
+use xt_messages::{Limited, Location};
 
 impl<H: Hull> State<H> {
     /// Sets the lease length and the drift.

@@ -10,7 +10,8 @@ ghost use Rattle.step_endings.specs.Steps.{IsStepped};
 use crate::state::State;
 use node_cores::{called_file, operation_of};
 use world_hull::{Hull, WorldErr};
-use xt_base::{Call, Copies, Event, Msg, NodeId};
+use xt_base::{Copies, NodeId};
+use xt_messages::{Call, Event, Msg};
 
 impl<H: Hull> State<H> {
     /// An event comes to the node of this id. At one that doesn't run nothing comes of it.

@@ -4,7 +4,7 @@ ghost use Rattle.cluster_runs.specs.World.{Node, node_in};
 ghost use Rattle.cluster_runs.specs.Rules.{clock_ends};
 ghost use Rattle.cluster_runs.specs.Lines.{first_step};
 ghost use Rattle.cluster_fits.specs.Fits.{FitsKept};
-ghost use Rattle.xt_base.specs.Limits.{FitsRecord};
+ghost use Rattle.xt_messages.specs.Limits.{FitsRecord};
 ghost use Rattle.xt_protocol.specs.Folds.{fold_of, IsInPlace};
 ghost use Rattle.world_hull.specs.Answers.{IsFullOrMemory, IsFullExactly};
 ghost use Rattle.world_hull.specs.Appends.{kept_by};
@@ -19,7 +19,8 @@ use step_endings::limit;
 use time_line::{Entry, Halt, Line};
 use world_hull::{Hull, Kept, WorldErr};
 use world_nodes::Nodes;
-use xt_base::{Boot, COUNTS, Limited, NodeId, Record};
+use xt_base::{Boot, COUNTS, NodeId};
+use xt_messages::{Limited, Record};
 
 impl<H: Hull> State<H> {
     /// An OSD starts from what its records say, with the start behind its last one, and keeps that first.

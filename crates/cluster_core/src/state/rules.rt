@@ -9,7 +9,8 @@ use cluster_runs::NODES;
 use node_cores::called_file;
 use time_line::Line;
 use world_hull::Hull;
-use xt_base::{Call, Location, NodeId, Rule};
+use xt_base::NodeId;
+use xt_messages::{Call, Location, Rule};
 
 impl<H: Hull> State<H> {
     /// A file that is declared already, or not of declared OSDs.

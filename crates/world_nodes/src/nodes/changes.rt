@@ -15,7 +15,8 @@ use node_clocks::{set_clock, tick};
 use node_cores::{Host, HullBodies};
 use std::alloc::Global;
 use world_hull::Hull;
-use xt_base::{Call, Event, Location, NodeId, Op, OutOfMemory};
+use xt_base::{NodeId, OutOfMemory};
+use xt_messages::{Call, Event, Location, Op};
 use xt_protocol::Turned;
 
 impl<H: Hull> Nodes<H> {

@@ -1,6 +1,6 @@
 //! What the hull does for the declared nodes: it keeps their records, and carries their messages.
 ghost use Rattle.std.specs.Prelude.{◌≡◌, ◌<◌, ◌^◌, Some, None, IfOk, IfErr, OnOk, length};
-ghost use Rattle.xt_base.specs.Limits.{FitsMessage, FitsRecord};
+ghost use Rattle.xt_messages.specs.Limits.{FitsMessage, FitsRecord};
 ghost use Rattle.xt_protocol.specs.Folds.{fold_of, IsInPlace};
 ghost use Rattle.osd_core.specs.Slots.{AreRows};
 ghost use Rattle.cluster_runs.specs.World.{Node, osd, with_node};
@@ -16,7 +16,8 @@ use disk_model::Stop;
 use record_folds::fold;
 use std::alloc::{AllocError, Global};
 use world_hull::{Hull, Kept, WorldErr};
-use xt_base::{Boot, Folded, Msg, OptionalBox, OutOfMemory, Record};
+use xt_base::{Boot, OptionalBox, OutOfMemory};
+use xt_messages::{Folded, Msg, Record};
 
 impl<H: Hull> Nodes<H> {
     /// What the records of the node at a place say.

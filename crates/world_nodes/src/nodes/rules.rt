@@ -8,7 +8,8 @@ ghost use Rattle.world_nodes.specs.Nodes.{bare};
 use crate::nodes::Nodes;
 use node_clocks::{ClockTest, least_where};
 use world_hull::Hull;
-use xt_base::{NodeId, Rule};
+use xt_base::NodeId;
+use xt_messages::Rule;
 
 impl<H: Hull> Nodes<H> {
     /// There is no such OSD.

@@ -1,5 +1,5 @@
 use Rattle.std.proofs.Common.{◌≡◌, ◌++◌, ℕ, [], Result, Ok, Err, ap, sym, ◌∙◌, append-nil}
-use Rattle.xt_base.specs.declared.message.Msg.{Msg}
+use Rattle.xt_messages.specs.declared.message.Msg.{Msg}
 use Rattle.xt_frames.specs.declared.fault.FrameErr.{FrameErr}
 use Rattle.xt_frames.specs.Frames.{frame_of}
 use Rattle.disk_hull.proofs.carrying.carried.Goals as goal

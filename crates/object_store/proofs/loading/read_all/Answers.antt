@@ -1,5 +1,5 @@
 use Rattle.std.proofs.Common.{sym, ◌∙◌, ap, subst, arith}
-use Rattle.xt_base.specs.declared.record.Folded.{Folded}
+use Rattle.xt_messages.specs.declared.record.Folded.{Folded}
 use Rattle.xt_protocol.specs.Folds.{folded_after, fold_of, IsInPlace}
 use Rattle.xt_protocol.proofs.Folds.{fold_of-nothing, fold_of-push}
 use Rattle.replica_records.specs.Logs.{records_in}

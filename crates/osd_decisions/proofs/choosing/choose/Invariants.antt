@@ -1,7 +1,7 @@
 use Rattle.std.proofs.Common.{◌≡◌, ◌<◌, ◌-◌, get_or, take, drop}
 use Rattle.std.specs.List.{best_of}
 use Rattle.xt_base.specs.declared.ids.NodeId.{NodeId}
-use Rattle.xt_base.specs.declared.file.FileHead.{FileHead}
+use Rattle.xt_messages.specs.declared.file.FileHead.{FileHead}
 use Rattle.osd_rows.specs.Choice.{is_better}
 use Rattle.osd_decisions.proofs.choosing.choose.Given as goal
 

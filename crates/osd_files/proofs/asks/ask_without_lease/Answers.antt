@@ -1,5 +1,5 @@
 use Rattle.std.proofs.Common.{◌≡◌, ◌∙◌, ap, sym, refl, Option}
-use Rattle.xt_base.specs.declared.reply.Reply.{Reply}
+use Rattle.xt_messages.specs.declared.reply.Reply.{Reply}
 use Rattle.xt_protocol.specs.declared.Turned.{Turned}
 use Rattle.xt_protocol.specs.LeaseRows.{Proposer, free}
 use Rattle.osd_rows.specs.AskRows.{round_for, ask_under, ask_without_lease, elsewhere}

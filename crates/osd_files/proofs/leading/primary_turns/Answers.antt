@@ -1,6 +1,6 @@
 use Rattle.std.proofs.Common.{◌≡◌, subst, sym, Bool, true}
 use Rattle.std.specs.List.{AllByRecursion}
-use Rattle.xt_base.specs.declared.file.Capability.{Capability}
+use Rattle.xt_messages.specs.declared.file.Capability.{Capability}
 use Rattle.xt_protocol.specs.LeaseRows.{LeaseState}
 use Rattle.xt_protocol.specs.declared.Turned.{Turned}
 use Rattle.xt_protocol.specs.SeenBodies.{body_by}

@@ -1,6 +1,6 @@
 use Rattle.std.proofs.Common.{◌∙◌, ap, sym}
 use Rattle.xt_base.specs.declared.ids.FileId.{FileId}
-use Rattle.xt_base.specs.declared.event.Mark.TheVariants as mark
+use Rattle.xt_messages.specs.declared.event.Mark.TheVariants as mark
 use Rattle.xt_protocol.specs.declared.Turned.{Turned}
 use Rattle.osd_rows.specs.Turns.{shows}
 use Rattle.osd_rows.specs.FileLeases.{led_on, lease_held}

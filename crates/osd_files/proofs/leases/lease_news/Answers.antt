@@ -1,5 +1,5 @@
 use Rattle.std.proofs.Common.{rules, sym, subst, refl, IfOk}
-use Rattle.xt_base.specs.declared.reply.Reply.TheVariants as reply
+use Rattle.xt_messages.specs.declared.reply.Reply.TheVariants as reply
 use Rattle.file_lease.specs.declared.news.News.{News}
 use Rattle.osd_rows.specs.FileLeases.{lease_held, live_lease, waiting_told, lease_news}
 use Rattle.osd_rows.specs.FileStates.{FileState, Site, FileStep}

@@ -1,7 +1,7 @@
 use Rattle.std.proofs.Common.{◌∙◌, ap, sym, ◌≡◌, true, false}
 use Rattle.std.specs.Prelude.{◌==◌}
 use Rattle.xt_base.specs.declared.ids.NodeId.{NodeId}
-use Rattle.xt_base.specs.declared.reply.Reply.TheVariants as reply
+use Rattle.xt_messages.specs.declared.reply.Reply.TheVariants as reply
 use Rattle.osd_rows.specs.FileLeases.{waiting_told, live_lease}
 use Rattle.osd_rows.specs.FileStates.{FileState, Site, FileStep}
 use Rattle.osd_files.specs.Views.{shown, site_at}

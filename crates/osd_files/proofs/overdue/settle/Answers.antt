@@ -1,7 +1,7 @@
 use Rattle.std.proofs.Common.{◌∙◌, ap, sym, refl, true, Bool, List, [], ℕ}
 use Rattle.xt_base.specs.declared.ids.FileId.{FileId}
 use Rattle.xt_base.specs.declared.ids.Stamp.{Stamp}
-use Rattle.xt_base.specs.declared.file.Capability.{Capability}
+use Rattle.xt_messages.specs.declared.file.Capability.{Capability}
 use Rattle.xt_protocol.specs.LeaseRows.{LeaseState}
 use Rattle.file_lease.specs.declared.news.Expiry.TheVariants.{Stands, RanOut, Lapsed}
 use Rattle.osd_rows.specs.FileStates.{FileState, FileStep}

@@ -1,8 +1,8 @@
 use Rattle.std.proofs.Common.{◌≡◌, ℕ, subst, Bool}
-use Rattle.xt_base.specs.declared.file.Capability.{Capability}
+use Rattle.xt_messages.specs.declared.file.Capability.{Capability}
 use Rattle.xt_base.specs.declared.ids.OpId.{OpId}
-use Rattle.xt_base.specs.declared.message.Payload.{Payload}
-use Rattle.xt_base.specs.declared.message.Payload.TheVariants as payload
+use Rattle.xt_messages.specs.declared.message.Payload.{Payload}
+use Rattle.xt_messages.specs.declared.message.Payload.TheVariants as payload
 use Rattle.xt_protocol.specs.declared.Turned.{Turned}
 use Rattle.xt_protocol.specs.SeenBodies.{body_by}
 use Rattle.osd_rows.specs.FileSteps.{ask_comes, message_comes, primary_hears}

@@ -1,6 +1,6 @@
 use Rattle.std.proofs.Common.{rules, not, filter, ap, ◌∙◌}
 use Rattle.std.proofs.lemmas.Fn.{filter_same}
-use Rattle.xt_base.specs.declared.file.ObjectVersion.{ObjectVersion}
+use Rattle.xt_messages.specs.declared.file.ObjectVersion.{ObjectVersion}
 use Rattle.xt_protocol.specs.Stamps.{is_version, without_version}
 use Rattle.osd_peers.proofs.known.remove_version.Goals as goal
 

@@ -1,7 +1,7 @@
 use Rattle.std.proofs.Common.{ap, sym, subst, ◌∙◌, ◌++◌, ◌∷◌, [], List, arith, ◌≡◌, Option, None}
-use Rattle.xt_base.specs.declared.record.Folded.{Folded}
-use Rattle.xt_base.specs.declared.record.Record.{Record}
-use Rattle.xt_base.specs.declared.record.Record.TheVariants as kept
+use Rattle.xt_messages.specs.declared.record.Folded.{Folded}
+use Rattle.xt_messages.specs.declared.record.Record.{Record}
+use Rattle.xt_messages.specs.declared.record.Record.TheVariants as kept
 use Rattle.osd_rows.specs.OsdSteps.{osd_from}
 use Rattle.osd_core.specs.Slots.{AreRows}
 use Rattle.osd_tests.proofs.node.begun.Goals as goal

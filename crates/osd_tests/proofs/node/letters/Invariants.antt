@@ -1,6 +1,6 @@
 use Rattle.std.proofs.Common.{length}
 use Rattle.std.specs.List.{AllByRecursion}
-use Rattle.xt_base.specs.Limits.{FitsMessage}
+use Rattle.xt_messages.specs.Limits.{FitsMessage}
 use Rattle.osd_tests.proofs.node.letters.Given as goal
 
 -- what is left fits

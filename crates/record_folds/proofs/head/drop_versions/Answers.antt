@@ -1,6 +1,6 @@
 use Rattle.std.proofs.Common.{rules, nat_lt, ap, ◌∙◌}
 use Rattle.std.proofs.lemmas.Fn.{filter_same}
-use Rattle.xt_base.specs.declared.file.ObjectVersion.{ObjectVersion}
+use Rattle.xt_messages.specs.declared.file.ObjectVersion.{ObjectVersion}
 use Rattle.xt_protocol.specs.Heads.{versions_below}
 use Rattle.record_folds.proofs.head.drop_versions.Goals as goal
 

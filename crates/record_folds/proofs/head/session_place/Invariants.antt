@@ -1,5 +1,5 @@
 use Rattle.std.proofs.Common.{◌≡◌, ◌++◌, take, drop}
-use Rattle.xt_base.specs.declared.file.Session.{Session}
+use Rattle.xt_messages.specs.declared.file.Session.{Session}
 use Rattle.xt_protocol.specs.Heads.{with_session}
 use Rattle.record_folds.proofs.head.session_place.Given as goal
 

@@ -1,6 +1,6 @@
 use Rattle.std.proofs.Common.{◌↔◌, length}
 use Rattle.std.specs.List.{AllByRecursion}
-use Rattle.xt_base.specs.Limits.{FitsSession}
+use Rattle.xt_messages.specs.Limits.{FitsSession}
 use Rattle.record_folds.proofs.order.each_session_fits.Given as goal
 
 -- what is left fits exactly where all do

@@ -1,6 +1,6 @@
 use Rattle.std.proofs.Common.{◌↔◌, length}
 use Rattle.std.specs.List.{AllByRecursion}
-use Rattle.xt_base.specs.Limits.{FitsVersion}
+use Rattle.xt_messages.specs.Limits.{FitsVersion}
 use Rattle.record_folds.proofs.order.each_version_fits.Given as goal
 
 -- what is left fits exactly where all do

@@ -1,5 +1,5 @@
 use Rattle.std.proofs.Common.{◌≡◌, take}
-use Rattle.xt_base.specs.declared.message.Payload.TheVariants as payload
+use Rattle.xt_messages.specs.declared.message.Payload.TheVariants as payload
 use Rattle.osd_rows.specs.Turns.{to_each}
 use Rattle.replica_primary.proofs.drawing.gathers.Given as goal
 

@@ -1,5 +1,5 @@
 use Rattle.std.proofs.Common.{◌∙◌, [], List, ap, arith, get_or}
-use Rattle.xt_base.specs.declared.record.Record.{Record}
+use Rattle.xt_messages.specs.declared.record.Record.{Record}
 use Rattle.osd_rows.specs.declared.Peer.{Peer}
 use Rattle.osd_rows.specs.PrimaryRows.{peer_fed}
 use Rattle.flease_register.proofs.Filled.{map-step-at}

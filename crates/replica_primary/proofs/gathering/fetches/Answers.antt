@@ -1,5 +1,5 @@
 use Rattle.std.proofs.Common.{◌∙◌, List, ap, sym}
-use Rattle.xt_base.specs.declared.file.ObjectVersion.{ObjectVersion}
+use Rattle.xt_messages.specs.declared.file.ObjectVersion.{ObjectVersion}
 use Rattle.osd_rows.specs.PrimaryRows.{fetches}
 use Rattle.replica_primary.specs.Moves.{ground_beyond}
 use Rattle.replica_primary.proofs.Given.{if_so}

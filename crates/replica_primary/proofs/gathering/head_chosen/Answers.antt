@@ -1,5 +1,5 @@
 use Rattle.std.proofs.Common.{◌∙◌, List, ap}
-use Rattle.xt_base.specs.declared.file.ObjectVersion.{ObjectVersion}
+use Rattle.xt_messages.specs.declared.file.ObjectVersion.{ObjectVersion}
 use Rattle.osd_rows.specs.Choice.{difference}
 use Rattle.osd_rows.specs.PrimaryRows.{fetches}
 use Rattle.replica_primary.specs.Written.{ground}

@@ -1,7 +1,7 @@
 use Rattle.std.proofs.Common.{◌∙◌, ◌∷◌, List, ap}
 use Rattle.osd_rows.specs.declared.Peer.{Peer}
 use Rattle.replica_primary.specs.Moves.{ground_beyond}
-use Rattle.xt_base.specs.declared.message.Payload.TheVariants as payload
+use Rattle.xt_messages.specs.declared.message.Payload.TheVariants as payload
 use Rattle.osd_rows.specs.Turns.{message, sends}
 use Rattle.osd_rows.specs.Primaries.{last_to_each}
 use Rattle.replica_primary.proofs.Hears.{installed}

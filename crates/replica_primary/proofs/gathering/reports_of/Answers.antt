@@ -1,5 +1,5 @@
 use Rattle.std.proofs.Common.{◌∙◌, ◌++◌, List, Option, ap, sym, take}
-use Rattle.xt_base.specs.declared.file.FileHead.{FileHead}
+use Rattle.xt_messages.specs.declared.file.FileHead.{FileHead}
 use Rattle.xt_base.specs.declared.ids.NodeId.{NodeId}
 use Rattle.osd_rows.specs.Primaries.{reports_of}
 use Rattle.replica_primary.specs.Moves.{any_report}

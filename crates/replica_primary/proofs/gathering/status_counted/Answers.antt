@@ -1,6 +1,6 @@
 use Rattle.std.proofs.Common.{◌∙◌, ℕ, List, ap, sym}
 use Rattle.osd_rows.specs.declared.Peer.{Peer}
-use Rattle.xt_base.specs.declared.file.FileHead.{FileHead}
+use Rattle.xt_messages.specs.declared.file.FileHead.{FileHead}
 use Rattle.xt_base.specs.declared.ids.NodeId.{NodeId}
 use Rattle.std.specs.Prelude.{nat_le}
 use Rattle.osd_rows.specs.Primaries.{majority_among, reports_of, statuses_counted}

@@ -1,7 +1,7 @@
 use Rattle.std.proofs.Common.{◌∙◌, Bool, List, ap, sym}
 use Rattle.osd_rows.specs.declared.Peer.{Peer}
-use Rattle.xt_base.specs.declared.file.ObjectVersion.{ObjectVersion}
-use Rattle.xt_base.specs.declared.message.Payload.{Payload}
+use Rattle.xt_messages.specs.declared.file.ObjectVersion.{ObjectVersion}
+use Rattle.xt_messages.specs.declared.message.Payload.{Payload}
 use Rattle.osd_rows.specs.Primaries.{peer_in}
 use Rattle.osd_rows.specs.PrimaryRows.{body_staged, hears_ack, hears_object, hears_peer, target_in}
 use Rattle.replica_primary.specs.Written.{ground}

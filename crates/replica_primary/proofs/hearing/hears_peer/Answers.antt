@@ -1,6 +1,6 @@
 use Rattle.std.proofs.Common.{◌∙◌, Some, ap, sym}
-use Rattle.xt_base.specs.declared.file.ObjectVersion.{ObjectVersion}
-use Rattle.xt_base.specs.declared.message.Payload.{Payload}
+use Rattle.xt_messages.specs.declared.file.ObjectVersion.{ObjectVersion}
+use Rattle.xt_messages.specs.declared.message.Payload.{Payload}
 use Rattle.osd_rows.specs.PrimaryRows.{hears_missing, hears_peer}
 use Rattle.replica_primary.specs.declared.moving.Heard.{Heard}
 use Rattle.replica_primary.specs.Moves.{led_by}

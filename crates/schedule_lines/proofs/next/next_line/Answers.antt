@@ -1,5 +1,5 @@
 use Rattle.std.proofs.Common.{ℕ, ◌≤◌, Option, List, length, refl, subst, inl}
-use Rattle.xt_base.specs.declared.status.Status.TheVariants as status
+use Rattle.xt_messages.specs.declared.status.Status.TheVariants as status
 use Rattle.node_links.specs.Streams.{Takes}
 use Rattle.time_line.specs.declared.TheConstants.{LINE_BYTES}
 use Rattle.schedule_lines.specs.RawLine.{IsInLine}

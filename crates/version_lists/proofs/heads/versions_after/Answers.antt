@@ -1,6 +1,6 @@
 use Rattle.std.proofs.Common.{◌∙◌, ap, List, take, ◌≡◌}
-use Rattle.xt_base.specs.declared.file.ObjectVersion.{ObjectVersion}
-use Rattle.xt_base.specs.Limits.{rise}
+use Rattle.xt_messages.specs.declared.file.ObjectVersion.{ObjectVersion}
+use Rattle.xt_messages.specs.Limits.{rise}
 use Rattle.xt_protocol.specs.Heads.{versions_below}
 use Rattle.version_lists.proofs.HeadLimits.{objects_of, below_still_rise}
 use Rattle.version_lists.proofs.heads.versions_after.Goals as goal

@@ -1,6 +1,6 @@
 use Rattle.std.proofs.Common.{◌∙◌, sym, rules, arith}
 use Rattle.std.proofs.lemmas.List.Sorted.{IsPartitionPoint-from_clause}
-use Rattle.xt_base.specs.declared.file.ObjectVersion.{ObjectVersion}
+use Rattle.xt_messages.specs.declared.file.ObjectVersion.{ObjectVersion}
 use Rattle.xt_protocol.specs.Stamps.{is_version, comes_before}
 use Rattle.version_lists.proofs.Puts.{partitioned}
 use Rattle.version_lists.proofs.HeldVersions.{version_order, held_found, held_between, held_at_end}

@@ -1,5 +1,5 @@
 use Rattle.std.proofs.Common.{◌∙◌, ap, List}
-use Rattle.xt_base.specs.declared.file.ObjectVersion.{ObjectVersion}
+use Rattle.xt_messages.specs.declared.file.ObjectVersion.{ObjectVersion}
 use Rattle.xt_protocol.specs.Stamps.{has_version}
 use Rattle.version_lists.proofs.HeldSets.{has_key}
 use Rattle.version_lists.proofs.held.holds.Goals as goal

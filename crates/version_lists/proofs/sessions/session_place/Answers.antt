@@ -1,6 +1,6 @@
 use Rattle.std.proofs.Common.{rules, arith, nat_lt}
 use Rattle.std.proofs.lemmas.List.Sorted.{IsPartitionPoint-from_clause}
-use Rattle.xt_base.specs.declared.file.Session.{Session}
+use Rattle.xt_messages.specs.declared.file.Session.{Session}
 use Rattle.version_lists.proofs.HeadRows.{clients_partitioned, session_found, session_between, session_at_end}
 use Rattle.version_lists.proofs.sessions.session_place.Goals as goal
 

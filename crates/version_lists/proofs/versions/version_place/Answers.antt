@@ -1,6 +1,6 @@
 use Rattle.std.proofs.Common.{rules, arith, nat_lt}
 use Rattle.std.proofs.lemmas.List.Sorted.{IsPartitionPoint-from_clause}
-use Rattle.xt_base.specs.declared.file.ObjectVersion.{ObjectVersion}
+use Rattle.xt_messages.specs.declared.file.ObjectVersion.{ObjectVersion}
 use Rattle.version_lists.proofs.HeadRows.{objects_partitioned, version_found, version_between, version_at_end}
 use Rattle.version_lists.proofs.versions.version_place.Goals as goal
 

@@ -1,6 +1,6 @@
 use Rattle.std.proofs.Common.{◌≡◌, take}
 use Rattle.std.specs.Prelude.{sum_by}
-use Rattle.xt_base.specs.FrameLength.{row_length}
+use Rattle.xt_messages.specs.FrameLength.{row_length}
 use Rattle.world_tables.specs.Within64.{within_64}
 use Rattle.world_tables.proofs.lengths.rows_length.Given as goal
 

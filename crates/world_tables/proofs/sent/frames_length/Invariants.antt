@@ -1,6 +1,6 @@
 use Rattle.std.proofs.Common.{◌≡◌, take}
 use Rattle.std.specs.Prelude.{sum_by}
-use Rattle.xt_base.specs.FrameLength.{frame_length}
+use Rattle.xt_messages.specs.FrameLength.{frame_length}
 use Rattle.world_tables.specs.Within64.{within_64}
 use Rattle.world_tables.proofs.sent.frames_length.Given as goal
 

@@ -1,5 +1,5 @@
 use Rattle.std.proofs.Common.{◌≡◌, length, map}
-use Rattle.xt_base.specs.Limits.{rise}
+use Rattle.xt_messages.specs.Limits.{rise}
 use Rattle.xt_wire.proofs.file.clients_rise.Given as goal
 
 -- what is left rises exactly where all do

@@ -4,7 +4,7 @@ use Rattle.cluster_runs.specs.NodeSteps.{Doing}
 use Rattle.time_line.specs.declared.line.Line.TheVariants as line
 use Rattle.cluster_core.proofs.FirstSteps.{from_view, limit_said, same_untold, osd_refused, osd_declared}
 use Rattle.std.proofs.Common.{ℕ, ◌≤◌, ◌<◌, subst}
-use Rattle.xt_base.specs.declared.status.Limited.TheVariants as limited
+use Rattle.xt_messages.specs.declared.status.Limited.TheVariants as limited
 use Rattle.cluster_core.proofs.state.State.declare_osd.Goals as goal
 
 pub returns-then-len-ge-NODES : goal.returns-then-len-ge-NODES

@@ -1,7 +1,7 @@
 use Rattle.std.proofs.Common.{take, ◌≡◌, ◌++◌, ◌∷◌, [], Some, refl, ap, sym, ◌∙◌, subst, List}
 use Rattle.std.proofs.lemmas.Result.{err_from_is_err_and}
-use Rattle.xt_base.specs.declared.status.Limited.TheVariants as limited
-use Rattle.xt_base.specs.declared.record.Folded.{Folded}
+use Rattle.xt_messages.specs.declared.status.Limited.TheVariants as limited
+use Rattle.xt_messages.specs.declared.record.Folded.{Folded}
 use Rattle.world_hull.specs.declared.hull.Kept.{Kept}
 use Rattle.osd_core.specs.Slots.{AreRows}
 use Rattle.time_line.specs.declared.line.Line.TheVariants as line

@@ -1,6 +1,6 @@
 use Rattle.std.proofs.Common.{take, drop, ap, sym, ◌∙◌, subst, List}
 use Rattle.std.proofs.lemmas.Result.{err_from_is_err_and}
-use Rattle.xt_base.specs.declared.message.Msg.{Msg}
+use Rattle.xt_messages.specs.declared.message.Msg.{Msg}
 use Rattle.cluster_fits.specs.Fits.{FitsWorld}
 use Rattle.cluster_fits.proofs.Coming.{none_queued, first_queued}
 use Rattle.step_endings.specs.Steps.{Working}

@@ -1,5 +1,5 @@
 use Rattle.std.proofs.Common.{List, sym, subst}
-use Rattle.xt_base.specs.declared.record.Record.{Record}
+use Rattle.xt_messages.specs.declared.record.Record.{Record}
 use Rattle.cluster_runs.specs.NodeSteps.{core_step}
 use Rattle.node_cores.specs.declared.running.Core.{Core}
 use Rattle.node_cores.specs.declared.running.Core.TheVariants as core

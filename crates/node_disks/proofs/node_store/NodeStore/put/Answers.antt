@@ -1,6 +1,6 @@
 use Rattle.std.proofs.Common.{refl, ◌≤◌, ◌∙◌, ◌+◌, List, subst, sym}
 use Rattle.disk_model.specs.Changes.{memory_kept}
-use Rattle.xt_base.specs.declared.record.Record.{Record}
+use Rattle.xt_messages.specs.declared.record.Record.{Record}
 use Rattle.xt_journal.specs.Format.{end_of}
 use Rattle.object_store.specs.Access.{records_of, disk_of}
 use Rattle.object_store.specs.Texts.{texts_of}

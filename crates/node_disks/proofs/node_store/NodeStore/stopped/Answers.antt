@@ -1,5 +1,5 @@
 use Rattle.std.proofs.Common.{◌∙◌, ℕ, List, Some, Err, ap, subst, sym}
-use Rattle.xt_base.specs.declared.record.Record.{Record}
+use Rattle.xt_messages.specs.declared.record.Record.{Record}
 use Rattle.xt_protocol.specs.Folds.{fold_of, IsInPlace}
 use Rattle.object_store.specs.Access.{records_of}
 use Rattle.world_hull.specs.Answers.{IsFullExactly}

@@ -1,5 +1,5 @@
 use Rattle.std.proofs.Common.{◌≡◌, ◌∙◌, sym, ap}
-use Rattle.xt_base.specs.declared.record.FileRow.{FileRow}
+use Rattle.xt_messages.specs.declared.record.FileRow.{FileRow}
 use Rattle.xt_protocol.specs.Folds.{row_in, new_row}
 use Rattle.record_folds.proofs.Held.{none_held}
 use Rattle.record_folds.proofs.folding.Folding.allows_head.Goals as goal

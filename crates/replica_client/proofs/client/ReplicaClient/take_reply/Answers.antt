@@ -1,4 +1,4 @@
-use Rattle.xt_base.specs.declared.reply.Reply.TheVariants as reply
+use Rattle.xt_messages.specs.declared.reply.Reply.TheVariants as reply
 use Rattle.replica_client.proofs.Acted.{reply_taken}
 use Rattle.replica_client.proofs.client.ReplicaClient.take_reply.Goals as goal
 

@@ -1,6 +1,6 @@
 use Rattle.std.proofs.Common.{Option, Bor, refl, ap, sym, ◌∙◌, subst}
 use Rattle.std.specs.Option.{option_map}
-use Rattle.xt_base.specs.declared.record.Record.{Record}
+use Rattle.xt_messages.specs.declared.record.Record.{Record}
 use Rattle.step_endings.specs.declared.ending.Ending.TheVariants as ending
 use Rattle.step_endings.specs.Steps.{IsStepped, working}
 use Rattle.step_endings.specs.Endings.{ended, given_by}

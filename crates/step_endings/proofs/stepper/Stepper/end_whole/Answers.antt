@@ -2,8 +2,8 @@ use Rattle.std.proofs.Common.{◌++◌, refl, ap, sym, ◌∙◌, subst, List, m
 use Rattle.cluster_runs.specs.NodeSteps.{Doing, after_turn, to_itself, numbered, entry_of}
 use Rattle.std.specs.List.{AllByRecursion}
 use Rattle.std.proofs.lemmas.Result.{err_from_is_err_and}
-use Rattle.xt_base.specs.Limits.{FitsMessage}
-use Rattle.xt_base.specs.declared.message.Msg.{Msg}
+use Rattle.xt_messages.specs.Limits.{FitsMessage}
+use Rattle.xt_messages.specs.declared.message.Msg.{Msg}
 use Rattle.step_endings.specs.Steps.{working}
 use Rattle.step_endings.specs.Endings.{given_by}
 use Rattle.step_endings.proofs.Endings.{gave_not, given_untold, whole_told}

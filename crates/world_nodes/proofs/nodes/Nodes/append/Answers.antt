@@ -1,6 +1,6 @@
 use Rattle.std.proofs.Common.{sym, subst, List}
 use Rattle.xt_base.specs.declared.ids.NodeId.{NodeId}
-use Rattle.xt_base.specs.declared.record.Record.{Record}
+use Rattle.xt_messages.specs.declared.record.Record.{Record}
 use Rattle.xt_protocol.specs.Folds.{fold_of, IsInPlace}
 use Rattle.world_hull.specs.Answers.{IsFullExactly}
 use Rattle.world_hull.specs.Appends.{IsAppended}

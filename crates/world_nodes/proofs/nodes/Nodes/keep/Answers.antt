@@ -1,6 +1,6 @@
 use Rattle.std.proofs.Common.{◌≡◌, ◌∙◌, Option, Bor, ap, sym, subst}
 use Rattle.std.specs.Option.{option_map}
-use Rattle.xt_base.specs.declared.record.Record.{Record}
+use Rattle.xt_messages.specs.declared.record.Record.{Record}
 use Rattle.cluster_runs.specs.World.{with_node}
 use Rattle.cluster_runs.specs.NodeSteps.{one_more}
 use Rattle.world_nodes.proofs.Changes.{same_there}

@@ -1,6 +1,7 @@
 -- what may stand in a message or a record: the limits of the fields
-use Rattle.std.specs.Prelude.{ℕ, ◌<◌, ◌≤◌, ◌^◌, ◌%◌, ◌-◌, ◌≡◌, ◌⊎◌, List, [], ◌∷◌, length, map, IfSome, Bool, true, nat_lt, nat_le, ◌==◌, ◌&&◌, ◌||◌, IsTrue, IsUtf8, slice_index}
+use Rattle.std.specs.Prelude.{ℕ, ◌<◌, ◌≤◌, ◌^◌, ◌%◌, ◌-◌, ◌≡◌, ◌⊎◌, List, [], ◌∷◌, length, map, IfSome, Bool, true, nat_lt, nat_le, ◌==◌, ◌&&◌, ◌||◌, IsTrue}
 use Rattle.std.specs.List.{AllByRecursion}
+use Rattle.xt_base.specs.FieldLimits.{AreBytes, IsCount, FitsBytes, FitsPath, FitsName, FitsTag}
 use Rattle.xt_base.specs.MemberList.{are_members}
 use Rattle.xt_base.specs.declared.TheConstants.{BODY, CLIENTS, NO_OBJECT, OBJECTS}
 use Rattle.xt_base.specs.declared.ids.NodeId.{NodeId}
@@ -12,68 +13,34 @@ use Rattle.xt_base.specs.declared.ids.Stamp.{Stamp}
 use Rattle.xt_base.specs.declared.ids.Lease.{Lease}
 use Rattle.xt_base.specs.declared.ids.OpId.{OpId}
 use Rattle.xt_base.specs.declared.ids.SizeMark.{SizeMark}
-use Rattle.xt_base.specs.declared.file.Location.{Location}
-use Rattle.xt_base.specs.declared.file.Capability.{Capability}
-use Rattle.xt_base.specs.declared.file.Op.{Op}
-use Rattle.xt_base.specs.declared.file.Op.TheVariants as op
-use Rattle.xt_base.specs.declared.file.Update.{Update}
-use Rattle.xt_base.specs.declared.file.ObjectVersion.{ObjectVersion}
-use Rattle.xt_base.specs.declared.file.Session.{Session}
-use Rattle.xt_base.specs.declared.file.FileHead.{FileHead}
-use Rattle.xt_base.specs.declared.reply.Reply.{Reply}
-use Rattle.xt_base.specs.declared.reply.Reply.TheVariants as reply
-use Rattle.xt_base.specs.declared.meta.MetaReq.{MetaReq}
-use Rattle.xt_base.specs.declared.meta.MetaReq.TheVariants as ask
-use Rattle.xt_base.specs.declared.meta.MetaRefusal.{MetaRefusal}
-use Rattle.xt_base.specs.declared.meta.MetaRefusal.TheVariants as refusal
-use Rattle.xt_base.specs.declared.meta.MetaAnswer.{MetaAnswer}
-use Rattle.xt_base.specs.declared.meta.MetaAnswer.TheVariants as answer
-use Rattle.xt_base.specs.declared.registry.RegistryReq.{RegistryReq}
-use Rattle.xt_base.specs.declared.registry.RegistryReq.TheVariants as wish
-use Rattle.xt_base.specs.declared.registry.RegistryRow.{RegistryRow}
-use Rattle.xt_base.specs.declared.registry.RegistryAnswer.{RegistryAnswer}
-use Rattle.xt_base.specs.declared.registry.RegistryAnswer.TheVariants as told
-use Rattle.xt_base.specs.declared.message.Payload.{Payload}
-use Rattle.xt_base.specs.declared.message.Payload.TheVariants as payload
-use Rattle.xt_base.specs.declared.message.Msg.{Msg}
-use Rattle.xt_base.specs.declared.record.Logged.{Logged}
-use Rattle.xt_base.specs.declared.record.Logged.TheVariants as logged
-use Rattle.xt_base.specs.declared.record.Record.{Record}
-use Rattle.xt_base.specs.declared.record.Record.TheVariants as kept
-
--- ---- numbers, bytes and texts
-
--- each of them is a byte
-abbrev pub AreBytes : List ℕ → Type 0
-AreBytes bytes = (i : ℕ) → slice_index bytes i < 256
-
--- a count, a boot, the number of an epoch, a truncate epoch, a version in the registry, the number of an operation
-abbrev pub IsCount : ℕ → Type 0
-IsCount n = n < 2 ^ 62
-
--- at most 131,072 bytes
-pub record FitsBytes (bytes : List ℕ) : Type 0 where
-  pub all : AreBytes bytes
-  pub few : length bytes ≤ BODY
-
--- UTF-8 of at most so many bytes
-pub record FitsText (limit : ℕ) (text : List ℕ) : Type 0 where
-  pub all : AreBytes text
-  pub few : length text ≤ limit
-  pub utf8 : IsUtf8 text
-
--- the text of a path, or of the name after which a list goes on
-abbrev pub FitsPath : List ℕ → Type 0
-FitsPath text = FitsText 65535 text
-
--- the text of a name in a list of names, or of an address
-abbrev pub FitsName : List ℕ → Type 0
-FitsName text = FitsText 255 text
-
--- the tag of a capability, or of the message that stops a node
-pub record FitsTag (tag : List ℕ) : Type 0 where
-  pub all : AreBytes tag
-  pub whole : length tag ≡ 32
+use Rattle.xt_messages.specs.declared.file.Location.{Location}
+use Rattle.xt_messages.specs.declared.file.Capability.{Capability}
+use Rattle.xt_messages.specs.declared.file.Op.{Op}
+use Rattle.xt_messages.specs.declared.file.Op.TheVariants as op
+use Rattle.xt_messages.specs.declared.file.Update.{Update}
+use Rattle.xt_messages.specs.declared.file.ObjectVersion.{ObjectVersion}
+use Rattle.xt_messages.specs.declared.file.Session.{Session}
+use Rattle.xt_messages.specs.declared.file.FileHead.{FileHead}
+use Rattle.xt_messages.specs.declared.reply.Reply.{Reply}
+use Rattle.xt_messages.specs.declared.reply.Reply.TheVariants as reply
+use Rattle.xt_messages.specs.declared.meta.MetaReq.{MetaReq}
+use Rattle.xt_messages.specs.declared.meta.MetaReq.TheVariants as ask
+use Rattle.xt_messages.specs.declared.meta.MetaRefusal.{MetaRefusal}
+use Rattle.xt_messages.specs.declared.meta.MetaRefusal.TheVariants as refusal
+use Rattle.xt_messages.specs.declared.meta.MetaAnswer.{MetaAnswer}
+use Rattle.xt_messages.specs.declared.meta.MetaAnswer.TheVariants as answer
+use Rattle.xt_messages.specs.declared.registry.RegistryReq.{RegistryReq}
+use Rattle.xt_messages.specs.declared.registry.RegistryReq.TheVariants as wish
+use Rattle.xt_messages.specs.declared.registry.RegistryRow.{RegistryRow}
+use Rattle.xt_messages.specs.declared.registry.RegistryAnswer.{RegistryAnswer}
+use Rattle.xt_messages.specs.declared.registry.RegistryAnswer.TheVariants as told
+use Rattle.xt_messages.specs.declared.message.Payload.{Payload}
+use Rattle.xt_messages.specs.declared.message.Payload.TheVariants as payload
+use Rattle.xt_messages.specs.declared.message.Msg.{Msg}
+use Rattle.xt_messages.specs.declared.record.Logged.{Logged}
+use Rattle.xt_messages.specs.declared.record.Logged.TheVariants as logged
+use Rattle.xt_messages.specs.declared.record.Record.{Record}
+use Rattle.xt_messages.specs.declared.record.Record.TheVariants as kept
 
 -- ---- nodes, files, leases, epochs
 

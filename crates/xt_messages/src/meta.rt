@@ -1,10 +1,9 @@
 ghost use Rattle.std.specs.Prelude.{◌≡◌, IfOk};
 
 use crate::file::{Capability, Kind};
-use crate::ids::SizeMark;
-use crate::lists::{Copies, Name, OutOfMemory, Seq};
 use crate::reply::Denial;
 use std::alloc::Global;
+use xt_base::{Copies, Name, OutOfMemory, Seq, SizeMark};
 
 /// A request to the MRC.
 pub enum MetaReq {

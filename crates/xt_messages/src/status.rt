@@ -1,9 +1,9 @@
 ghost use Rattle.std.specs.Prelude.{◌≡◌};
-ghost use Rattle.xt_base.specs.StatusCode.{code_of};
+ghost use Rattle.xt_messages.specs.StatusCode.{code_of};
 
-use crate::ids::NodeId;
 use crate::meta::MetaRefusal;
 use crate::reply::{Answers, Denial};
+use xt_base::NodeId;
 
 /// A rule that a line of a schedule breaks.
 #[derive(Clone, Copy)]

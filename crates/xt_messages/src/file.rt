@@ -1,7 +1,7 @@
-use crate::ids::{Epoch, FileId, NodeId, OpId, SizeMark, Stamp};
-use crate::lists::{Copies, Octets, OutOfMemory, Seq};
-use crate::members::Members;
 use std::alloc::Global;
+use xt_base::{
+    Copies, Epoch, FileId, Members, NodeId, Octets, OpId, OutOfMemory, Seq, SizeMark, Stamp,
+};
 
 /// How a file's objects lie on its OSDs.
 #[derive(Clone, Copy, PartialEq, Eq)]

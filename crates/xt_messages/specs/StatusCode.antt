@@ -1,7 +1,7 @@
 -- the number with which the program ends
 use Rattle.std.specs.Prelude.{ℕ}
-use Rattle.xt_base.specs.declared.status.Status.{Status}
-use Rattle.xt_base.specs.declared.status.Status.TheVariants as status
+use Rattle.xt_messages.specs.declared.status.Status.{Status}
+use Rattle.xt_messages.specs.declared.status.Status.TheVariants as status
 
 abbrev pub code_of : Status → ℕ
 code_of status.Done = 0

@@ -1,6 +1,5 @@
-use crate::ids::{NodeId, SizeMark};
-use crate::lists::{Copies, Octets, OutOfMemory, Seq};
 use std::alloc::Global;
+use xt_base::{Copies, NodeId, Octets, OutOfMemory, Seq, SizeMark};
 
 /// Why an OSD, or the MRC for a report, denies an ask. Its number is sent and printed.
 #[derive(Clone, Copy, PartialEq, Eq)]

@@ -1,12 +1,11 @@
 use crate::file::Location;
-use crate::ids::{NodeId, OpId, SizeMark};
-use crate::lists::{Copies, Octets, OutOfMemory, Seq};
 use crate::message::Msg;
 use crate::meta::{MetaRefusal, MetaReq, Names, RowKind};
 use crate::registry::{RegistryReq, RegistryRow};
 use crate::reply::Answers;
 use crate::status::AskRefusal;
 use std::alloc::Global;
+use xt_base::{Copies, NodeId, Octets, OpId, OutOfMemory, Seq, SizeMark};
 
 /// A call of a client, on a file by its number, on the MRC or on the DIR.
 pub enum Call {
@@ -152,12 +151,6 @@ impl Copies for MetaOutcome {
                 mark: *mark,
             },
         })
-    }
-}
-
-impl Copies for NodeId {
-    fn copy(&self, _alloc: Global) -> Result<NodeId, OutOfMemory> {
-        Ok(*self)
     }
 }
 

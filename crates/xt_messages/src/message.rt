@@ -1,10 +1,11 @@
 use crate::file::{Capability, FileHead, Op, Update};
-use crate::ids::{Ballot, Boot, Epoch, FileId, Lease, NodeId, Stamp};
-use crate::lists::{Copies, Octets, OutOfMemory, Seq};
 use crate::meta::{MetaAnswer, MetaReq};
 use crate::registry::{RegistryAnswer, RegistryReq};
 use crate::reply::Reply;
 use std::alloc::Global;
+use xt_base::{
+    Ballot, Boot, Copies, Epoch, FileId, Lease, NodeId, Octets, OutOfMemory, Seq, Stamp,
+};
 
 /// What a message says, in the order of the kinds' numbers, from 1.
 pub enum Payload {

@@ -1,6 +1,5 @@
-use crate::ids::NodeId;
-use crate::lists::{Copies, Name, OutOfMemory, Seq};
 use std::alloc::Global;
+use xt_base::{Copies, Name, NodeId, OutOfMemory, Seq};
 
 /// A request to the DIR. The kind of a node is 1 for an OSD and 2 for an MRC.
 pub enum RegistryReq {

@@ -1,12 +1,10 @@
 use crate::file::{FileHead, Location, ObjectVersion, Update};
-use crate::ids::{Boot, Epoch, FileId, NodeId, Stamp};
-use crate::lists::{Copies, Octets, OutOfMemory, Seq};
-use crate::members::Members;
 use crate::meta::MetaReq;
 use crate::registry::RegistryReq;
 use std::alloc::Global;
 use std::collections::BTreeSet;
 use std::marker::Model;
+use xt_base::{Boot, Copies, Epoch, FileId, Members, NodeId, Octets, OutOfMemory, Seq, Stamp};
 
 /// A recorded request of the MRC or the DIR.
 pub enum Logged {
@@ -141,7 +139,7 @@ pub struct HeldSet {
 
 impl Model for HeldSet {
     ghost use Rattle.std.specs.Prelude.{List};
-    ghost use Rattle.xt_base.specs.declared.file.ObjectVersion.{ObjectVersion};
+    ghost use Rattle.xt_messages.specs.declared.file.ObjectVersion.{ObjectVersion};
 
     ghost Value = { List ObjectVersion };
 

@@ -1,0 +1,3 @@
+pub mod StatusCode
+pub mod Limits
+pub mod FrameLength
