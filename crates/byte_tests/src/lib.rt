@@ -1,7 +1,7 @@
-//! The tests of the crates that make and read bytes, and of those that negotiate a lease, as loops over tables.
+//! The tests of the crates that make, read and carry bytes, and of those that negotiate a lease, as loops over tables.
 //!
 //! They try through public calls what no contract can say: that bytes, published values and orders of refusals are
-//! those of the documents, and that the calls succeed.
+//! those of the documents, that a real reader is a source and a real writer a sink, and that the calls succeed.
 #![tactic(auto)]
 
 #[cfg(test)]
@@ -11,6 +11,10 @@ mod frames;
 #[cfg(test)]
 mod lease;
 #[cfg(test)]
+mod links;
+#[cfg(test)]
 mod parts;
 #[cfg(test)]
 mod register;
+#[cfg(test)]
+mod texts;
