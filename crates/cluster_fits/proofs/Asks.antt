@@ -25,7 +25,7 @@ use Rattle.osd_rows.specs.Turns.{quiet, the_record, reply_to}
 use Rattle.osd_rows.specs.Primaries.{Ground, Led, is_active, is_ready, is_reported, majority_among, have_in}
 use Rattle.osd_rows.specs.Serving.{reads, writes}
 use Rattle.osd_rows.specs.Asks.{Served, WAITING, no_asks, waits, stays, is_read, read_answer, newly_issued, write_done, serves, serves_waiting, serves_all, comes_back, asks_follow, tells_each, tells_untold}
-use Rattle.osd_replica_views.specs.Seen.{nodes_in, acked_by}
+use Rattle.replica_runs.specs.Seen.{nodes_in, acked_by}
 use Rattle.version_lists.proofs.HeadLimits.{either}
 use Rattle.cluster_fits.proofs.Lists.{all_append}
 use Rattle.cluster_fits.proofs.States.{AreSent, sent, ProgressIs, PrimaryIs, AskIs, AsksAre}

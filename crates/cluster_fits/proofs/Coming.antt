@@ -16,8 +16,8 @@ use Rattle.cluster_runs.specs.declared.Sent.{Sent}
 use Rattle.cluster_runs.specs.World.{World, Node, Running, node_in, up_of}
 use Rattle.cluster_runs.specs.Rules.{if_so, busy, has_call}
 use Rattle.time_line.specs.Bounds.{FitsCall}
-use Rattle.world_leases.specs.View.{messages}
-use Rattle.world_leases.proofs.Tables.{node_in-id}
+use Rattle.world_runs.specs.View.{messages}
+use Rattle.world_runs.proofs.Tables.{node_in-id}
 use Rattle.cluster_fits.specs.Fits.{FitsKept, FitsRunning, FitsNode, FitsContent, FitsComing, FitsCalling, FitsDelivery, FitsWorld, Comes}
 
 each : {A : Type 0} (P : A → Type 0) (xs : List A) (x : A) → AllByRecursion P xs → Has x xs → P x

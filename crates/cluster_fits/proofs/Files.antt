@@ -50,7 +50,7 @@ use Rattle.osd_rows.specs.FileSteps.{replica_acts, ask_comes, primary_hears, mes
 use Rattle.osd_invariants.specs.Sound.{IsStored, ListUnder, IsSound}
 use Rattle.osd_invariants.proofs.Kept.{wake_keeps}
 use Rattle.osd_invariants.proofs.SoundSteps.{expired_so}
-use Rattle.osd_lease_views.proofs.LeaseSteps.{expired_keeps}
+use Rattle.lease_runs.proofs.LeaseSteps.{expired_keeps}
 use Rattle.version_lists.proofs.HeadLimits.{either, when}
 use Rattle.cluster_fits.proofs.Lists.{all_append, all_filter}
 use Rattle.cluster_fits.proofs.States.{AreSent, sent, AcceptorIs, ProposerIs, LeaseIs, TargetIs, TenureIs, AskIs, AsksAre, IsInside, RowIs, FileIs, NextIs, SiteIs, StepIs}

@@ -19,11 +19,11 @@ use Rattle.osd_rows.specs.Overdue.{expired}
 use Rattle.osd_rows.specs.FileSteps.{step_of_file, wake_of_file}
 use Rattle.osd_rows.specs.OsdSteps.{OsdState, OsdStep, FilesStep, osd_from, file_at, with_file, each_file, file_concerned, message_handled, woken, event_handled, handled_awake, step_of_osd}
 use Rattle.osd_invariants.specs.Sound.{IsSound}
-use Rattle.osd_lease_views.proofs.ActSteps.{woken_quiet}
+use Rattle.lease_runs.proofs.ActSteps.{woken_quiet}
 use Rattle.cluster_runs.specs.NodeSteps.{outside_of}
 use Rattle.cluster_fits.specs.Fits.{FitsContent}
-use Rattle.world_leases.specs.View.{awake_as}
-use Rattle.world_leases.specs.Worlds.{Agrees}
+use Rattle.world_runs.specs.View.{awake_as}
+use Rattle.world_runs.specs.Worlds.{Agrees}
 use Rattle.version_lists.proofs.HeadLimits.{either}
 use Rattle.cluster_fits.proofs.Lists.{all_append, all_map, all_weaker}
 use Rattle.cluster_fits.proofs.States.{AreSent, sent, RowIs, FileIs, NextIs, SiteIs, StepIs}

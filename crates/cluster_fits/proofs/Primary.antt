@@ -35,10 +35,10 @@ use Rattle.osd_rows.specs.Turns.{to_each}
 use Rattle.osd_rows.specs.ReplicaRows.{stage_record}
 use Rattle.osd_rows.specs.Primaries.{Ground, Led, unknown_peer, peer_in, with_peer, nodes_of, reports_of, majority_among, statuses_counted, with_node, carries, known_of_report, known_of_own, with_known, fed_next, fed, last_sent, if_any, last_to_each, target_of, is_unknown}
 use Rattle.osd_rows.specs.PrimaryRows.{unmoved, epoch_above, epoch_drawn, peer_fed, peers_fed, installs, fetches, chooses, status_counted, with_state, peer_sent, feeds, status_told, newer_body, body_put_by, body_beyond, body_fetched, hears_object, target_in, body_staged, body_missed, hears_missing, makes_current, head_acked, committed, update_acked, acked_below, hears_ack, forgotten, peer_behind, outpromised, epoch_told, hears_peer, hears_member, hears_epoch, hears_in, hears}
-use Rattle.osd_replica_views.specs.Seen.{AckedFit, nodes_in}
-use Rattle.osd_replica_views.proofs.Choices.{chosen_is}
-use Rattle.osd_replica_views.proofs.Counts.{acked_fits}
-use Rattle.osd_replica_views.proofs.Peers.{peer_found, peer_listed, nodes_with}
+use Rattle.replica_runs.specs.Seen.{AckedFit, nodes_in}
+use Rattle.replica_runs.proofs.Choices.{chosen_is}
+use Rattle.replica_runs.proofs.Counts.{acked_fits}
+use Rattle.replica_runs.proofs.Peers.{peer_found, peer_listed, nodes_with}
 use Rattle.version_lists.proofs.HeadLimits.{either, when}
 use Rattle.cluster_fits.proofs.Lists.{each_in, all_filter, all_flat, all_weaker, found_is}
 use Rattle.cluster_fits.proofs.States.{AreSent, sent, PeerStateIs, PeerIs, AckedIs, IssuedIs, ProgressIs, TenureIs, PrimaryIs, AreBodies}

@@ -32,7 +32,7 @@ use Rattle.osd_rows.specs.declared.Tenure.{Tenure}
 use Rattle.osd_rows.specs.declared.WaitingAsk.{WaitingAsk}
 use Rattle.osd_rows.specs.FileStates.{FileState, Site, FileStep}
 use Rattle.osd_rows.specs.Turns.{message}
-use Rattle.osd_replica_views.specs.Seen.{AckedFit, nodes_in}
+use Rattle.replica_runs.specs.Seen.{AckedFit, nodes_in}
 
 -- these can be sent
 abbrev pub AreSent : List Msg → Type 0

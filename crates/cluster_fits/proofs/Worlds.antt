@@ -32,15 +32,15 @@ use Rattle.cluster_runs.specs.Rules.{called_file, clock_ends}
 use Rattle.cluster_runs.specs.NodeSteps.{Room, outside_of, one_more, core_step}
 use Rattle.cluster_runs.specs.Lines.{Next, finished, opens, goes_on, ends, begins, steps, runs, first_boot, next_boot, osd_starting, declared_file, operation_of, ticked, no_longer_pending}
 use Rattle.cluster_runs.specs.Runs.{run_of}
-use Rattle.world_leases.specs.View.{messages, awake_as}
-use Rattle.world_leases.specs.Worlds.{UpFits, CoreFits}
-use Rattle.world_leases.proofs.Clocks.{below_end}
-use Rattle.world_leases.proofs.Files.{at_fits}
-use Rattle.world_leases.proofs.Fit.{IsFit, replaced, sent_then}
-use Rattle.world_leases.proofs.LineSteps.{fits_kept}
-use Rattle.world_leases.proofs.Lists.{has_in, has_left, has_right}
-use Rattle.world_leases.proofs.Tables.{same, nobody, node_in-last, node_in-before, node_in-ticked}
-use Rattle.world_leases.proofs.Walk.{IsKept, call_step, NodeStep, of_osd, of_client, of_call, Reaches, StopsAs, NextIs, steps_into, same_messages}
+use Rattle.world_runs.specs.View.{messages, awake_as}
+use Rattle.world_runs.specs.Worlds.{UpFits, CoreFits}
+use Rattle.world_runs.proofs.Clocks.{below_end}
+use Rattle.world_runs.proofs.Files.{at_fits}
+use Rattle.world_runs.proofs.Fit.{IsFit, replaced, sent_then}
+use Rattle.world_runs.proofs.LineSteps.{fits_kept}
+use Rattle.world_runs.proofs.Lists.{has_in, has_left, has_right}
+use Rattle.world_runs.proofs.Tables.{same, nobody, node_in-last, node_in-before, node_in-ticked}
+use Rattle.world_runs.proofs.Walk.{IsKept, call_step, NodeStep, of_osd, of_client, of_call, Reaches, StopsAs, NextIs, steps_into, same_messages}
 use Rattle.cluster_fits.specs.Fits.{FitsPlan, FitsRunning, FitsNode, FitsContent, FitsTurned, FitsWorld, FitsAt, Comes, DoStepsFit, call_of}
 use Rattle.cluster_fits.proofs.Lists.{all_of, each_of}
 use Rattle.cluster_fits.proofs.States.{AreSent}

@@ -26,7 +26,7 @@ use Rattle.cluster_runs.specs.Lines.{Next, finished, opens, goes_on, ends, begin
 use Rattle.time_line.specs.Bounds.{AreLines, FitsCall}
 use Rattle.cluster_runs.specs.Runs.{run_of}
 use Rattle.lease_safety.specs.State.{Has}
-use Rattle.world_leases.specs.View.{messages}
+use Rattle.world_runs.specs.View.{messages}
 
 -- ---- nodes
 

@@ -5,14 +5,14 @@ use Rattle.time_line.specs.declared.entry.Entry.{Entry}
 use Rattle.time_line.specs.declared.entry.Entry.TheVariants as entry
 use Rattle.time_line.specs.TimeLine.{operation_begun, stripe_of}
 use Rattle.time_line.specs.Clauses.{IsBefore, IsMoment, HasBegunOn, AreOnce, AnswersShow}
-use Rattle.osd_replica_views.specs.Seen.{name_of}
+use Rattle.replica_runs.specs.Seen.{name_of}
 use Rattle.replica_runs.proofs.Tools.{by_node}
-use Rattle.file_traces.specs.Traces.{IsIssued, AreIssued, HaveBegun}
-use Rattle.file_traces.proofs.Issued.{issue_first}
-use Rattle.file_traces.proofs.Once.{once}
-use Rattle.file_traces.proofs.Standing.{stand}
-use Rattle.world_ends.specs.Acts.{ActsHaveBegun}
-use Rattle.world_ends.proofs.Entries.{begun_on-grown}
+use Rattle.file_runs.specs.Traces.{IsIssued, AreIssued, HaveBegun}
+use Rattle.file_runs.proofs.Issued.{issue_first}
+use Rattle.file_runs.proofs.Once.{once}
+use Rattle.file_runs.proofs.Standing.{stand}
+use Rattle.world_runs.specs.Acts.{ActsHaveBegun}
+use Rattle.world_runs.proofs.Entries.{begun_on-grown}
 use Rattle.world_files.specs.Asks.{operations_of}
 use Rattle.world_files.specs.Runs.{HasOneOrder}
 use Rattle.world_files.proofs.Asks.{operations_are}

@@ -8,8 +8,8 @@ use Rattle.time_line.specs.declared.entry.Entry.TheVariants as entry
 use Rattle.time_line.specs.TimeLine.{location_told, location_in, is_replicated_at, is_replicated, stripe_at, operation_begun, HasPosition}
 use Rattle.time_line.specs.Clauses.{IsBefore, IsMoment, AreOnce, IsShown, AnswersShow, ok_entry, HasBegunOn, EndsAreAnswered}
 use Rattle.time_line.specs.Verdicts.{Clause, apart, acting, one_order, once, shown, fresh, Says, IsSafe, Break, IsBroken}
-use Rattle.world_ends.proofs.Entries.{begun_on-grown, position-grown}
-use Rattle.world_ends.proofs.Fresh.{answered_fresh}
+use Rattle.world_runs.proofs.Entries.{begun_on-grown, position-grown}
+use Rattle.world_runs.proofs.Fresh.{answered_fresh}
 
 -- where a file stands in a front, it stands there in the trace
 or_grows : (o p q : Option Location) (l : Location) → (p ≡ Some l → q ≡ Some l) → option_or o p ≡ Some l → option_or o q ≡ Some l

@@ -8,10 +8,10 @@ use Rattle.cluster_runs.specs.Rules.{refusal}
 use Rattle.cluster_runs.specs.Runs.{run_of, IsRunInto, AreRunsSafe}
 use Rattle.time_line.specs.Clauses.{AreApart, HoldersAct, EndsAreAnswered}
 use Rattle.time_line.specs.Verdicts.{Clause, apart, acting, one_order, once, shown, fresh, IsSafeFor, IsSafe}
-use Rattle.world_leases.proofs.Runs.{runs_apart, parts_apart, runs_act, parts_act}
-use Rattle.world_ends.specs.Acts.{ActsHaveBegun}
-use Rattle.world_ends.proofs.Fresh.{answered_fresh}
-use Rattle.world_ends.proofs.Runs.{runs_answered, parts_answered, runs_acts_begun, parts_acts_begun}
+use Rattle.world_runs.proofs.Runs.{runs_apart, parts_apart, runs_act, parts_act}
+use Rattle.world_runs.specs.Acts.{ActsHaveBegun}
+use Rattle.world_runs.proofs.Fresh.{answered_fresh}
+use Rattle.world_runs.proofs.EndRuns.{runs_answered, parts_answered, runs_acts_begun, parts_acts_begun}
 use Rattle.world_files.specs.Runs.{FilesAreSafe}
 use Rattle.world_files.proofs.Runs.{runs_are_safe, parts_are_safe}
 use Rattle.cluster_safety.specs.Traces.{AlwaysHolds}

@@ -174,10 +174,7 @@ fn comes_of(acted: &Acted) -> Comes {
 }
 
 /// Heads, and what comes of the epoch (1, 1) where a replica has them.
-static ASKED: [(&[u8], Comes); 2] = [
-    (&NOTHING, Comes::Told),
-    (&PROMISED, Comes::Refused(LATER)),
-];
+static ASKED: [(&[u8], Comes); 2] = [(&NOTHING, Comes::Told), (&PROMISED, Comes::Refused(LATER))];
 
 /// Whether this comes of the epoch (1, 1) where a replica has this head.
 fn answers(rt: &impl Abort, alloc: Global, bytes: &[u8], comes: Comes) -> bool {

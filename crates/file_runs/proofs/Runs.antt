@@ -16,8 +16,8 @@ use Rattle.xt_protocol.specs.LeaseRows.{Awake}
 use Rattle.osd_invariants.specs.Sound.{IsHeld}
 use Rattle.osd_invariants.proofs.Kept.{expired_follows}
 use Rattle.osd_invariants.proofs.SoundSteps.{start_so, expired_so, step_so, wake_so}
-use Rattle.osd_lease_views.specs.ActsView.{ListAsked, RecordIs}
-use Rattle.osd_lease_views.proofs.ActSteps.{step_rec, wake_step_rec}
+use Rattle.lease_runs.specs.ActsView.{ListAsked, RecordIs}
+use Rattle.lease_runs.proofs.ActSteps.{step_rec, wake_step_rec}
 use Rattle.osd_rows.specs.FileStates.{FileState, Site, FileStep, file_from}
 use Rattle.osd_rows.specs.FileSteps.{step_of_file}
 use Rattle.osd_rows.specs.PrimaryRows.{body_beyond}
@@ -39,14 +39,14 @@ use Rattle.replica_runs.proofs.HeadLine.{entries_fit_there, order_of_changes, is
 use Rattle.replica_runs.proofs.HeadRun.{turns_there, begins_there}
 use Rattle.replica_runs.proofs.HeadStands.{IsReached}
 use Rattle.replica_runs.proofs.Tools.{by_node, at_own}
-use Rattle.osd_replica_views.specs.FileView.{FileReaches, seen_of, settled, IsList, ListFits, IsOrderly, IsFree, AskComes, ShowsFile, Stops}
-use Rattle.osd_replica_views.specs.Seen.{Seen, local_of, AreIn, TenureFits, Fits}
-use Rattle.osd_replica_views.proofs.AskSteps.{none_fit, expired_fit, step_fit, wake_fit}
-use Rattle.osd_replica_views.proofs.Choosing.{not_after_loss}
-use Rattle.osd_replica_views.proofs.Files.{expired_none, expired_tenure, files_show}
-use Rattle.osd_replica_views.proofs.Replicas.{peers_grow}
-use Rattle.osd_replica_views.proofs.Sending.{are_in, in_are, map_has, steps_append, may_append}
-use Rattle.osd_replica_views.proofs.Stopping.{stops, lost, others_same, statuses_before}
+use Rattle.replica_runs.specs.FileView.{FileReaches, seen_of, settled, IsList, ListFits, IsOrderly, IsFree, AskComes, ShowsFile, Stops}
+use Rattle.replica_runs.specs.Seen.{Seen, local_of, AreIn, TenureFits, Fits}
+use Rattle.replica_runs.proofs.AskSteps.{none_fit, expired_fit, step_fit, wake_fit}
+use Rattle.replica_runs.proofs.Choosing.{not_after_loss}
+use Rattle.replica_runs.proofs.Files.{expired_none, expired_tenure, files_show}
+use Rattle.replica_runs.proofs.Replicas.{peers_grow}
+use Rattle.replica_runs.proofs.Sending.{are_in, in_are, map_has, steps_append, may_append}
+use Rattle.replica_runs.proofs.Stopping.{stops, lost, others_same, statuses_before}
 use Rattle.file_runs.specs.FileRuns.{FileNode, Sent, Tale, FileWorld, Happening, message, wake, step_on, Ending, goes_on, stops_kept, stops_lost, Event, acts, starts, lapses, sent_by, holder_after, keeping, acted, after, Comes, MayEnd, MayAct, May, after_all, BeginsFile, Tells, IsOnOneOrder}
 use Rattle.file_runs.specs.FileRuns as runs
 

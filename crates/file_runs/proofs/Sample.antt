@@ -14,7 +14,7 @@ use Rattle.osd_rows.specs.ReplicaRows.{gathered, fetched_from, staged, headed, u
 use Rattle.osd_rows.specs.Serving.{reads, writes, wakes}
 use Rattle.osd_rows.specs.Writes.{standing}
 use Rattle.xt_protocol.specs.Stamps.{with_held}
-use Rattle.osd_replica_views.specs.AskFits.{AskFits}
+use Rattle.replica_runs.specs.AskFits.{AskFits}
 use Rattle.file_runs.specs.Sample.{calls, id_of, SampleRuns}
 
 bytes_fit : (i : ℕ) → slice_index (97 ∷ []) i < 256

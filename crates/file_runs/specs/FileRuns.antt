@@ -27,8 +27,8 @@ use Rattle.replica_runs.specs.HeadWorld.{shown, Entry, BodiesAre, has_at}
 use Rattle.replica_runs.specs.Made.{IsMade}
 use Rattle.replica_runs.specs.Marks.{Begins}
 use Rattle.replica_runs.specs.Steps.{without}
-use Rattle.osd_replica_views.specs.FileView.{settled, ListFits, IsFree, AskComes}
-use Rattle.osd_replica_views.specs.Seen.{AreTold, NamesHeld}
+use Rattle.replica_runs.specs.FileView.{settled, ListFits, IsFree, AskComes}
+use Rattle.replica_runs.specs.Seen.{AreTold, NamesHeld}
 
 -- A node of the file: its state, none while it doesn't run; what it keeps of the file; and what the bodies are.
 pub record FileNode : Type 0 where

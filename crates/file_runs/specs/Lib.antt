@@ -1,2 +1,4 @@
 pub mod FileRuns
 pub mod Sample
+pub mod Traces
+pub mod TraceRuns

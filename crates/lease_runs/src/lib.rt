@@ -1,13 +1,17 @@
-//! The lease of one file among nodes that run its rows: what each node has of it, and every message about it.
+//! The lease of one file among nodes that run its rows, and how the step of an OSD shows in the lease of each of its files.
 //!
-//! Nodes start and stop, clocks advance, leases expire, nodes ask and messages come, in any order. In each world that such
-//! moves lead to at most one node holds the lease, as it was told, and a node that may act on the lease that it has holds
-//! it. Each world is shown to be one of an abstract history of `lease_safety`.
+//! Nodes start and stop, clocks advance, leases expire, nodes ask and messages come, in any order. In each world that such moves lead
+//! to at most one node holds the lease, as it was told, and a node that may act on the lease that it has holds it: each world is one of
+//! an abstract history of `lease_safety`. An OSD's steps are such moves, file by file, and it acts as a primary only under a lease.
 #![tactic(auto)]
 
 ghost use Rattle.std.specs.Prelude.{◌≡◌, ◌≤◌, ◌+◌, ℕ, true};
 ghost use Rattle.lease_runs.specs.LeaseWorld.{LeaseSetting, LeaseWorld, IsReached, IsHolding, HasTurn, start_lease_world};
 ghost use Rattle.lease_runs.specs.Sample.{alone, one_takes_it, trio, one_wins, worlds_after};
+ghost use Rattle.lease_runs.specs.LeaseView.{ShowsLeases};
+ghost use Rattle.lease_runs.specs.OsdView.{OsdShowsLeases};
+ghost use Rattle.lease_runs.specs.OutsView.{SendsByFile};
+ghost use Rattle.lease_runs.specs.ActsView.{ShowsActs};
 
 /// In each world that moves lead to at most one node holds the lease, as it was told.
 pub fn one_node_holds()
@@ -30,4 +34,25 @@ pub fn a_lease_is_held()
     ensures held_alone { IsHolding alone ((worlds_after alone (start_lease_world alone) one_takes_it).node 1) }
     ensures trio { IsReached trio (worlds_after trio (start_lease_world trio) one_wins) }
     ensures held_by_two { IsHolding trio ((worlds_after trio (start_lease_world trio) one_wins).node 1) }
+{}
+
+/// The steps of a file show in its lease as rows of the lease.
+pub fn leases_are_shown()
+    ensures { ShowsLeases }
+{}
+
+/// The steps of an OSD show in the lease of each file: a message in that of the file that it concerns, a Wake in each.
+pub fn leases_are_shown_by_file()
+    ensures { OsdShowsLeases }
+{}
+
+/// What a step of a file sends about leases is about the lease of that file.
+pub fn leases_are_sent_by_file()
+    ensures { SendsByFile }
+{}
+
+/// A step of a file marks that a lease was won, or acts of its primary, and these only where the lease is held; its record
+/// isn't of a start, and stores a list only as an ask names it. A Wake marks and records nothing.
+pub fn acts_are_shown()
+    ensures { ShowsActs }
 {}

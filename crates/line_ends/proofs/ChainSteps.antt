@@ -14,14 +14,14 @@ use Rattle.osd_rows.specs.Turns.{message}
 use Rattle.osd_rows.specs.FileStates.{FileState, FileStep}
 use Rattle.osd_rows.specs.FileSteps.{step_of_file}
 use Rattle.osd_rows.specs.OsdSteps.{Outside, OsdState, file_at, with_file, file_concerned, message_handled}
-use Rattle.osd_lease_views.specs.LeaseView.{is_about}
-use Rattle.osd_lease_views.specs.OsdView.{site_of}
-use Rattle.osd_lease_views.proofs.OsdLeases.{at_file, step_keeps}
+use Rattle.lease_runs.specs.LeaseView.{is_about}
+use Rattle.lease_runs.specs.OsdView.{site_of}
+use Rattle.lease_runs.proofs.OsdLeases.{at_file, step_keeps}
 use Rattle.cluster_runs.specs.declared.DeclaredFile.{DeclaredFile}
 use Rattle.cluster_runs.specs.World.{file_in}
 use Rattle.cluster_runs.specs.NodeSteps.{to_itself}
-use Rattle.world_leases.specs.View.{awake_as}
-use Rattle.world_leases.specs.Worlds.{FileFits, Rises, files_of}
+use Rattle.world_runs.specs.View.{awake_as}
+use Rattle.world_runs.specs.Worlds.{FileFits, Rises, files_of}
 use Rattle.line_ends.proofs.Weights.{is_lease}
 use Rattle.line_ends.proofs.Standing.{IfAbout, IfMessage, IsLacking, Stands}
 use Rattle.line_ends.proofs.Mine.{token}

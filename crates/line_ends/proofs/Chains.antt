@@ -13,10 +13,10 @@ use Rattle.xt_protocol.specs.LeaseRows.{Awake}
 use Rattle.xt_protocol.proofs.Folds.{file-equal, file-itself}
 use Rattle.osd_rows.specs.FileStates.{FileState, file_from}
 use Rattle.osd_rows.specs.OsdSteps.{file_at, with_file, file_concerned}
-use Rattle.osd_lease_views.specs.LeaseView.{is_about}
-use Rattle.osd_lease_views.proofs.OsdLeases.{file_at-with_file}
-use Rattle.world_leases.specs.Worlds.{AreBehind, Rises, files_of}
-use Rattle.world_leases.proofs.Rising.{before_along, before_itself}
+use Rattle.lease_runs.specs.LeaseView.{is_about}
+use Rattle.lease_runs.proofs.OsdLeases.{file_at-with_file}
+use Rattle.world_runs.specs.Worlds.{AreBehind, Rises, files_of}
+use Rattle.world_runs.proofs.Rising.{before_along, before_itself}
 use Rattle.line_ends.proofs.Weights.{is_lease, lease_rank}
 use Rattle.line_ends.proofs.Standing.{IfAbout, IfMessage, Stands}
 use Rattle.line_ends.proofs.Tests.{false_true}

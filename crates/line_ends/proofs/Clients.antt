@@ -16,7 +16,7 @@ use Rattle.xt_messages.specs.declared.event.Call.{Call}
 use Rattle.xt_messages.specs.declared.event.Event.{Event}
 use Rattle.xt_messages.specs.declared.event.Event.TheVariants as event
 use Rattle.xt_base.specs.declared.TheConstants.{COUNTS}
-use Rattle.osd_lease_views.specs.LeaseView.{is_ask}
+use Rattle.lease_runs.specs.LeaseView.{is_ask}
 use Rattle.osd_rows.specs.Turns.{message}
 use Rattle.cluster_runs.specs.declared.ClientState.{ClientState}
 use Rattle.cluster_runs.specs.declared.RunningCall.{RunningCall}

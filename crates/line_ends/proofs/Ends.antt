@@ -13,7 +13,7 @@ use Rattle.xt_protocol.specs.declared.Turned.{Turned}
 use Rattle.xt_protocol.specs.LeaseRows.{is_silent}
 use Rattle.lease_safety.specs.State.{Has}
 use Rattle.lease_runs.proofs.Tests.{same_node}
-use Rattle.osd_lease_views.specs.LeaseView.{is_ask}
+use Rattle.lease_runs.specs.LeaseView.{is_ask}
 use Rattle.osd_rows.specs.FileStates.{FileState}
 use Rattle.osd_rows.specs.OsdSteps.{OsdState, OsdStep, step_of_osd}
 use Rattle.cluster_runs.specs.declared.TheConstants.{NODES}
@@ -24,12 +24,12 @@ use Rattle.cluster_runs.specs.Clients.{step_of_client}
 use Rattle.cluster_runs.specs.World.{World, Node, Running, Core, osd, client, node_in, file_in}
 use Rattle.cluster_runs.specs.NodeSteps.{to_itself, after_turn, outside_of}
 use Rattle.cluster_runs.specs.Lines.{next_boot, no_longer_pending}
-use Rattle.world_leases.specs.View.{awake_as}
+use Rattle.world_runs.specs.View.{awake_as}
 use Rattle.cluster_runs.specs.Lines.{declared_capability, declared_file, epoch_of, uses}
-use Rattle.world_leases.proofs.Frame.{next_node}
-use Rattle.world_leases.proofs.Lists.{has_filter}
-use Rattle.world_leases.proofs.Tables.{same, node_in-new, node_in-id}
-use Rattle.world_leases.proofs.Walk.{of_osd, of_client, Reaches, call_step}
+use Rattle.world_runs.proofs.Frame.{next_node}
+use Rattle.world_runs.proofs.Lists.{has_filter}
+use Rattle.world_runs.proofs.Tables.{same, node_in-new, node_in-id}
+use Rattle.world_runs.proofs.Walk.{of_osd, of_client, Reaches, call_step}
 use Rattle.line_ends.proofs.Files.{FileStands}
 use Rattle.line_ends.proofs.FileSizes.{FileSmall}
 use Rattle.line_ends.proofs.Clients.{AsksOne, asks_none, asks_this, client_gives, call_gives}
@@ -41,7 +41,7 @@ use Rattle.osd_rows.specs.Turns.{message}
 use Rattle.cluster_runs.specs.Lines.{OWN, no_longer_pending, delivers}
 use Rattle.cluster_runs.specs.NodeSteps.{Room, Cause, Overflow, came_to, has_no_room, Doing, end_of_step, event_at, event_comes, core_step, osd_steps, client_steps}
 use Rattle.xt_messages.specs.declared.status.Limited.TheVariants as limited
-use Rattle.world_leases.specs.Worlds.{CallFits}
+use Rattle.world_runs.specs.Worlds.{CallFits}
 use Rattle.line_ends.proofs.Chains.{Chain}
 use Rattle.line_ends.proofs.Starts.{event_starts, room_of, IsOutside}
 use Rattle.line_ends.proofs.Keeping.{Stood, stood_kept, fits, files_stand, node_is, arrives}
@@ -51,7 +51,7 @@ use Rattle.cluster_runs.specs.Rules.{refusal, called_file}
 use Rattle.cluster_runs.specs.Lines.{Next, finished, opens, goes_on, ends, begins, went, settles, works_on, next_step, steps, first_step, enough, events_of, done, least_pending, starts, starts_as, declares, calls, client_calls, core_calls, location_of, operation_of, does, tells}
 use Rattle.cluster_runs.specs.Runs.{IsOver, IsEnough, run_of}
 use Rattle.time_line.specs.Bounds.{AreLines}
-use Rattle.world_leases.proofs.Walk.{NextIs, steps_kept, steps_into}
+use Rattle.world_runs.proofs.Walk.{NextIs, steps_kept, steps_into}
 use Rattle.line_ends.proofs.Running.{InChain, no_own, of_a_client, Ran, HasRan, end_ran, awake_step, awake_is, silent_is, osd_chain, own_ran}
 use Rattle.xt_base.specs.declared.TheConstants.{COUNTS}
 use Rattle.time_line.specs.declared.entry.Entry.{Entry}

@@ -26,8 +26,8 @@ use Rattle.osd_rows.specs.Overdue.{is_due, issued_due, newly_due, no_lease_for_a
 use Rattle.osd_invariants.specs.Sound.{IsHeld, AreOne}
 use Rattle.osd_rows.specs.declared.IssuedUpdate.{IssuedUpdate}
 use Rattle.cluster_runs.specs.NodeSteps.{to_itself}
-use Rattle.world_leases.proofs.Lists.{has_filter}
-use Rattle.world_ends.proofs.FileIds.{FileIs, IssuedAskIs, expired_is}
+use Rattle.world_runs.proofs.Lists.{has_filter}
+use Rattle.world_runs.proofs.FileIds.{FileIs, IssuedAskIs, expired_is}
 use Rattle.line_ends.proofs.Weights.{asks_left, epoch_left, rank, settles, stand_of, tenure_left}
 use Rattle.line_ends.proofs.Standing.{HeadStands, IfTenure}
 use Rattle.line_ends.proofs.Tests.{false_true}

@@ -32,7 +32,7 @@ use Rattle.osd_rows.specs.ReplicaRows.{kept_after, stage_record}
 use Rattle.osd_rows.specs.Primaries.{Led, carries, is_unknown, issued_in, is_ready_in, nodes_of, peer_in, target_of, with_known, with_node}
 use Rattle.osd_rows.specs.PrimaryRows.{goes_on, unmoved, status_told, hears_status, with_state, body_beyond, hears_object, body_staged, body_missed, hears_missing, target_in, activated, head_acked, committed, update_acked, acked_below, hears_ack, makes_current, forgotten, peer_behind, outpromised, epoch_told, hears_peer, hears_member, hears_epoch}
 use Rattle.osd_invariants.proofs.Leads.{put_nodes}
-use Rattle.world_ends.proofs.PrimaryIds.{ProgressIs}
+use Rattle.world_runs.proofs.PrimaryIds.{ProgressIs}
 use Rattle.line_ends.proofs.Weights.{Stand, stand_of, rank, epoch_left, bodies_left, bodies_to, is_wanted, are_named, unless, settles}
 use Rattle.line_ends.proofs.Standing.{IfAbout, IfMessage, IsLacking, HeadStands, IsOfEpoch, IsPast, IsNext, TenureStands, ProgressStands, IsUnfed, Stands}
 use Rattle.line_ends.proofs.Tests.{false_true, not_new, not_below_self}

@@ -26,7 +26,7 @@ use Rattle.xt_protocol.specs.LeaseRows.{Awake, Silent, is_silent}
 use Rattle.xt_protocol.proofs.Folds.{fold_of-push, fold_of-nothing, file-itself}
 use Rattle.lease_safety.specs.State.{Has}
 use Rattle.lease_runs.proofs.Tests.{same_node}
-use Rattle.osd_lease_views.specs.LeaseView.{is_ask}
+use Rattle.lease_runs.specs.LeaseView.{is_ask}
 use Rattle.osd_rows.specs.FileStates.{FileState, file_from}
 use Rattle.osd_rows.specs.OsdSteps.{OsdState, file_at, step_of_osd}
 use Rattle.cluster_runs.specs.declared.ClientState.{ClientState}
@@ -36,22 +36,22 @@ use Rattle.cluster_runs.specs.Clients.{step_of_client}
 use Rattle.cluster_runs.specs.World.{World, Node, Running, Core, osd, client, node_in, with_node, file_in}
 use Rattle.cluster_runs.specs.NodeSteps.{pending, numbered, to_itself, one_more, outside_of}
 use Rattle.cluster_runs.specs.Lines.{ticked, osd_starting, next_boot, runs, first_boot}
-use Rattle.world_leases.specs.View.{awake_as, messages}
-use Rattle.world_leases.specs.Worlds.{Agrees, CoreFits, OsdFits, Rises, RowsFit, UpFits, row_files}
-use Rattle.osd_lease_views.specs.OsdView.{site_of}
+use Rattle.world_runs.specs.View.{awake_as, messages}
+use Rattle.world_runs.specs.Worlds.{Agrees, CoreFits, OsdFits, Rises, RowsFit, UpFits, row_files}
+use Rattle.lease_runs.specs.OsdView.{site_of}
 use Rattle.cluster_runs.specs.declared.Role.TheVariants as role
 use Rattle.cluster_runs.specs.Clients.{new_client, knows, aimed}
 use Rattle.cluster_runs.specs.Lines.{declared_capability, declared_file, epoch_of, uses}
-use Rattle.world_leases.proofs.Files.{record_fits}
-use Rattle.world_leases.proofs.Fit.{IsFit, IsNext, replaced}
-use Rattle.world_leases.proofs.Frame.{next_node}
-use Rattle.world_leases.proofs.LineSteps.{fits_kept}
-use Rattle.world_leases.proofs.Lists.{has_in, has_left, has_filter, filter_has, has_map, map_same}
-use Rattle.world_leases.proofs.NodeEvents.{step_next}
-use Rattle.world_leases.proofs.Rising.{before_itself}
-use Rattle.world_leases.proofs.Tables.{same, node_in-new, node_in-other, nobody, node_in-last, node_in-before, node_in-ticked, file_in-before}
-use Rattle.world_leases.proofs.Walk.{IsKept, NodeStep, of_osd, of_client, of_call, Reaches, same_messages, call_step}
-use Rattle.world_ends.proofs.OsdIds.{new_is}
+use Rattle.world_runs.proofs.Files.{record_fits}
+use Rattle.world_runs.proofs.Fit.{IsFit, IsNext, replaced}
+use Rattle.world_runs.proofs.Frame.{next_node}
+use Rattle.world_runs.proofs.LineSteps.{fits_kept}
+use Rattle.world_runs.proofs.Lists.{has_in, has_left, has_filter, filter_has, has_map, map_same}
+use Rattle.world_runs.proofs.NodeEvents.{step_next}
+use Rattle.world_runs.proofs.Rising.{before_itself}
+use Rattle.world_runs.proofs.Tables.{same, node_in-new, node_in-other, nobody, node_in-last, node_in-before, node_in-ticked, file_in-before}
+use Rattle.world_runs.proofs.Walk.{IsKept, NodeStep, of_osd, of_client, of_call, Reaches, same_messages, call_step}
+use Rattle.world_runs.proofs.OsdIds.{new_is}
 use Rattle.line_ends.proofs.Standing.{HeadStands}
 use Rattle.line_ends.proofs.Tests.{false_true}
 use Rattle.line_ends.proofs.Hearing.{IsApart}

@@ -17,7 +17,7 @@ use Rattle.xt_messages.specs.declared.event.Mark.TheVariants as mark
 use Rattle.xt_protocol.specs.Register.{ReadAnswer, promise, read_refused, WriteAnswer, accepted, write_refused, other_boot, on_read, on_write}
 use Rattle.xt_protocol.specs.LeaseRows.{LeaseState, free, asking, writing, held, LeaseNews, LeaseStep, sends_write, holds, finds, ends, on_answer}
 use Rattle.xt_protocol.specs.LeaseRows as lease
-use Rattle.osd_lease_views.specs.LeaseView.{is_ask}
+use Rattle.lease_runs.specs.LeaseView.{is_ask}
 use Rattle.osd_rows.specs.declared.Acted.{Acted}
 use Rattle.osd_rows.specs.declared.Asks.{Asks}
 use Rattle.osd_rows.specs.declared.Place.{Place}
@@ -32,7 +32,7 @@ use Rattle.osd_rows.specs.FileLeases.{read_comes, write_comes, answer_comes, ans
 use Rattle.osd_rows.specs.FileSteps.{replica_acts, primary_hears, message_comes}
 use Rattle.osd_invariants.specs.Sound.{AreOne, IsHeld, IsSound, PeersAre}
 use Rattle.cluster_runs.specs.NodeSteps.{to_itself}
-use Rattle.world_ends.proofs.PrimaryIds.{TenureIs}
+use Rattle.world_runs.proofs.PrimaryIds.{TenureIs}
 use Rattle.line_ends.proofs.Weights.{asks_left, epoch_left, is_lease, lease_rank, rank, stand_of, tenure_left}
 use Rattle.line_ends.proofs.Standing.{IfAbout, HeadStands, IfMessage, IfTenure, IsLacking, Stands}
 use Rattle.line_ends.proofs.Tests.{false_true, not_both}

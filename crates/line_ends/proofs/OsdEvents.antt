@@ -12,22 +12,22 @@ use Rattle.xt_protocol.specs.FileIds.{is_file}
 use Rattle.xt_protocol.specs.LeaseRows.{Awake}
 use Rattle.xt_protocol.proofs.Folds.{file-equal, file-itself}
 use Rattle.lease_safety.specs.State.{Has}
-use Rattle.osd_lease_views.specs.LeaseView.{is_ask}
+use Rattle.lease_runs.specs.LeaseView.{is_ask}
 use Rattle.osd_rows.specs.Turns.{quiet}
 use Rattle.osd_rows.specs.FileStates.{FileState, Site, FileStep}
 use Rattle.osd_rows.specs.FileSteps.{step_of_file, wake_of_file}
 use Rattle.osd_rows.specs.Overdue.{expired}
 use Rattle.osd_rows.specs.OsdSteps.{Outside, OsdState, OsdStep, file_at, with_file, each_file, file_concerned, message_handled, asks_dir, woken, handled_awake}
-use Rattle.osd_lease_views.specs.OsdView.{site_of, wake_step}
-use Rattle.osd_lease_views.proofs.OsdLeases.{file_at-with_file, at_file, step_keeps, put_here}
+use Rattle.lease_runs.specs.OsdView.{site_of, wake_step}
+use Rattle.lease_runs.proofs.OsdLeases.{file_at-with_file, at_file, step_keeps, put_here}
 use Rattle.cluster_runs.specs.declared.DeclaredFile.{DeclaredFile}
 use Rattle.cluster_runs.specs.World.{file_in}
 use Rattle.cluster_runs.specs.NodeSteps.{to_itself}
-use Rattle.world_leases.specs.View.{awake_as}
-use Rattle.world_leases.specs.Worlds.{AskFits, FileFits, Rises, files_of}
-use Rattle.world_leases.proofs.Files.{at_fits, file_after}
-use Rattle.world_leases.proofs.Lists.{has_in, has_map, has_filter}
-use Rattle.world_leases.proofs.Rising.{before_itself, with_file_has}
+use Rattle.world_runs.specs.View.{awake_as}
+use Rattle.world_runs.specs.Worlds.{AskFits, FileFits, Rises, files_of}
+use Rattle.world_runs.proofs.Files.{at_fits, file_after}
+use Rattle.world_runs.proofs.Lists.{has_in, has_map, has_filter}
+use Rattle.world_runs.proofs.Rising.{before_itself, with_file_has}
 use Rattle.osd_invariants.proofs.Kept.{expired_quiet, wake_follows}
 use Rattle.line_ends.proofs.Weights.{is_lease}
 use Rattle.line_ends.proofs.Standing.{Stands}

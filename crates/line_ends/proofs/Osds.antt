@@ -20,7 +20,7 @@ use Rattle.xt_protocol.specs.LeaseRows.{Awake}
 use Rattle.xt_protocol.specs.Stamps.{is_version, has_version, with_held}
 use Rattle.xt_protocol.proofs.Stamps.{has_version-with_held}
 use Rattle.lease_safety.specs.State.{Has}
-use Rattle.osd_lease_views.specs.LeaseView.{is_ask}
+use Rattle.lease_runs.specs.LeaseView.{is_ask}
 use Rattle.osd_rows.specs.ReplicaRows.{kept_after}
 use Rattle.osd_rows.specs.FileStates.{FileState, Site, FileStep, file_from, members_of}
 use Rattle.osd_rows.specs.FileSteps.{step_of_file, wake_of_file}
@@ -28,14 +28,14 @@ use Rattle.osd_rows.specs.Overdue.{expired}
 use Rattle.osd_rows.specs.OsdSteps.{file_at, file_concerned}
 use Rattle.osd_invariants.specs.Sound.{IsSound}
 use Rattle.osd_invariants.proofs.Kept.{expired_quiet, step_follows, wake_follows}
-use Rattle.osd_lease_views.specs.OsdView.{wake_step}
+use Rattle.lease_runs.specs.OsdView.{wake_step}
 use Rattle.cluster_runs.specs.declared.DeclaredFile.{DeclaredFile}
 use Rattle.cluster_runs.specs.World.{file_in}
 use Rattle.cluster_runs.specs.NodeSteps.{to_itself}
-use Rattle.world_leases.specs.Worlds.{AskFits, FileFits, Listed}
-use Rattle.world_leases.proofs.Lists.{has_in}
-use Rattle.world_ends.proofs.FileIds.{HasCome, step_is, expired_is, wake_is}
-use Rattle.world_ends.proofs.OsdIds.{new_is}
+use Rattle.world_runs.specs.Worlds.{AskFits, FileFits, Listed}
+use Rattle.world_runs.proofs.Lists.{has_in}
+use Rattle.world_runs.proofs.FileIds.{HasCome, step_is, expired_is, wake_is}
+use Rattle.world_runs.proofs.OsdIds.{new_is}
 use Rattle.line_ends.proofs.Weights.{is_lease}
 use Rattle.line_ends.proofs.Standing.{IsPast, IfAbout, IfMessage, Stands}
 use Rattle.line_ends.proofs.Tests.{false_true}

@@ -13,26 +13,26 @@ use Rattle.xt_protocol.specs.LeaseRows.{is_silent}
 use Rattle.time_line.specs.declared.entry.Halt.TheVariants as halt
 use Rattle.lease_safety.specs.State.{Has}
 use Rattle.lease_runs.proofs.Tests.{same_node}
-use Rattle.osd_lease_views.specs.LeaseView.{is_ask}
+use Rattle.lease_runs.specs.LeaseView.{is_ask}
 use Rattle.osd_rows.specs.OsdSteps.{OsdState, OsdStep, file_concerned, step_of_osd}
 use Rattle.cluster_runs.specs.declared.TheConstants.{MESSAGES, MESSAGE_BYTES}
 use Rattle.cluster_runs.specs.declared.ClientState.{ClientState}
 use Rattle.cluster_runs.specs.Clients.{step_of_client}
 use Rattle.cluster_runs.specs.World.{World, Node, Running, Core, osd, client, node_in}
 use Rattle.cluster_runs.specs.NodeSteps.{to_itself, after_turn, outside_of, halted}
-use Rattle.world_leases.specs.View.{awake_as}
-use Rattle.osd_lease_views.specs.OsdView.{site_of}
-use Rattle.world_leases.proofs.Frame.{next_node}
-use Rattle.world_leases.proofs.Lists.{has_in, has_filter}
-use Rattle.world_leases.proofs.Tables.{same, node_in-new}
+use Rattle.world_runs.specs.View.{awake_as}
+use Rattle.lease_runs.specs.OsdView.{site_of}
+use Rattle.world_runs.proofs.Frame.{next_node}
+use Rattle.world_runs.proofs.Lists.{has_in, has_filter}
+use Rattle.world_runs.proofs.Tables.{same, node_in-new}
 use Rattle.std.proofs.Common.{length}
 use Rattle.std.specs.Prelude.{Result, Ok, Err, nat_lt}
 use Rattle.osd_rows.specs.OsdSteps.{Outside, event_handled, handled_awake}
-use Rattle.osd_lease_views.specs.OsdView.{site_of}
+use Rattle.lease_runs.specs.OsdView.{site_of}
 use Rattle.cluster_runs.specs.Steps.{Step, stays}
 use Rattle.cluster_runs.specs.NodeSteps.{Room, Cause, Overflow, came_to, has_no_room, Doing, appends, within_limits, overflow_of, end_of_step, event_at, event_comes, core_step, osd_steps, client_steps, loses_own, cut_in_sending, frame_bytes}
 use Rattle.xt_messages.specs.declared.status.Limited.TheVariants as limited
-use Rattle.world_leases.proofs.Frame.{however}
+use Rattle.world_runs.proofs.Frame.{however}
 use Rattle.line_ends.proofs.Chains.{Chain}
 use Rattle.line_ends.proofs.ChainSteps.{handled_falls}
 use Rattle.line_ends.proofs.Clients.{ask_rests}

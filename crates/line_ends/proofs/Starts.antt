@@ -17,14 +17,14 @@ use Rattle.lease_safety.specs.State.{Has}
 use Rattle.osd_rows.specs.FileStates.{FileState, Site, FileStep}
 use Rattle.osd_rows.specs.FileSteps.{step_of_file}
 use Rattle.osd_rows.specs.OsdSteps.{Outside, OsdState, FilesStep, file_at, with_file, file_concerned, message_handled, event_handled}
-use Rattle.osd_lease_views.specs.OsdView.{site_of}
-use Rattle.osd_lease_views.proofs.OsdLeases.{file_at-with_file, at_file}
+use Rattle.lease_runs.specs.OsdView.{site_of}
+use Rattle.lease_runs.proofs.OsdLeases.{file_at-with_file, at_file}
 use Rattle.cluster_runs.specs.declared.DeclaredFile.{DeclaredFile}
 use Rattle.cluster_runs.specs.World.{file_in}
 use Rattle.cluster_runs.specs.NodeSteps.{to_itself}
-use Rattle.world_leases.specs.View.{awake_as}
-use Rattle.world_leases.specs.Worlds.{AreBehind, FileFits, Rises, files_of}
-use Rattle.world_leases.proofs.Rising.{before_itself}
+use Rattle.world_runs.specs.View.{awake_as}
+use Rattle.world_runs.specs.Worlds.{AreBehind, FileFits, Rises, files_of}
+use Rattle.world_runs.proofs.Rising.{before_itself}
 use Rattle.line_ends.proofs.Weights.{is_lease, tenure_left}
 use Rattle.line_ends.proofs.Standing.{IfAbout, IfMessage}
 use Rattle.line_ends.proofs.Tests.{false_true}
@@ -40,13 +40,13 @@ use Rattle.std.proofs.lemmas.Bool.Decides.{nat_tests}
 use Rattle.std.proofs.lemmas.Bool.{and_parts}
 use Rattle.xt_protocol.specs.LeaseRows.{LeaseState, free, asking, writing, held}
 use Rattle.osd_invariants.specs.Sound.{IsStored}
-use Rattle.osd_lease_views.specs.ActsView.{IsBusy}
-use Rattle.osd_lease_views.specs.OsdView.{wake_step}
+use Rattle.lease_runs.specs.ActsView.{IsBusy}
+use Rattle.lease_runs.specs.OsdView.{wake_step}
 use Rattle.osd_rows.specs.FileSteps.{wake_of_file}
 use Rattle.osd_rows.specs.Overdue.{expired}
 use Rattle.osd_rows.specs.OsdSteps.{asks_dir, each_file, woken}
 use Rattle.cluster_runs.specs.Lines.{OWN, declared_file}
-use Rattle.world_leases.specs.Worlds.{Listed}
+use Rattle.world_runs.specs.Worlds.{Listed}
 use Rattle.line_ends.proofs.Rows.{one_if}
 use Rattle.line_ends.proofs.Leases.{IsFree}
 use Rattle.line_ends.proofs.Bounds.{file_low}

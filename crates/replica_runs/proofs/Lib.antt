@@ -17,3 +17,17 @@ pub mod HeadRows
 pub mod HeadRun
 pub mod HeadLine
 pub mod HeadSample
+pub mod Peers
+pub mod Counts
+pub mod Choices
+pub mod Sending
+pub mod Feeding
+pub mod Choosing
+pub mod Hearing
+pub mod Serving
+pub mod Waiting
+pub mod Replicas
+pub mod Reaching
+pub mod Files
+pub mod Stopping
+pub mod AskSteps

@@ -9,3 +9,6 @@ pub mod HeadSteps
 pub mod HeadOrder
 pub mod HeadSample
 pub mod Weaker
+pub mod Seen
+pub mod AskFits
+pub mod FileView

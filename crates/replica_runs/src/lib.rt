@@ -1,12 +1,11 @@
 //! Why all acts of a file's primaries are on one line: replication of one file, for one version of its replica list, in two worlds.
 //!
-//! A world of writes has lists of writes for heads, and small steps; every run of it is a history of `replica_safety`. A world of
-//! heads has what an OSD keeps of a file, and small steps that its rows are made of; every run of it is one of the first world.
-//! The crate has no code to run. It promises that after every run, from every start that may begin, all entries fit one order of
-//! writes, each read shows the content of that order as it was, and no write stands in it twice.
+//! Every run of a world of writes, of lists and small steps, is a history of `replica_safety`; every run of a world of heads, of what an
+//! OSD keeps and small steps that its rows are made of, is one of the first world; and each step of an OSD on the file is a list of these.
+//! It promises that after every run all entries fit one order of writes, which each read shows as it was, each write once.
 #![tactic(auto)]
 
-ghost use Rattle.std.specs.Prelude.{map};
+ghost use Rattle.std.specs.Prelude.{map, ℕ, List};
 ghost use Rattle.replica_safety.specs.Epochs.{name};
 ghost use Rattle.replica_safety.specs.Line.{AreOnOneLine};
 ghost use Rattle.replica_safety.specs.Lists.{AreDistinct};
@@ -17,6 +16,8 @@ ghost use Rattle.replica_runs.specs.HeadSteps.{AlwaysOfHeads};
 ghost use Rattle.replica_runs.specs.Made.{IsMade};
 ghost use Rattle.replica_runs.specs.Weaker.{KeepsLost};
 ghost use Rattle.replica_runs.specs.Marks.{Always, AnswersShow, AreMade, acts_of, line_at};
+ghost use Rattle.xt_messages.specs.declared.file.Op.{Op};
+ghost use Rattle.replica_runs.specs.FileView.{AlwaysShowsFile, AlwaysStops, LeavesOthers, AsksStay};
 
 /// After every run of a world of writes:
 ///
@@ -52,4 +53,23 @@ pub fn a_run_reads_a_byte()
 /// lost by the head (`a_write_is_taken_back` of `replica_safety`).
 pub fn greater_versions_do_not_do()
     ensures { KeepsLost 0 }
+{}
+
+/// Each step of a file on a message that was sent, and on a Wake, is a list of small steps of its node in the world of heads: what is
+/// kept changes by the step's record alone, the primary behind it is the one that is seen, every message of the step was sent, its
+/// marks are the entries, and what holds of a file goes on to hold.
+pub fn steps_of_a_file_are_small_steps()
+    ensures { AlwaysShowsFile }
+{}
+
+/// A node that stops behind a step, however few of its messages got out, or in its append, with its record kept or lost, has
+/// taken a list of small steps; and no list of small steps of one node changes which other node holds.
+pub fn stops_are_small_steps()
+    ensures stops { AlwaysStops }
+    ensures others { LeavesOthers }
+{}
+
+/// The asks of a file stay within their limits, where those that come are.
+pub fn asks_stay_within_limits()
+    ensures { (stripe : ℕ) (ops : ℕ × ℕ → Op) (members : List ℕ) → AsksStay stripe ops members }
 {}

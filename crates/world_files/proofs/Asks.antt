@@ -26,17 +26,17 @@ use Rattle.osd_rows.specs.FileStates.{FileState, Site, FileStep, and_then}
 use Rattle.osd_rows.specs.FileSteps.{message_comes, ask_comes, step_of_file}
 use Rattle.osd_rows.specs.OsdSteps.{file_concerned}
 use Rattle.osd_rows.specs.Overdue.{expired}
-use Rattle.osd_replica_views.specs.FileView.{IsList, AskComes}
-use Rattle.osd_replica_views.proofs.Files.{expired_none}
+use Rattle.replica_runs.specs.FileView.{IsList, AskComes}
+use Rattle.replica_runs.proofs.Files.{expired_none}
 use Rattle.replica_runs.specs.HeadWorld.{shown}
 use Rattle.cluster_runs.specs.declared.DeclaredFile.{DeclaredFile}
 use Rattle.time_line.specs.declared.entry.Entry.{Entry}
 use Rattle.time_line.specs.TimeLine.{id_of, operation_begun}
 use Rattle.cluster_runs.specs.World.{file_in}
-use Rattle.world_leases.specs.Worlds.{AskFits}
-use Rattle.world_leases.proofs.Lists.{has_in, has_left}
-use Rattle.world_ends.specs.Asks.{HasBegunSo}
-use Rattle.world_ends.proofs.Entries.{operation-grown}
+use Rattle.world_runs.specs.Worlds.{AskFits}
+use Rattle.world_runs.proofs.Lists.{has_in, has_left}
+use Rattle.world_runs.specs.Asks.{HasBegunSo}
+use Rattle.world_runs.proofs.Entries.{operation-grown}
 use Rattle.world_files.specs.Asks.{operation_or_none, operations_of, AreOperations, IsOutside, DeclaredList, IsSameButSent}
 
 same_file : (a b : FileId) → Some a ≡ Some b → a ≡ b

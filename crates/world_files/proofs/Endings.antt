@@ -14,10 +14,10 @@ use Rattle.time_line.specs.declared.entry.Entry.TheVariants as entry
 use Rattle.time_line.specs.Clauses.{AreApart}
 use Rattle.cluster_runs.specs.World.{World, Node, Running, osd}
 use Rattle.cluster_runs.specs.NodeSteps.{halted, one_more}
-use Rattle.world_leases.specs.View.{messages}
-use Rattle.world_leases.specs.Worlds.{IsInOrder, Leads, CoreFits, UpFits}
-use Rattle.world_leases.proofs.Lists.{has_right}
-use Rattle.world_leases.proofs.Tables.{node_in-new}
+use Rattle.world_runs.specs.View.{messages}
+use Rattle.world_runs.specs.Worlds.{IsInOrder, Leads, CoreFits, UpFits}
+use Rattle.world_runs.proofs.Lists.{has_right}
+use Rattle.world_runs.proofs.Tables.{node_in-new}
 use Rattle.world_files.specs.Seen.{file_seen, Sees, IsNotOf}
 use Rattle.world_files.specs.Events.{RunsAs, IsAwake, site_at, step_at, stopped_with}
 use Rattle.world_files.specs.May.{LeadersHold}

@@ -20,16 +20,16 @@ use Rattle.replica_safety.specs.Epochs.{at_node}
 use Rattle.osd_rows.specs.FileStates.{FileState, Site, FileStep, file_from}
 use Rattle.osd_rows.specs.FileSteps.{step_of_file}
 use Rattle.osd_rows.specs.OsdSteps.{OsdState, OsdStep, file_at, file_concerned, handled_awake, step_of_osd}
-use Rattle.osd_lease_views.specs.ActsView.{RecordIs}
-use Rattle.osd_lease_views.specs.OsdView.{wake_step}
-use Rattle.osd_lease_views.proofs.OsdLeases.{file_at-with_file, at_file, step_keeps, message_step, put_here, put_there, woken_step, wake_shows, handled, woke_all}
-use Rattle.osd_lease_views.proofs.ActSteps.{step_rec, wake_step_rec, wake_step_kept, woken_quiet}
+use Rattle.lease_runs.specs.ActsView.{RecordIs}
+use Rattle.lease_runs.specs.OsdView.{wake_step}
+use Rattle.lease_runs.proofs.OsdLeases.{file_at-with_file, at_file, step_keeps, message_step, put_here, put_there, woken_step, wake_shows, handled, woke_all}
+use Rattle.lease_runs.proofs.ActSteps.{step_rec, wake_step_rec, wake_step_kept, woken_quiet}
 use Rattle.file_runs.specs.FileRuns.{FileNode, FileWorld, Happening, wake, goes_on, stops_kept, stops_lost, acts, starts, after, acted, keeping}
 use Rattle.cluster_runs.specs.World.{World, Node, Running, osd, node_in}
 use Rattle.cluster_runs.specs.NodeSteps.{outside_of, after_turn, halted, one_more}
 use Rattle.cluster_runs.specs.Lines.{starts_as, next_boot, osd_starting, runs}
-use Rattle.world_leases.specs.View.{awake_as}
-use Rattle.world_leases.proofs.Woken.{AtMap, found_at, found_nowhere, at_map}
+use Rattle.world_runs.specs.View.{awake_as}
+use Rattle.world_runs.proofs.Woken.{AtMap, found_at, found_nowhere, at_map}
 use Rattle.world_files.specs.Seen.{file_seen, core_state, up_state, kept_seen, nodes_seen, Sees, IsOf, IsElsewhere, IsNotOf}
 use Rattle.world_files.specs.Events.{RunsAs, IsAwake, site_at, step_at, stepped, ShowsMessage, ShowsOthers}
 use Rattle.world_files.proofs.Records.{keeps_other}

@@ -5,19 +5,19 @@ use Rattle.xt_base.specs.declared.ids.FileId.{FileId}
 use Rattle.xt_messages.specs.declared.file.Op.{Op}
 use Rattle.xt_messages.specs.declared.message.Msg.{Msg}
 use Rattle.osd_invariants.specs.Sound.{IsHeld}
-use Rattle.osd_lease_views.specs.OsdView.{site_of}
+use Rattle.lease_runs.specs.OsdView.{site_of}
 use Rattle.osd_rows.specs.FileStates.{FileState, Site, FileStep}
 use Rattle.osd_rows.specs.OsdSteps.{OsdState}
 use Rattle.osd_rows.specs.declared.Tenure.{Tenure}
-use Rattle.osd_replica_views.specs.FileView.{IsFree, settled}
-use Rattle.osd_replica_views.proofs.Files.{expired_tenure}
+use Rattle.replica_runs.specs.FileView.{IsFree, settled}
+use Rattle.replica_runs.proofs.Files.{expired_tenure}
 use Rattle.replica_runs.specs.Steps.{without}
 use Rattle.file_runs.specs.FileRuns.{FileWorld, Happening, Ending, goes_on, stops_lost, acts, step_on, acted, holder_after, Comes, MayEnd, May}
 use Rattle.cluster_runs.specs.World.{World, Node, Running, osd, node_in, with_node}
 use Rattle.cluster_runs.specs.NodeSteps.{outside_of}
-use Rattle.world_leases.specs.View.{awake_as}
-use Rattle.world_leases.specs.Worlds.{IsInOrder, Leads}
-use Rattle.world_leases.proofs.Tables.{node_in-other}
+use Rattle.world_runs.specs.View.{awake_as}
+use Rattle.world_runs.specs.Worlds.{IsInOrder, Leads}
+use Rattle.world_runs.proofs.Tables.{node_in-other}
 use Rattle.world_files.specs.Seen.{file_seen, Sees}
 use Rattle.world_files.specs.Events.{RunsAs, site_at}
 use Rattle.world_files.specs.May.{LeadersHold}

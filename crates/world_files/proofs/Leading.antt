@@ -9,19 +9,19 @@ use Rattle.xt_messages.specs.declared.message.Msg.{Msg}
 use Rattle.xt_protocol.specs.Folds.{fold_of}
 use Rattle.xt_protocol.specs.LeaseRows.{LeaseState, free, asking, writing, held, lease_expired, has_turn, has_run_out, round_over, renewal_left}
 use Rattle.osd_invariants.specs.Sound.{IsHeld}
-use Rattle.osd_lease_views.specs.OsdView.{site_of}
+use Rattle.lease_runs.specs.OsdView.{site_of}
 use Rattle.osd_rows.specs.FileStates.{FileState, Site}
 use Rattle.osd_rows.specs.OsdSteps.{OsdState}
 use Rattle.osd_rows.specs.Overdue.{expired, lease_became, deadlines_under}
 use Rattle.osd_rows.specs.declared.Tenure.{Tenure}
-use Rattle.osd_replica_views.specs.FileView.{settled}
+use Rattle.replica_runs.specs.FileView.{settled}
 use Rattle.cluster_runs.specs.declared.ClientState.{ClientState}
 use Rattle.cluster_runs.specs.World.{World, Node, Running, osd, client, node_in, with_node}
 use Rattle.cluster_runs.specs.Lines.{osd_starting, ticked}
 use Rattle.cluster_runs.specs.NodeSteps.{outside_of}
-use Rattle.world_leases.specs.View.{awake_as}
-use Rattle.world_leases.specs.Worlds.{IsInOrder, Leads}
-use Rattle.world_leases.proofs.Tables.{same, node_in-before, node_in-ticked}
+use Rattle.world_runs.specs.View.{awake_as}
+use Rattle.world_runs.specs.Worlds.{IsInOrder, Leads}
+use Rattle.world_runs.proofs.Tables.{same, node_in-before, node_in-ticked}
 use Rattle.world_files.specs.Seen.{file_seen}
 use Rattle.world_files.specs.Events.{RunsAs}
 use Rattle.world_files.proofs.Events.{started_at}

@@ -8,16 +8,16 @@ use Rattle.xt_messages.specs.declared.message.Msg.{Msg}
 use Rattle.xt_protocol.specs.LeaseRows.{Silent}
 use Rattle.osd_rows.specs.OsdSteps.{OsdState}
 use Rattle.osd_rows.specs.Overdue.{expired}
-use Rattle.osd_lease_views.specs.OsdView.{site_of}
-use Rattle.osd_lease_views.proofs.OsdLeases.{at_file}
-use Rattle.osd_replica_views.specs.FileView.{IsFree}
+use Rattle.lease_runs.specs.OsdView.{site_of}
+use Rattle.lease_runs.proofs.OsdLeases.{at_file}
+use Rattle.replica_runs.specs.FileView.{IsFree}
 use Rattle.replica_runs.specs.Steps.{without}
 use Rattle.file_runs.specs.FileRuns.{FileNode, FileWorld, lapses}
 use Rattle.cluster_runs.specs.World.{World, Node, Running, osd}
 use Rattle.xt_protocol.specs.SeenBodies.{body_by}
 use Rattle.cluster_runs.specs.NodeSteps.{outside_of}
-use Rattle.world_leases.specs.View.{awake_as}
-use Rattle.world_leases.specs.Worlds.{IsInOrder, Leads, CoreFits, UpFits}
+use Rattle.world_runs.specs.View.{awake_as}
+use Rattle.world_runs.specs.Worlds.{IsInOrder, Leads, CoreFits, UpFits}
 use Rattle.world_files.specs.Seen.{file_seen, core_state, up_state, Sees}
 use Rattle.world_files.specs.Events.{RunsAs}
 use Rattle.world_files.specs.May.{StandsFor, LeadersHold, IsFreed}

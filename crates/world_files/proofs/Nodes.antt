@@ -12,7 +12,7 @@ use Rattle.file_runs.specs.FileRuns.{FileNode, FileWorld, keeping}
 use Rattle.cluster_runs.specs.World.{World, Node, Running, node_in, with_node}
 use Rattle.cluster_runs.specs.NodeSteps.{one_more}
 use Rattle.cluster_runs.specs.Lines.{ticked}
-use Rattle.world_leases.proofs.Tables.{node_in-new, node_in-other, node_in-last, node_in-before, node_in-ticked}
+use Rattle.world_runs.proofs.Tables.{node_in-new, node_in-other, node_in-last, node_in-before, node_in-ticked}
 use Rattle.world_files.specs.Seen.{core_state, up_state, kept_seen, node_seen, nodes_seen, Sees, IsOf, IsNotOf}
 use Rattle.world_files.proofs.Records.{keeps_own, keeps_other}
 

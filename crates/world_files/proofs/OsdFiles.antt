@@ -19,19 +19,19 @@ use Rattle.osd_rows.specs.OsdSteps.{OsdState, OsdStep, file_at, each_file, woken
 use Rattle.osd_rows.specs.Overdue.{expired}
 use Rattle.osd_rows.specs.Turns.{quiet}
 use Rattle.osd_invariants.specs.Sound.{IsHeld}
-use Rattle.osd_lease_views.specs.LeaseView.{settled_row}
-use Rattle.osd_lease_views.specs.OsdView.{wake_step}
-use Rattle.osd_lease_views.proofs.OsdLeases.{at_file, handled, woken_step, woke_all, wake_shows}
-use Rattle.osd_lease_views.proofs.ActSteps.{step_marks, wake_step_kept, woken_quiet}
+use Rattle.lease_runs.specs.LeaseView.{settled_row}
+use Rattle.lease_runs.specs.OsdView.{wake_step}
+use Rattle.lease_runs.proofs.OsdLeases.{at_file, handled, woken_step, woke_all, wake_shows}
+use Rattle.lease_runs.proofs.ActSteps.{step_marks, wake_step_kept, woken_quiet}
 use Rattle.cluster_runs.specs.World.{Node, Running}
 use Rattle.cluster_runs.specs.Lines.{declared_file}
 use Rattle.cluster_runs.specs.NodeSteps.{entry_of, outside_of}
 use Rattle.cluster_runs.specs.declared.DeclaredFile.{DeclaredFile}
-use Rattle.world_leases.specs.View.{awake_as}
-use Rattle.world_leases.specs.Worlds.{FileFits, Rises, files_of}
-use Rattle.world_leases.proofs.Files.{at_fits, held_busy, unbusy}
-use Rattle.world_leases.proofs.Lists.{has_in, has_left, has_right}
-use Rattle.world_leases.proofs.Woken.{AtMap, found_at, found_nowhere, at_map, one_state}
+use Rattle.world_runs.specs.View.{awake_as}
+use Rattle.world_runs.specs.Worlds.{FileFits, Rises, files_of}
+use Rattle.world_runs.proofs.Files.{at_fits, held_busy, unbusy}
+use Rattle.world_runs.proofs.Lists.{has_in, has_left, has_right}
+use Rattle.world_runs.proofs.Woken.{AtMap, found_at, found_nowhere, at_map, one_state}
 use Rattle.world_files.specs.Seen.{file_seen, IsNotOf}
 use Rattle.world_files.specs.Events.{IsAwake, site_at, step_at}
 use Rattle.world_files.proofs.Events.{is_whole, other_stays, not_its}

@@ -18,24 +18,24 @@ use Rattle.lease_safety.specs.State.{Has}
 use Rattle.osd_rows.specs.FileStates.{FileState, Site, FileStep}
 use Rattle.osd_rows.specs.FileSteps.{step_of_file}
 use Rattle.osd_rows.specs.OsdSteps.{OsdState, OsdStep, file_concerned}
-use Rattle.osd_lease_views.specs.OsdView.{wake_step}
-use Rattle.osd_lease_views.proofs.OsdLeases.{at_file, handled, woken_step}
-use Rattle.osd_lease_views.proofs.ActSteps.{wake_step_marks, woken_quiet}
-use Rattle.osd_replica_views.specs.FileView.{AskComes}
+use Rattle.lease_runs.specs.OsdView.{wake_step}
+use Rattle.lease_runs.proofs.OsdLeases.{at_file, handled, woken_step}
+use Rattle.lease_runs.proofs.ActSteps.{wake_step_marks, woken_quiet}
+use Rattle.replica_runs.specs.FileView.{AskComes}
 use Rattle.replica_runs.specs.HeadWorld.{shown}
 use Rattle.file_runs.specs.FileRuns.{FileWorld, Sent, Tale, Happening, message, wake, step_on, sent_by}
 use Rattle.cluster_runs.specs.World.{World, Node, Running, osd}
 use Rattle.cluster_runs.specs.Lines.{declared_file}
 use Rattle.cluster_runs.specs.NodeSteps.{entry_of, outside_of, one_more, to_itself}
-use Rattle.world_leases.specs.View.{awake_as, messages}
-use Rattle.world_leases.specs.Worlds.{IsInOrder, CoreFits, UpFits}
-use Rattle.world_leases.proofs.Fit.{IsFit}
-use Rattle.world_leases.proofs.Lists.{has_left, has_right}
-use Rattle.world_leases.proofs.Order.{in_order}
-use Rattle.world_leases.proofs.Tables.{node_in-new}
-use Rattle.world_leases.proofs.Walk.{Reaches}
-use Rattle.world_ends.proofs.Steps.{Fits, came}
-use Rattle.world_ends.proofs.Runs.{asks_begun}
+use Rattle.world_runs.specs.View.{awake_as, messages}
+use Rattle.world_runs.specs.Worlds.{IsInOrder, CoreFits, UpFits}
+use Rattle.world_runs.proofs.Fit.{IsFit}
+use Rattle.world_runs.proofs.Lists.{has_left, has_right}
+use Rattle.world_runs.proofs.Order.{in_order}
+use Rattle.world_runs.proofs.Tables.{node_in-new}
+use Rattle.world_runs.proofs.Walk.{Reaches}
+use Rattle.world_runs.proofs.Steps.{Fits, came}
+use Rattle.world_runs.proofs.EndRuns.{asks_begun}
 use Rattle.world_files.specs.Seen.{file_seen, IsNotOf}
 use Rattle.world_files.specs.Events.{RunsAs, IsAwake, site_at, step_at, stepped, stopped_with}
 use Rattle.world_files.specs.Steps.{IsRun}

@@ -7,7 +7,7 @@ use Rattle.xt_base.specs.declared.ids.NodeId.{NodeId}
 use Rattle.xt_messages.specs.declared.event.Mark.{Mark}
 use Rattle.xt_messages.specs.declared.event.Mark.TheVariants as mark
 use Rattle.xt_messages.specs.declared.file.Location.{Location}
-use Rattle.osd_lease_views.specs.ActsView.{AreActs}
+use Rattle.lease_runs.specs.ActsView.{AreActs}
 use Rattle.cluster_runs.specs.declared.DeclaredFile.{DeclaredFile}
 use Rattle.time_line.specs.declared.entry.Entry.{Entry}
 use Rattle.time_line.specs.declared.entry.Entry.TheVariants as entry
@@ -15,9 +15,9 @@ use Rattle.time_line.specs.TimeLine.{location_told, location_in}
 use Rattle.cluster_runs.specs.World.{World, start_world, file_in}
 use Rattle.cluster_runs.specs.Lines.{tells}
 use Rattle.cluster_runs.specs.NodeSteps.{entry_of}
-use Rattle.world_leases.proofs.Standings.{AreInert}
-use Rattle.world_leases.proofs.Marks.{MarksFit, inert, wins, acts}
-use Rattle.world_ends.proofs.Entries.{or_assoc}
+use Rattle.world_runs.proofs.Standings.{AreInert}
+use Rattle.world_runs.proofs.Marks.{MarksFit, inert, wins, acts}
+use Rattle.world_runs.proofs.Entries.{or_assoc}
 use Rattle.world_files.specs.Runs.{ArePlaced}
 
 location-append : (number : ℕ) (xs ys : List Entry) → location_in number (xs ++ ys) ≡ option_or (location_in number xs) (location_in number ys)

@@ -5,10 +5,10 @@ use Rattle.xt_base.specs.declared.ids.FileId.{FileId}
 use Rattle.xt_messages.specs.declared.file.Op.{Op}
 use Rattle.xt_protocol.specs.LeaseRows.{LeaseState, free, asking, writing, held}
 use Rattle.osd_invariants.specs.Sound.{IsHeld}
-use Rattle.osd_replica_views.specs.FileView.{IsFree}
+use Rattle.replica_runs.specs.FileView.{IsFree}
 use Rattle.file_runs.specs.FileRuns.{FileWorld, Event, MayAll, after, after_all}
 use Rattle.cluster_runs.specs.World.{World}
-use Rattle.world_leases.specs.Worlds.{Leads}
+use Rattle.world_runs.specs.Worlds.{Leads}
 use Rattle.world_files.specs.Seen.{Sees}
 use Rattle.world_files.specs.May.{LeadersHold, IsFreed}
 use Rattle.world_files.proofs.May.{holders_make_room}

@@ -16,7 +16,7 @@ use Rattle.replica_runs.specs.Made.{IsMade}
 use Rattle.replica_runs.specs.Marks.{Begins}
 use Rattle.file_runs.specs.FileRuns.{first_world, after_all, BeginsFile, IsOnOneOrder}
 use Rattle.file_runs.proofs.Runs.{on_one_order}
-use Rattle.file_traces.proofs.Lists.{length_mapped}
+use Rattle.file_runs.proofs.Lists.{length_mapped}
 use Rattle.time_line.specs.declared.entry.Entry.{Entry}
 use Rattle.time_line.specs.declared.line.Line.{Line}
 use Rattle.time_line.specs.Bounds.{AreLines}
@@ -26,7 +26,7 @@ use Rattle.cluster_runs.specs.World.{World, file_in}
 use Rattle.cluster_runs.specs.Lines.{declared_file, Next, finished, opens, goes_on, ends, begins, steps, so_far}
 use Rattle.cluster_runs.specs.NodeSteps.{Room}
 use Rattle.cluster_runs.specs.Runs.{run_of, IsPartOf, IsRunInto}
-use Rattle.world_leases.proofs.Walk.{NextIs, run_kept, steps_into, so_far_kept}
+use Rattle.world_runs.proofs.Walk.{NextIs, run_kept, steps_into, so_far_kept}
 use Rattle.world_files.specs.Asks.{operations_of, DeclaredList}
 use Rattle.world_files.specs.Runs.{IsRunOfFile, FilesAreRuns, NextAreRuns, ArePlaced, HasOneOrder, FilesAreSafe}
 use Rattle.world_files.proofs.Asks.{operations_are}

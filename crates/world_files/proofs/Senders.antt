@@ -61,8 +61,8 @@ use Rattle.osd_rows.specs.AskRows.{elsewhere, ask_without_lease, ask_under, ask_
 use Rattle.osd_rows.specs.FileSteps.{ask_comes, primary_hears, message_comes, renews, step_of_file, wakes_under_lease, wake_of_file}
 use Rattle.osd_rows.specs.OsdSteps.{file_concerned}
 use Rattle.osd_invariants.proofs.Kept.{wake_keeps}
-use Rattle.osd_lease_views.specs.OsdView.{wake_step}
-use Rattle.osd_lease_views.proofs.LeaseSteps.{expired_keeps}
+use Rattle.lease_runs.specs.OsdView.{wake_step}
+use Rattle.lease_runs.proofs.LeaseSteps.{expired_keeps}
 use Rattle.world_files.specs.Senders.{IsFrom, AreFrom}
 
 -- ---- lists

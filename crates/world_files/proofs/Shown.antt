@@ -11,7 +11,7 @@ use Rattle.xt_messages.specs.declared.message.Msg.{Msg}
 use Rattle.xt_protocol.specs.LeaseRows.{LeaseState}
 use Rattle.osd_rows.specs.OsdSteps.{file_concerned}
 use Rattle.osd_invariants.specs.Sound.{IsHeld}
-use Rattle.osd_lease_views.specs.ActsView.{MarksAre, no_marks, won, acting}
+use Rattle.lease_runs.specs.ActsView.{MarksAre, no_marks, won, acting}
 use Rattle.replica_safety.specs.Lists.{Has}
 use Rattle.replica_runs.specs.HeadWorld.{shown}
 use Rattle.file_runs.specs.FileRuns.{FileWorld, first_world, Tale, after_all}
@@ -22,10 +22,10 @@ use Rattle.time_line.specs.Clauses.{acts_on}
 use Rattle.cluster_runs.specs.World.{World}
 use Rattle.cluster_runs.specs.Lines.{declared_file}
 use Rattle.cluster_runs.specs.NodeSteps.{entry_of}
-use Rattle.world_leases.specs.View.{messages}
-use Rattle.world_leases.specs.Worlds.{Leads}
-use Rattle.world_leases.proofs.Standings.{AreInert}
-use Rattle.world_ends.proofs.Entries.{operation-grown}
+use Rattle.world_runs.specs.View.{messages}
+use Rattle.world_runs.specs.Worlds.{Leads}
+use Rattle.world_runs.proofs.Standings.{AreInert}
+use Rattle.world_runs.proofs.Entries.{operation-grown}
 use Rattle.world_files.specs.Seen.{Sees}
 use Rattle.world_files.specs.Tellings.{TellsAs}
 use Rattle.world_files.specs.Asks.{AreOperations, DeclaredList}

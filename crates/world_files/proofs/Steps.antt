@@ -21,19 +21,19 @@ use Rattle.lease_safety.specs.State.{Has}
 use Rattle.osd_rows.specs.Overdue.{expired}
 use Rattle.osd_invariants.specs.Sound.{IsHeld, IsSound}
 use Rattle.osd_invariants.proofs.SoundSteps
-use Rattle.osd_lease_views.specs.LeaseView.{settled_row}
+use Rattle.lease_runs.specs.LeaseView.{settled_row}
 use Rattle.osd_rows.specs.FileStates.{FileState, Site, FileStep}
 use Rattle.osd_rows.specs.OsdSteps.{OsdState, file_concerned}
 use Rattle.osd_rows.specs.declared.Tenure.{Tenure}
-use Rattle.osd_replica_views.specs.FileView.{IsFree}
+use Rattle.replica_runs.specs.FileView.{IsFree}
 use Rattle.file_runs.specs.FileRuns.{FileWorld, Event, Happening, Sent, Tale, message, wake, goes_on, acts, step_on, sent_by, Comes, May, after, after_all}
 use Rattle.time_line.specs.Clauses.{AreApart}
 use Rattle.cluster_runs.specs.World.{World, Node, Running, osd}
 use Rattle.cluster_runs.specs.NodeSteps.{one_more}
-use Rattle.world_leases.specs.View.{awake_as}
-use Rattle.world_leases.specs.Worlds.{IsInOrder, Leads, CoreFits, UpFits}
-use Rattle.world_leases.proofs.Files.{at_fits}
-use Rattle.world_leases.proofs.Tables.{node_in-new}
+use Rattle.world_runs.specs.View.{awake_as}
+use Rattle.world_runs.specs.Worlds.{IsInOrder, Leads, CoreFits, UpFits}
+use Rattle.world_runs.proofs.Files.{at_fits}
+use Rattle.world_runs.proofs.Tables.{node_in-new}
 use Rattle.world_files.specs.Seen.{file_seen, Sees}
 use Rattle.world_files.specs.Events.{RunsAs, IsAwake, site_at, step_at, stepped}
 use Rattle.world_files.specs.May.{LeadersHold}

@@ -5,8 +5,8 @@ use Rattle.xt_base.specs.declared.ids.OpId.{OpId}
 use Rattle.xt_messages.specs.declared.event.Mark.{Mark}
 use Rattle.xt_messages.specs.declared.event.Mark.TheVariants as mark
 use Rattle.xt_messages.specs.declared.file.Op.{Op}
-use Rattle.osd_lease_views.specs.ActsView.{AreActs}
-use Rattle.osd_replica_views.specs.Seen.{name_of}
+use Rattle.lease_runs.specs.ActsView.{AreActs}
+use Rattle.replica_runs.specs.Seen.{name_of}
 use Rattle.replica_safety.specs.Epochs.{name, Write}
 use Rattle.replica_safety.specs.Lists.{AreDistinct}
 use Rattle.replica_safety.specs.Rules.{Start}
@@ -17,12 +17,12 @@ use Rattle.replica_runs.specs.HeadWorld.{TellsActive, TellsIssue, TellsCommit}
 use Rattle.replica_runs.specs.HeadWorld as heads
 use Rattle.file_runs.specs.FileRuns.{FileWorld, Event, BeginsFile, MayAll, after_all, IsOnOneOrder}
 use Rattle.file_runs.proofs.Runs.{on_one_order}
-use Rattle.file_traces.specs.Traces.{Tells, TellsOne, AnswerTells}
-use Rattle.file_traces.specs.Runs.{IsSafe}
-use Rattle.file_traces.proofs.Named.{of_step}
-use Rattle.file_traces.proofs.Order.{hold}
-use Rattle.file_traces.proofs.Runs.{joined, marked}
-use Rattle.file_traces.proofs.Shown.{show}
+use Rattle.file_runs.specs.Traces.{Tells, TellsOne, AnswerTells}
+use Rattle.file_runs.specs.TraceRuns.{IsSafe}
+use Rattle.file_runs.proofs.Named.{of_step}
+use Rattle.file_runs.proofs.Order.{hold}
+use Rattle.file_runs.proofs.TraceRuns.{joined, marked}
+use Rattle.file_runs.proofs.Shown.{show}
 use Rattle.time_line.specs.declared.entry.Entry.{Entry}
 use Rattle.time_line.specs.declared.entry.Entry.TheVariants as entry
 use Rattle.time_line.specs.Clauses.{acts_on}

@@ -17,7 +17,7 @@ use Rattle.time_line.specs.declared.entry.Halt.{Halt}
 use Rattle.time_line.specs.declared.entry.Halt.TheVariants as halt
 use Rattle.lease_safety.specs.State.{Has}
 use Rattle.osd_rows.specs.OsdSteps.{step_of_osd}
-use Rattle.osd_lease_views.specs.LeaseView.{is_ask}
+use Rattle.lease_runs.specs.LeaseView.{is_ask}
 use Rattle.replica_runs.specs.HeadWorld.{shown}
 use Rattle.file_runs.specs.FileRuns.{FileNode, FileWorld, first_world, starts}
 use Rattle.cluster_runs.specs.declared.ClientState.{ClientState}
@@ -31,17 +31,17 @@ use Rattle.cluster_runs.specs.World.{World, start_world, Node, Running, Core, os
 use Rattle.cluster_runs.specs.Lines.{declared_file, declared_capability, epoch_of, uses, tells, runs, first_boot, next_boot, osd_starting, starts_as, ticked, no_longer_pending}
 use Rattle.cluster_runs.specs.NodeSteps.{entry_of, outside_of, one_more, to_itself, after_turn, halted}
 use Rattle.cluster_runs.specs.Runs.{with_line}
-use Rattle.world_leases.specs.View.{messages}
-use Rattle.world_leases.specs.Worlds.{IsInOrder, Leads, CallFits, CoreFits, UpFits}
-use Rattle.world_leases.proofs.Fit.{IsFit}
-use Rattle.world_leases.proofs.LineSteps.{fits_kept}
-use Rattle.world_leases.proofs.Lists.{has_in, has_left, has_right}
-use Rattle.world_leases.proofs.NodeEvents.{ClientFits, client_step_fits, call_fits, step_next}
-use Rattle.world_leases.proofs.Order.{in_order}
-use Rattle.world_leases.proofs.Tables.{nobody, node_in-new, node_in-last, file_in-stays}
-use Rattle.world_leases.proofs.Walk.{IsKept, NodeStep, of_osd, of_client, of_call, call_step, same_messages}
-use Rattle.world_ends.proofs.Runs.{ends_kept}
-use Rattle.world_ends.proofs.Steps.{Fits, came}
+use Rattle.world_runs.specs.View.{messages}
+use Rattle.world_runs.specs.Worlds.{IsInOrder, Leads, CallFits, CoreFits, UpFits}
+use Rattle.world_runs.proofs.Fit.{IsFit}
+use Rattle.world_runs.proofs.LineSteps.{fits_kept}
+use Rattle.world_runs.proofs.Lists.{has_in, has_left, has_right}
+use Rattle.world_runs.proofs.NodeEvents.{ClientFits, client_step_fits, call_fits, step_next}
+use Rattle.world_runs.proofs.Order.{in_order}
+use Rattle.world_runs.proofs.Tables.{nobody, node_in-new, node_in-last, file_in-stays}
+use Rattle.world_runs.proofs.Walk.{IsKept, NodeStep, of_osd, of_client, of_call, call_step, same_messages}
+use Rattle.world_runs.proofs.EndRuns.{ends_kept}
+use Rattle.world_runs.proofs.Steps.{Fits, came}
 use Rattle.world_files.specs.Seen.{up_state, core_state, kept_seen, nodes_seen, Sees, IsNotOf}
 use Rattle.world_files.specs.Events.{step_at, stepped}
 use Rattle.world_files.specs.Asks.{AreOperations, DeclaredList}

@@ -14,10 +14,10 @@ use Rattle.lease_runs.specs.LeaseWorld.{LeaseSetting, LeaseRow, row_handles, row
 use Rattle.lease_runs.proofs.Tests.{same_node}
 use Rattle.osd_invariants.specs.Sound.{IsHeld, LedUnder}
 use Rattle.osd_invariants.proofs.SoundSteps
-use Rattle.osd_lease_views.specs.LeaseView.{lease_setting, settled_row, Follows, handles, asks, stays, Wakes, renewing, resting}
-use Rattle.osd_lease_views.specs.OsdView.{site_of, wake_step}
-use Rattle.osd_lease_views.proofs.LeaseSteps.{step_follows, expired_shows}
-use Rattle.osd_lease_views.proofs.OsdLeases.{each_wakes}
+use Rattle.lease_runs.specs.LeaseView.{lease_setting, settled_row, Follows, handles, asks, stays, Wakes, renewing, resting}
+use Rattle.lease_runs.specs.OsdView.{site_of, wake_step}
+use Rattle.lease_runs.proofs.LeaseSteps.{step_follows, expired_shows}
+use Rattle.lease_runs.proofs.OsdLeases.{each_wakes}
 use Rattle.osd_rows.specs.FileStates.{FileState, Site, FileStep}
 use Rattle.osd_rows.specs.FileSteps.{step_of_file}
 use Rattle.osd_rows.specs.OsdSteps.{OsdState, file_at}
@@ -28,10 +28,10 @@ use Rattle.time_line.specs.Clauses.{AreApart}
 use Rattle.time_line.specs.TimeLine.{holds}
 use Rattle.cluster_runs.specs.World.{World, Node, Running}
 use Rattle.cluster_runs.specs.NodeSteps.{outside_of}
-use Rattle.world_leases.specs.View.{node_id, awake_as}
-use Rattle.world_leases.specs.Worlds.{IsInOrder, Leads, CoreFits, UpFits}
-use Rattle.world_leases.proofs.Files.{at_fits}
-use Rattle.world_leases.proofs.Tables.{node_in-id}
+use Rattle.world_runs.specs.View.{node_id, awake_as}
+use Rattle.world_runs.specs.Worlds.{IsInOrder, Leads, CoreFits, UpFits}
+use Rattle.world_runs.proofs.Files.{at_fits}
+use Rattle.world_runs.proofs.Tables.{node_in-id}
 use Rattle.world_files.specs.Seen.{file_seen}
 use Rattle.world_files.specs.Events.{RunsAs}
 

@@ -14,14 +14,14 @@ use Rattle.osd_rows.specs.AskRows.{leaves_object}
 use Rattle.osd_rows.specs.FileStates.{FileState, Site, FileStep}
 use Rattle.osd_rows.specs.FileSteps.{step_of_file}
 use Rattle.osd_rows.specs.OsdSteps.{file_concerned}
-use Rattle.osd_replica_views.specs.FileView.{IsList, AskComes}
-use Rattle.osd_replica_views.specs.Seen.{name_of}
+use Rattle.replica_runs.specs.FileView.{IsList, AskComes}
+use Rattle.replica_runs.specs.Seen.{name_of}
 use Rattle.cluster_runs.specs.declared.DeclaredFile.{DeclaredFile}
 use Rattle.time_line.specs.declared.entry.Entry.{Entry}
 use Rattle.time_line.specs.TimeLine.{operation_begun}
 use Rattle.cluster_runs.specs.World.{file_in}
-use Rattle.world_leases.specs.Worlds.{AskFits}
-use Rattle.world_ends.specs.Asks.{HasBegunSo}
+use Rattle.world_runs.specs.Worlds.{AskFits}
+use Rattle.world_runs.specs.Asks.{HasBegunSo}
 
 -- the id of this name
 abbrev pub id_named : ℕ × ℕ → OpId

@@ -10,12 +10,12 @@ use Rattle.xt_protocol.specs.LeaseRows.{awake_at}
 use Rattle.time_line.specs.declared.entry.Halt.{Halt}
 use Rattle.osd_rows.specs.FileStates.{FileState, Site}
 use Rattle.osd_rows.specs.OsdSteps.{OsdState, OsdStep, step_of_osd, file_concerned}
-use Rattle.osd_lease_views.specs.OsdView.{site_of}
+use Rattle.lease_runs.specs.OsdView.{site_of}
 use Rattle.file_runs.specs.FileRuns.{FileWorld, Happening, message, wake, goes_on, stops_kept, stops_lost, acts, starts, after}
 use Rattle.cluster_runs.specs.World.{World, Node, Running, osd, node_in, with_node}
 use Rattle.cluster_runs.specs.NodeSteps.{outside_of, after_turn, halted}
 use Rattle.cluster_runs.specs.Lines.{starts_as, next_boot, ticked}
-use Rattle.world_leases.specs.View.{awake_as}
+use Rattle.world_runs.specs.View.{awake_as}
 use Rattle.world_files.specs.Seen.{file_seen, core_state, node_seen, Sees}
 
 -- a running OSD of a world

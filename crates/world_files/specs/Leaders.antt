@@ -7,10 +7,10 @@ use Rattle.osd_invariants.specs.Sound.{IsHeld}
 use Rattle.osd_rows.specs.FileStates.{FileStep}
 use Rattle.osd_rows.specs.OsdSteps.{OsdState}
 use Rattle.osd_rows.specs.declared.Tenure.{Tenure}
-use Rattle.osd_replica_views.specs.FileView.{IsFree}
+use Rattle.replica_runs.specs.FileView.{IsFree}
 use Rattle.file_runs.specs.FileRuns.{FileWorld, Happening, Ending, goes_on, stops_lost, acts, step_on, acted, Comes, MayEnd, May}
 use Rattle.cluster_runs.specs.World.{World, Node, Running, node_in, with_node}
-use Rattle.world_leases.specs.Worlds.{IsInOrder, Leads}
+use Rattle.world_runs.specs.Worlds.{IsInOrder, Leads}
 use Rattle.world_files.specs.Seen.{file_seen, Sees}
 use Rattle.world_files.specs.Events.{RunsAs, site_at}
 use Rattle.world_files.specs.May.{LeadersHold}

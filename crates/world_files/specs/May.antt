@@ -5,10 +5,10 @@ use Rattle.xt_messages.specs.declared.file.Op.{Op}
 use Rattle.xt_messages.specs.declared.message.Msg.{Msg}
 use Rattle.osd_rows.specs.OsdSteps.{OsdState}
 use Rattle.osd_rows.specs.declared.Tenure.{Tenure}
-use Rattle.osd_replica_views.specs.FileView.{settled, IsFree}
+use Rattle.replica_runs.specs.FileView.{settled, IsFree}
 use Rattle.file_runs.specs.FileRuns.{FileWorld, Event, MayAll, after_all}
 use Rattle.cluster_runs.specs.World.{World, Node, Running}
-use Rattle.world_leases.specs.Worlds.{IsInOrder, Leads}
+use Rattle.world_runs.specs.Worlds.{IsInOrder, Leads}
 use Rattle.world_files.specs.Seen.{file_seen, Sees}
 use Rattle.world_files.specs.Events.{RunsAs, site_at}
 

@@ -11,13 +11,13 @@ use Rattle.replica_runs.specs.HeadOrder.{AreOnOneOrder, AreChanges, IssuesComeFi
 use Rattle.replica_runs.specs.HeadWorld.{shown}
 use Rattle.replica_runs.specs.HeadWorld as heads
 use Rattle.file_runs.specs.FileRuns.{FileWorld, first_world, Event, MayAll, after_all}
-use Rattle.file_traces.specs.Traces.{Tells}
-use Rattle.file_traces.specs.Runs.{IsSafe}
+use Rattle.file_runs.specs.Traces.{Tells}
+use Rattle.file_runs.specs.TraceRuns.{IsSafe}
 use Rattle.time_line.specs.declared.entry.Entry.{Entry}
 use Rattle.time_line.specs.TimeLine.{location_in, is_replicated, stripe_of}
 use Rattle.cluster_runs.specs.World.{World, file_in}
 use Rattle.cluster_runs.specs.Lines.{declared_file, Next, finished, opens, goes_on, ends}
-use Rattle.world_leases.specs.View.{messages}
+use Rattle.world_runs.specs.View.{messages}
 use Rattle.world_files.specs.Seen.{Sees}
 use Rattle.world_files.specs.May.{LeadersHold}
 use Rattle.world_files.specs.Tellings.{TellsAs}

@@ -9,7 +9,7 @@ use Rattle.osd_rows.specs.OsdSteps.{OsdState, file_at}
 use Rattle.file_runs.specs.FileRuns.{FileNode, FileWorld}
 use Rattle.cluster_runs.specs.World.{World, Node, Running, Core, osd, client, node_in}
 use Rattle.xt_protocol.specs.SeenBodies.{body_by}
-use Rattle.world_leases.specs.View.{awake_as}
+use Rattle.world_runs.specs.View.{awake_as}
 
 -- what a running OSD has of a file
 abbrev pub file_seen : FileId → OsdState → FileState

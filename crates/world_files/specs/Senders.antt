@@ -7,7 +7,7 @@ use Rattle.xt_messages.specs.declared.message.Payload.{Payload}
 use Rattle.osd_rows.specs.FileStates.{FileState, Site}
 use Rattle.osd_rows.specs.FileSteps.{step_of_file}
 use Rattle.osd_rows.specs.OsdSteps.{file_concerned}
-use Rattle.osd_lease_views.specs.OsdView.{wake_step}
+use Rattle.lease_runs.specs.OsdView.{wake_step}
 
 -- the message has this sender, and concerns this file
 abbrev pub IsFrom : NodeId → FileId → Msg → Type 0

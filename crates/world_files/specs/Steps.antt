@@ -14,7 +14,7 @@ use Rattle.lease_safety.specs.State.{Has}
 use Rattle.file_runs.specs.FileRuns.{FileWorld, Event, message, wake, step_on, sent_by, Comes, MayAll, after_all}
 use Rattle.time_line.specs.Clauses.{AreApart}
 use Rattle.cluster_runs.specs.World.{World, Node, Running}
-use Rattle.world_leases.specs.Worlds.{IsInOrder}
+use Rattle.world_runs.specs.Worlds.{IsInOrder}
 use Rattle.world_files.specs.Seen.{file_seen, Sees}
 use Rattle.world_files.specs.Events.{RunsAs, IsAwake, site_at, stepped}
 use Rattle.world_files.specs.May.{LeadersHold}

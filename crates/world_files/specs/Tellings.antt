@@ -4,7 +4,7 @@ use Rattle.xt_base.specs.declared.ids.NodeId.{NodeId}
 use Rattle.xt_messages.specs.declared.event.Mark.{Mark}
 use Rattle.xt_messages.specs.declared.file.Op.{Op}
 use Rattle.osd_rows.specs.FileStates.{FileState, Site}
-use Rattle.osd_lease_views.specs.ActsView.{AreActs}
+use Rattle.lease_runs.specs.ActsView.{AreActs}
 use Rattle.replica_safety.specs.Lists.{AreDistinct}
 use Rattle.replica_safety.specs.Rules.{Start}
 use Rattle.replica_runs.specs.Made.{IsMade}
@@ -12,8 +12,8 @@ use Rattle.replica_runs.specs.Marks.{Begins}
 use Rattle.replica_runs.specs.HeadWorld as heads
 use Rattle.file_runs.specs.FileRuns.{Tale, FileWorld, Happening, Event, step_on, BeginsFile, MayAll, after_all}
 use Rattle.file_runs.specs.FileRuns as files
-use Rattle.file_traces.specs.Traces.{Tells}
-use Rattle.file_traces.specs.Runs.{IsSafe}
+use Rattle.file_runs.specs.Traces.{Tells}
+use Rattle.file_runs.specs.TraceRuns.{IsSafe}
 use Rattle.time_line.specs.declared.entry.Entry.{Entry}
 use Rattle.time_line.specs.Clauses.{acts_on}
 use Rattle.cluster_runs.specs.NodeSteps.{entry_of}

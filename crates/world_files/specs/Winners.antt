@@ -4,13 +4,13 @@ use Rattle.xt_base.specs.declared.ids.FileId.{FileId}
 use Rattle.xt_messages.specs.declared.message.Msg.{Msg}
 use Rattle.xt_protocol.specs.LeaseRows.{lease_expired}
 use Rattle.osd_invariants.specs.Sound.{IsHeld}
-use Rattle.osd_lease_views.specs.LeaseView.{settled_row}
+use Rattle.lease_runs.specs.LeaseView.{settled_row}
 use Rattle.osd_rows.specs.FileStates.{FileState, Site}
 use Rattle.osd_rows.specs.OsdSteps.{OsdState}
 use Rattle.file_runs.specs.FileRuns.{Happening, step_on}
 use Rattle.time_line.specs.Clauses.{AreApart}
 use Rattle.cluster_runs.specs.World.{World, Node, Running}
-use Rattle.world_leases.specs.Worlds.{IsInOrder, Leads}
+use Rattle.world_runs.specs.Worlds.{IsInOrder, Leads}
 use Rattle.world_files.specs.Seen.{file_seen}
 use Rattle.world_files.specs.Events.{RunsAs}
 

@@ -2,7 +2,7 @@
 //! more. So each replicated file has one order of writes in the trace, which its answers show.
 //!
 //! The crate has no code to run. It shows so of each thing that may happen in a line, and puts these together by the walk over lines
-//! (`world_leases`).
+//! (`world_runs`).
 #![tactic(auto)]
 
 ghost use Rattle.std.specs.Prelude.{◌≡◌, ℕ, Option, None, List, [], ◌∷◌, ◌++◌};

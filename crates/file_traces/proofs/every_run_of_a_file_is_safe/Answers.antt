@@ -1,6 +1,0 @@
--- The run's entries, and what its trace tells of them.
-use Rattle.file_traces.proofs.Runs.{runs}
-use Rattle.file_traces.proofs.every_run_of_a_file_is_safe.Goals as goal
-
-pub returns : goal.returns
-returns c = runs

@@ -1,6 +1,0 @@
--- Answer by answer.
-use Rattle.file_traces.proofs.Standing.{stand}
-use Rattle.file_traces.proofs.fitting_answers_show_the_file.Goals as goal
-
-pub returns : goal.returns
-returns c = stand

@@ -1,6 +1,0 @@
--- Trace and entries are walked together.
-use Rattle.file_traces.proofs.Issued.{issue_first}
-use Rattle.file_traces.proofs.writes_are_issued_first.Goals as goal
-
-pub returns : goal.returns
-returns c = issue_first

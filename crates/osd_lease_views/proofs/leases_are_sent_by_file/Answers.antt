@@ -1,5 +1,0 @@
-use Rattle.osd_lease_views.proofs.LeaseOuts
-use Rattle.osd_lease_views.proofs.leases_are_sent_by_file.Goals as goal
-
-pub returns : goal.returns
-returns c = record { message = LeaseOuts.message_sends; wake = LeaseOuts.wake_sends }

@@ -1,4 +1,0 @@
-pub mod LeaseView
-pub mod OsdView
-pub mod OutsView
-pub mod ActsView

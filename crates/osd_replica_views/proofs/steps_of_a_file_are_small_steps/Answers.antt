@@ -1,6 +1,0 @@
--- Row by row, in proofs/Files.antt and the modules that it stands on.
-use Rattle.osd_replica_views.proofs.Files.{files_show}
-use Rattle.osd_replica_views.proofs.steps_of_a_file_are_small_steps.Goals as goal
-
-pub returns : goal.returns
-returns c stripe ops members site s holder sent entries distinct orderly fits = files_show stripe ops members site s holder sent entries distinct orderly fits

@@ -1,6 +1,0 @@
--- every run keeps what it told
-use Rattle.world_ends.proofs.Runs.{runs_answered, parts_answered}
-use Rattle.world_ends.proofs.ends_are_answered.Goals as goal
-
-pub returns : goal.returns
-returns c = record { whole = runs_answered; part = parts_answered }

@@ -1,5 +1,0 @@
-use Rattle.world_leases.proofs.Runs
-use Rattle.world_leases.proofs.worlds_are_in_order.Goals as goal
-
-pub returns : goal.returns
-returns c = record { whole = Runs.runs_in_order; steps = Runs.steps_in_order }

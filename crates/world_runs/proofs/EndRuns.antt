@@ -1,0 +1,213 @@
+-- In every run the calls that ended well were answered so before.
+use Rattle.std.proofs.Common.{◌≡◌, ℕ, inl, inr, List, [], ◌∷◌, ◌++◌, map, refl, subst, sym, ◌∙◌, arith, Some, None}
+use Rattle.std.proofs.lemmas.List.{append-nil}
+use Rattle.xt_base.specs.declared.ids.NodeId.{NodeId}
+use Rattle.xt_base.specs.declared.ids.OpId.{OpId}
+use Rattle.xt_messages.specs.declared.message.Msg.{Msg}
+use Rattle.xt_messages.specs.declared.message.Payload.{Payload}
+use Rattle.xt_messages.specs.declared.message.Payload.TheVariants as payload
+use Rattle.xt_messages.specs.declared.record.Record.TheVariants as kept
+use Rattle.xt_messages.specs.declared.event.Event.{Event}
+use Rattle.xt_messages.specs.declared.event.Event.TheVariants as event
+use Rattle.xt_protocol.specs.declared.Turned.{Turned}
+use Rattle.xt_protocol.specs.Folds.{fold_of}
+use Rattle.xt_protocol.specs.LeaseRows.{Awake}
+use Rattle.time_line.specs.declared.entry.Halt.{Halt}
+use Rattle.time_line.specs.declared.entry.Halt.TheVariants as halt
+use Rattle.lease_safety.specs.State.{Has}
+use Rattle.osd_rows.specs.FileStates.{FileState, file_from}
+use Rattle.time_line.specs.declared.entry.Entry.{Entry}
+use Rattle.time_line.specs.declared.entry.Entry.TheVariants as entry
+use Rattle.time_line.specs.declared.line.Line.{Line}
+use Rattle.cluster_runs.specs.declared.Role.TheVariants as role
+use Rattle.time_line.specs.Bounds.{AreLines}
+use Rattle.cluster_runs.specs.Rules.{refusal}
+use Rattle.cluster_runs.specs.Clients.{new_client, knows, aimed, step_of_client}
+use Rattle.time_line.specs.Clauses.{HasBegunOn, EndsAreAnswered}
+use Rattle.cluster_runs.specs.World.{World, Node, Running, Core, osd, client, node_in, with_node}
+use Rattle.cluster_runs.specs.NodeSteps.{Room, halted}
+use Rattle.cluster_runs.specs.Lines.{Next, finished, opens, goes_on, ends, begins, steps, so_far, runs, first_boot, next_boot, osd_starting, ticked, declared_file, epoch_of, declared_capability, uses, no_longer_pending}
+use Rattle.cluster_runs.specs.Runs.{run_of, IsRunInto}
+use Rattle.world_runs.specs.View.{node_id, messages}
+use Rattle.world_runs.proofs.Lists.{has_in, has_left, has_right, has_map}
+use Rattle.world_runs.proofs.Tables.{nobody}
+use Rattle.world_runs.proofs.Walk.{IsKept, NodeStep, of_osd, of_client, of_call, Reaches, same_messages, run_kept, NextIs, steps_into, so_far_kept}
+use Rattle.world_runs.specs.Acts.{ActsHaveBegun}
+use Rattle.world_runs.specs.Asks.{HasBegunSo, AsksHaveBegun, NextHasBegun}
+use Rattle.world_runs.proofs.FileIds.{FileIs}
+use Rattle.world_runs.proofs.OsdIds.{FilesAre, HasBegun, EventHasBegun, new_is}
+use Rattle.world_runs.proofs.Calls.{ContentIs, EventIs, client_step_is}
+use Rattle.world_runs.proofs.Growth.{UpIs, CoreIs, EndsFit, entries-none, fresh-none, ends_answered, acts_begun}
+use Rattle.world_runs.proofs.Steps.{Fits, Owes, told_fit, changed_fit, same_nodes, put_fit, add_fit, tick_fit, stepped_fits, osd_owes, client_owes, fits_so, call_owes}
+
+-- ---- any step of a node
+
+content_begun : (es : List Entry) (from to : NodeId) (content : Payload) → ContentIs es from to content → HasBegun es from content
+content_begun es from to (payload.Ask number capability asked) is = (asked, is.0)
+content_begun es from to _ is = tt
+
+event_begun : (w : World) (was : List Msg) (node : NodeId) (happens : Event) → Fits w was → Reaches w was node happens → EventHasBegun w.entries happens
+event_begun w was node (event.Deliver msg) fit reaches = content_begun w.entries msg.from msg.to msg.payload (fit.messages msg reaches.1)
+event_begun w was node event.Wake fit reaches = tt
+event_begun w was node (event.Call call) fit reaches = tt
+
+event_is : (w : World) (was : List Msg) (node : NodeId) (next : ℕ) (happens : Event) → Fits w was → Reaches w was node happens → EventIs w.entries node next happens
+event_is w was node next (event.Deliver msg) fit reaches = subst (λ (to : NodeId). ContentIs w.entries msg.from to msg.payload) reaches.0 (fit.messages msg reaches.1)
+event_is w was node next event.Wake fit reaches = tt
+event_is w was node next (event.Call call) fit reaches = tt
+
+core_of : (w : World) (was : List Msg) (node : Node) (r : Running) → node_in w.nodes node.id.0 ≡ Some node → node.up ≡ Some r → Fits w was → CoreIs w.entries node.id r.core
+core_of w was node r found is_up fit = subst (UpIs w.entries node.id) is_up (fit.nodes_are node.id.0 node found)
+
+node_owes : (w : World) (was : List Msg) (node : Node) (r : Running) (next : Core) (turned : Turned) → node_in w.nodes node.id.0 ≡ Some node → node.up ≡ Some r → Fits w was
+    → NodeStep w was node r next turned → Owes w.entries node.id next turned
+node_owes w was node r _ _ found is_up fit (of_osd s happens is_osd reaches) =
+    osd_owes w.entries node s r.clock happens fit.ends (subst (CoreIs w.entries node.id) is_osd (core_of w was node r found is_up fit)) (event_begun w was node.id happens fit reaches)
+node_owes w was node r _ _ found is_up fit (of_client c happens is_client reaches) =
+    let core = subst (CoreIs w.entries node.id) is_client (core_of w was node r found is_up fit) in
+    client_owes w.entries node.id c (step_of_client node.id w.times c r.clock happens) fit.ends core.1
+    (client_step_is w.entries node.id c.next w.times c r.clock happens (core.0, refl) (event_is w was node.id c.next happens fit reaches))
+node_owes w was node r _ _ found is_up fit (of_call c k number location asked is_client resting bound called declared does) =
+    let core = subst (CoreIs w.entries node.id) is_client (core_of w was node r found is_up fit) in
+    let capability = declared_capability number location (epoch_of c (declared_file number) k) in
+    call_owes w.entries node.id w.times (uses c capability) r.clock capability k asked fit.ends core called does (fits_so k asked bound does)
+
+-- ---- what else may happen
+
+-- an OSD that starts has no asks
+starting_is : (es : List Entry) (w : World) (node : Node) (clock : ℕ) → FilesAre es (osd_starting w.times node (next_boot node.kept) clock).files
+starting_is es w node clock f h =
+    let awake : Awake = record { node = node.id; boot = next_boot node.kept; times = w.times } in
+    let row = has_map (file_from awake) (fold_of node.kept).files f h in
+    subst (λ (x : FileState). FileIs (λ (id : OpId). HasBegunOn x.kept.file.number es id) x) (sym row.2) (new_is (λ (id : OpId). HasBegunOn (file_from awake row.0).kept.file.number es id) awake row.0)
+
+-- a node stops
+halts : (w : World) (own : List Msg) (node old : Node) (r : Running) (how : Halt) → node_in w.nodes node.id.0 ≡ Some old → Fits w own → Fits (halted w node r how) []
+halts w own node old r how found fit =
+    let there : Node = record node { up = None } in
+    let fewer : EndsFit w.nodes w.entries (messages w) = record { nodes_are = fit.nodes_are; strangers = fit.strangers; messages = λ m h. fit.messages m (has_right m own (messages w) h); ends = fit.ends } in
+    told_fit w.nodes (with_node w.nodes there) w.entries (messages w) (entry.Down node.id r.clock how) (record { begins = λ id. refl; ends = λ es. tt })
+    (put_fit w.nodes w.entries (messages w) there old found tt fewer) fewer
+
+fewer_fits : (w : World) (own left : List Msg) → ((m : Msg) → Has m left → Has m own) → Fits w own → Fits w left
+fewer_fits w own left within fit =
+    record {
+      nodes_are = fit.nodes_are;
+      strangers = fit.strangers;
+      messages = λ m h. fit.messages m (elim (has_in m left (messages w) h) [
+        | inl l ↦ has_left m own (messages w) (within m l)
+        | inr s ↦ has_right m own (messages w) s
+      ]);
+      ends = fit.ends;
+    }
+
+less_pending : (w : World) (own : List Msg) (number : ℕ) → Fits w own → Fits (record w { sent = no_longer_pending w.sent number }) own
+less_pending w own number fit =
+    let next : World = record w { sent = no_longer_pending w.sent number } in
+    record {
+      nodes_are = fit.nodes_are;
+      strangers = fit.strangers;
+      messages = λ m h. fit.messages m (elim (has_in m own (messages next) h) [
+        | inl mine ↦ has_left m own (messages w) mine
+        | inr sent ↦ has_right m own (messages w) (same_messages w.sent number m sent)
+      ]);
+      ends = fit.ends;
+    }
+
+-- nothing is there yet
+nothing_fits : EndsFit [] [] []
+nothing_fits =
+    record {
+      nodes_are = λ n node is. absurd (let none : None ≡ Some node = sym (nobody n) ∙ is in cc);
+      strangers = λ n none. fresh-none (node_id n) 0;
+      messages = λ m h. absurd h;
+      ends = entries-none;
+    }
+
+pub ends_kept : IsKept Fits
+ends_kept =
+    record {
+      begins = nothing_fits;
+      times = λ lease drift bound. told_fit [] [] [] [] (entry.Times lease drift) (record { begins = λ id. refl; ends = λ es. tt }) (same_nodes [] [] [] nothing_fits) nothing_fits;
+      osd_declared = λ w id bound free fit.
+          let new : Node = record { id = id; role = role.Osd; kept = []; up = None } in
+          subst (λ (es : List Entry). EndsFit (w.nodes ++ new ∷ []) es (messages w)) (sym (append-nil w.entries))
+          (changed_fit w.nodes (w.nodes ++ new ∷ []) w.entries (messages w) (add_fit w.nodes w.entries (messages w) new free tt fit) fit);
+      client_declared = λ w id clock bound free fit.
+          let new : Node = record { id = id; role = role.Client; kept = []; up = Some (runs first_boot clock (client (new_client clock))) } in
+          told_fit w.nodes (w.nodes ++ new ∷ []) w.entries (messages w) (entry.Up id first_boot clock) (record { begins = λ id. refl; ends = λ es. tt })
+          (add_fit w.nodes w.entries (messages w) new free (tt, λ k above. fit.strangers id.0 free k (omega arith)) fit) fit;
+      file_declared = λ w number location bound free fit.
+          told_fit w.nodes w.nodes w.entries (messages w) (entry.File number location) (record { begins = λ id. refl; ends = λ es. tt }) (same_nodes w.nodes w.entries (messages w) fit) fit;
+      started = λ w node clock bound found down close fit.
+          let there : Node = record node { kept = node.kept ++ kept.Boot (next_boot node.kept) ∷ []; up = Some (runs (next_boot node.kept) clock (osd (osd_starting w.times node (next_boot node.kept) clock))) } in
+          told_fit w.nodes (with_node w.nodes there) w.entries (messages w) (entry.Up node.id (next_boot node.kept) clock) (record { begins = λ id. refl; ends = λ es. tt })
+          (put_fit w.nodes w.entries (messages w) there node found (starting_is w.entries w node clock) fit) fit;
+      planned = λ w node r q found is_up boot clock core fit.
+          let there : Node = record node { up = Some q } in
+          changed_fit w.nodes (with_node w.nodes there) w.entries (messages w)
+          (put_fit w.nodes w.entries (messages w) there node found (subst (CoreIs w.entries node.id) (sym core) (core_of w [] node r found is_up fit)) fit) fit;
+      aimed_at = λ w node r c number target found is_up is_client fit.
+          let there : Node = record node { up = Some (record r { core = client (knows c (declared_file number) (aimed target)) }) } in
+          changed_fit w.nodes (with_node w.nodes there) w.entries (messages w)
+          (put_fit w.nodes w.entries (messages w) there node found (subst (CoreIs w.entries node.id) is_client (core_of w [] node r found is_up fit)) fit) fit;
+      stopped = λ w own node r how found is_up fit. halts w own node node r how found fit;
+      clock_set = λ w node r clock bound found is_up rises close fit.
+          let there : Node = record node { up = Some (record r { clock = clock }) } in
+          told_fit w.nodes (with_node w.nodes there) w.entries (messages w) (entry.Clock node.id clock) (record { begins = λ id. refl; ends = λ es. tt })
+          (put_fit w.nodes w.entries (messages w) there node found (core_of w [] node r found is_up fit) fit) fit;
+      all_ticked = λ w count bound fit.
+          told_fit w.nodes (map (ticked count) w.nodes) w.entries (messages w) (entry.Tick count) (record { begins = λ id. refl; ends = λ es. tt }) (tick_fit w.nodes w.entries (messages w) count fit) fit;
+      less_pending = less_pending;
+      lost = fewer_fits;
+      stepped = λ w was own node r next turned outs rest within found is_up step split fit.
+          stepped_fits w was own node r next turned outs within (λ m h. subst (Has m) (sym split) (has_left m outs rest h)) found (node_owes w was node r next turned found is_up fit step) fit;
+      stopped_keeping = λ w own node r next turned rec found is_up step e fit.
+          halts w own (record node { kept = node.kept ++ rec ∷ [] }) node (record r { core = next }) halt.Kept found fit;
+      lined = λ w l fit. fit;
+    }
+
+-- ---- every run
+
+pub runs_answered : (room : Room) (lines : List Line) (file : ℕ) → AreLines lines → EndsAreAnswered file (run_of room lines).entries
+runs_answered room lines file are = ends_answered (run_of room lines).entries file (run_kept Fits ends_kept room lines are).ends
+
+pub parts_answered : (room : Room) (lines : List Line) (l : Line) (file : ℕ) (entries : List Entry) → AreLines (lines ++ l ∷ []) → refusal (run_of room lines) l ≡ None → IsRunInto room lines l entries → EndsAreAnswered file entries
+parts_answered room lines l file entries are allowed into =
+    let part = so_far (steps into.1.0 room (begins (run_of room lines) l)) in
+    let fit : Fits (so_far (steps into.1.0 room (begins (run_of room lines) l))) []
+    = so_far_kept Fits ends_kept (steps into.1.0 room (begins (run_of room lines) l)) (steps_into Fits ends_kept room lines l into.1.0 are allowed) in
+    subst (EndsAreAnswered file) into.2 (subst (λ (part : World). EndsAreAnswered file part.entries) into.1.2 (ends_answered part.entries file fit.ends))
+
+-- ---- acts
+
+pub runs_acts_begun : (room : Room) (lines : List Line) (file : ℕ) → AreLines lines → ActsHaveBegun file (run_of room lines).entries
+runs_acts_begun room lines file are = acts_begun (run_of room lines).entries file (run_kept Fits ends_kept room lines are).ends
+
+pub parts_acts_begun : (room : Room) (lines : List Line) (l : Line) (file : ℕ) (entries : List Entry) → AreLines (lines ++ l ∷ []) → refusal (run_of room lines) l ≡ None → IsRunInto room lines l entries → ActsHaveBegun file entries
+parts_acts_begun room lines l file entries are allowed into =
+    let part = so_far (steps into.1.0 room (begins (run_of room lines) l)) in
+    let fit : Fits (so_far (steps into.1.0 room (begins (run_of room lines) l))) []
+    = so_far_kept Fits ends_kept (steps into.1.0 room (begins (run_of room lines) l)) (steps_into Fits ends_kept room lines l into.1.0 are allowed) in
+    subst (ActsHaveBegun file) into.2 (subst (λ (part : World). ActsHaveBegun file part.entries) into.1.2 (acts_begun part.entries file fit.ends))
+
+-- ---- asks
+
+ask_begun : (es : List Entry) (from to : NodeId) (content : Payload) → ContentIs es from to content → HasBegunSo es from content
+ask_begun es from to (payload.Ask number capability asked) is = is
+ask_begun es from to _ is = tt
+
+pub asks_begun : (w : World) (own : List Msg) → Fits w own → AsksHaveBegun w own
+asks_begun w own fit m h = ask_begun w.entries m.from m.to m.payload (fit.messages m h)
+
+next_begun : (next : Next) → NextIs Fits ends_kept next → NextHasBegun next
+next_begun (finished w) fit = asks_begun w [] fit
+next_begun (opens l w) fit = asks_begun w [] fit.0
+next_begun (goes_on d) fit = asks_begun d.world d.own fit
+next_begun (ends cause w) fit = asks_begun w [] fit
+
+pub runs_begun : (room : Room) (lines : List Line) → AreLines lines → AsksHaveBegun (run_of room lines) []
+runs_begun room lines are = asks_begun (run_of room lines) [] (run_kept Fits ends_kept room lines are)
+
+pub steps_begun : (room : Room) (lines : List Line) (l : Line) (k : ℕ) → AreLines (lines ++ l ∷ []) → refusal (run_of room lines) l ≡ None → NextHasBegun (steps k room (begins (run_of room lines) l))
+steps_begun room lines l k are allowed = next_begun (steps k room (begins (run_of room lines) l)) (steps_into Fits ends_kept room lines l k are allowed)

@@ -1,0 +1,343 @@
+-- what holds of the files of an OSD in a world: their lists are the declared ones
+use Rattle.std.proofs.Common.{◌≡◌, ℕ, inl, inr, List, [], ◌∷◌, ◌++◌, map, refl, arith, ap, sym, ◌∙◌, subst, Option, Some, None, Bool, true, false}
+use Rattle.std.specs.Prelude.{cond}
+use Rattle.xt_base.specs.TimeSettings.{TimeSettings}
+use Rattle.xt_base.specs.declared.ids.NodeId.{NodeId}
+use Rattle.xt_base.specs.declared.ids.FileId.{FileId}
+use Rattle.xt_base.specs.declared.ids.Boot.{Boot}
+use Rattle.xt_messages.specs.declared.file.Location.{Location}
+use Rattle.xt_messages.specs.declared.message.Payload.{Payload}
+use Rattle.xt_messages.specs.declared.message.Payload.TheVariants as payload
+use Rattle.xt_messages.specs.declared.record.Record.{Record}
+use Rattle.xt_messages.specs.declared.record.Record.TheVariants as kept
+use Rattle.xt_messages.specs.declared.record.FileRow.{FileRow}
+use Rattle.xt_messages.specs.declared.record.Folded.{Folded}
+use Rattle.xt_protocol.specs.FileIds.{is_file}
+use Rattle.xt_protocol.specs.Folds.{fold_of, folded_after, row_in, row_after, rows_after, new_row, file_of}
+use Rattle.xt_protocol.proofs.Folds.{file-equal, row_in-with_row, fold_of-push, fold_of-nothing, row_in-file, row_after-file}
+use Rattle.xt_protocol.specs.LeaseRows.{Silent, Awake, LeaseState, free, asking, writing, held, lease_expired, on_answer}
+use Rattle.lease_safety.specs.State.{Has}
+use Rattle.lease_runs.specs.LeaseWorld.{LeaseSetting, LeaseRow, row_handles}
+use Rattle.osd_rows.specs.ReplicaRows.{kept_after}
+use Rattle.osd_rows.specs.FileStates.{FileState, Site, FileStep, file_from}
+use Rattle.osd_rows.specs.FileSteps.{step_of_file}
+use Rattle.osd_rows.specs.OsdSteps.{OsdState, osd_from, file_at, file_concerned}
+use Rattle.osd_invariants.specs.Sound.{IsHeld, IsStored}
+use Rattle.osd_invariants.proofs.Kept.{step_follows}
+use Rattle.osd_invariants.proofs.SoundSteps
+use Rattle.osd_rows.specs.Overdue.{expired}
+use Rattle.lease_runs.specs.LeaseView.{is_ask, lease_setting, settled_row, Follows, handles, asks, stays, Wakes, renewing, resting}
+use Rattle.lease_runs.specs.OsdView.{wake_step}
+use Rattle.lease_runs.specs.ActsView.{IsBusy, RecordIs}
+use Rattle.lease_runs.proofs.LeaseSteps as lease_steps
+use Rattle.lease_runs.proofs.OsdLeases.{each_wakes}
+use Rattle.lease_runs.proofs.ActSteps.{step_rec, wake_step_kept}
+use Rattle.cluster_runs.specs.declared.DeclaredFile.{DeclaredFile}
+use Rattle.cluster_runs.specs.World.{file_in}
+use Rattle.cluster_runs.specs.Lines.{declared_file}
+use Rattle.osd_rows.specs.OsdSteps.{with_file}
+use Rattle.cluster_runs.specs.NodeSteps.{one_more}
+use Rattle.world_runs.specs.View.{awake_as}
+use Rattle.lease_runs.proofs.OsdLeases.{file_at-with_file, at_file}
+use Rattle.world_runs.proofs.Rising.{with_row_has, with_row_rises}
+use Rattle.world_runs.specs.Worlds.{Agrees, Rises, files_of, row_files, Listed, AskFits, FileFits, RowsFit, OsdFits}
+
+-- ---- what is declared
+
+-- a record that stores a list stores the declared one
+abbrev pub RecordFits : List DeclaredFile → Record → Type 0
+RecordFits files (kept.View file location) = file_in files file.number ≡ Some location
+RecordFits files _ = Unit {0}
+
+-- ---- records
+
+record_of : (files : List DeclaredFile) (file : FileId) (content : Payload) (rec : Record) → AskFits files content → (is_ask content ≡ true → file_concerned content ≡ Some file)
+    → RecordIs file content (Some rec) → RecordFits files rec
+record_of files file content (kept.View f location) fits concerns is = viewed content fits concerns is
+  where
+    viewed : (content : Payload) → AskFits files content → (is_ask content ≡ true → file_concerned content ≡ Some file) → RecordIs file content (Some (kept.View f location)) → file_in files f.number ≡ Some location
+    viewed (payload.Ask number capability asked) fits concerns is =
+        let here : Some capability.file ≡ Some file = concerns refl in
+        let same : capability.file ≡ f = (let e : capability.file ≡ file = cc in e ∙ sym is.0) in
+        subst (λ (f : FileId). file_in files f.number ≡ Some location) same (fits.1 ∙ ap (λ l. Some l) is.1)
+    viewed (payload.Read file ballot) fits concerns is = absurd is.1
+    viewed (payload.Promise file ballot boot report) fits concerns is = absurd is.1
+    viewed (payload.Write file ballot boot lease) fits concerns is = absurd is.1
+    viewed _ fits concerns is = absurd is.1
+record_of files file content _ fits concerns is = tt
+
+listed_after : (files : List DeclaredFile) (row : FileRow) (rec : Record) → RecordFits files rec → file_of rec ≡ Some row.file → Listed files row.file row.location
+    → Listed files (row_after row rec).file (row_after row rec).location
+listed_after files row (kept.Promise file epoch) fits is listed = listed
+listed_after files row (kept.Update file update) fits is listed = listed
+listed_after files row (kept.Stage file object version bytes) fits is listed = listed
+listed_after files row (kept.Head file head) fits is listed = listed
+listed_after files row (kept.View file location) fits is listed = (let same : file ≡ row.file = cc in subst (λ (f : FileId). file_in files f.number ≡ Some location) same fits)
+listed_after files row (kept.Boot boot) fits is listed = listed
+listed_after files row (kept.Meta from number now nodes request) fits is listed = listed
+
+stored_after : (row : FileRow) (rec : Option Record) → IsStored row.location → IsStored (kept_after row rec).location
+stored_after row None stored = stored
+stored_after row (Some (kept.Promise file epoch)) stored = stored
+stored_after row (Some (kept.Update file update)) stored = stored
+stored_after row (Some (kept.Stage file object version bytes)) stored = stored
+stored_after row (Some (kept.Head file head)) stored = stored
+stored_after row (Some (kept.View file location)) stored = tt
+stored_after row (Some (kept.Boot boot)) stored = stored
+stored_after row (Some (kept.Meta from number now nodes request)) stored = stored
+
+pub file_after : (row : FileRow) (rec : Option Record) → (kept_after row rec).file ≡ row.file
+file_after row None = refl
+file_after row (Some rec) = row_after-file row rec
+
+-- what is kept of a file after a record of a step on it
+kept_listed : (files : List DeclaredFile) (row : FileRow) (content : Payload) (rec : Option Record) → AskFits files content → (is_ask content ≡ true → file_concerned content ≡ Some row.file)
+    → RecordIs row.file content rec → Listed files row.file row.location → Listed files (kept_after row rec).file (kept_after row rec).location
+kept_listed files row content None fits concerns is listed = listed
+kept_listed files row content (Some (kept.Promise file epoch)) fits concerns is listed = listed
+kept_listed files row content (Some (kept.Update file update)) fits concerns is listed = listed
+kept_listed files row content (Some (kept.Stage file object version bytes)) fits concerns is listed = listed
+kept_listed files row content (Some (kept.Head file head)) fits concerns is listed = listed
+kept_listed files row content (Some (kept.View file location)) fits concerns is listed =
+    listed_after files row (kept.View file location) (record_of files row.file content (kept.View file location) fits concerns is) (ap (λ f. Some f) is.0) listed
+kept_listed files row content (Some (kept.Boot boot)) fits concerns is listed = absurd is
+kept_listed files row content (Some (kept.Meta from number now nodes request)) fits concerns is listed = absurd is
+
+-- the record of a step is of no start, and stores the declared list
+pub step_record : (files : List DeclaredFile) (site : Site) (s : FileState) (from : NodeId) (content : Payload) (rec : Record) → AskFits files content → (is_ask content ≡ true → file_concerned content ≡ Some s.kept.file)
+    → (step_of_file site s from content).turned.rec ≡ Some rec → RecordFits files rec
+step_record files site s from content rec fits concerns is =
+    record_of files s.kept.file content rec fits concerns (subst (RecordIs s.kept.file content) is (step_rec site s from content))
+
+no_boot : (file : FileId) (content : Payload) (rec : Record) (boot : ℕ) (rows : List FileRow) → RecordIs file content (Some rec) → (folded_after (record { boot = record { 0 = boot }; files = rows }) rec).boot.0 ≡ boot
+no_boot file content (kept.Promise f epoch) boot rows is = refl
+no_boot file content (kept.Update f update) boot rows is = refl
+no_boot file content (kept.Stage f object version bytes) boot rows is = refl
+no_boot file content (kept.Head f head) boot rows is = refl
+no_boot file content (kept.View f location) boot rows is = refl
+no_boot file content (kept.Boot b) boot rows is = absurd is
+no_boot file content (kept.Meta from number now nodes request) boot rows is = absurd is
+
+pub same_boot : (file : FileId) (content : Payload) (rec : Record) (records : List Record) → RecordIs file content (Some rec) → (fold_of (records ++ rec ∷ [])).boot ≡ (fold_of records).boot
+same_boot file content rec records is =
+    ap (λ (f : Folded). f.boot) (fold_of-push records rec)
+    ∙ ap (λ (n : ℕ). let b : Boot = record { 0 = n } in b) (no_boot file content rec (fold_of records).boot.0 (fold_of records).files is)
+
+-- ---- steps of a file
+
+pub unbusy : (l : LeaseState) (now : ℕ) → IsBusy (lease_expired l now) → IsBusy l
+unbusy (free p) now busy = busy
+unbusy (asking r) now busy = tt
+unbusy (writing r) now busy = tt
+unbusy (held h) now busy = tt
+
+answered : (l : LeaseState) (now : ℕ) (from : NodeId) (content : Payload) → IsBusy (on_answer l now from content).state → IsBusy l
+answered (free p) now from content busy = busy
+answered (asking r) now from content busy = tt
+answered (writing r) now from content busy = tt
+answered (held h) now from content busy = tt
+
+handled : (g : LeaseSetting) (n : NodeId) (now : ℕ) (x : LeaseRow) (from : NodeId) (content : Payload) → IsBusy (row_handles g n now x from content).row.lease → IsBusy x.lease
+handled g n now x from (payload.Read file ballot) busy = busy
+handled g n now x from (payload.Write file ballot boot lease) busy = busy
+handled g n now x from (payload.Promise file ballot boot report) busy = answered x.lease now from (payload.Promise file ballot boot report) busy
+handled g n now x from (payload.Accepted file ballot boot) busy = answered x.lease now from (payload.Accepted file ballot boot) busy
+handled g n now x from (payload.Outrun file ballot seen) busy = answered x.lease now from (payload.Outrun file ballot seen) busy
+handled g n now x from _ busy = busy
+
+pub held_busy : (l : LeaseState) → IsHeld l → IsBusy l
+held_busy (free p) is = absurd is
+held_busy (asking r) is = absurd is
+held_busy (writing r) is = absurd is
+held_busy (held h) is = tt
+
+-- the file of an ask is declared
+ask_declared : (files : List DeclaredFile) (content : Payload) (file : FileId) → is_ask content ≡ true → AskFits files content → file_concerned content ≡ Some file → file ≡ declared_file file.number
+ask_declared files (payload.Ask number capability asked) file is fits concerns = (let same : capability.file ≡ file = cc in subst (λ (f : FileId). f ≡ declared_file f.number) same fits.0)
+ask_declared files (payload.Read f ballot) file is fits concerns = absurd (cc)
+ask_declared files _ file is fits concerns = absurd (cc)
+
+-- a message
+pub step_fits : (files : List DeclaredFile) (site : Site) (s : FileState) (from : NodeId) (content : Payload) → AskFits files content → file_concerned content ≡ Some s.kept.file
+    → FileFits files s → FileFits files (step_of_file site s from content).state
+step_fits files site s from content ask concerns fits =
+    let step = step_of_file site s from content in
+    let kept_is = step_follows site s from content in
+    let file_is : step.state.kept.file ≡ s.kept.file = ap (λ (row : FileRow). row.file) kept_is ∙ file_after s.kept step.turned.rec in
+    record {
+      listed = subst (λ (row : FileRow). Listed files row.file row.location) (sym kept_is) (kept_listed files s.kept content step.turned.rec ask (λ is. concerns) (step_rec site s from content) fits.listed);
+      declared = λ busy. subst (λ (f : FileId). f ≡ declared_file f.number) (sym file_is) (of_file (lease_steps.step_follows site s from content) busy);
+      stored = λ busy. is_stored (lease_steps.step_follows site s from content) busy;
+      sound = SoundSteps.step_so site s from content fits.sound;
+    }
+  where
+    step : FileStep
+    step = step_of_file site s from content
+
+    of_file : Follows s.kept.file site (settled_row site s) (settled_row site s).lease from content (step_of_file site s from content) → IsBusy step.state.lease → s.kept.file ≡ declared_file s.kept.file.number
+    of_file (handles p) busy =
+        fits.declared (unbusy s.lease site.now (handled (lease_setting site s.kept.file step.state.kept.location) site.node site.now (settled_row site s) from content (subst (λ (x : LeaseRow). IsBusy x.lease) p.row busy)))
+    of_file (asks is stored p) busy = ask_declared files content s.kept.file is ask concerns
+    of_file (stays p) busy = fits.declared (unbusy s.lease site.now (subst (λ (x : LeaseRow). IsBusy x.lease) p.row busy))
+
+    still : IsBusy s.lease → IsStored step.state.kept.location
+    still busy = subst (λ (row : FileRow). IsStored row.location) (sym (step_follows site s from content)) (stored_after s.kept step.turned.rec (fits.stored busy))
+
+    is_stored : Follows s.kept.file site (settled_row site s) (settled_row site s).lease from content (step_of_file site s from content) → IsBusy step.state.lease → IsStored step.state.kept.location
+    is_stored (handles p) busy =
+        still (unbusy s.lease site.now (handled (lease_setting site s.kept.file step.state.kept.location) site.node site.now (settled_row site s) from content (subst (λ (x : LeaseRow). IsBusy x.lease) p.row busy)))
+    is_stored (asks is stored p) busy = stored
+    is_stored (stays p) busy = still (unbusy s.lease site.now (subst (λ (x : LeaseRow). IsBusy x.lease) p.row busy))
+
+-- a Wake
+pub wake_fits : (files : List DeclaredFile) (site : Site) (s : FileState) → FileFits files s → FileFits files (wake_step site s).state
+wake_fits files site s fits =
+    let kept_is = wake_step_kept site s in
+    record {
+      listed = subst (λ (row : FileRow). Listed files row.file row.location) (sym kept_is) fits.listed;
+      declared = λ busy. subst (λ (row : FileRow). row.file ≡ declared_file row.file.number) (sym kept_is) (fits.declared (was_busy (each_wakes site s) busy));
+      stored = λ busy. subst (λ (row : FileRow). IsStored row.location) (sym kept_is) (fits.stored (was_busy (each_wakes site s) busy));
+      sound = SoundSteps.wake_so site (expired site s).state (SoundSteps.expired_so site s fits.sound);
+    }
+  where
+    was_busy : Wakes s.kept.file site (settled_row site s) (settled_row site s).lease (wake_step site s) → IsBusy (wake_step site s).state.lease → IsBusy s.lease
+    was_busy (renewing is p) busy = unbusy s.lease site.now (held_busy (settled_row site s).lease is)
+    was_busy (resting p) busy = unbusy s.lease site.now (subst (λ (x : LeaseRow). IsBusy x.lease) p.row busy)
+
+-- ---- OSDs
+
+pub fresh_fits : (files : List DeclaredFile) (awake : Awake) (row : FileRow) → Listed files row.file row.location → FileFits files (file_from awake row)
+fresh_fits files awake row listed = record { listed = listed; declared = λ busy. absurd busy; stored = λ busy. absurd busy; sound = SoundSteps.start_so awake row }
+
+-- the state of any file at it
+pub at_fits : (files : List DeclaredFile) (awake : Awake) (states : List FileState) (file : FileId) → ((f : FileState) → Has f states → FileFits files f) → FileFits files (file_at awake states file)
+unfolding file_at
+at_fits files awake [] file each = fresh_fits files awake (new_row file) tt
+at_fits files awake (f ∷ fs) file each = one_of (is_file f.kept.file file) (at_fits files awake fs file (λ s h. each s (inr h)))
+  where
+    one_of : (b : Bool) → FileFits files (file_at awake fs file) → FileFits files (cond b f (file_at awake fs file))
+    one_of true rest = each f (inl refl)
+    one_of false rest = rest
+
+pub no_rows : (files : List DeclaredFile) → RowsFit files (fold_of []).files
+no_rows files = subst (λ (f : Folded). RowsFit files f.files) (sym fold_of-nothing) (record { listed = λ r h. absurd h; rises = tt })
+
+row_listed : (files : List DeclaredFile) (rows : List FileRow) (file : FileId) → ((r : FileRow) → Has r rows → Listed files r.file r.location) → Listed files (row_in rows file).file (row_in rows file).location
+unfolding row_in
+row_listed files [] file each = tt
+row_listed files (r ∷ rs) file each = one_of (is_file r.file file) (row_listed files rs file (λ s h. each s (inr h)))
+  where
+    one_of : (b : Bool) → Listed files (row_in rs file).file (row_in rs file).location → Listed files (cond b r (row_in rs file)).file (cond b r (row_in rs file)).location
+    one_of true rest = each r (inl refl)
+    one_of false rest = rest
+
+rows_fit : (files : List DeclaredFile) (rows : List FileRow) (rec : Record) (o : Option FileId) → file_of rec ≡ o → RecordFits files rec → RowsFit files rows → RowsFit files (rows_after rows rec o)
+rows_fit files rows rec None is fits q = q
+rows_fit files rows rec (Some file) is fits q =
+    let row = row_after (row_in rows file) rec in
+    record {
+      listed = λ r h. elim (with_row_has rows row r h) [
+        | inl e ↦ subst (λ (r : FileRow). Listed files r.file r.location) (sym e)
+            (listed_after files (row_in rows file) rec fits (is ∙ ap (λ f. Some f) (sym (row_in-file rows file))) (row_listed files rows file q.listed))
+        | inr old ↦ q.listed r old
+      ];
+      rises = with_row_rises rows row q.rises;
+    }
+
+pub record_fits : (files : List DeclaredFile) (records : List Record) (rec : Record) → RecordFits files rec → RowsFit files (fold_of records).files → RowsFit files (fold_of (records ++ rec ∷ [])).files
+record_fits files records rec fits q =
+    subst (λ (f : Folded). RowsFit files f.files) (sym (fold_of-push records rec)) (rows_fit files (fold_of records).files rec (file_of rec) refl fits q)
+
+from_has : (awake : Awake) (rows : List FileRow) (s : FileState) → Has s (map (file_from awake) rows) → (row : FileRow) × Has row rows × (s ≡ file_from awake row)
+from_has awake [] s h = absurd h
+from_has awake (r ∷ rs) s (inl e) = (r, inl refl, e)
+from_has awake (r ∷ rs) s (inr h) = let rest = from_has awake rs s h in (rest.0, inr rest.1, rest.2)
+
+from_files : (awake : Awake) (rows : List FileRow) → files_of (map (file_from awake) rows) ≡ row_files rows
+from_files awake [] = refl
+from_files awake (r ∷ rs) = ap (λ others. r.file ∷ others) (from_files awake rs)
+
+-- an OSD that starts from these
+pub starting_fits : (times : TimeSettings) (files : List DeclaredFile) (node : NodeId) (boot : Boot) (clock : ℕ) (rows : List FileRow) → RowsFit files rows
+    → OsdFits times files node boot clock (osd_from (record { node = node; boot = boot; times = times; start = clock }) rows)
+starting_fits times files node boot clock rows q =
+    let awake : Awake = record { node = node; boot = boot; times = times } in
+    record {
+      started = refl;
+      last = omega (arith);
+      fits = λ f h. let from = from_has awake rows f h in subst (FileFits files) (sym from.2) (fresh_fits files awake from.0 (q.listed from.0 from.1));
+      rises = subst Rises (sym (from_files awake rows)) q.rises;
+    }
+
+-- ---- what is kept
+
+-- a record of a step is of the step's file
+of_step : (file : FileId) (content : Payload) (rec : Record) → RecordIs file content (Some rec) → file_of rec ≡ Some file
+of_step file content (kept.Promise f epoch) is = ap (λ f. Some f) is
+of_step file content (kept.Update f update) is = ap (λ f. Some f) is
+of_step file content (kept.Stage f object version bytes) is = ap (λ f. Some f) is
+of_step file content (kept.Head f head) is = ap (λ f. Some f) is
+of_step file content (kept.View f location) is = ap (λ f. Some f) is.0
+of_step file content (kept.Boot boot) is = absurd is
+of_step file content (kept.Meta from number now nodes request) is = absurd is
+
+-- the row of any file behind the record of a step of this one
+row_behind : (records : List Record) (file other : FileId) (content : Payload) (rec : Option Record) → RecordIs file content rec
+    → row_in (fold_of (one_more records rec)).files other ≡ cond (is_file file other) (kept_after (row_in (fold_of records).files file) rec) (row_in (fold_of records).files other)
+row_behind records file other content None is = at (is_file file other) refl
+  where
+    at : (b : Bool) → is_file file other ≡ b → row_in (fold_of records).files other ≡ cond b (row_in (fold_of records).files file) (row_in (fold_of records).files other)
+    at true same_file = ap (row_in (fold_of records).files) (sym (file-equal file other same_file))
+    at false differ = refl
+row_behind records file other content (Some rec) is =
+    let rows = (fold_of records).files in
+    let row = row_after (row_in rows file) rec in
+    ap (λ (f : Folded). row_in f.files other) (fold_of-push records rec)
+    ∙ (ap (λ (o : Option FileId). row_in (rows_after rows rec o) other) (of_step file content rec is)
+    ∙ (row_in-with_row rows row other
+    ∙ ap (λ (f : FileId). cond (is_file f other) row (row_in rows other)) (row_after-file (row_in rows file) rec ∙ row_in-file rows file)))
+
+-- a step of one file keeps what memory and records have in common
+pub step_agrees : (records : List Record) (s : OsdState) (file : FileId) (content : Payload) (after : FileState) (rec : Option Record) → Agrees records s → RecordIs file content rec
+    → after.kept ≡ kept_after (file_at (awake_as s.started) s.files file).kept rec
+    → (other : FileId) → (file_at (awake_as s.started) (with_file s.files after) other).kept ≡ row_in (fold_of (one_more records rec)).files other
+step_agrees records s file content after rec agrees is kept_is other =
+    ap (λ (f : FileState). f.kept) (file_at-with_file (awake_as s.started) s.files after other)
+    ∙ (ap (λ (f : FileId). (cond (is_file f other) after (file_at (awake_as s.started) s.files other)).kept) its_file
+    ∙ (by_file (is_file file other) ∙ sym (row_behind records file other content rec is)))
+  where
+    its_file : after.kept.file ≡ file
+    its_file = ap (λ (row : FileRow). row.file) kept_is ∙ (file_after (file_at (awake_as s.started) s.files file).kept rec ∙ at_file (awake_as s.started) s.files file)
+
+    by_file : (b : Bool) → (cond b after (file_at (awake_as s.started) s.files other)).kept ≡ cond b (kept_after (row_in (fold_of records).files file) rec) (row_in (fold_of records).files other)
+    by_file true = kept_is ∙ ap (λ (row : FileRow). kept_after row rec) (agrees file)
+    by_file false = agrees other
+
+-- an OSD that starts
+from_rows : (awake : Awake) (rows : List FileRow) (file : FileId) → (file_at awake (map (file_from awake) rows) file).kept ≡ row_in rows file
+unfolding file_at row_in
+from_rows awake [] file = refl
+from_rows awake (r ∷ rs) file = at (is_file r.file file) (from_rows awake rs file)
+  where
+    at : (b : Bool) → (file_at awake (map (file_from awake) rs) file).kept ≡ row_in rs file → (cond b (file_from awake r) (file_at awake (map (file_from awake) rs) file)).kept ≡ cond b r (row_in rs file)
+    at true rest = refl
+    at false rest = rest
+
+pub start_agrees : (records : List Record) (boot : Boot) (started : Silent) → Agrees (records ++ kept.Boot boot ∷ []) (osd_from started (fold_of records).files)
+start_agrees records boot started file =
+    from_rows (awake_as started) (fold_of records).files file ∙ sym (ap (λ (f : Folded). row_in f.files file) (fold_of-push records (kept.Boot boot)))
+
+-- more files are declared
+pub listed_more : (files more : List DeclaredFile) (file : FileId) (o : Option Location) → ((number : ℕ) (location : Location) → file_in files number ≡ Some location → file_in more number ≡ Some location)
+    → Listed files file o → Listed more file o
+listed_more files more file None same listed = tt
+listed_more files more file (Some location) same listed = same file.number location listed
+
+pub fits_more : (files more : List DeclaredFile) (s : FileState) → ((number : ℕ) (location : Location) → file_in files number ≡ Some location → file_in more number ≡ Some location)
+    → FileFits files s → FileFits more s
+fits_more files more s same q = record { listed = listed_more files more s.kept.file s.kept.location same q.listed; declared = q.declared; stored = q.stored; sound = q.sound }
+
+pub ask_more : (files more : List DeclaredFile) (content : Payload) → ((number : ℕ) (location : Location) → file_in files number ≡ Some location → file_in more number ≡ Some location)
+    → AskFits files content → AskFits more content
+ask_more files more (payload.Ask number capability asked) same q = (q.0, same capability.file.number capability.location q.1)
+ask_more files more _ same q = tt

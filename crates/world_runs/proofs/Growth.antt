@@ -1,0 +1,310 @@
+-- What holds of the world at every moment, and what of it stays with entries behind.
+use Rattle.std.proofs.Common.{Bool, true, false, ◌==◌, if◌then◌else◌, ◌≡◌, ◌≢◌, ℕ, ◌≤◌, ◌⊎◌, inl, inr, List, [], ◌∷◌, ◌++◌, map, refl, ap, subst, sym, ◌∙◌, arith, Option, Some, None}
+use Rattle.std.specs.Option.{option_or}
+use Rattle.std.proofs.lemmas.Bool.Decides.{nat_tests}
+use Rattle.std.proofs.lemmas.List.{append_assoc, append-nil, map-append}
+use Rattle.xt_base.specs.declared.ids.NodeId.{NodeId}
+use Rattle.xt_base.specs.declared.ids.OpId.{OpId}
+use Rattle.xt_messages.specs.declared.reply.Reply.{Reply}
+use Rattle.xt_messages.specs.declared.reply.Reply.TheVariants as reply
+use Rattle.xt_messages.specs.declared.message.Msg.{Msg}
+use Rattle.xt_messages.specs.declared.message.Payload.{Payload}
+use Rattle.xt_messages.specs.declared.message.Payload.TheVariants as payload
+use Rattle.xt_messages.specs.declared.event.Call.{Call}
+use Rattle.xt_messages.specs.declared.event.Mark.{Mark}
+use Rattle.xt_messages.specs.declared.event.Mark.TheVariants as mark
+use Rattle.lease_safety.specs.State.{Has}
+use Rattle.osd_rows.specs.declared.IssuedUpdate.{IssuedUpdate}
+use Rattle.osd_rows.specs.declared.IssuedAsk.{IssuedAsk}
+use Rattle.osd_rows.specs.declared.Progress.{Progress}
+use Rattle.osd_rows.specs.declared.Progress.TheVariants as progress
+use Rattle.osd_rows.specs.declared.Tenure.{Tenure}
+use Rattle.osd_rows.specs.FileStates.{FileState}
+use Rattle.time_line.specs.declared.entry.Entry.{Entry}
+use Rattle.time_line.specs.declared.entry.Entry.TheVariants as entry
+use Rattle.cluster_runs.specs.declared.ClientState.{ClientState}
+use Rattle.cluster_runs.specs.declared.RunningCall.{RunningCall}
+use Rattle.time_line.specs.TimeLine.{id_of, begun, call_begun}
+use Rattle.time_line.specs.Clauses.{IsBefore, ok_entry, HasBegunOn, EndsAreAnswered}
+use Rattle.cluster_runs.specs.World.{Node, Running, Core, osd, client, node_in}
+use Rattle.cluster_runs.specs.NodeSteps.{entry_of}
+use Rattle.world_runs.specs.View.{node_id}
+use Rattle.world_runs.specs.Acts.{acted_for, ActsHaveBegun}
+use Rattle.world_runs.proofs.Entries.{HasAnswer, begun-append, begun_on-grown, operation-grown, answer-grown, one_file}
+use Rattle.world_runs.proofs.Said.{IsMarked, AreMarked, Said, ReplySaid}
+use Rattle.world_runs.proofs.PrimaryIds.{IssuedIs, ProgressIs, TenureIs}
+use Rattle.world_runs.proofs.FileIds.{IssuedAskIs, FileIs}
+use Rattle.world_runs.proofs.OsdIds.{FilesAre, EndsNone, NoneEnds, IsTold}
+use Rattle.world_runs.proofs.Calls.{IsAnswered, ReplyIs, ContentIs, CallIs, OutcomeIs}
+
+-- ---- the trace
+
+-- What stands behind an entry: a call ends well only as it was answered; what is issued, committed or answered has begun.
+abbrev pub EntryIs : List Entry → Entry → Type 0
+EntryIs es (entry.Done caller number how) = OutcomeIs es (id_of caller number) how
+EntryIs es (entry.Issue node file count id) = HasBegunOn file es id
+EntryIs es (entry.Commit node file count id) = HasBegunOn file es id
+EntryIs es (entry.Answer node file id count bytes) = HasBegunOn file es id
+EntryIs es _ = Unit {0}
+
+abbrev pub EntriesAre : List Entry → Type 0
+EntriesAre es = (before : List Entry) (e : Entry) → IsBefore before e es → EntryIs before e
+
+push_split : {X : Type 0} (xs : List X) (y : X) (before after : List X) (x : X) → xs ++ y ∷ [] ≡ before ++ x ∷ after → ((xs ≡ before) × (y ≡ x)) ⊎ ((rest : List X) × (xs ≡ before ++ x ∷ rest))
+push_split [] y [] after x e = inl (refl, cc)
+push_split [] y (b ∷ []) after x e = absurd cc
+push_split [] y (b ∷ c ∷ bs) after x e = absurd cc
+push_split (a ∷ xs) y [] after x e = inr (xs, cc)
+push_split {X} (a ∷ xs) y (b ∷ bs) after x e =
+    let rest : xs ++ y ∷ [] ≡ bs ++ x ∷ after = cc in
+    let first : a ≡ b = cc in
+    elim (push_split xs y bs after x rest) as (λ w. ((a ∷ xs ≡ b ∷ bs) × (y ≡ x)) ⊎ ((rest : List X) × (a ∷ xs ≡ (b ∷ bs) ++ x ∷ rest))) [
+      | inl h ↦ (let same : xs ≡ bs = h.0 in inl (cc, h.1))
+      | inr h ↦ (let same : xs ≡ bs ++ x ∷ h.0 = h.1 in inr (h.0, cc))
+    ]
+
+pub entries-push : (es : List Entry) (e : Entry) → EntriesAre es → EntryIs es e → EntriesAre (es ++ e ∷ [])
+entries-push es e are is before x there =
+    elim (push_split es e before there.0 x there.1) [
+      | inl h ↦ subst (λ (xs : List Entry). EntryIs xs x) h.0 (subst (EntryIs es) h.1 is)
+      | inr h ↦ are before x h
+    ]
+
+pub entries-none : EntriesAre []
+entries-none before e there = absurd (nothing before e there.0 there.1)
+  where
+    nothing : (before : List Entry) (e : Entry) (after : List Entry) → [] ≡ before ++ e ∷ after → ⊥
+    nothing [] e after h = absurd cc
+    nothing (x ∷ xs) e after h = absurd cc
+
+-- marks of an OSD: they end no call, and what they name has begun
+mark_is : (es more : List Entry) (file : ℕ) (node : NodeId) (m : Mark) → EndsNone m → IsMarked (λ (id : OpId). HasBegunOn file es id) file m → EntryIs (es ++ more) (entry_of node m)
+mark_is es more file node (mark.Active k count write) none is = tt
+mark_is es more file node (mark.Issue k count write) none is = begun_on-grown k es more write (subst (λ (f : ℕ). HasBegunOn f es write) (sym is.0) is.1)
+mark_is es more file node (mark.Commit k count write) none is = begun_on-grown k es more write (subst (λ (f : ℕ). HasBegunOn f es write) (sym is.0) is.1)
+mark_is es more file node (mark.Answer k write count bytes) none is = begun_on-grown k es more write (subst (λ (f : ℕ). HasBegunOn f es write) (sym is.0) is.1)
+mark_is es more file node (mark.Begin k c) none is = tt
+mark_is es more file node (mark.Done k how) none is = absurd none
+mark_is es more file node (mark.File k location) none is = tt
+mark_is es more file node (mark.Held k end) none is = tt
+
+marks_are : (file : ℕ) (node : NodeId) (es more : List Entry) (ms : List Mark) → EntriesAre (es ++ more) → NoneEnds ms → AreMarked (λ (id : OpId). HasBegunOn file es id) file ms
+    → EntriesAre ((es ++ more) ++ map (entry_of node) ms)
+marks_are file node es more [] are none marked = subst EntriesAre (sym (append-nil (es ++ more))) are
+marks_are file node es more (m ∷ ms) are none marked =
+    let e = entry_of node m in
+    let here : EntriesAre ((es ++ more) ++ entry_of node m ∷ []) = entries-push (es ++ more) e are (mark_is es more file node m none.0 marked.0) in
+    let rest = marks_are file node es (more ++ entry_of node m ∷ []) ms (subst EntriesAre (append_assoc es more (e ∷ [])) here) none.1 marked.1 in
+    subst EntriesAre (append_assoc (es ++ more) (e ∷ []) (map (entry_of node) ms)) (subst (λ (xs : List Entry). EntriesAre (xs ++ map (entry_of node) ms)) (sym (append_assoc es more (e ∷ []))) rest)
+
+pub entries-marks : (file : ℕ) (node : NodeId) (es : List Entry) (ms : List Mark) → EntriesAre es → NoneEnds ms → AreMarked (λ (id : OpId). HasBegunOn file es id) file ms → EntriesAre (es ++ map (entry_of node) ms)
+entries-marks file node es ms are none marked =
+    subst (λ (xs : List Entry). EntriesAre (xs ++ map (entry_of node) ms)) (append-nil es)
+    (marks_are file node es [] ms (subst EntriesAre (sym (append-nil es)) are) none marked)
+
+-- no call of this client has begun from this number on
+abbrev pub FreshFrom : List Entry → NodeId → ℕ → Type 0
+FreshFrom es node next = (k : ℕ) → next ≤ k → begun (id_of node k) es ≡ None
+
+-- these entries begin no call of this client
+abbrev pub Quiet : List Entry → NodeId → Type 0
+Quiet es node = (k : ℕ) → begun (id_of node k) es ≡ None
+
+both_none : {X : Type 0} (o p : Option X) → o ≡ None → p ≡ None → option_or o p ≡ None
+both_none None p a b = b
+both_none (Some x) p a b = absurd cc
+
+pub fresh-grown : (es more : List Entry) (node : NodeId) (next : ℕ) → Quiet more node → FreshFrom es node next → FreshFrom (es ++ more) node next
+fresh-grown es more node next quiet fresh k above = begun-append (id_of node k) es more ∙ both_none (begun (id_of node k) es) (begun (id_of node k) more) (fresh k above) (quiet k)
+
+pub quiet-none : (node : NodeId) → Quiet [] node
+unfolding begun
+quiet-none node k = refl
+
+pub fresh-none : (node : NodeId) (next : ℕ) → FreshFrom [] node next
+unfolding begun
+fresh-none node next k above = refl
+
+pub quiet-one : (e : Entry) (node : NodeId) → ((k : ℕ) → call_begun (id_of node k) e ≡ None) → Quiet (e ∷ []) node
+unfolding begun
+quiet-one e node none k = both_none (call_begun (id_of node k) e) None (none k) refl
+
+-- the marks of another node begin none
+not_begun : (node other : NodeId) (k number : ℕ) (c : Call) → node.0 ≢ other.0 → call_begun (id_of node k) (entry.Begin other number c) ≡ None
+not_begun node other k number c ne = grind (arith, nat_tests)
+
+mark_begins : (node other : NodeId) (k : ℕ) (m : Mark) → node.0 ≢ other.0 → call_begun (id_of node k) (entry_of other m) ≡ None
+mark_begins node other k (mark.Active f count write) ne = refl
+mark_begins node other k (mark.Issue f count write) ne = refl
+mark_begins node other k (mark.Commit f count write) ne = refl
+mark_begins node other k (mark.Answer f write count bytes) ne = refl
+mark_begins node other k (mark.Begin number c) ne = not_begun node other k number c ne
+mark_begins node other k (mark.Done number how) ne = refl
+mark_begins node other k (mark.File f location) ne = refl
+mark_begins node other k (mark.Held f end) ne = refl
+
+pub quiet-marks : (node other : NodeId) (ms : List Mark) → node.0 ≢ other.0 → Quiet (map (entry_of other) ms) node
+unfolding begun
+quiet-marks node other [] ne k = refl
+quiet-marks node other (m ∷ ms) ne k = both_none (call_begun (id_of node k) (entry_of other m)) (begun (id_of node k) (map (entry_of other) ms)) (mark_begins node other k m ne) (quiet-marks node other ms ne k)
+
+-- ---- what has begun stays so
+
+issued-more : (Q R : OpId → Type 0) (o : Option IssuedUpdate) → ((id : OpId) → Q id → R id) → IssuedIs Q o → IssuedIs R o
+issued-more Q R None within is = tt
+issued-more Q R (Some i) within is = within i.update.id is
+
+progress-more : (Q R : OpId → Type 0) (p : Progress) → ((id : OpId) → Q id → R id) → ProgressIs Q p → ProgressIs R p
+progress-more Q R progress.Gathering within is = tt
+progress-more Q R (progress.Fetching chosen source asked later) within is = tt
+progress-more Q R (progress.Installing chosen acked) within is = tt
+progress-more Q R (progress.Active committed issued) within is = issued-more Q R issued within is
+
+tenure-more : (Q R : OpId → Type 0) (o : Option Tenure) → ((id : OpId) → Q id → R id) → TenureIs Q o → TenureIs R o
+tenure-more Q R None within is = tt
+tenure-more Q R (Some t) within is = progress-more Q R t.progress within is
+
+ask-more : (Q R : OpId → Type 0) (o : Option IssuedAsk) → ((id : OpId) → Q id → R id) → IssuedAskIs Q o → IssuedAskIs R o
+ask-more Q R None within is = tt
+ask-more Q R (Some i) within is = within i.ask.id is
+
+file-more : (Q R : OpId → Type 0) (f : FileState) → ((id : OpId) → Q id → R id) → FileIs Q f → FileIs R f
+file-more Q R f within is =
+    record {
+      asks = record { waiting = λ w h. within w.id (is.asks.waiting w h); issued = ask-more Q R f.asks.issued within is.asks.issued };
+      tenure = tenure-more Q R f.primary.tenure within is.tenure;
+    }
+
+pub files-grown : (es more : List Entry) (files : List FileState) → FilesAre es files → FilesAre (es ++ more) files
+files-grown es more files are f h =
+    file-more (λ (id : OpId). HasBegunOn f.kept.file.number es id) (λ (id : OpId). HasBegunOn f.kept.file.number (es ++ more) id) f (λ id begun. begun_on-grown f.kept.file.number es more id begun) (are f h)
+
+pub call-grown : (es more : List Entry) (node : NodeId) (o : Option RunningCall) → CallIs es node o → CallIs (es ++ more) node o
+call-grown es more node None is = tt
+call-grown es more node (Some call) is = (operation-grown call.capability.file.number es more (id_of node call.number) call.op is.0, is.1)
+
+reply-grown : (es more : List Entry) (to : NodeId) (number : ℕ) (answer : Reply) → ReplyIs es to number answer → ReplyIs (es ++ more) to number answer
+reply-grown es more to number (reply.Ok count size bytes) is = (is.0, answer-grown is.0 es more (id_of to number) count bytes is.1)
+reply-grown es more to number (reply.NoLease end) is = tt
+reply-grown es more to number (reply.NoMajority have need) is = tt
+reply-grown es more to number (reply.Elsewhere node end) is = tt
+reply-grown es more to number (reply.Denied why) is = tt
+reply-grown es more to number (reply.OldList version) is = tt
+reply-grown es more to number (reply.OldEpoch epoch) is = tt
+reply-grown es more to number (reply.TooFar object) is = tt
+reply-grown es more to number reply.ClientsFull is = tt
+
+pub content-grown : (es more : List Entry) (from to : NodeId) (content : Payload) → ContentIs es from to content → ContentIs (es ++ more) from to content
+content-grown es more from to (payload.Ask number capability asked) is = (operation-grown capability.file.number es more (id_of from number) asked is.0, is.1)
+content-grown es more from to (payload.Reply number file answer) is = reply-grown es more to number answer is
+content-grown es more from to _ is = tt
+
+-- ---- what an OSD told
+
+has_split : {X : Type 0} (xs : List X) (x : X) → Has x xs → (front : List X) × (rest : List X) × (xs ≡ front ++ x ∷ rest)
+has_split [] x h = absurd h
+has_split (y ∷ xs) x (inl e) = ([], xs, ap (λ z. z ∷ xs) (sym e))
+has_split (y ∷ xs) x (inr h) = (let rest = has_split xs x h in (y ∷ rest.0, rest.1, ap (λ zs. y ∷ zs) rest.2))
+
+-- an answer that is marked in a step
+marked : (es : List Entry) (node : NodeId) (file : ℕ) (marks : List Mark) (id : OpId) (count : ℕ) (bytes : List ℕ) → HasBegunOn file es id → Has (mark.Answer file id count bytes) marks
+    → HasAnswer file (es ++ map (entry_of node) marks) id count bytes
+marked es node file marks id count bytes begun h =
+    let at = has_split marks (mark.Answer file id count bytes) h in
+    let front = map (entry_of node) at.0 in
+    let whole : map (entry_of node) marks ≡ map (entry_of node) at.0 ++ entry.Answer node file id count bytes ∷ map (entry_of node) at.1
+    = ap (map (entry_of node)) at.2 ∙ map-append (entry_of node) at.0 (mark.Answer file id count bytes ∷ at.1) in
+    record {
+      front = es ++ map (entry_of node) at.0;
+      node = node;
+      rest = map (entry_of node) at.1;
+      split = ap (λ (xs : List Entry). es ++ xs) whole ∙ sym (append_assoc es (map (entry_of node) at.0) (entry.Answer node file id count bytes ∷ map (entry_of node) at.1));
+      has_begun = begun_on-grown file es (map (entry_of node) at.0) id begun;
+    }
+
+reply_told : (es : List Entry) (node : NodeId) (file : ℕ) (marks : List Mark) (to : NodeId) (number : ℕ) (answer : Reply) → ReplySaid (λ (id : OpId). HasBegunOn file es id) file marks to number answer
+    → ReplyIs (es ++ map (entry_of node) marks) to number answer
+reply_told es node file marks to number (reply.Ok count size bytes) said = (file, marked es node file marks (id_of to number) count bytes said.0 said.1)
+reply_told es node file marks to number (reply.NoLease end) said = tt
+reply_told es node file marks to number (reply.NoMajority have need) said = tt
+reply_told es node file marks to number (reply.Elsewhere other end) said = tt
+reply_told es node file marks to number (reply.Denied why) said = tt
+reply_told es node file marks to number (reply.OldList version) said = tt
+reply_told es node file marks to number (reply.OldEpoch epoch) said = tt
+reply_told es node file marks to number (reply.TooFar object) said = tt
+reply_told es node file marks to number reply.ClientsFull said = tt
+
+content_told : (es : List Entry) (node : NodeId) (file : ℕ) (marks : List Mark) (from to : NodeId) (content : Payload) → Said (λ (id : OpId). HasBegunOn file es id) file marks to content
+    → ContentIs (es ++ map (entry_of node) marks) from to content
+content_told es node file marks from to (payload.Ask number capability asked) said = absurd said
+content_told es node file marks from to (payload.Reply number f answer) said = reply_told es node file marks to number answer said
+content_told es node file marks from to _ said = tt
+
+pub told_is : (es : List Entry) (node : NodeId) (marks : List Mark) (m : Msg) → IsTold es marks m → ContentIs (es ++ map (entry_of node) marks) m.from m.to m.payload
+told_is es node marks m told = content_told es node told.0 marks m.from m.to m.payload told.1
+
+-- ---- worlds
+
+abbrev pub ClientIs : List Entry → NodeId → ClientState → Type 0
+ClientIs es node c = CallIs es node c.running × FreshFrom es node c.next
+
+abbrev pub CoreIs : List Entry → NodeId → Core → Type 0
+CoreIs es node (osd s) = FilesAre es s.files
+CoreIs es node (client c) = ClientIs es node c
+
+abbrev pub UpIs : List Entry → NodeId → Option Running → Type 0
+UpIs es node None = Unit {0}
+UpIs es node (Some r) = CoreIs es node r.core
+
+-- What holds at every moment: asks and running calls have begun, who isn't declared has begun nothing, and what was told or ended
+-- well was answered.
+pub record EndsFit (nodes : List Node) (es : List Entry) (sent : List Msg) : Type 0 where
+  pub nodes_are : (n : ℕ) (node : Node) → node_in nodes n ≡ Some node → UpIs es node.id node.up
+  pub strangers : (n : ℕ) → node_in nodes n ≡ None → FreshFrom es (node_id n) 0
+  pub messages : (m : Msg) → Has m sent → ContentIs es m.from m.to m.payload
+  pub ends : EntriesAre es
+
+pub core-grown : (es more : List Entry) (node : NodeId) (core : Core) → Quiet more node → CoreIs es node core → CoreIs (es ++ more) node core
+core-grown es more node (osd s) quiet is = files-grown es more s.files is
+core-grown es more node (client c) quiet is = (call-grown es more node c.running is.0, fresh-grown es more node c.next quiet is.1)
+
+pub up-grown : (es more : List Entry) (node : NodeId) (up : Option Running) → Quiet more node → UpIs es node up → UpIs (es ++ more) node up
+up-grown es more node None quiet is = tt
+up-grown es more node (Some r) quiet is = core-grown es more node r.core quiet is
+
+-- the clause of a file
+pub ends_answered : (es : List Entry) (file : ℕ) → EntriesAre es → EndsAreAnswered file es
+ends_answered es file are before id count bytes there on_file =
+    let is : IsAnswered before id count bytes = are before (ok_entry id count bytes) there in
+    let a = is.1 in
+    let in_before = begun_on-grown is.0 a.front (entry.Answer a.node is.0 id count bytes ∷ a.rest) id a.has_begun in
+    let in_all = begun_on-grown is.0 before (ok_entry id count bytes ∷ there.0) id (subst (λ (xs : List Entry). HasBegunOn is.0 xs id) (sym a.split) in_before) in
+    let same = one_file is.0 file es id (subst (λ (xs : List Entry). HasBegunOn is.0 xs id) (sym there.1) in_all) on_file in
+    let here = subst (λ (f : ℕ). HasAnswer f before id count bytes) same a in
+    (here.front, here.node, (here.rest, here.split), here.has_begun)
+
+-- what is issued, committed or answered on a file has begun on it
+pub acts_begun : (es : List Entry) (file : ℕ) → EntriesAre es → ActsHaveBegun file es
+acts_begun es file are before e id there acts = at e (are before e there) acts
+  where
+    same : (b : Bool) (f : ℕ) (write : OpId) → (f == file) ≡ b → HasBegunOn f before write → (if b then Some write else None) ≡ Some id → HasBegunOn file before id
+    same false f write test begun is = absurd cc
+    same true f write test begun is =
+        let here : write ≡ id = cc in
+        let of_file : f ≡ file = grind (arith, nat_tests) in
+        subst (HasBegunOn file before) here (subst (λ (k : ℕ). HasBegunOn k before write) of_file begun)
+
+    at : (x : Entry) → EntryIs before x → acted_for file x ≡ Some id → HasBegunOn file before id
+    at (entry.Issue node f count write) is acts = same (f == file) f write refl is acts
+    at (entry.Commit node f count write) is acts = same (f == file) f write refl is acts
+    at (entry.Answer node f write count bytes) is acts = same (f == file) f write refl is acts
+    at (entry.Times lease drift) is acts = absurd cc
+    at (entry.File number location) is acts = absurd cc
+    at (entry.Clock node clock) is acts = absurd cc
+    at (entry.Tick count) is acts = absurd cc
+    at (entry.Up node boot clock) is acts = absurd cc
+    at (entry.Down node clock how) is acts = absurd cc
+    at (entry.Begin caller number c) is acts = absurd cc
+    at (entry.Held node f end) is acts = absurd cc
+    at (entry.Active node f count write) is acts = absurd cc
+    at (entry.Done caller number how) is acts = absurd cc

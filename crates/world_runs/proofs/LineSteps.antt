@@ -1,0 +1,149 @@
+-- a world that fits is what every run keeps
+use Rattle.std.proofs.Common.{◌≡◌, ℕ, ◌≤◌, inl, inr, List, [], ◌∷◌, ◌++◌, refl, arith, ap, sym, ◌∙◌, subst, Option, Some, None}
+use Rattle.xt_base.specs.TimeSettings.{TimeSettings}
+use Rattle.xt_base.specs.declared.ids.NodeId.{NodeId}
+use Rattle.xt_base.specs.declared.ids.Boot.{Boot}
+use Rattle.xt_messages.specs.declared.message.Msg.{Msg}
+use Rattle.xt_messages.specs.declared.record.Record.{Record}
+use Rattle.time_line.specs.declared.entry.Halt.TheVariants as halt
+use Rattle.lease_safety.specs.State.{Has}
+use Rattle.xt_protocol.specs.Folds.{fold_of}
+use Rattle.lease_runs.specs.LeaseWorld.{LeaseSetting}
+use Rattle.lease_runs.proofs.Seen as seen_steps
+use Rattle.cluster_runs.specs.declared.DeclaredFile.{DeclaredFile}
+use Rattle.time_line.specs.declared.line.Line.{Line}
+use Rattle.cluster_runs.specs.declared.ClientState.{ClientState}
+use Rattle.time_line.specs.TimeLine.{Standing, standing}
+use Rattle.cluster_runs.specs.Clients.{knows, aimed}
+use Rattle.cluster_runs.specs.World.{World, Node, Running, Core, osd, client, node_in, with_node, up_of}
+use Rattle.cluster_runs.specs.Lines.{declared_file, no_longer_pending}
+use Rattle.world_runs.specs.View.{file_setting, node_id, told, core_seen, up_seen, node_seen, messages, is_of, lease_view}
+use Rattle.world_runs.proofs.Lists.{has_in, has_left, has_right, has_filter, filter_has}
+use Rattle.world_runs.proofs.Tables.{same, node_in-new, node_in-other}
+use Rattle.world_runs.proofs.Fit.{IsFit, replaced, halt_fits, fewer_fits, after_fits, fewer_next}
+use Rattle.world_runs.proofs.Files.{record_fits}
+use Rattle.world_runs.proofs.NodeEvents.{step_next}
+use Rattle.world_runs.proofs.Walk.{IsKept, same_messages}
+use Rattle.cluster_runs.specs.Runs.{with_line}
+use Rattle.world_runs.proofs.Declares as declares
+use Rattle.world_runs.proofs.Clocks as clocks
+use Rattle.world_runs.specs.Worlds.{OsdFits, CoreFits, UpFits, NodeFits, EndFits, Stands}
+
+-- ---- plans
+
+-- a running node is changed so that nothing of its lease changes
+changed_fits : (w : World) (own : List Msg) (node : Node) (r q : Running) → node_in w.nodes node.id.0 ≡ Some node → node.up ≡ Some r
+    → ((g : LeaseSetting) (n : ℕ) (end : Option ℕ) → core_seen g n end node.kept q q.core ≡ core_seen g n end node.kept r r.core) → CoreFits w.times w.files node.id node.kept q q.core
+    → ((o : Option Standing) → Stands o (Some r) → Stands o (Some q)) → IsFit w own → IsFit (record w { nodes = with_node w.nodes (record node { up = Some q }) }) own
+changed_fits w own node r q found is_up seen core stands fit =
+    let there : Node = record node { up = Some q } in
+    let next : World = record w { nodes = with_node w.nodes there } in
+    record {
+      shape =
+          record {
+            good = λ number members are.
+                let g = file_setting w.times number members in
+                seen_steps.unmoved g (lease_view g w own) (lease_view g next own) (fit.shape.good number members are)
+                (λ n. elim (same n node.id.0) [
+                  | inl e ↦ seen_steps.as_it_is _ _
+                      (ap (node_seen g n (told number n w.entries)) (ap (node_in next.nodes) e ∙ node_in-new w.nodes there node found) ∙ (seen g n (told number n w.entries)
+                      ∙ sym (ap (node_seen g n (told number n w.entries)) (ap (node_in w.nodes) e ∙ found) ∙ ap (up_seen g n (told number n w.entries) node.kept) is_up)))
+                  | inr ne ↦ seen_steps.as_it_is _ _ (ap (node_seen g n (told number n w.entries)) (node_in-other w.nodes there n ne))
+                ])
+                (λ m h. h);
+            nodes = λ n x is. replaced (NodeFits w.times w.files) w.nodes there node n x found (record { rows = (fit.shape.nodes node.id.0 node found).rows; up = core }) (λ y was. fit.shape.nodes n y was) is;
+            stands = λ n number. elim (same n node.id.0) [
+              | inl e ↦ subst (λ (f : Option Node). Stands (standing (node_id n) number w.entries) (up_of f)) (sym (ap (node_in next.nodes) e ∙ node_in-new w.nodes there node found))
+                  (stands (standing (node_id n) number w.entries) (subst (Stands (standing (node_id n) number w.entries)) (ap up_of (ap (node_in w.nodes) e ∙ found) ∙ is_up) (fit.shape.stands n number)))
+              | inr ne ↦ subst (λ (f : Option Node). Stands (standing (node_id n) number w.entries) (up_of f)) (sym (node_in-other w.nodes there n ne)) (fit.shape.stands n number)
+            ];
+            asks = fit.shape.asks;
+            times = fit.shape.times;
+          };
+      safe = fit.safe;
+    }
+
+same_core : (times : TimeSettings) (files : List DeclaredFile) (node : NodeId) (records : List Record) (r q : Running) (core : Core) → r.boot ≡ q.boot → r.clock ≡ q.clock → CoreFits times files node records r core → CoreFits times files node records q core
+same_core times files node records r q (osd s) boot clock fits =
+    (subst (λ (c : ℕ). OsdFits times files node q.boot c s) clock (subst (λ (b : Boot). OsdFits times files node b r.clock s) boot fits.0), subst (λ (b : Boot). b.0 ≤ (fold_of records).boot.0) boot fits.1, fits.2)
+same_core times files node records r q (client c) boot clock fits = fits
+
+core_of : (w : World) (own : List Msg) (node : Node) (r : Running) → node_in w.nodes node.id.0 ≡ Some node → node.up ≡ Some r → IsFit w own → CoreFits w.times w.files node.id node.kept r r.core
+core_of w own node r found is_up fit = subst (UpFits w.times w.files node.id node.kept) is_up (fit.shape.nodes node.id.0 node found).up
+
+same_seen : (g : LeaseSetting) (n : ℕ) (end : Option ℕ) (records : List Record) (r q : Running) (core : Core) → q.boot ≡ r.boot → q.clock ≡ r.clock → core_seen g n end records q core ≡ core_seen g n end records r core
+same_seen g n end records r q (osd s) boot clock =
+    ap (λ (b : Boot). core_seen g n end records (record q { boot = b }) (osd s)) boot ∙ ap (λ (c : ℕ). core_seen g n end records (record q { boot = r.boot; clock = c }) (osd s)) clock
+same_seen g n end records r q (client c) boot clock = refl
+
+-- a message is no longer pending
+less_sent : (w : World) (own : List Msg) (number : ℕ) → IsFit w own → IsFit (record w { sent = no_longer_pending w.sent number }) own
+less_sent w own number fit =
+    let next : World = record w { sent = no_longer_pending w.sent number } in
+    let within : (m : Msg) → Has m (own ++ messages next) → Has m (own ++ messages w) =
+    λ m h. elim (has_in m own (messages next) h) [
+      | inl mine ↦ has_left m own (messages w) mine
+      | inr sent ↦ has_right m own (messages w) (same_messages w.sent number m sent)
+    ] in
+    record {
+      shape =
+          record {
+            good = λ k members are.
+                let g = file_setting w.times k members in
+                seen_steps.unmoved g (lease_view g w own) (lease_view g next own) (fit.shape.good k members are) (λ n. seen_steps.as_it_is _ _ refl)
+                (λ m h. let there = has_filter (is_of g.file) m (own ++ messages next) h in filter_has (is_of g.file) m (own ++ messages w) (within m there.0) there.1);
+            nodes = fit.shape.nodes;
+            stands = fit.shape.stands;
+            asks = λ m h. fit.shape.asks m (within m h);
+            times = fit.shape.times;
+          };
+      safe = fit.safe;
+    }
+
+-- a line more
+lined_fits : (w : World) (l : Line) → IsFit w [] → IsFit (with_line w l) []
+lined_fits w l fit =
+    record { shape = record { good = fit.shape.good; nodes = fit.shape.nodes; stands = fit.shape.stands; asks = fit.shape.asks; times = fit.shape.times }; safe = fit.safe }
+
+same_stands : (r q : Running) (o : Option Standing) → q.clock ≡ r.clock → q.core ≡ r.core → Stands o (Some r) → Stands o (Some q)
+same_stands r q None clock core stands = absurd stands
+same_stands r q (Some st) clock core stands = (stands.0 ∙ sym clock, subst (EndFits st.end) (sym core) stands.1)
+
+aimed_stands : (r : Running) (c d : ClientState) (o : Option Standing) → r.core ≡ client c → Stands o (Some r) → Stands o (Some (record r { core = client d }))
+aimed_stands r c d None core stands = absurd stands
+aimed_stands r c d (Some st) core stands = (stands.0, subst (EndFits st.end) core stands.1)
+
+-- ---- every run
+
+pub fits_kept : IsKept IsFit
+fits_kept =
+    record {
+      begins = declares.start_fits;
+      times = λ lease drift bound. declares.times_fit lease drift;
+      osd_declared = λ w id bound free fit. declares.osd_fits w id free fit;
+      client_declared = λ w id clock bound free fit. declares.client_fits w id clock free fit;
+      file_declared = λ w number location bound free fit. declares.file_fits w number location fit;
+      started = λ w node clock bound found down close fit. clocks.start_fits w node clock found down close fit;
+      planned = λ w node r q found is_up boot clock core fit.
+          changed_fits w [] node r q found is_up
+          (λ g n end. ap (core_seen g n end node.kept q) core ∙ same_seen g n end node.kept r q r.core boot.0 clock)
+          (subst (CoreFits w.times w.files node.id node.kept q) (sym core) (same_core w.times w.files node.id node.kept r q r.core (sym boot.0) (sym clock) (core_of w [] node r found is_up fit)))
+          (λ o stands. same_stands r q o clock core stands) fit;
+      aimed_at = λ w node r c number target found is_up is_client fit.
+          let d = knows c (declared_file number) (aimed target) in
+          changed_fits w [] node r (record r { core = client d }) found is_up (λ g n end. ap (core_seen g n end node.kept r) (sym is_client))
+          (subst (CoreFits w.times w.files node.id node.kept r) is_client (core_of w [] node r found is_up fit)) (λ o stands. aimed_stands r c d o is_client stands) fit;
+      stopped = λ w own node r how found is_up fit. halt_fits w own node node r how found (fit.shape.nodes node.id.0 node found).rows (omega arith) fit;
+      clock_set = λ w node r clock bound found is_up rises close fit. clocks.clock_fits w node r clock found is_up rises close fit;
+      all_ticked = λ w count bound fit. clocks.tick_fits w count fit;
+      less_pending = less_sent;
+      lost = fewer_fits;
+      stepped = λ w was own node r next turned outs rest within found is_up step split fit.
+          after_fits w was own node r next (record turned { outs = outs }) within found is_up
+          (fewer_next w was node r next turned outs (λ m h. subst (Has m) (sym split) (has_left m outs rest h)) (step_next w was node r next turned fit.shape found is_up step)) fit;
+      stopped_keeping = λ w own node r next turned rec found is_up step e fit.
+          let is = step_next w own node r next turned fit.shape found is_up step in
+          halt_fits w own (record node { kept = node.kept ++ rec ∷ [] }) node (record r { core = next }) halt.Kept found
+          (record_fits w.files node.kept rec (is.rec rec e).0 (fit.shape.nodes node.id.0 node found).rows) (omega (arith, ap (λ (b : Boot). b.0) (is.rec rec e).1)) fit;
+      lined = lined_fits;
+    }

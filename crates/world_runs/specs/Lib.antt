@@ -1,0 +1,4 @@
+pub mod View
+pub mod Worlds
+pub mod Acts
+pub mod Asks

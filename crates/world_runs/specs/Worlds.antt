@@ -1,0 +1,157 @@
+-- what holds of the world at every moment of a run
+use Rattle.std.specs.Prelude.{◌≡◌, ◌≤◌, ℕ, true, Option, Some, None, List, [], ◌∷◌, ◌++◌, map}
+use Rattle.xt_base.specs.TimeSettings.{TimeSettings}
+use Rattle.xt_base.specs.declared.ids.NodeId.{NodeId}
+use Rattle.xt_base.specs.declared.ids.FileId.{FileId}
+use Rattle.xt_base.specs.declared.ids.Boot.{Boot}
+use Rattle.xt_messages.specs.declared.file.Location.{Location}
+use Rattle.xt_messages.specs.declared.message.Msg.{Msg}
+use Rattle.xt_messages.specs.declared.message.Payload.{Payload}
+use Rattle.xt_messages.specs.declared.message.Payload.TheVariants as payload
+use Rattle.xt_messages.specs.declared.record.Record.{Record}
+use Rattle.xt_messages.specs.declared.record.FileRow.{FileRow}
+use Rattle.xt_protocol.specs.FileIds.{is_before}
+use Rattle.xt_protocol.specs.Folds.{fold_of, row_in}
+use Rattle.xt_protocol.specs.LeaseRows.{lease_expired}
+use Rattle.lease_safety.specs.State.{Has}
+use Rattle.osd_rows.specs.FileStates.{FileState}
+use Rattle.osd_rows.specs.declared.Tenure.{Tenure}
+use Rattle.osd_rows.specs.Overdue.{expired}
+use Rattle.osd_rows.specs.OsdSteps.{OsdState, file_at}
+use Rattle.osd_invariants.specs.Sound.{IsHeld, IsStored, IsSound}
+use Rattle.lease_runs.specs.OsdView.{site_of}
+use Rattle.lease_runs.specs.ActsView.{IsBusy}
+use Rattle.cluster_runs.specs.declared.DeclaredFile.{DeclaredFile}
+use Rattle.cluster_runs.specs.declared.RunningCall.{RunningCall}
+use Rattle.time_line.specs.TimeLine.{Standing, standing, holds, times_of}
+use Rattle.cluster_runs.specs.World.{World, Node, Running, Core, osd, client, node_in, file_in, up_of}
+use Rattle.cluster_runs.specs.NodeSteps.{outside_of}
+use Rattle.cluster_runs.specs.Lines.{Next, finished, opens, goes_on, ends, declared_file}
+use Rattle.world_runs.specs.View.{node_id, awake_as, messages}
+
+-- ---- files that rise
+
+-- all of these come behind this file
+abbrev pub AreBehind : FileId → List FileId → Type 0
+AreBehind file files = (other : FileId) → Has other files → is_before file other ≡ true
+
+abbrev pub Rises : List FileId → Type 0
+Rises [] = Unit {0}
+Rises (f ∷ fs) = AreBehind f fs × Rises fs
+
+-- the files of states, and of rows
+abbrev pub files_of : List FileState → List FileId
+files_of states = map (λ (s : FileState). s.kept.file) states
+
+abbrev pub row_files : List FileRow → List FileId
+row_files rows = map (λ (r : FileRow). r.file) rows
+
+-- ---- what is declared
+
+-- a stored list is the declared one
+abbrev pub Listed : List DeclaredFile → FileId → Option Location → Type 0
+Listed files file None = Unit {0}
+Listed files file (Some location) = file_in files file.number ≡ Some location
+
+-- an ask is on a declared file, with its list
+abbrev pub AskFits : List DeclaredFile → Payload → Type 0
+AskFits files (payload.Ask number capability asked) = (capability.file ≡ declared_file capability.file.number) × (file_in files capability.file.number ≡ Some capability.location)
+AskFits files _ = Unit {0}
+
+-- the state of a file: it is sound, its list is the declared one, and where there is a round or a lease its file is declared
+pub record FileFits (files : List DeclaredFile) (s : FileState) : Type 0 where
+  pub listed : Listed files s.kept.file s.kept.location
+  pub declared : IsBusy s.lease → s.kept.file ≡ declared_file s.kept.file.number
+  pub stored : IsBusy s.lease → IsStored s.kept.location
+  pub sound : IsSound s
+
+-- the rows that records fold to
+pub record RowsFit (files : List DeclaredFile) (rows : List FileRow) : Type 0 where
+  pub listed : (r : FileRow) → Has r rows → Listed files r.file r.location
+  pub rises : Rises (row_files rows)
+
+-- ---- nodes
+
+-- what an OSD has of each file is what its records say
+abbrev pub Agrees : List Record → OsdState → Type 0
+Agrees kept s = (file : FileId) → (file_at (awake_as s.started) s.files file).kept ≡ row_in (fold_of kept).files file
+
+-- the state of a running OSD: it started as this boot, and its clock is past the one that it used last
+pub record OsdFits (times : TimeSettings) (files : List DeclaredFile) (node : NodeId) (boot : Boot) (clock : ℕ) (s : OsdState) : Type 0 where
+  pub started : s.started ≡ record { node = node; boot = boot; times = times; start = s.started.start }
+  pub last : s.last ≤ clock
+  pub fits : (f : FileState) → Has f s.files → FileFits files f
+  pub rises : Rises (files_of s.files)
+
+-- the capability of a running call is of a declared file
+abbrev pub CallFits : List DeclaredFile → Option RunningCall → Type 0
+CallFits files None = Unit {0}
+CallFits files (Some call) =
+    (call.capability.file ≡ declared_file call.capability.file.number) × (file_in files call.capability.file.number ≡ Some call.capability.location)
+
+-- a running node: an OSD's boot isn't above those of its records
+abbrev pub CoreFits : TimeSettings → List DeclaredFile → NodeId → List Record → Running → Core → Type 0
+CoreFits times files node kept r (osd s) = OsdFits times files node r.boot r.clock s × (r.boot.0 ≤ (fold_of kept).boot.0) × Agrees kept s
+CoreFits times files node kept r (client c) = CallFits files c.running
+
+abbrev pub UpFits : TimeSettings → List DeclaredFile → NodeId → List Record → Option Running → Type 0
+UpFits times files node kept None = Unit {0}
+UpFits times files node kept (Some r) = CoreFits times files node kept r r.core
+
+pub record NodeFits (times : TimeSettings) (files : List DeclaredFile) (node : Node) : Type 0 where
+  pub rows : RowsFit files (fold_of node.kept).files
+  pub up : UpFits times files node.id node.kept node.up
+
+-- ---- the trace
+
+-- a node stands in the trace as it runs; a client never holds
+abbrev pub EndFits : Option ℕ → Core → Type 0
+EndFits end (osd s) = Unit {0}
+EndFits end (client c) = end ≡ None
+
+abbrev pub Stands : Option Standing → Option Running → Type 0
+Stands None None = Unit {0}
+Stands None (Some r) = ⊥
+Stands (Some st) None = ⊥
+Stands (Some st) (Some r) = (st.clock ≡ r.clock) × EndFits st.end r.core
+
+-- An OSD whose lease for a file is held, once what is overdue has expired, holds the file by the trace.
+abbrev pub LeasesHold : World → Type 0
+LeasesHold w =
+    (n : ℕ) (node : Node) (r : Running) (s : OsdState) (file : FileId) → node_in w.nodes n ≡ Some node → node.up ≡ Some r → r.core ≡ osd s
+    → IsHeld (lease_expired (file_at (awake_as s.started) s.files file).lease r.clock) → (file ≡ declared_file file.number) × (holds w.entries node.id file.number ≡ true)
+
+-- The node leads the file: it is a running OSD, and its primary for the file is in a tenure, once what is overdue has expired.
+pub record Leads (w : World) (file : FileId) (n : ℕ) : Type 0 where
+  pub node : Node
+  pub running : Running
+  pub state : OsdState
+  pub tenure : Tenure
+  pub found : node_in w.nodes n ≡ Some node
+  pub up : node.up ≡ Some running
+  pub core : running.core ≡ osd state
+  pub leads :
+      (expired (site_of (outside_of node.kept) (awake_as state.started) running.clock) (file_at (awake_as state.started) state.files file)).state.primary.tenure
+      ≡ Some tenure
+
+-- No two nodes lead a file.
+abbrev pub OneLeads : World → Type 0
+OneLeads w = (file : FileId) (a b : ℕ) → Leads w file a → Leads w file b → a ≡ b
+
+-- ---- worlds
+
+-- What holds of a world, in the midst of a line with the messages of a node to itself that it hasn't handled.
+pub record IsInOrder (w : World) (own : List Msg) : Type 0 where
+  pub nodes : (n : ℕ) (node : Node) → node_in w.nodes n ≡ Some node → NodeFits w.times w.files node
+  pub stands : (n number : ℕ) → Stands (standing (node_id n) number w.entries) (up_of (node_in w.nodes n))
+  pub asks : (m : Msg) → Has m (own ++ messages w) → AskFits w.files m.payload
+  pub times : times_of w.entries ≡ w.times
+  pub leases : LeasesHold w
+  pub leads : OneLeads w
+
+-- and at each step of a line
+abbrev pub IsNextInOrder : Next → Type 0
+IsNextInOrder (finished w) = IsInOrder w []
+IsNextInOrder (opens l w) = IsInOrder w []
+IsNextInOrder (goes_on d) = IsInOrder d.world d.own
+IsNextInOrder (ends cause w) = IsInOrder w []
