@@ -203,25 +203,32 @@ const STAMP: Stamp = Stamp {
     count: 1,
 };
 
-/// The version of this object that has this count in the epoch (1, 1).
-const fn version(object: u64, count: u64) -> ObjectVersion {
-    ObjectVersion {
-        object,
-        version: Stamp {
-            epoch: FIRST,
-            count,
-        },
-    }
-}
-
 /// Object 0 in the version of the offered head.
-const OLDER: ObjectVersion = version(0, 1);
+const OLDER: ObjectVersion = ObjectVersion {
+    object: 0,
+    version: Stamp {
+        epoch: FIRST,
+        count: 1,
+    },
+};
 
 /// Object 0 in the version of the own head.
-const NEWER: ObjectVersion = version(0, 2);
+const NEWER: ObjectVersion = ObjectVersion {
+    object: 0,
+    version: Stamp {
+        epoch: FIRST,
+        count: 2,
+    },
+};
 
 /// Object 1 in that of the own head.
-const OTHER: ObjectVersion = version(1, 1);
+const OTHER: ObjectVersion = ObjectVersion {
+    object: 1,
+    version: Stamp {
+        epoch: FIRST,
+        count: 1,
+    },
+};
 
 /// The bodies that a replica with the own head holds, what comes of the offered one, and the versions of its head then.
 static OFFERS: [(&[ObjectVersion], Comes, &[ObjectVersion]); 2] = [

@@ -214,14 +214,6 @@ impl Folding {
         Ok(())
     }
 
-    /// What the records so far say.
-    pub fn so_far(&self) -> &Folded
-        ensures value { result.now ≡ self.now }
-        ensures rising { FilesRise result.now.files }
-    {
-        &self.folded
-    }
-
     /// What the records said.
     pub fn folded(self) -> Folded
         ensures value { result ≡ self }

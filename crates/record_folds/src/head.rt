@@ -1,5 +1,5 @@
-ghost use Rattle.std.specs.Prelude.{◌≡◌, length, OnOk, IfOk};
-ghost use Rattle.xt_protocol.specs.Heads.{version_of, session_of, with_version, with_session, new_head, plain_stamp, head_after, versions_below};
+ghost use Rattle.std.specs.Prelude.{◌≡◌, OnOk, IfOk};
+ghost use Rattle.xt_protocol.specs.Heads.{with_version, with_session, new_head, plain_stamp, head_after, versions_below};
 ghost use Rattle.record_folds.specs.RowPlaces.{versions_after, IsVersionPlace, IsSessionPlace};
 
 use std::alloc::Global;
@@ -33,30 +33,6 @@ pub fn new_head(alloc: Global) -> FileHead
         versions: Seq::new(alloc),
         sessions: Seq::new(alloc),
     }
-}
-
-/// The version of an object, none where no update made it.
-pub fn version_of(versions: &[ObjectVersion], object: u64) -> Option<Stamp>
-    ensures { result ≡ version_of versions.now object }
-{
-    for row in versions {
-        if row.object == object {
-            return Some(row.version);
-        }
-    }
-    None
-}
-
-/// A client's last write, none before its first.
-pub fn session_of(sessions: &[Session], client: NodeId) -> Option<Session>
-    ensures { result ≡ session_of sessions.now client.0 }
-{
-    for row in sessions {
-        if row.client.0 == client.0 {
-            return Some(*row);
-        }
-    }
-    None
 }
 
 /// Where the version of an object stands, or else where it belongs.
@@ -111,16 +87,6 @@ fn put_session(sessions: &mut Seq<Session>, row: Session) -> Result<(), OutOfMem
     Ok(())
 }
 
-/// How many sessions there are with this one.
-pub fn sessions_with(sessions: &[Session], row: Session) -> usize
-    ensures { result ≡ length (with_session sessions.now row) }
-{
-    match session_place(sessions, row.client) {
-        Ok(_) => sessions.len(),
-        Err(_) => sessions.len() + 1,
-    }
-}
-
 /// Drops the versions of the objects from this one on.
 fn drop_versions(versions: &mut Seq<ObjectVersion>, from: u64)
     ensures { versions.new ≡ versions_below versions.old from }
@@ -144,7 +110,7 @@ fn update_versions(versions: &mut Seq<ObjectVersion>, update: &Update) -> Result
 }
 
 /// What an update makes of the head. Where memory runs out, the head isn't to be used again.
-pub fn take_update(head: &mut FileHead, update: &Update) -> Result<(), OutOfMemory>
+fn take_update(head: &mut FileHead, update: &Update) -> Result<(), OutOfMemory>
     ensures { OnOk result (head.new ≡ head_after head.old update.now) }
 {
     update_versions(&mut head.versions, update)?;

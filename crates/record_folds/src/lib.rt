@@ -11,6 +11,4 @@ mod head;
 mod order;
 
 pub use folding::{Folding, fold};
-pub use head::{
-    head_after, new_head, plain_stamp, session_of, sessions_with, take_update, version_of,
-};
+pub use head::{head_after, new_head, plain_stamp};

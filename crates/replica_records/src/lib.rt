@@ -16,8 +16,5 @@ pub use errors::RecordErr;
 pub use kept_bodies::{Bodies, BodyErr};
 pub use log::RecordLog;
 pub use payload::{read_record, record_bytes};
-pub use record_folds::{
-    Folding, fold, head_after, new_head, plain_stamp, session_of, sessions_with, take_update,
-    version_of,
-};
+pub use record_folds::{Folding, fold, head_after, new_head, plain_stamp};
 pub use xt_messages::{FileRow, FileTable, Folded, HeldPairs, Keep, Record};
