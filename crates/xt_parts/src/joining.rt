@@ -1,9 +1,9 @@
-ghost use Rattle.std.specs.Prelude.{◌≡◌, ◌↔◌, ◌+◌, ◌++◌, ◌∷◌, ◌<◌, ◌≤◌, true, None, Some, [], length, take, drop, is_some, position, slice_get, slice_set, IfOk, OnErr, OnOk, MatchOption, IsErrOf};
+ghost use Rattle.std.specs.Prelude.{◌≡◌, ◌↔◌, ◌+◌, ◌++◌, ◌∷◌, ◌<◌, ◌≤◌, true, None, Some, [], length, take, drop, is_some, position, slice_get, slice_index_or, slice_set, IfOk, OnErr, OnOk, MatchOption, IsErrOf};
 ghost use Rattle.std.specs.List.{list_all};
 ghost use Rattle.xt_parts.specs.declared.joining.JoinErr.TheVariants.{BadPart, OutOfMemory};
 ghost use Rattle.xt_parts.specs.Part.{parts_in, bytes_in};
 ghost use Rattle.xt_parts.specs.Places.{StandsAt};
-ghost use Rattle.xt_parts.specs.Joining.{HalfJoined, is_same, bytes_of, has_payload, none_taken, half_of, newest, begun, joined_to, after_part};
+ghost use Rattle.xt_parts.specs.Joining.{HalfJoined, is_same, bytes_of, has_payload, none_taken, half_of, newest, begun, added, joined_to, after_part};
 
 use crate::part::{Header, MessageId, part_count, read};
 use crate::{HALF_JOINED, PAYLOAD};
@@ -279,19 +279,31 @@ impl Joiner {
             ↔ (joined_to self.old (half_of self.old header.now.id) header.now payload.now ≡ None) }
         ensures err { OnErr result (self.new ≡ self.old) }
     {
-        let half = &mut self.halves[place];
+        let half = &self.halves[place];
         if half.size() != header.size as usize {
             return Err(JoinErr::BadPart);
         }
-        let index = header.index as usize;
-        if half.has(index) {
+        if half.has(header.index as usize) {
             return Ok(None);
         }
-        half.add(index, payload);
+        Ok(self.add_to(place, header, payload))
+    }
+
+    /// Adds a new payload to the half joined message at this place, and gives the message where it is whole with it.
+    fn add_to(&mut self, place: usize, header: &Header, payload: &[u8]) -> Option<Whole>
+        requires found { StandsAt self.old header.now.id place }
+        requires size { (other : HalfJoined) → (slice_index_or self.old place other).size ≡ header.now.size }
+        requires index { header.now.index < parts_in header.now.size }
+        requires long { length payload.now ≡ bytes_in header.now.size header.now.index }
+        ensures { (other : HalfJoined) →
+            added self.old (slice_index_or self.old place other) header.now payload.now ≡ record { held = self.new; whole = result } }
+    {
+        let half = &mut self.halves[place];
+        half.add(header.index as usize, payload);
         if !half.is_whole() {
-            return Ok(None);
+            return None;
         }
         let half = self.halves.remove(place);
-        Ok(Some(Whole::of(&header.id, half.into_bytes())))
+        Some(Whole::of(&header.id, half.into_bytes()))
     }
 }
