@@ -1,5 +1,5 @@
 -- a body that is staged or missed feeds its peer on, as the code tells it
-use Rattle.std.proofs.Common.{◌≡◌, ℕ, Option, Some, None, List, refl, ap, ◌∙◌}
+use Rattle.std.proofs.Common.{◌≡◌, ℕ, Option, Some, None, refl}
 use Rattle.xt_base.specs.declared.ids.NodeId.{NodeId}
 use Rattle.xt_messages.specs.declared.file.ObjectVersion.{ObjectVersion}
 use Rattle.xt_messages.specs.declared.file.FileHead.{FileHead}
@@ -11,7 +11,7 @@ use Rattle.osd_rows.specs.PrimaryRows.{body_missed, body_staged, unmoved}
 use Rattle.replica_primary.specs.Moves.{feeds_any, known_at_head, known_of, with_any, without_any}
 
 module _ (g : Ground) (learnt : ℕ) (t : Tenure) (from : NodeId) (v : ObjectVersion) where
-  staged_by : (target : Option FileHead) (state : PeerState) → feeds_any g learnt t target from (with_any (known_of state) v) ≡ body_staged g learnt t target from state v
+  pub staged_by : (target : Option FileHead) (state : PeerState) → feeds_any g learnt t target from (with_any (known_of state) v) ≡ body_staged g learnt t target from state v
   staged_by (Some target) (peer.Feeding known object version body) = refl
   staged_by (Some target) (peer.Heading known head) = refl
   staged_by (Some target) peer.Unknown = refl
@@ -19,21 +19,13 @@ module _ (g : Ground) (learnt : ℕ) (t : Tenure) (from : NodeId) (v : ObjectVer
   staged_by (Some target) peer.Current = refl
   staged_by None state = refl
 
-  pub staged_fed : (target : Option FileHead) (state : PeerState) (known : Option (List ObjectVersion)) → known ≡ known_of state
-      → feeds_any g learnt t target from (with_any known v) ≡ body_staged g learnt t target from state v
-  staged_fed target state known is = ap (λ k. feeds_any g learnt t target from (with_any k v)) is ∙ staged_by target state
-
-  missed_by : (target : Option FileHead) (state : PeerState) → feeds_any g learnt t target from (without_any (known_at_head state) v) ≡ body_missed g learnt t target from state v
+  pub missed_by : (target : Option FileHead) (state : PeerState) → feeds_any g learnt t target from (without_any (known_at_head state) v) ≡ body_missed g learnt t target from state v
   missed_by (Some target) (peer.Feeding known object version body) = refl
   missed_by (Some target) (peer.Heading known head) = refl
   missed_by (Some target) peer.Unknown = refl
   missed_by (Some target) (peer.Reported head) = refl
   missed_by (Some target) peer.Current = refl
   missed_by None state = refl
-
-  pub missed_fed : (target : Option FileHead) (state : PeerState) (known : Option (List ObjectVersion)) → known ≡ known_at_head state
-      → feeds_any g learnt t target from (without_any known v) ≡ body_missed g learnt t target from state v
-  missed_fed target state known is = ap (λ k. feeds_any g learnt t target from (without_any k v)) is ∙ missed_by target state
 
 -- nothing is known of the peer
 pub none_known : (g : Ground) (learnt : ℕ) (t : Tenure) (from : NodeId) (target : Option FileHead) → unmoved learnt t ≡ feeds_any g learnt t target from None

@@ -15,12 +15,9 @@ use Rattle.xt_messages.specs.declared.message.Payload.TheVariants as payload
 use Rattle.xt_protocol.specs.declared.Turned.{Turned}
 use Rattle.xt_protocol.specs.Stamps.{has_version, is_earlier, is_epoch}
 use Rattle.xt_messages.specs.declared.record.Record.{Record}
-use Rattle.xt_protocol.specs.SeenBodies.{body_by}
-use Rattle.osd_rows.specs.declared.Place.{Place}
 use Rattle.osd_rows.specs.declared.IssuedUpdate.{IssuedUpdate}
 use Rattle.osd_rows.specs.ReplicaRows.{stage_record}
 use Rattle.replica_primary.specs.declared.moving.FetchedBody.{FetchedBody}
-use Rattle.replica_primary.specs.Written.{ground}
 use Rattle.osd_rows.specs.declared.Peer.{Peer}
 use Rattle.osd_rows.specs.declared.PeerState.{PeerState}
 use Rattle.osd_rows.specs.declared.PeerState.TheVariants as peer
@@ -34,7 +31,9 @@ use Rattle.osd_rows.specs.PrimaryRows as rows
 use Rattle.osd_rows.specs.Turns.{message, quiet, sends}
 use Rattle.osd_decisions.specs.Reports.{best_report}
 use Rattle.replica_primary.specs.declared.moving.Heard.TheVariants as heard
-use Rattle.replica_primary.specs.Moves.{IsSplit, any_report, feeds_any, ground_beyond, is_asked, is_to_feed, kept_of, led_by, outpromised, source_in}
+use Rattle.replica_primary.specs.declared.moving.Next.TheVariants as step
+use Rattle.replica_primary.specs.Moves.{IsSplit, any_report, beyond, feeds_any, is_asked, is_to_feed, kept_of, led_by, next_fed, next_of, outpromised, source_in}
+use Rattle.replica_primary.proofs.Fed.{none_known}
 
 -- a peer gets the body of the first version that isn't known of it
 pub fed_body : (body : ℕ → Stamp → List ℕ) (target : FileHead) (known : List ObjectVersion) (v : ObjectVersion) (bytes : List ℕ)
@@ -121,15 +120,22 @@ installed g learnt t installing chosen target peers turned acked it ith iph ith2
     ∙ ap (λ (s : Tenure). led s (target_of g.own t.epoch chosen)) it
     ∙ ap (λ (ns : List NodeId). led (record t { progress = progress.Installing chosen ns }) (target_of g.own t.epoch chosen)) iah
 
+-- a row that keeps nothing keeps no record first
+pub keeps_none : (g : Ground) (learnt : ℕ) (t : Tenure) (chosen : FileHead) (source : NodeId) (wanted : List ObjectVersion)
+    → after_keeping None (fetches g learnt t chosen source wanted) ≡ fetches g learnt t chosen source wanted
+keeps_none g learnt t chosen source [] = refl
+keeps_none g learnt t chosen source (v ∷ later) = refl
+
 -- the next of the wanted bodies is asked for
-pub fetched_next : (g : Ground) (learnt : ℕ) (t fetching : Tenure) (chosen : FileHead) (source : NodeId) (asked : ObjectVersion) (later wanted : List ObjectVersion) (turned : Turned)
+pub fetched_next : (g : Ground) (learnt : ℕ) (t fetching : Tenure) (chosen : FileHead) (source : NodeId) (asked : ObjectVersion) (later wanted : List ObjectVersion) (rec : Option Record) (turned : Turned)
     → fetching ≡ record t { progress = progress.Fetching chosen source asked later } → wanted ≡ asked ∷ later
-    → turned ≡ sends (message g.place.node source (payload.Fetch g.place.file t.epoch asked.object asked.version) ∷ [])
-    → goes_on learnt fetching turned ≡ fetches g learnt t chosen source wanted
-fetched_next g learnt t fetching chosen source asked later wanted turned it iw iu =
+    → turned ≡ record { rec = rec; outs = message g.place.node source (payload.Fetch g.place.file fetching.epoch asked.object asked.version) ∷ []; marks = [] }
+    → goes_on learnt fetching turned ≡ after_keeping rec (fetches g learnt t chosen source wanted)
+fetched_next g learnt t fetching chosen source asked later wanted rec turned it iw iu =
+    let asks = λ (s : Tenure). let u : Turned = record { rec = rec; outs = message g.place.node source (payload.Fetch g.place.file s.epoch asked.object asked.version) ∷ []; marks = [] } in u in
     ap (λ (u : Turned). goes_on learnt fetching u) iu
-    ∙ ap (λ (s : Tenure). goes_on learnt s (sends (message g.place.node source (payload.Fetch g.place.file t.epoch asked.object asked.version) ∷ []))) it
-    ∙ ap (λ (vs : List ObjectVersion). fetches g learnt t chosen source vs) (sym iw)
+    ∙ ap (λ (s : Tenure). goes_on learnt s (asks s)) it
+    ∙ ap (λ (vs : List ObjectVersion). after_keeping rec (fetches g learnt t chosen source vs)) (sym iw)
 
 pub split_some : (wanted : List ObjectVersion) (s : Option (ObjectVersion × List ObjectVersion)) (asked : ObjectVersion) (later : List ObjectVersion)
     → IsSplit wanted s → s ≡ Some (asked, later) → wanted ≡ asked ∷ later
@@ -158,16 +164,12 @@ fetched_on g learnt t taken p chosen source asked later chosen' source' asked' l
     ∙ ap (λ (vs : List ObjectVersion). fetches g learnt t chosen source vs) il
 
 -- a body that has come is kept first, where it wasn't held
-pub kept_first : (place : Place) (records : List Record) (own : FileHead) (held : List ObjectVersion) (learnt : ℕ) (t after : Tenure) (chosen : FileHead) (source : NodeId) (later : List ObjectVersion)
-    (object : ℕ) (version : Stamp) (bytes : List ℕ) (fetched : Option FetchedBody) (turned : Turned) (rec : Option Record)
-    → rec ≡ kept_of place.file fetched → kept_of place.file fetched ≡ stage_record place.file held object version bytes
-    → goes_on learnt after turned ≡ fetches (ground_beyond place records fetched own held) learnt t chosen source later
-    → goes_on learnt after (record turned { rec = rec }) ≡ body_fetched (ground place records own held) learnt t chosen source later object version bytes
-kept_first place records own held learnt t after chosen source later object version bytes fetched turned rec irec ikept step =
-    let stands = λ (k : Option Record). let g : Ground = record { place = place; own = own; held = held; body = body_beyond place.file k (body_by records place.file) } in g in
-    ap (λ (led : Led). after_keeping rec led) step
-    ∙ ap (λ (r : Option Record). after_keeping r (fetches (stands (kept_of place.file fetched)) learnt t chosen source later)) irec
-    ∙ ap (λ (k : Option Record). after_keeping k (fetches (stands k) learnt t chosen source later)) ikept
+pub kept_first : (g : Ground) (learnt : ℕ) (t : Tenure) (chosen : FileHead) (source : NodeId) (later : List ObjectVersion) (object : ℕ) (version : Stamp) (bytes : List ℕ) (fetched : Option FetchedBody)
+    → kept_of g.place.file fetched ≡ stage_record g.place.file g.held object version bytes
+    → after_keeping (kept_of g.place.file fetched) (fetches (beyond g fetched) learnt t chosen source later) ≡ body_fetched g learnt t chosen source later object version bytes
+kept_first g learnt t chosen source later object version bytes fetched is =
+    let stands = λ (rec : Option Record). let h : Ground = record g { body = body_beyond g.place.file rec g.body } in h in
+    ap (λ (rec : Option Record). after_keeping rec (fetches (stands rec) learnt t chosen source later)) is
 
 -- a peer's state that is put in its place again
 keep_at : (p : Peer) (peers : List Peer) (node : NodeId) (state : PeerState) (b : Bool) → (peer_in peers node ≡ Some state → with_peer peers node state ≡ peers)
@@ -220,6 +222,11 @@ module _ (g : Ground) (learnt : ℕ) (t : Tenure) where
       let is : (best.0.0 == g.place.node.0) ≡ false = grind arith in
       sym (ap (λ (b : Bool). cond b (installs g learnt t best.1) (fetches g learnt t best.1 best.0 (difference (known_of_own g.held) best.1.versions))) is)
 
+  -- the sender is fed on, where something is known of it
+  pub fed_on : (from : NodeId) (known : Option (List ObjectVersion)) → next_of g learnt from t (next_fed known) ≡ feeds_any g learnt t (target_in g.own t.epoch t.progress) from known
+  fed_on from (Some known) = refl
+  fed_on from None = none_known g learnt t from (target_in g.own t.epoch t.progress)
+
   -- the object is the one that was asked for
   pub asked_object : (p : Progress) (from : NodeId) (v : ObjectVersion) (bytes : List ℕ) (led : Led) → is_asked p from v ≡ true
       → ((chosen : FileHead) (source : NodeId) (asked : ObjectVersion) (later : List ObjectVersion) → p ≡ progress.Fetching chosen source asked later
@@ -271,10 +278,11 @@ module _ (g : Ground) (learnt : ℕ) (t : Tenure) where
       ∙ ap (λ (b : Bool). cond b (hears_member g learnt t from (peer_in t.peers from) content) (unmoved learnt t)) same
       ∙ ap (λ (s : Option PeerState). hears_member g learnt t from s content) is)
 
-  redraw : (b : Bool) (above : ℕ) → led_by g learnt (Some t) (cond b (heard.Redraws above) (heard.GoesOn quiet)) ≡ cond b (epoch_drawn g.place above g.own (nodes_of t.peers)) (unmoved learnt t)
-  redraw true above = refl
-  redraw false above = refl
+  redraw : (from : NodeId) (b : Bool) (above : ℕ)
+      → led_by g learnt from t (cond b (heard.Redraws above) (heard.GoesOn (step.Gives quiet))) ≡ cond b (epoch_drawn g.place above g.own (nodes_of t.peers)) (unmoved learnt t)
+  redraw from true above = refl
+  redraw from false above = refl
 
   -- outpromised: a new epoch is drawn, or nothing comes of it
-  pub outpromised_by : (promised : Epoch) → led_by g learnt (Some t) (outpromised learnt t.epoch promised) ≡ rows.outpromised g learnt t promised
-  outpromised_by promised = redraw (is_earlier t.epoch promised) (max learnt promised.number)
+  pub outpromised_by : (from : NodeId) (promised : Epoch) → led_by g learnt from t (outpromised learnt t.epoch promised) ≡ rows.outpromised g learnt t promised
+  outpromised_by from promised = redraw from (is_earlier t.epoch promised) (max learnt promised.number)

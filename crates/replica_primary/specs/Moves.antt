@@ -20,9 +20,11 @@ use Rattle.osd_rows.specs.declared.Progress.{Progress}
 use Rattle.osd_rows.specs.declared.Progress.TheVariants as progress
 use Rattle.osd_rows.specs.declared.Tenure.{Tenure}
 use Rattle.osd_rows.specs.Primaries.{Ground, Led, is_reported, nodes_of, with_known}
-use Rattle.osd_rows.specs.PrimaryRows.{body_beyond, epoch_drawn, feeds, unmoved}
+use Rattle.osd_rows.specs.PrimaryRows.{after_keeping, body_beyond, epoch_drawn, feeds, goes_on, installs, target_in, unmoved}
 use Rattle.osd_rows.specs.Turns.{quiet}
 use Rattle.replica_primary.specs.declared.moving.FetchedBody.{FetchedBody}
+use Rattle.replica_primary.specs.declared.moving.Next.{Next}
+use Rattle.replica_primary.specs.declared.moving.Next.TheVariants as step
 use Rattle.replica_primary.specs.declared.moving.Heard.{Heard}
 use Rattle.replica_primary.specs.declared.moving.Heard.TheVariants as heard
 
@@ -31,14 +33,9 @@ abbrev pub peers_under : Option Tenure → List Peer
 peers_under None = []
 peers_under (Some t) = t.peers
 
--- a primary that has heard a message
-abbrev pub led_by : Ground → ℕ → Option Tenure → Heard → Led
-led_by g learnt tenure (heard.GoesOn turned) = record { primary = record { learnt = learnt; tenure = tenure }; turned = turned }
-led_by g learnt tenure (heard.Redraws above) = epoch_drawn g.place above g.own (nodes_of (peers_under tenure))
-
 -- outpromised: a new epoch is drawn above the higher number
 abbrev pub outpromised : ℕ → Epoch → Epoch → Heard
-outpromised learnt epoch promised = if is_earlier epoch promised then heard.Redraws (max learnt promised.number) else heard.GoesOn quiet
+outpromised learnt epoch promised = if is_earlier epoch promised then heard.Redraws (max learnt promised.number) else heard.GoesOn (step.Gives quiet)
 
 -- the record of a body that was just fetched, where there is one
 abbrev pub kept_of : FileId → Option FetchedBody → Option Record
@@ -53,6 +50,10 @@ body_seen records file fetched object version = body_beyond file (kept_of file f
 abbrev pub ground_beyond : Place → List Record → Option FetchedBody → FileHead → List ObjectVersion → Ground
 ground_beyond place records fetched own held =
     record { place = place; own = own; held = held; body = body_beyond place.file (kept_of place.file fetched) (body_by records place.file) }
+
+-- the same, of any ground
+abbrev pub beyond : Ground → Option FetchedBody → Ground
+beyond g fetched = record g { body = body_beyond g.place.file (kept_of g.place.file fetched) g.body }
 
 -- the wanted versions are none; or the first one and those after it
 abbrev pub IsSplit : List ObjectVersion → Option (ObjectVersion × List ObjectVersion) → Type 0
@@ -75,6 +76,22 @@ abbrev pub feeds_any : Ground → ℕ → Tenure → Option FileHead → NodeId 
 feeds_any g learnt t (Some target) from (Some known) = feeds g learnt t from target known
 feeds_any g learnt t None from _ = unmoved learnt t
 feeds_any g learnt t (Some target) from None = unmoved learnt t
+
+-- how a tenure goes on after a message from this node
+abbrev pub next_of : Ground → ℕ → NodeId → Tenure → Next → Led
+next_of g learnt from t (step.Gives turned) = goes_on learnt t turned
+next_of g learnt from t (step.Feeds known) = feeds_any g learnt t (target_in g.own t.epoch t.progress) from (Some known)
+next_of g learnt from t (step.Installs chosen fetched) = after_keeping (kept_of g.place.file fetched) (installs (beyond g fetched) learnt t chosen)
+
+-- a primary that has heard a message from this node
+abbrev pub led_by : Ground → ℕ → NodeId → Tenure → Heard → Led
+led_by g learnt from t (heard.GoesOn n) = next_of g learnt from t n
+led_by g learnt from t (heard.Redraws above) = epoch_drawn g.place above g.own (nodes_of t.peers)
+
+-- the sender is fed on, where something is known of it
+abbrev pub next_fed : Option (List ObjectVersion) → Next
+next_fed None = step.Gives quiet
+next_fed (Some known) = step.Feeds known
 
 -- these versions and this one, where something is known
 abbrev pub with_any : Option (List ObjectVersion) → ObjectVersion → Option (List ObjectVersion)

@@ -12,14 +12,15 @@ ghost use Rattle.replica_primary.specs.Written.{ground};
 ghost use Rattle.replica_primary.specs.Acks.{acked_by, acked_in, carried_told, commit_told, is_installing, peers_after, with_ack};
 
 use crate::moving::advance;
+use crate::serving::send_update;
 use osd_decisions::carries;
 use osd_peers::{add_node, set_peer};
 use osd_rows::{IssuedUpdate, PeerState, Peers, Place, Progress, Tenure};
 use std::alloc::Global;
-use step_outputs::{answers, join, message, quiet, sends_one, shows};
+use step_outputs::{answers, join, quiet, sends, shows};
 use version_lists::is_below;
-use xt_base::{Copies, NodeId, Octets, OptionalBox, OutOfMemory, Seq, Stamp};
-use xt_messages::{FileHead, Mark, Payload, Update};
+use xt_base::{Copies, NodeId, Octets, OutOfMemory, Seq, Stamp};
+use xt_messages::{FileHead, Mark, Update};
 use xt_protocol::Turned;
 
 /// Whether an acknowledgement makes the peer current: it isn't below the head that was sent to it, or it is the own node's.
@@ -83,15 +84,9 @@ fn commit_told(alloc: Global, place: &Place, update: &Update) -> Result<Turned, 
         count,
         id,
     };
-    let mut marks = Seq::new(alloc);
-    marks.push(mark)?;
+    let marked = shows(alloc, mark)?;
     let none = Octets::new(alloc);
     let answered = answers(alloc, place.node, file, id, count, update.mark, none)?;
-    let marked = Turned {
-        rec: OptionalBox::none(),
-        outs: Seq::new(alloc),
-        marks,
-    };
     join(marked, answered)
 }
 
@@ -175,11 +170,9 @@ fn sent_to_newly(
     if !newly {
         return Ok(quiet(alloc));
     }
-    let content = Payload::Update {
-        file: place.file,
-        update: update.copy(alloc)?,
-    };
-    sends_one(alloc, message(place.node, from, content))
+    let mut outs = Seq::new(alloc);
+    send_update(alloc, &mut outs, place, from, update)?;
+    Ok(sends(alloc, outs))
 }
 
 /// The update that is issued, if one is.

@@ -8,7 +8,7 @@ ghost use Rattle.osd_decisions.specs.Committed.{CommittedUnder};
 use osd_peers::unknown_peers;
 use osd_rows::{Nodes, Peer, Place, Progress, Tenure};
 use std::alloc::Global;
-use step_outputs::{message, quiet};
+use step_outputs::{quiet, to_each};
 use xt_base::{COUNTS, Epoch, NodeId, OptionalBox, OutOfMemory, Seq};
 use xt_messages::{FileHead, Msgs, Payload, Record};
 use xt_protocol::Turned;
@@ -29,15 +29,11 @@ fn gathers(
 ) -> Result<Msgs, OutOfMemory>
     ensures { IfOk result (λ outs. outs ≡ to_each place.now.node nodes.now (payload.Gather place.now.file epoch)) }
 {
-    let mut outs = Seq::new(alloc);
-    for to in nodes {
-        let content = Payload::Gather {
-            file: place.file,
-            epoch,
-        };
-        outs.push(message(place.node, *to, content))?;
-    }
-    Ok(outs)
+    let gather = Payload::Gather {
+        file: place.file,
+        epoch,
+    };
+    to_each(alloc, place.node, nodes, &gather)
 }
 
 /// Epoch drawn: the own promise is kept, and all are asked. Without a number left the primary is idle.
@@ -63,13 +59,13 @@ pub fn epoch_drawn(
         number: 1 + greatest,
         node: place.node,
     };
+    let peers = unknown_peers(alloc, members)?;
+    let outs = gathers(alloc, place, epoch, members)?;
     let promise = Record::Promise {
         file: place.file,
         epoch,
     };
     let rec = OptionalBox::some(alloc, promise)?;
-    let outs = gathers(alloc, place, epoch, members)?;
-    let peers = unknown_peers(alloc, members)?;
     Ok(Drawn {
         tenure: Some(Tenure {
             epoch,

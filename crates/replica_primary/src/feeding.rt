@@ -3,13 +3,13 @@ ghost use Rattle.xt_messages.specs.declared.file.ObjectVersion.{ObjectVersion};
 ghost use Rattle.xt_messages.specs.declared.file.FileHead.{FileHead};
 ghost use Rattle.osd_rows.specs.declared.PeerState.{PeerState};
 ghost use Rattle.osd_rows.specs.Primaries as rows;
-ghost use Rattle.osd_rows.specs.PrimaryRows.{body_missed, body_staged, feeds, goes_on, target_in, with_state};
+ghost use Rattle.osd_rows.specs.PrimaryRows.{feeds, goes_on, target_in, with_state};
 ghost use Rattle.osd_rows.specs.Turns.{sends};
 ghost use Rattle.kept_bodies.specs.KeptBodies.{fault_of, ReadsOnly};
 ghost use Rattle.replica_primary.specs.Written.{ground};
-ghost use Rattle.replica_primary.specs.Moves.{body_seen, feeds_any, known_at_head, known_of, with_any, without_any};
+ghost use Rattle.replica_primary.specs.Moves.{body_seen, feeds_any, known_at_head, known_of, next_fed, with_any, without_any};
 
-use crate::moving::FetchedBody;
+use crate::moving::{FetchedBody, Next, unmoved};
 use kept_bodies::{Bodies, StepErr, seen};
 use osd_peers::{add_known, first_unknown, last_sent, peer_in, remove_version, send_any, set_peer};
 use osd_rows::{Peer, PeerState, Place, Progress, Tenure};
@@ -179,59 +179,41 @@ pub fn feeds_on<B: Bodies>(
     }
 }
 
-/// A peer is fed on, where something is known of it, and there is a head to which peers are brought.
-fn feeds_any<B: Bodies>(
-    bodies: &mut B,
-    alloc: Global,
-    place: &Place,
-    tenure: &mut Tenure,
-    own: &FileHead,
-    from: NodeId,
-    known: Option<HeldPairs>,
-) -> Result<Turned, StepErr>
-    ensures value { IfOk result (λ turned. (learnt : ℕ) (held : List ObjectVersion) → goes_on learnt tenure.new turned ≡ feeds_any (ground place.now (B.records bodies.old) own.now held) learnt tenure.old (target_in own.now tenure.old.epoch tenure.old.progress) from known) }
-    ensures reads { ReadsOnly B.records B.fault_count bodies.old bodies.new (fault_of result) }
+/// The sender is fed on, where something is known of it.
+fn next_fed(alloc: Global, known: Option<HeldPairs>) -> Next
+    ensures { result ≡ next_fed known }
 {
-    let Some(known) = known else {
-        return Ok(quiet(alloc));
-    };
-    feeds_on(bodies, alloc, place, tenure, own, from, known)
+    match known {
+        Some(known) => Next::Feeds { known },
+        None => unmoved(alloc),
+    }
 }
 
 /// Body staged: it is known of the peer, which is fed on.
-pub fn body_staged<B: Bodies>(
-    bodies: &mut B,
+pub fn body_staged(
     alloc: Global,
-    place: &Place,
-    tenure: &mut Tenure,
-    own: &FileHead,
+    peers: &[Peer],
     from: NodeId,
     version: ObjectVersion,
-) -> Result<Turned, StepErr>
-    ensures value { IfOk result (λ turned. (learnt : ℕ) (held : List ObjectVersion) (state : PeerState) → rows.peer_in tenure.old.peers from ≡ Some state → goes_on learnt tenure.new turned ≡ body_staged (ground place.now (B.records bodies.old) own.now held) learnt tenure.old (target_in own.now tenure.old.epoch tenure.old.progress) from state version) }
-    ensures reads { ReadsOnly B.records B.fault_count bodies.old bodies.new (fault_of result) }
+) -> Result<Next, OutOfMemory>
+    ensures { IfOk result (λ next. (state : PeerState) → rows.peer_in peers.now from ≡ Some state → next ≡ next_fed (with_any (known_of state) version)) }
 {
-    let told = known_told(alloc, tenure.peers.as_slice(), from)?;
+    let told = known_told(alloc, peers, from)?;
     let known = with_any(told, version)?;
-    feeds_any(bodies, alloc, place, tenure, own, from, known)
+    Ok(next_fed(alloc, known))
 }
 
 /// Body missed: it is no longer known of the peer, which is fed on.
-pub fn body_missed<B: Bodies>(
-    bodies: &mut B,
+pub fn body_missed(
     alloc: Global,
-    place: &Place,
-    tenure: &mut Tenure,
-    own: &FileHead,
+    peers: &[Peer],
     from: NodeId,
     version: ObjectVersion,
-) -> Result<Turned, StepErr>
-    ensures value { IfOk result (λ turned. (learnt : ℕ) (held : List ObjectVersion) (state : PeerState) → rows.peer_in tenure.old.peers from ≡ Some state → goes_on learnt tenure.new turned ≡ body_missed (ground place.now (B.records bodies.old) own.now held) learnt tenure.old (target_in own.now tenure.old.epoch tenure.old.progress) from state version) }
-    ensures reads { ReadsOnly B.records B.fault_count bodies.old bodies.new (fault_of result) }
+) -> Result<Next, OutOfMemory>
+    ensures { IfOk result (λ next. (state : PeerState) → rows.peer_in peers.now from ≡ Some state → next ≡ next_fed (without_any (known_at_head state) version)) }
 {
-    let told = known_of_head(alloc, tenure.peers.as_slice(), from)?;
-    let known = without_any(told, version);
-    feeds_any(bodies, alloc, place, tenure, own, from, known)
+    let told = known_of_head(alloc, peers, from)?;
+    Ok(next_fed(alloc, without_any(told, version)))
 }
 
 /// These versions and this one, where something is known.

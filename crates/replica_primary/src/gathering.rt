@@ -3,24 +3,26 @@ ghost use Rattle.xt_base.specs.declared.ids.FileId.{FileId};
 ghost use Rattle.xt_messages.specs.declared.file.ObjectVersion.{ObjectVersion};
 ghost use Rattle.xt_messages.specs.declared.file.FileHead.{FileHead};
 ghost use Rattle.xt_messages.specs.declared.message.Payload.TheVariants as payload;
+ghost use Rattle.xt_messages.specs.declared.record.Record.{Record};
+ghost use Rattle.xt_base.specs.declared.ids.NodeId.{NodeId};
 ghost use Rattle.osd_rows.specs.declared.Progress.{Progress};
 ghost use Rattle.osd_rows.specs.declared.PeerState.TheVariants as peer;
 ghost use Rattle.osd_rows.specs.Primaries.{last_to_each, report_of, reports_of, target_of, with_peer};
 ghost use Rattle.osd_rows.specs.PrimaryRows as rows;
-ghost use Rattle.osd_rows.specs.PrimaryRows.{goes_on};
+ghost use Rattle.osd_rows.specs.PrimaryRows.{after_keeping, goes_on};
 ghost use Rattle.osd_rows.specs.Turns.{message, sends};
 ghost use Rattle.kept_bodies.specs.KeptBodies.{fault_of, ReadsOnly};
 ghost use Rattle.replica_primary.specs.Written.{ground};
-ghost use Rattle.replica_primary.specs.Moves.{IsSplit, any_report, ground_beyond, is_to_feed};
+ghost use Rattle.replica_primary.specs.Moves.{IsSplit, any_report, ground_beyond, is_to_feed, kept_of, next_of};
 
-use crate::feeding::{fed, feeds_on, target_of};
-use crate::moving::{FetchedBody, advance, put};
+use crate::feeding::{fed, target_of};
+use crate::moving::{FetchedBody, Next, advance, after_keeping, kept_of, put, unmoved};
 use kept_bodies::{Bodies, StepErr};
 use osd_decisions::{choose, difference, is_majority, statuses_counted};
 use osd_peers::{last_to_each, set_peer};
 use osd_rows::{Peer, PeerState, Peers, Place, Progress, Tenure};
 use std::alloc::Global;
-use step_outputs::{join, message, quiet, sends, sends_one};
+use step_outputs::{join, message, sends, sends_one};
 use xt_base::{Copies, Epoch, NodeId, OutOfMemory, Seq};
 use xt_messages::{FileHead, ObjectVersion, Payload, Versions};
 use xt_protocol::Turned;
@@ -188,29 +190,65 @@ fn split(wanted: Versions) -> Option<(ObjectVersion, Versions)>
     Some((first, wanted))
 }
 
-/// The next of the wanted bodies is asked for, and with none left the head is installed.
-pub fn fetches<B: Bodies>(
+/// The head is installed, and the body is kept that was just fetched for it, if one was.
+pub fn installs_keeping<B: Bodies>(
     bodies: &mut B,
     alloc: Global,
     place: &Place,
-    fetched: &Option<FetchedBody>,
     tenure: &mut Tenure,
     own: &FileHead,
     chosen: FileHead,
-    source: NodeId,
-    wanted: Versions,
+    fetched: Option<FetchedBody>,
 ) -> Result<Turned, StepErr>
-    ensures value { IfOk result (λ turned. (learnt : ℕ) (held : List ObjectVersion) → goes_on learnt tenure.new turned ≡ rows.fetches (ground_beyond place.now (B.records bodies.old) fetched.now own.now held) learnt tenure.old chosen source wanted) }
+    ensures value { IfOk result (λ turned. (learnt : ℕ) (held : List ObjectVersion) → goes_on learnt tenure.new turned ≡ after_keeping (kept_of place.now.file fetched) (rows.installs (ground_beyond place.now (B.records bodies.old) fetched own.now held) learnt tenure.old chosen)) }
     ensures reads { ReadsOnly B.records B.fault_count bodies.old bodies.new (fault_of result) }
 {
-    let Some((asked, later)) = split(wanted) else {
-        return installs(bodies, alloc, place, fetched, tenure, own, chosen);
-    };
+    let turned = installs(bodies, alloc, place, &fetched, tenure, own, chosen)?;
+    let rec = kept_of(&place.file, fetched);
+    let next = after_keeping(alloc, rec, turned)?;
+    Ok(next)
+}
+
+/// A body is asked for, and the one is kept that was just fetched, if one was.
+fn fetch_sent(
+    alloc: Global,
+    place: &Place,
+    epoch: Epoch,
+    source: NodeId,
+    asked: ObjectVersion,
+    fetched: Option<FetchedBody>,
+) -> Result<Turned, OutOfMemory>
+    ensures { IfOk result (λ turned. turned ≡ record { rec = kept_of place.now.file fetched; outs = message place.now.node source (payload.Fetch place.now.file epoch asked.object asked.version) ∷ []; marks = [] }) }
+{
     let fetch = Payload::Fetch {
         file: place.file,
-        epoch: tenure.epoch,
+        epoch,
         object: asked.object,
         version: asked.version,
+    };
+    let rec = kept_of(&place.file, fetched);
+    after_keeping(
+        alloc,
+        rec,
+        sends_one(alloc, message(place.node, source, fetch))?,
+    )
+}
+
+/// The next of the wanted bodies is asked for, and with none left the head is installed. The body is kept that was just fetched,
+/// if one was.
+pub fn fetches(
+    alloc: Global,
+    place: &Place,
+    tenure: &mut Tenure,
+    chosen: FileHead,
+    source: NodeId,
+    wanted: Versions,
+    fetched: Option<FetchedBody>,
+) -> Result<Next, OutOfMemory>
+    ensures { IfOk result (λ next. (learnt : ℕ) (from : NodeId) (records : List Record) (own : FileHead) (held : List ObjectVersion) → next_of (ground place.now records own held) learnt from tenure.new next ≡ after_keeping (kept_of place.now.file fetched) (rows.fetches (ground_beyond place.now records fetched own held) learnt tenure.old chosen source wanted)) }
+{
+    let Some((asked, later)) = split(wanted) else {
+        return Ok(Next::Installs { chosen, fetched });
     };
     advance(
         tenure,
@@ -221,68 +259,57 @@ pub fn fetches<B: Bodies>(
             later,
         },
     );
-    Ok(sends_one(alloc, message(place.node, source, fetch))?)
+    let turned = fetch_sent(alloc, place, tenure.epoch, source, asked, fetched)?;
+    Ok(Next::Gives { turned })
 }
 
 /// Head chosen: the own one is installed; of another one the bodies are fetched that are wanted.
-fn head_chosen<B: Bodies>(
-    bodies: &mut B,
+fn head_chosen(
     alloc: Global,
     place: &Place,
     tenure: &mut Tenure,
-    own: &FileHead,
     source: NodeId,
     chosen: FileHead,
-) -> Result<Turned, StepErr>
-    ensures value { IfOk result (λ turned. (learnt : ℕ) (held : List ObjectVersion) → goes_on learnt tenure.new turned ≡ rows.head_chosen (ground place.now (B.records bodies.old) own.now held) learnt tenure.old (source, chosen)) }
-    ensures reads { ReadsOnly B.records B.fault_count bodies.old bodies.new (fault_of result) }
+) -> Result<Next, OutOfMemory>
+    ensures { IfOk result (λ next. (learnt : ℕ) (from : NodeId) (records : List Record) (own : FileHead) (held : List ObjectVersion) → next_of (ground place.now records own held) learnt from tenure.new next ≡ rows.head_chosen (ground place.now records own held) learnt tenure.old (source, chosen)) }
 {
     if source.0 == place.node.0 {
-        return installs(bodies, alloc, place, &None, tenure, own, chosen);
+        return Ok(Next::Installs {
+            chosen,
+            fetched: None,
+        });
     }
     let wanted = difference(alloc, &Seq::new(alloc), &chosen.versions)?;
-    fetches(
-        bodies, alloc, place, &None, tenure, own, chosen, source, wanted,
-    )
+    fetches(alloc, place, tenure, chosen, source, wanted, None)
 }
 
 /// The best of the reports is chosen, if there is one.
-fn chooses<B: Bodies>(
-    bodies: &mut B,
+fn chooses(
     alloc: Global,
     place: &Place,
     tenure: &mut Tenure,
-    own: &FileHead,
     reports: &[(NodeId, FileHead)],
-) -> Result<Turned, StepErr>
-    ensures value { IfOk result (λ turned. (learnt : ℕ) (held : List ObjectVersion) → goes_on learnt tenure.new turned ≡ rows.chooses (ground place.now (B.records bodies.old) own.now held) learnt tenure.old reports.now) }
-    ensures reads { ReadsOnly B.records B.fault_count bodies.old bodies.new (fault_of result) }
+) -> Result<Next, OutOfMemory>
+    ensures { IfOk result (λ next. (learnt : ℕ) (from : NodeId) (records : List Record) (own : FileHead) (held : List ObjectVersion) → next_of (ground place.now records own held) learnt from tenure.new next ≡ rows.chooses (ground place.now records own held) learnt tenure.old reports.now) }
 {
     if reports.is_empty() {
-        return Ok(quiet(alloc));
+        return Ok(unmoved(alloc));
     }
     let (source, chosen) = &reports[choose(place.node, reports)];
     let chosen = chosen.copy(alloc)?;
-    head_chosen(bodies, alloc, place, tenure, own, *source, chosen)
+    head_chosen(alloc, place, tenure, *source, chosen)
 }
 
 /// Status counted: at a majority a head is chosen.
-fn status_counted<B: Bodies>(
-    bodies: &mut B,
-    alloc: Global,
-    place: &Place,
-    tenure: &mut Tenure,
-    own: &FileHead,
-) -> Result<Turned, StepErr>
-    ensures value { IfOk result (λ turned. (learnt : ℕ) (held : List ObjectVersion) → goes_on learnt tenure.new turned ≡ rows.status_counted (ground place.now (B.records bodies.old) own.now held) learnt tenure.old) }
-    ensures reads { ReadsOnly B.records B.fault_count bodies.old bodies.new (fault_of result) }
+fn status_counted(alloc: Global, place: &Place, tenure: &mut Tenure) -> Result<Next, OutOfMemory>
+    ensures { IfOk result (λ next. (learnt : ℕ) (from : NodeId) (records : List Record) (own : FileHead) (held : List ObjectVersion) → next_of (ground place.now records own held) learnt from tenure.new next ≡ rows.status_counted (ground place.now records own held) learnt tenure.old) }
 {
     let peers = tenure.peers.as_slice();
     if !is_majority(peers, statuses_counted(peers)) {
-        return Ok(quiet(alloc));
+        return Ok(unmoved(alloc));
     }
     let reports = reports_of(alloc, peers)?;
-    chooses(bodies, alloc, place, tenure, own, reports.as_slice())
+    chooses(alloc, place, tenure, reports.as_slice())
 }
 
 /// A status of an unknown peer is counted, or kept until the head is installed.
@@ -300,32 +327,26 @@ fn status_kept(
 }
 
 /// A status of an unknown peer: counted, kept until the head is installed, or late, and then the peer is fed.
-pub fn status_told<B: Bodies>(
-    bodies: &mut B,
+pub fn status_told(
     alloc: Global,
     place: &Place,
     tenure: &mut Tenure,
-    own: &FileHead,
     from: NodeId,
     head: &FileHead,
-) -> Result<Turned, StepErr>
-    ensures value { IfOk result (λ turned. (learnt : ℕ) (held : List ObjectVersion) → goes_on learnt tenure.new turned ≡ rows.status_told (ground place.now (B.records bodies.old) own.now held) learnt tenure.old tenure.old.progress from head.now) }
-    ensures reads { ReadsOnly B.records B.fault_count bodies.old bodies.new (fault_of result) }
+) -> Result<Next, OutOfMemory>
+    ensures { IfOk result (λ next. (learnt : ℕ) (records : List Record) (own : FileHead) (held : List ObjectVersion) → next_of (ground place.now records own held) learnt from tenure.new next ≡ rows.status_told (ground place.now records own held) learnt tenure.old tenure.old.progress from head.now) }
 {
     match &tenure.progress {
         Progress::Gathering => {
             status_kept(alloc, &mut tenure.peers, from, head)?;
-            Ok(status_counted(bodies, alloc, place, tenure, own)?)
+            status_counted(alloc, place, tenure)
         }
         Progress::Fetching { .. } => {
             status_kept(alloc, &mut tenure.peers, from, head)?;
-            Ok(quiet(alloc))
+            Ok(unmoved(alloc))
         }
-        Progress::Installing { .. } => {
-            feeds_on(bodies, alloc, place, tenure, own, from, Seq::new(alloc))
-        }
-        Progress::Active { .. } => {
-            feeds_on(bodies, alloc, place, tenure, own, from, Seq::new(alloc))
-        }
+        Progress::Installing { .. } | Progress::Active { .. } => Ok(Next::Feeds {
+            known: Seq::new(alloc),
+        }),
     }
 }

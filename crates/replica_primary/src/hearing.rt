@@ -13,15 +13,16 @@ ghost use Rattle.kept_bodies.specs.KeptBodies.{fault_of, ReadsOnly};
 ghost use Rattle.version_lists.specs.Rising.{HeadRises};
 ghost use Rattle.osd_decisions.specs.Committed.{CommittedUnder};
 ghost use Rattle.replica_primary.specs.declared.moving.Heard.TheVariants as heard;
+ghost use Rattle.replica_primary.specs.declared.moving.Next.TheVariants as step;
 ghost use Rattle.replica_primary.specs.Written.{ground};
-ghost use Rattle.replica_primary.specs.Moves.{keeps_tenure, led_by, outpromised, peers_under};
+ghost use Rattle.replica_primary.specs.Moves.{keeps_tenure, led_by, next_of, outpromised, peers_under};
 
 use crate::acking::{hears_ack, makes_current};
 use crate::drawing::redrawn;
-use crate::feeding::body_staged;
+use crate::feeding::{body_staged, feeds_on};
 use crate::fetching::{hears_missing, hears_object};
-use crate::gathering::status_told;
-use crate::moving::{Heard, put};
+use crate::gathering::{installs_keeping, status_told};
+use crate::moving::{Heard, Next, put, unmoved};
 use kept_bodies::{Bodies, StepErr};
 use osd_peers::{peer_in, set_peer};
 use osd_rows::{Peer, PeerState, Peers, Place, PrimaryState, Tenure};
@@ -43,22 +44,19 @@ fn is_unknown(peers: &[Peer], from: NodeId) -> bool
 }
 
 /// A second status does nothing.
-fn hears_status<B: Bodies>(
-    bodies: &mut B,
+fn hears_status(
     alloc: Global,
     place: &Place,
     tenure: &mut Tenure,
-    own: &FileHead,
     from: NodeId,
     head: &FileHead,
-) -> Result<Turned, StepErr>
-    ensures value { IfOk result (λ turned. (learnt : ℕ) (held : List ObjectVersion) (state : PeerState) → peer_in tenure.old.peers from ≡ Some state → goes_on learnt tenure.new turned ≡ rows.hears_status (ground place.now (B.records bodies.old) own.now held) learnt tenure.old from state head.now) }
-    ensures reads { ReadsOnly B.records B.fault_count bodies.old bodies.new (fault_of result) }
+) -> Result<Next, OutOfMemory>
+    ensures { IfOk result (λ next. (learnt : ℕ) (records : List Record) (own : FileHead) (held : List ObjectVersion) (state : PeerState) → peer_in tenure.old.peers from ≡ Some state → next_of (ground place.now records own held) learnt from tenure.new next ≡ rows.hears_status (ground place.now records own held) learnt tenure.old from state head.now) }
 {
     if !is_unknown(tenure.peers.as_slice(), from) {
-        return Ok(quiet(alloc));
+        return Ok(unmoved(alloc));
     }
-    status_told(bodies, alloc, place, tenure, own, from, head)
+    status_told(alloc, place, tenure, from, head)
 }
 
 /// Whether an acknowledgement makes this peer current.
@@ -121,11 +119,11 @@ fn peer_behind(
 }
 
 /// Nothing comes of a message, and the tenure goes on.
-fn unmoved(alloc: Global) -> Heard
-    ensures { result ≡ heard.GoesOn quiet }
+fn unheard(alloc: Global) -> Heard
+    ensures { result ≡ heard.GoesOn (step.Gives quiet) }
 {
     Heard::GoesOn {
-        turned: quiet(alloc),
+        next: unmoved(alloc),
     }
 }
 
@@ -134,7 +132,7 @@ fn outpromised(alloc: Global, learnt: u64, epoch: Epoch, promised: Epoch) -> Hea
     ensures { result ≡ outpromised learnt epoch promised }
 {
     if !is_earlier(epoch, promised) {
-        return unmoved(alloc);
+        return unheard(alloc);
     }
     Heard::Redraws {
         above: learnt.max(promised.number),
@@ -165,8 +163,7 @@ fn version_of(object: u64, version: Stamp) -> ObjectVersion
 }
 
 /// A message of the primary's epoch, from a peer, after which the tenure goes on.
-fn goes_on_hearing<B: Bodies>(
-    bodies: &mut B,
+fn goes_on_hearing(
     alloc: Global,
     place: &Place,
     tenure: &mut Tenure,
@@ -174,15 +171,12 @@ fn goes_on_hearing<B: Bodies>(
     held: &HeldSet,
     from: NodeId,
     payload: &Payload,
-) -> Result<Turned, StepErr>
+) -> Result<Next, OutOfMemory>
     requires { IsTrue (keeps_tenure payload.now) }
-    ensures value { IfOk result (λ turned. (learnt : ℕ) (state : PeerState) → peer_in tenure.old.peers from ≡ Some state → goes_on learnt tenure.new turned ≡ rows.hears_peer (ground place.now (B.records bodies.old) own.now held.now) learnt tenure.old from state payload.now) }
-    ensures reads { ReadsOnly B.records B.fault_count bodies.old bodies.new (fault_of result) }
+    ensures { IfOk result (λ next. (learnt : ℕ) (records : List Record) (state : PeerState) → peer_in tenure.old.peers from ≡ Some state → next_of (ground place.now records own.now held.now) learnt from tenure.new next ≡ rows.hears_peer (ground place.now records own.now held.now) learnt tenure.old from state payload.now) }
 {
     match payload {
-        Payload::Status { head, .. } => {
-            hears_status(bodies, alloc, place, tenure, own, from, head)
-        }
+        Payload::Status { head, .. } => hears_status(alloc, place, tenure, from, head),
         Payload::Object {
             object,
             version,
@@ -190,9 +184,7 @@ fn goes_on_hearing<B: Bodies>(
             ..
         } => {
             let version = version_of(*object, *version);
-            hears_object(
-                bodies, alloc, place, tenure, own, held, from, version, bytes,
-            )
+            hears_object(alloc, place, tenure, held, from, version, bytes)
         }
         Payload::Staged {
             object,
@@ -200,20 +192,23 @@ fn goes_on_hearing<B: Bodies>(
             ..
         } => {
             let version = version_of(*object, *version);
-            body_staged(bodies, alloc, place, tenure, own, from, version)
+            body_staged(alloc, tenure.peers.as_slice(), from, version)
         }
         Payload::Ack { stamp, .. } => {
             let newly = newly_current(place, tenure.peers.as_slice(), from, *stamp);
-            Ok(hears_ack(alloc, place, tenure, own, from, newly, *stamp)?)
+            let turned = hears_ack(alloc, place, tenure, own, from, newly, *stamp)?;
+            Ok(Next::Gives { turned })
         }
-        Payload::Behind { .. } => Ok(peer_behind(alloc, place, tenure, from)?),
-        _ => Ok(quiet(alloc)),
+        Payload::Behind { .. } => {
+            let turned = peer_behind(alloc, place, tenure, from)?;
+            Ok(Next::Gives { turned })
+        }
+        _ => Ok(unmoved(alloc)),
     }
 }
 
 /// A message of the primary's epoch, from a peer.
-fn hears_peer<B: Bodies>(
-    bodies: &mut B,
+fn hears_peer(
     alloc: Global,
     place: &Place,
     learnt: u64,
@@ -222,32 +217,27 @@ fn hears_peer<B: Bodies>(
     held: &HeldSet,
     from: NodeId,
     payload: &Payload,
-) -> Result<Heard, StepErr>
-    ensures value { IfOk result (λ heard. (state : PeerState) → peer_in tenure.old.peers from ≡ Some state → led_by (ground place.now (B.records bodies.old) own.now held.now) learnt (Some tenure.new) heard ≡ rows.hears_peer (ground place.now (B.records bodies.old) own.now held.now) learnt tenure.old from state payload.now) }
-    ensures reads { ReadsOnly B.records B.fault_count bodies.old bodies.new (fault_of result) }
+) -> Result<Heard, OutOfMemory>
+    ensures { IfOk result (λ heard. (records : List Record) (state : PeerState) → peer_in tenure.old.peers from ≡ Some state → led_by (ground place.now records own.now held.now) learnt from tenure.new heard ≡ rows.hears_peer (ground place.now records own.now held.now) learnt tenure.old from state payload.now) }
 {
     match payload {
         Payload::Missing {
             object,
             version,
             ..
-        } => {
-            let version = version_of(*object, *version);
-            hears_missing(bodies, alloc, place, learnt, tenure, own, from, version)
-        }
+        } => hears_missing(alloc, learnt, tenure, from, version_of(*object, *version)),
         Payload::Refused { promised, .. } => {
             Ok(outpromised(alloc, learnt, tenure.epoch, *promised))
         }
         _ => {
-            let turned = goes_on_hearing(bodies, alloc, place, tenure, own, held, from, payload)?;
-            Ok(Heard::GoesOn { turned })
+            let next = goes_on_hearing(alloc, place, tenure, own, held, from, payload)?;
+            Ok(Heard::GoesOn { next })
         }
     }
 }
 
 /// A message to a primary in a tenure. It counts in its own epoch alone, and only from a member.
-pub fn hears_in<B: Bodies>(
-    bodies: &mut B,
+fn hears_in(
     alloc: Global,
     place: &Place,
     learnt: u64,
@@ -256,44 +246,40 @@ pub fn hears_in<B: Bodies>(
     held: &HeldSet,
     from: NodeId,
     payload: &Payload,
-) -> Result<Heard, StepErr>
-    ensures value { IfOk result (λ heard. led_by (ground place.now (B.records bodies.old) own.now held.now) learnt (Some tenure.new) heard ≡ rows.hears_in (ground place.now (B.records bodies.old) own.now held.now) learnt (Some tenure.old) from payload.now) }
-    ensures reads { ReadsOnly B.records B.fault_count bodies.old bodies.new (fault_of result) }
+) -> Result<Heard, OutOfMemory>
+    ensures { IfOk result (λ heard. (records : List Record) → led_by (ground place.now records own.now held.now) learnt from tenure.new heard ≡ rows.hears_in (ground place.now records own.now held.now) learnt (Some tenure.old) from payload.now) }
 {
     let Some(epoch) = epoch_told(payload) else {
-        return Ok(unmoved(alloc));
+        return Ok(unheard(alloc));
     };
     if !is_epoch(epoch, tenure.epoch) {
-        return Ok(unmoved(alloc));
+        return Ok(unheard(alloc));
     }
     match peer_in(tenure.peers.as_slice(), from) {
-        None => Ok(unmoved(alloc)),
-        Some(_) => hears_peer(
-            bodies, alloc, place, learnt, tenure, own, held, from, payload,
-        ),
+        None => Ok(unheard(alloc)),
+        Some(_) => hears_peer(alloc, place, learnt, tenure, own, held, from, payload),
     }
 }
 
-/// A message to a primary that may have no tenure: nothing comes of it then.
-fn hears_under<B: Bodies>(
+/// The tenure goes on as a message has it.
+fn proceeds<B: Bodies>(
     bodies: &mut B,
     alloc: Global,
     place: &Place,
-    learnt: u64,
-    tenure: &mut Option<Tenure>,
+    tenure: &mut Tenure,
     own: &FileHead,
-    held: &HeldSet,
     from: NodeId,
-    payload: &Payload,
-) -> Result<Heard, StepErr>
-    ensures value { IfOk result (λ heard. led_by (ground place.now (B.records bodies.old) own.now held.now) learnt tenure.new heard ≡ rows.hears_in (ground place.now (B.records bodies.old) own.now held.now) learnt tenure.old from payload.now) }
+    next: Next,
+) -> Result<Turned, StepErr>
+    ensures value { IfOk result (λ turned. (learnt : ℕ) (held : List ObjectVersion) → goes_on learnt tenure.new turned ≡ next_of (ground place.now (B.records bodies.old) own.now held) learnt from tenure.old next) }
     ensures reads { ReadsOnly B.records B.fault_count bodies.old bodies.new (fault_of result) }
 {
-    match tenure {
-        Some(tenure) => hears_in(
-            bodies, alloc, place, learnt, tenure, own, held, from, payload,
-        ),
-        None => Ok(unmoved(alloc)),
+    match next {
+        Next::Gives { turned } => Ok(turned),
+        Next::Feeds { known } => feeds_on(bodies, alloc, place, tenure, own, from, known),
+        Next::Installs { chosen, fetched } => {
+            installs_keeping(bodies, alloc, place, tenure, own, chosen, fetched)
+        }
     }
 }
 
@@ -341,12 +327,21 @@ pub fn hears<B: Bodies>(
     ensures kept { OnErr result (primary.new.learnt ≡ primary.old.learnt) }
     ensures reads { ReadsOnly B.records B.fault_count bodies.old bodies.new (fault_of result) }
 {
-    let (learnt, tenure) = (primary.learnt, &mut primary.tenure);
-    let heard = hears_under(
-        bodies, alloc, place, learnt, tenure, own, held, from, payload,
+    let Some(tenure) = &mut primary.tenure else {
+        return Ok(quiet(alloc));
+    };
+    let heard = hears_in(
+        alloc,
+        place,
+        primary.learnt,
+        tenure,
+        own,
+        held,
+        from,
+        payload,
     )?;
     match heard {
-        Heard::GoesOn { turned } => Ok(turned),
+        Heard::GoesOn { next } => proceeds(bodies, alloc, place, tenure, own, from, next),
         Heard::Redraws { above } => Ok(redraws(alloc, place, primary, own, above)?),
     }
 }

@@ -1,17 +1,39 @@
 ghost use Rattle.std.specs.Prelude.{◌≡◌, IfOk};
+ghost use Rattle.osd_rows.specs.Turns.{quiet};
+ghost use Rattle.replica_primary.specs.declared.moving.Next.TheVariants as step;
+ghost use Rattle.replica_primary.specs.Moves.{kept_of};
 
 use osd_rows::{Progress, Tenure};
 use std::alloc::Global;
 use std::mem;
-use xt_base::{Octets, OptionalBox, OutOfMemory, Stamp};
-use xt_messages::Record;
+use step_outputs::quiet;
+use xt_base::{FileId, Octets, OptionalBox, OutOfMemory, Stamp};
+use xt_messages::{FileHead, HeldPairs, Record};
 use xt_protocol::Turned;
+
+/// How a tenure goes on after a message, told before a body is read for it.
+#[derive(Drop)]
+pub enum Next {
+    /// This is given.
+    Gives {
+        turned: Turned,
+    },
+    /// The sender, of which these versions are known, is fed on, where there is a head to which peers are brought.
+    Feeds {
+        known: HeldPairs,
+    },
+    /// This head is installed, and the body is kept that was just fetched for it, if one was.
+    Installs {
+        chosen: FileHead,
+        fetched: Option<FetchedBody>,
+    },
+}
 
 /// What a message makes of a tenure.
 #[derive(Drop)]
 pub enum Heard {
-    /// It goes on, and this is given.
-    GoesOn { turned: Turned },
+    /// It goes on.
+    GoesOn { next: Next },
     /// It ends, and a new epoch is drawn above this number.
     Redraws { above: u64 },
 }
@@ -22,6 +44,32 @@ pub struct FetchedBody {
     pub object: u64,
     pub version: Stamp,
     pub bytes: Octets,
+}
+
+/// Nothing comes of a message.
+pub fn unmoved(alloc: Global) -> Next
+    ensures { result ≡ step.Gives quiet }
+{
+    Next::Gives {
+        turned: quiet(alloc),
+    }
+}
+
+/// The record of a fetched body, where there is one.
+pub fn kept_of(file: &FileId, fetched: Option<FetchedBody>) -> Option<Record>
+    ensures { result ≡ kept_of file.now fetched }
+{
+    let FetchedBody {
+        object,
+        version,
+        bytes,
+    } = fetched?;
+    Some(Record::Stage {
+        file: *file,
+        object,
+        version,
+        bytes,
+    })
 }
 
 /// Puts a value in the place of another one, which is dropped.

@@ -39,7 +39,7 @@ pub struct Primary {
 
 /// How far a primary is, and how many have answered what it waits for: statuses while it gathers, acknowledgements of the head
 /// or of the issued update later.
-#[derive(Clone, Copy, PartialEq, Eq)]
+#[derive(Clone, Copy)]
 pub enum Phase {
     Idle,
     Gathering { have: usize },

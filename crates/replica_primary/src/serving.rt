@@ -1,4 +1,4 @@
-ghost use Rattle.std.specs.Prelude.{◌≡◌, ◌∷◌, ◌≤◌, ◌&&◌, ◌==◌, not, [], ℕ, List, None, Some, IfOk};
+ghost use Rattle.std.specs.Prelude.{◌≡◌, ◌∷◌, ◌++◌, ◌≤◌, ◌&&◌, ◌==◌, not, [], ℕ, List, None, Some, IfOk, OnOk};
 ghost use Rattle.xt_messages.specs.declared.file.ObjectVersion.{ObjectVersion};
 ghost use Rattle.xt_messages.specs.declared.file.FileHead.{FileHead};
 ghost use Rattle.xt_messages.specs.declared.record.Record.{Record};
@@ -6,7 +6,7 @@ ghost use Rattle.xt_messages.specs.declared.event.Mark.TheVariants as mark;
 ghost use Rattle.xt_messages.specs.declared.message.Payload.TheVariants as payload;
 ghost use Rattle.xt_messages.specs.Limits.{FitsOp};
 ghost use Rattle.osd_rows.specs.declared.Progress.TheVariants as progress;
-ghost use Rattle.osd_rows.specs.Turns.{to_each};
+ghost use Rattle.osd_rows.specs.Turns.{message, to_each};
 ghost use Rattle.osd_rows.specs.Writes.{standing};
 ghost use Rattle.osd_rows.specs.PrimaryRows.{goes_on};
 ghost use Rattle.osd_rows.specs.Primaries.{is_current};
@@ -21,7 +21,7 @@ use kept_bodies::{Bodies, StepErr};
 use osd_decisions::{Standing, standing_of, update_of};
 use osd_rows::{IssuedUpdate, Nodes, Peer, PeerState, Place, PrimaryState, Progress, Tenure};
 use std::alloc::Global;
-use step_outputs::{answers, message, quiet, tells};
+use step_outputs::{answers, message, one, quiet, tells};
 use xt_base::{
     COUNTS, Copies, FileId, NodeId, OBJECTS, Octets, OpId, OptionalBox, OutOfMemory, Seq, Stamp,
 };
@@ -49,8 +49,7 @@ fn is_current_other(node: NodeId, peer: &Peer) -> bool
 fn receivers(alloc: Global, place: &Place, peers: &[Peer]) -> Result<Nodes, OutOfMemory>
     ensures { IfOk result (λ nodes. nodes ≡ place.now.node ∷ rows.current_others place.now peers.now) }
 {
-    let mut nodes = Seq::new(alloc);
-    nodes.push(place.node)?;
+    let mut nodes = one(alloc, place.node)?;
     for peer in peers {
         if is_current_other(place.node, peer) {
             nodes.push(peer.node)?;
@@ -59,25 +58,50 @@ fn receivers(alloc: Global, place: &Place, peers: &[Peer]) -> Result<Nodes, OutO
     Ok(nodes)
 }
 
+/// Puts the update to a node behind the other messages.
+pub fn send_update(
+    alloc: Global,
+    outs: &mut Msgs,
+    place: &Place,
+    to: NodeId,
+    update: &Update,
+) -> Result<(), OutOfMemory>
+    ensures { OnOk result (outs.new ≡ outs.old ++ message place.now.node to (payload.Update place.now.file update.now) ∷ []) }
+{
+    let content = Payload::Update {
+        file: place.file,
+        update: update.copy(alloc)?,
+    };
+    outs.push(message(place.node, to, content))
+}
+
 /// The update to each of these nodes, in order.
 fn update_to_each(
     alloc: Global,
-    node: NodeId,
-    file: &FileId,
+    place: &Place,
     nodes: &[NodeId],
     update: &Update,
 ) -> Result<Msgs, OutOfMemory>
-    ensures { IfOk result (λ outs. outs ≡ to_each node nodes.now (payload.Update file.now update.now)) }
+    ensures { IfOk result (λ outs. outs ≡ to_each place.now.node nodes.now (payload.Update place.now.file update.now)) }
 {
     let mut outs = Seq::new(alloc);
     for to in nodes {
-        let content = Payload::Update {
-            file: *file,
-            update: update.copy(alloc)?,
-        };
-        outs.push(message(node, *to, content))?;
+        send_update(alloc, &mut outs, place, *to, update)?;
     }
     Ok(outs)
+}
+
+/// The update to the node itself, and then to each current peer.
+fn issue_sent(
+    alloc: Global,
+    place: &Place,
+    peers: &[Peer],
+    update: &Update,
+) -> Result<Msgs, OutOfMemory>
+    ensures { IfOk result (λ outs. outs ≡ to_each place.now.node (place.now.node ∷ rows.current_others place.now peers.now) (payload.Update place.now.file update.now)) }
+{
+    let nodes = receivers(alloc, place, peers)?;
+    update_to_each(alloc, place, nodes.as_slice(), update)
 }
 
 /// What is sent and marked when an update is issued.
@@ -89,14 +113,13 @@ fn issue_told(
 ) -> Result<Turned, OutOfMemory>
     ensures { IfOk result (λ turned. turned ≡ record { rec = None; outs = to_each place.now.node (place.now.node ∷ rows.current_others place.now peers.now) (payload.Update place.now.file update.now); marks = mark.Issue place.now.file.number update.now.stamp.count update.now.id ∷ [] }) }
 {
-    let nodes = receivers(alloc, place, peers)?;
-    let outs = update_to_each(alloc, place.node, &place.file, nodes.as_slice(), update)?;
-    let mut marks = Seq::new(alloc);
-    marks.push(Mark::Issue {
+    let mark = Mark::Issue {
         file: place.file.number,
         count: update.stamp.count,
         id: update.id,
-    })?;
+    };
+    let marks = one(alloc, mark)?;
+    let outs = issue_sent(alloc, place, peers, update)?;
     Ok(Turned {
         rec: OptionalBox::none(),
         outs,

@@ -1,13 +1,14 @@
 ghost use Rattle.std.specs.Prelude.{◌≡◌, IfOk, flat_map};
 ghost use Rattle.osd_rows.specs.Primaries.{if_any};
 ghost use Rattle.osd_rows.specs.Serving as rows;
+ghost use Rattle.osd_rows.specs.Turns.{sends};
 
 use osd_peers::{last_sent, send_any};
 use osd_rows::{IssuedUpdate, Peer, PeerState, Place, PrimaryState, Progress, Tenure};
 use std::alloc::Global;
 use step_outputs::{message, quiet, sends, sends_one};
 use xt_base::{Copies, Epoch, FileId, NodeId, OutOfMemory, Seq, has_node};
-use xt_messages::{Msgs, Payload};
+use xt_messages::Payload;
 use xt_protocol::Turned;
 
 /// An unknown peer is asked anew.
@@ -65,15 +66,20 @@ fn sent_again(
 }
 
 /// Gather to each unknown peer, in list order.
-fn gathers(alloc: Global, place: &Place, epoch: Epoch, peers: &[Peer]) -> Result<Msgs, OutOfMemory>
-    ensures { IfOk result (λ outs. outs ≡ flat_map (λ p. if_any place.now.node p.node (rows.gather_unknown place.now epoch p.node p.state)) peers.now) }
+fn gathers(
+    alloc: Global,
+    place: &Place,
+    epoch: Epoch,
+    peers: &[Peer],
+) -> Result<Turned, OutOfMemory>
+    ensures { IfOk result (λ turned. turned ≡ sends (flat_map (λ p. if_any place.now.node p.node (rows.gather_unknown place.now epoch p.node p.state)) peers.now)) }
 {
     let mut outs = Seq::new(alloc);
     for peer in peers {
         let content = gather_unknown(place, epoch, peer);
         send_any(&mut outs, place.node, peer.node, content)?;
     }
-    Ok(outs)
+    Ok(sends(alloc, outs))
 }
 
 /// To each peer what it is sent again once a head was chosen, in list order.
@@ -83,15 +89,15 @@ fn again_to_each(
     epoch: Epoch,
     issued: &Option<IssuedUpdate>,
     peers: &[Peer],
-) -> Result<Msgs, OutOfMemory>
-    ensures { IfOk result (λ outs. outs ≡ flat_map (λ p. if_any place.now.node p.node (rows.sent_again place.now epoch issued.now p.node p.state)) peers.now) }
+) -> Result<Turned, OutOfMemory>
+    ensures { IfOk result (λ turned. turned ≡ sends (flat_map (λ p. if_any place.now.node p.node (rows.sent_again place.now epoch issued.now p.node p.state)) peers.now)) }
 {
     let mut outs = Seq::new(alloc);
     for peer in peers {
         let content = sent_again(alloc, place, epoch, issued, peer)?;
         send_any(&mut outs, place.node, peer.node, content)?;
     }
-    Ok(outs)
+    Ok(sends(alloc, outs))
 }
 
 /// What a primary in a tenure sends again.
@@ -100,7 +106,7 @@ fn wakes_in(alloc: Global, place: &Place, tenure: &Tenure) -> Result<Turned, Out
 {
     let (epoch, peers) = (tenure.epoch, tenure.peers.as_slice());
     match &tenure.progress {
-        Progress::Gathering => Ok(sends(alloc, gathers(alloc, place, epoch, peers)?)),
+        Progress::Gathering => gathers(alloc, place, epoch, peers),
         Progress::Fetching { source, asked, .. } => {
             let fetch = Payload::Fetch {
                 file: place.file,
@@ -110,12 +116,8 @@ fn wakes_in(alloc: Global, place: &Place, tenure: &Tenure) -> Result<Turned, Out
             };
             sends_one(alloc, message(place.node, *source, fetch))
         }
-        Progress::Installing { .. } => {
-            Ok(sends(alloc, again_to_each(alloc, place, epoch, &None, peers)?))
-        }
-        Progress::Active { issued, .. } => {
-            Ok(sends(alloc, again_to_each(alloc, place, epoch, issued, peers)?))
-        }
+        Progress::Installing { .. } => again_to_each(alloc, place, epoch, &None, peers),
+        Progress::Active { issued, .. } => again_to_each(alloc, place, epoch, issued, peers),
     }
 }
 

@@ -1,17 +1,24 @@
 use Rattle.std.proofs.Common.{◌∙◌, ap}
-use Rattle.xt_protocol.specs.declared.Turned.{Turned}
-use Rattle.osd_rows.specs.PrimaryRows.{goes_on}
-use Rattle.replica_primary.proofs.Hears.{kept_first}
+use Rattle.osd_rows.specs.declared.Progress.TheVariants as progress
+use Rattle.osd_rows.specs.Primaries.{Led}
+use Rattle.osd_rows.specs.PrimaryRows.{after_keeping}
+use Rattle.replica_primary.specs.Written.{ground}
+use Rattle.replica_primary.specs.Moves.{beyond, kept_of}
+use Rattle.replica_primary.proofs.Given.{if_so}
+use Rattle.replica_primary.proofs.Hears.{fetched_on, kept_first}
 use Rattle.replica_primary.proofs.fetching.body_fetched.Goals as goal
 
-pub returns-clause-value : goal.returns-clause-value
-returns-clause-value g c =
-    λ learnt chosen source asked later is.
-    let place = c.args.place.now in
-    let held = c.args.held.now in
+pub returns-in-Fetching : goal.returns-in-Fetching
+returns-in-Fetching c =
+    if_so _ _ c.fetches.result c.fetches.ensures
+    (λ next of learnt from records own chosen source asked later is.
+    let t = c.args.tenure.now in
     let body = c.args.body in
-    let after = c.fetches_on.new.tenure in
-    ap (λ (u : Turned). goes_on learnt after u) c.in_ok-next.ensures
-    ∙ kept_first place (g.B.Bodies.records c.args.bodies.now) c.args.own.now held learnt c.args.tenure.now after chosen source later body.object body.version body.bytes
-    c.unless_held-fetched.result c.in_ok-turned.turned c.kept_of-rec.result c.kept_of-rec.ensures (c.unless_held-fetched.ensures place.file)
-    (c.in_ok-turned.ensures.value learnt held chosen source asked later is)
+    let fetched = c.unless_held-fetched.result in
+    let stands = ground c.args.place.now records own c.args.held.now in
+    let read = c.in-Fetching in
+    of learnt from records own c.args.held.now
+    ∙ ap (λ (led : Led). after_keeping (kept_of stands.place.file fetched) led)
+    (fetched_on (beyond stands fetched) learnt t c.replace.result progress.Gathering chosen source asked later read.chosen read.source read.asked read.later
+    c.replace.ensures.value read.is is)
+    ∙ kept_first stands learnt t chosen source later body.object body.version body.bytes fetched (c.unless_held-fetched.ensures stands.place.file))

@@ -6,16 +6,16 @@ use Rattle.replica_primary.proofs.Given.{if_so}
 use Rattle.replica_primary.proofs.Hears.{best_at, chooses_best}
 use Rattle.replica_primary.proofs.gathering.chooses.Goals as goal
 
-pub returns-clause-value : goal.returns-clause-value
-returns-clause-value g c =
+pub returns : goal.returns
+returns c =
     let t = c.args.tenure.now in
     let reports = c.args.reports.now in
     let best = c.index-reports-choose.result in
     let some : 0 < length reports = search rules in
-    if_so _ _ c.head_chosen.result c.head_chosen.ensures.value
-    (λ turned of learnt held.
-    let stands = ground c.args.place.now (g.B.Bodies.records c.args.bodies.now) c.args.own.now held in
-    of learnt held
+    if_so _ _ c.head_chosen.result c.head_chosen.ensures
+    (λ next of learnt from records own held.
+    let stands = ground c.args.place.now records own held in
+    of learnt from records own held
     ∙ ap (λ (head : FileHead). head_chosen stands learnt t (best.0, head)) c.in_ok-chosen.ensures
     ∙ chooses_best stands learnt t reports best
     (best_at c.args.place.now.node reports c.choose.result best some c.choose.ensures c.index-reports-choose.is))

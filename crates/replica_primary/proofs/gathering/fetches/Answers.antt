@@ -1,16 +1,22 @@
 use Rattle.std.proofs.Common.{◌∙◌, List, ap, sym}
 use Rattle.xt_messages.specs.declared.file.ObjectVersion.{ObjectVersion}
-use Rattle.osd_rows.specs.PrimaryRows.{fetches}
-use Rattle.replica_primary.specs.Moves.{ground_beyond}
-use Rattle.replica_primary.proofs.Given.{if_so}
-use Rattle.replica_primary.proofs.Hears.{split_none}
+use Rattle.osd_rows.specs.PrimaryRows.{after_keeping, fetches}
+use Rattle.replica_primary.specs.Moves.{ground_beyond, kept_of}
+use Rattle.replica_primary.proofs.Hears.{fetched_next, split_none, split_some}
 use Rattle.replica_primary.proofs.gathering.fetches.Goals as goal
 
-pub returns-in_default-clause-value : goal.returns-in_default-clause-value
-returns-in_default-clause-value g c =
-    if_so _ _ c.installs.result c.installs.ensures.value
-    (λ turned of learnt held.
-    let stands = ground_beyond c.args.place.now (g.B.Bodies.records c.args.bodies.now) c.args.fetched.now c.args.own.now held in
-    of learnt held
-    ∙ ap (λ (wanted : List ObjectVersion). fetches stands learnt c.args.tenure.now c.args.chosen c.args.source wanted)
-    (sym (split_none c.args.wanted c.split.result c.split.ensures c.in_default.is)))
+pub returns-in_default : goal.returns-in_default
+returns-in_default c =
+    λ learnt from records own held.
+    let place = c.args.place.now in
+    let fetched = c.args.fetched in
+    ap (λ (wanted : List ObjectVersion). after_keeping (kept_of place.file fetched) (fetches (ground_beyond place records fetched own held) learnt c.args.tenure.now c.args.chosen c.args.source wanted))
+    (sym (split_none c.args.wanted c.split.result c.split.ensures c.in_default.is))
+
+pub returns : goal.returns
+returns c =
+    λ learnt from records own held.
+    let place = c.args.place.now in
+    let fetched = c.args.fetched in
+    fetched_next (ground_beyond place records fetched own held) learnt c.args.tenure.now c.advance.new.tenure c.args.chosen c.args.source c.in-Some.asked c.in-Some.later c.args.wanted (kept_of place.file fetched) c.in_ok-turned.turned
+    c.advance.ensures (split_some c.args.wanted c.split.result c.in-Some.asked c.in-Some.later c.split.ensures c.in-Some.is) c.in_ok-turned.ensures

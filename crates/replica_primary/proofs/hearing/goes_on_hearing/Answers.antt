@@ -4,56 +4,70 @@ use Rattle.xt_messages.specs.declared.file.ObjectVersion.{ObjectVersion}
 use Rattle.xt_messages.specs.declared.message.Payload.{Payload}
 use Rattle.osd_rows.specs.Primaries.{peer_in}
 use Rattle.osd_rows.specs.PrimaryRows.{body_staged, hears_ack, hears_object, hears_peer, target_in}
+use Rattle.replica_primary.specs.declared.moving.Next.{Next}
+use Rattle.replica_primary.specs.Moves.{known_of, next_of, with_any}
 use Rattle.replica_primary.specs.Written.{ground}
 use Rattle.replica_primary.proofs.Given.{if_so}
+use Rattle.replica_primary.proofs.Fed.{staged_by}
+use Rattle.replica_primary.proofs.Hears.{fed_on}
 use Rattle.replica_primary.proofs.hearing.goes_on_hearing.Goals as goal
 
-pub returns-in-Status-clause-value : goal.returns-in-Status-clause-value
-returns-in-Status-clause-value g c =
-    if_so _ _ c.hears_status.result c.hears_status.ensures.value
-    (λ turned of learnt state is.
-    let stands = ground c.args.place.now (g.B.Bodies.records c.args.bodies.now) c.args.own.now c.args.held.now in
-    of learnt c.args.held.now state is ∙ ap (λ (content : Payload). hears_peer stands learnt c.args.tenure.now c.args.from state content) (sym c.in-Status.is))
+pub returns-in-Status : goal.returns-in-Status
+returns-in-Status c =
+    if_so _ _ c.hears_status.result c.hears_status.ensures
+    (λ next of learnt records state is.
+    let own = c.args.own.now in
+    let held = c.args.held.now in
+    let stands = ground c.args.place.now records own held in
+    of learnt records own held state is ∙ ap (λ (content : Payload). hears_peer stands learnt c.args.tenure.now c.args.from state content) (sym c.in-Status.is))
 
-pub returns-in-Object-clause-value : goal.returns-in-Object-clause-value
-returns-in-Object-clause-value g c =
-    if_so _ _ c.hears_object.result c.hears_object.ensures.value
-    (λ turned of learnt state is.
+pub returns-in-Object : goal.returns-in-Object
+returns-in-Object c =
+    if_so _ _ c.hears_object.result c.hears_object.ensures
+    (λ next of learnt records state is.
     let t = c.args.tenure.now in
     let from = c.args.from in
-    let stands = ground c.args.place.now (g.B.Bodies.records c.args.bodies.now) c.args.own.now c.args.held.now in
-    of learnt
+    let own = c.args.own.now in
+    let stands = ground c.args.place.now records own c.args.held.now in
+    of learnt records own
     ∙ ap (λ (v : ObjectVersion). hears_object stands learnt t t.progress from v.object v.version c.in-Object.bytes) c.version_of-version.ensures
     ∙ ap (λ (content : Payload). hears_peer stands learnt t from state content) (sym c.in-Object.is))
 
-pub returns-in-Staged-clause-value : goal.returns-in-Staged-clause-value
-returns-in-Staged-clause-value g c =
-    if_so _ _ c.body_staged.result c.body_staged.ensures.value
-    (λ turned of learnt state is.
+pub returns-in-Staged : goal.returns-in-Staged
+returns-in-Staged c =
+    if_so _ _ c.body_staged.result c.body_staged.ensures
+    (λ next of learnt records state is.
     let t = c.args.tenure.now in
     let own = c.args.own.now in
     let from = c.args.from in
-    let stands = ground c.args.place.now (g.B.Bodies.records c.args.bodies.now) c.args.own.now c.args.held.now in
-    of learnt c.args.held.now state is
-    ∙ ap (λ (v : ObjectVersion). body_staged stands learnt t (target_in own t.epoch t.progress) from state v) c.version_of-version-in-Staged.ensures
+    let v = c.version_of-version-in-Staged.result in
+    let target = target_in own t.epoch t.progress in
+    let stands = ground c.args.place.now records own c.args.held.now in
+    let told = ap (λ (peers : List Peer). peer_in peers from) c.as_slice.ensures ∙ is in
+    ap (λ (n : Next). next_of stands learnt from t n) (of state told)
+    ∙ fed_on stands learnt t from (with_any (known_of state) v)
+    ∙ staged_by stands learnt t from v target state
+    ∙ ap (λ (w : ObjectVersion). body_staged stands learnt t target from state w) c.version_of-version-in-Staged.ensures
     ∙ ap (λ (content : Payload). hears_peer stands learnt t from state content) (sym c.in-Staged.is))
 
-pub returns-in_ok-hears_ack-in-Ack-clause-value : goal.returns-in_ok-hears_ack-in-Ack-clause-value
-returns-in_ok-hears_ack-in-Ack-clause-value g c =
-    λ learnt state is.
+pub returns-in_ok-turned-in-Ack : goal.returns-in_ok-turned-in-Ack
+returns-in_ok-turned-in-Ack c =
+    λ learnt records state is.
     let t = c.args.tenure.now in
     let from = c.args.from in
-    let told = ap (λ (peers : List Peer). peer_in peers from) c.as_slice.ensures ∙ is in
-    let stands = ground c.args.place.now (g.B.Bodies.records c.args.bodies.now) c.args.own.now c.args.held.now in
-    c.in_ok-hears_ack-in-Ack.ensures learnt (g.B.Bodies.records c.args.bodies.now) c.args.held.now
+    let told = ap (λ (peers : List Peer). peer_in peers from) c.as_slice-in-Ack.ensures ∙ is in
+    let stands = ground c.args.place.now records c.args.own.now c.args.held.now in
+    c.in_ok-turned-in-Ack.ensures learnt records c.args.held.now
     ∙ ap (λ (newly : Bool). hears_ack stands learnt t t.progress from newly c.in-Ack.stamp) (c.newly_current-newly.ensures state told)
     ∙ ap (λ (content : Payload). hears_peer stands learnt t from state content) (sym c.in-Ack.is)
 
-pub returns-in_ok-peer_behind-in-Behind-clause-value : goal.returns-in_ok-peer_behind-in-Behind-clause-value
-returns-in_ok-peer_behind-in-Behind-clause-value g c =
-    λ learnt state is.
+pub returns-in_ok-turned-in-Behind : goal.returns-in_ok-turned-in-Behind
+returns-in_ok-turned-in-Behind c =
+    λ learnt records state is.
     let t = c.args.tenure.now in
     let from = c.args.from in
-    let stands = ground c.args.place.now (g.B.Bodies.records c.args.bodies.now) c.args.own.now c.args.held.now in
-    c.in_ok-peer_behind-in-Behind.ensures learnt (g.B.Bodies.records c.args.bodies.now) c.args.own.now c.args.held.now state is
+    let own = c.args.own.now in
+    let held = c.args.held.now in
+    let stands = ground c.args.place.now records own held in
+    c.in_ok-turned-in-Behind.ensures learnt records own held state is
     ∙ ap (λ (content : Payload). hears_peer stands learnt t from state content) (sym c.in-Behind.is)

@@ -7,14 +7,14 @@ use Rattle.replica_primary.proofs.Given.{if_so}
 use Rattle.replica_primary.proofs.Hears.{of_tenure}
 use Rattle.replica_primary.proofs.hearing.hears_in.Goals as goal
 
-pub returns-in-Some-peer_in-clause-value : goal.returns-in-Some-peer_in-clause-value
-returns-in-Some-peer_in-clause-value g c =
-    if_so _ _ c.hears_peer.result c.hears_peer.ensures.value
-    (λ heard of.
+pub returns-in-Some-peer_in : goal.returns-in-Some-peer_in
+returns-in-Some-peer_in c =
+    if_so _ _ c.hears_peer.result c.hears_peer.ensures
+    (λ heard of records.
     let from = c.args.from in
     let state = c.in-Some-peer_in.field-0.now in
     let is = ap (λ (peers : List Peer). peer_in peers from) (sym c.as_slice.ensures) ∙ c.in-Some-peer_in.ensures in
-    let stands = ground c.args.place.now (g.B.Bodies.records c.args.bodies.now) c.args.own.now c.args.held.now in
-    of state is
+    let stands = ground c.args.place.now records c.args.own.now c.args.held.now in
+    of records state is
     ∙ of_tenure stands c.args.learnt c.args.tenure.now from (epoch_told c.args.payload.now) c.in-Some.epoch state c.args.payload.now
     (sym c.epoch_told.ensures ∙ c.in-Some.is) (sym c.is_epoch.ensures ∙ c.if-not-is_epoch.false) is)

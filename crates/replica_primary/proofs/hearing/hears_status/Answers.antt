@@ -6,12 +6,12 @@ use Rattle.replica_primary.proofs.Given.{if_so}
 use Rattle.replica_primary.proofs.Hears.{first_status}
 use Rattle.replica_primary.proofs.hearing.hears_status.Goals as goal
 
-pub returns-clause-value : goal.returns-clause-value
-returns-clause-value g c =
-    if_so _ _ c.status_told.result c.status_told.ensures.value
-    (λ turned of learnt held state is.
+pub returns : goal.returns
+returns c =
+    if_so _ _ c.status_told.result c.status_told.ensures
+    (λ next of learnt records own held state is.
     let from = c.args.from in
     let told = ap (λ (peers : List Peer). peer_in peers from) c.as_slice.ensures ∙ is in
-    let stands = ground c.args.place.now (g.B.Bodies.records c.args.bodies.now) c.args.own.now held in
-    of learnt held
+    let stands = ground c.args.place.now records own held in
+    of learnt records own held
     ∙ first_status stands learnt c.args.tenure.now from state c.args.head.now (sym (c.is_unknown.ensures state told) ∙ c.if-not-is_unknown.false))

@@ -4,4 +4,4 @@ use Rattle.osd_rows.specs.Turns.{to_each}
 use Rattle.replica_primary.proofs.serving.update_to_each.Given as goal
 
 abbrev pub invariant-loop-to : goal.invariant-loop-to
-invariant-loop-to l = l.outs ≡ to_each l.node (take l.to-index l.nodes) (payload.Update l.file l.update)
+invariant-loop-to l = l.outs ≡ to_each l.place.node (take l.to-index l.nodes) (payload.Update l.place.file l.update)

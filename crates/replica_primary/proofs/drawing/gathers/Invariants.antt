@@ -1,8 +1,0 @@
-use Rattle.std.proofs.Common.{◌≡◌, take}
-use Rattle.xt_messages.specs.declared.message.Payload.TheVariants as payload
-use Rattle.osd_rows.specs.Turns.{to_each}
-use Rattle.replica_primary.proofs.drawing.gathers.Given as goal
-
--- the messages to the nodes so far
-abbrev pub invariant-loop-to : goal.invariant-loop-to
-invariant-loop-to l = l.outs ≡ to_each l.place.node (take l.to-index l.nodes) (payload.Gather l.place.file l.epoch)

@@ -1,0 +1,19 @@
+use Rattle.std.proofs.Common.{◌∙◌, Option, ap}
+use Rattle.xt_protocol.specs.declared.Turned.{Turned}
+use Rattle.xt_messages.specs.declared.record.Record.{Record}
+use Rattle.osd_rows.specs.Primaries.{Led}
+use Rattle.osd_rows.specs.PrimaryRows.{after_keeping, goes_on, installs}
+use Rattle.replica_primary.specs.Moves.{ground_beyond, kept_of}
+use Rattle.replica_primary.proofs.gathering.installs_keeping.Goals as goal
+
+pub returns-clause-value : goal.returns-clause-value
+returns-clause-value g c =
+    λ learnt held.
+    let place = c.args.place.now in
+    let fetched = c.args.fetched in
+    let after = c.installs.new.tenure in
+    let turned = c.in_ok-turned.turned in
+    let stands = ground_beyond place (g.B.Bodies.records c.args.bodies.now) fetched c.args.own.now held in
+    ap (λ (u : Turned). goes_on learnt after u) c.in_ok-next.ensures
+    ∙ ap (λ (rec : Option Record). after_keeping rec (goes_on learnt after turned)) c.kept_of-rec.ensures
+    ∙ ap (λ (led : Led). after_keeping (kept_of place.file fetched) led) (c.in_ok-turned.ensures.value learnt held)
