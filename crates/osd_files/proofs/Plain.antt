@@ -18,10 +18,12 @@ use Rattle.xt_messages.specs.declared.file.Update.{Update}
 use Rattle.xt_messages.specs.declared.record.FileRow.{FileRow}
 use Rattle.xt_messages.specs.declared.record.Record.{Record}
 use Rattle.xt_messages.specs.declared.record.Record.TheVariants as kept
+use Rattle.xt_messages.specs.declared.message.Payload.{Payload}
 use Rattle.xt_messages.specs.declared.message.Payload.TheVariants as payload
 use Rattle.xt_protocol.specs.Stamps.{is_earlier, is_epoch, is_below, has_version}
 use Rattle.osd_rows.specs.declared.Acted.{Acted}
 use Rattle.osd_rows.specs.ReplicaRows.{kept_after, gathered, staged, headed, updated, refused, behind, unanswered, after_record, only, as_promised, stage_record, head_taken, first_missing, head_offered, next_update, update_offered, head_fits}
+use Rattle.osd_files.specs.Kinds.{acted_on}
 use Rattle.osd_files.proofs.Owned.{either}
 
 abbrev pub IsPlain : Option Record → Type 0
@@ -52,7 +54,7 @@ file_kept row (Some (kept.Head file head)) = refl
 file_kept row (Some (kept.Boot boot)) = refl
 file_kept row (Some (kept.Meta from number now nodes request)) = refl
 
-pub gathered_plain : (file : FileId) (own : FileHead) (epoch : Epoch) → IsPlain (gathered file own epoch).rec
+gathered_plain : (file : FileId) (own : FileHead) (epoch : Epoch) → IsPlain (gathered file own epoch).rec
 unfolding gathered
 gathered_plain file own epoch =
     let P : Acted → Type 0 = λ a. IsPlain a.rec in
@@ -68,7 +70,7 @@ promised_plain file own epoch row plain =
     either P (is_earlier epoch own.promised) (refused file own epoch) (cond (is_earlier own.promised epoch) late row) tt
     (either P (is_earlier own.promised epoch) late row tt plain)
 
-pub staged_plain : (file : FileId) (own : FileHead) (held : List ObjectVersion) (epoch : Epoch) (object : ℕ) (version : Stamp) (bytes : List ℕ) → IsPlain (staged file own held epoch object version bytes).rec
+staged_plain : (file : FileId) (own : FileHead) (held : List ObjectVersion) (epoch : Epoch) (object : ℕ) (version : Stamp) (bytes : List ℕ) → IsPlain (staged file own held epoch object version bytes).rec
 unfolding staged
 staged_plain file own held epoch object version bytes =
     promised_plain file own epoch (record { rec = stage_record file held object version bytes; answer = Some (payload.Staged file epoch object version) })
@@ -78,7 +80,7 @@ taken_plain : (file : FileId) (epoch : Epoch) (head : FileHead) (missing : Optio
 taken_plain file epoch head None = tt
 taken_plain file epoch head (Some v) = tt
 
-pub headed_plain : (file : FileId) (own : FileHead) (held : List ObjectVersion) (epoch : Epoch) (head : FileHead) → IsPlain (headed file own held epoch head).rec
+headed_plain : (file : FileId) (own : FileHead) (held : List ObjectVersion) (epoch : Epoch) (head : FileHead) → IsPlain (headed file own held epoch head).rec
 unfolding headed
 headed_plain file own held epoch head =
     let P : Acted → Type 0 = λ a. IsPlain a.rec in
@@ -88,7 +90,7 @@ headed_plain file own held epoch head =
     (either P (is_below own.stamp head.stamp) taken (only (payload.Ack file head.stamp)) (taken_plain file epoch head (first_missing held head.versions)) tt))
     tt
 
-pub updated_plain : (file : FileId) (own : FileHead) (update : Update) → IsPlain (updated file own update).rec
+updated_plain : (file : FileId) (own : FileHead) (update : Update) → IsPlain (updated file own update).rec
 unfolding updated
 updated_plain file own update =
     let P : Acted → Type 0 = λ a. IsPlain a.rec in
@@ -103,6 +105,13 @@ updated_plain file own update =
     (either P (update.stamp.count == own.stamp.count + 1) next late
     (either P (head_fits (head_after own update)) (after_record (kept.Update file update) (payload.Ack file update.stamp)) unanswered tt tt)
     tt)))
+
+pub acted_plain : (file : FileId) (own : FileHead) (held : List ObjectVersion) (content : Payload) → IsPlain (acted_on file own held content).rec
+acted_plain file own held (payload.Gather f epoch) = gathered_plain file own epoch
+acted_plain file own held (payload.Stage f epoch object version bytes) = staged_plain file own held epoch object version bytes
+acted_plain file own held (payload.Head f epoch head) = headed_plain file own held epoch head
+acted_plain file own held (payload.Update f update) = updated_plain file own update
+acted_plain file own held content = tt
 
 -- a replica's row, by what the replica did
 pub acts_row : (site : Site) (s : FileState) (before after : FileRow) (location : Option Location) (from : NodeId) (made acted : Acted) (turned : Turned)

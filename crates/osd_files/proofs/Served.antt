@@ -11,9 +11,9 @@ use Rattle.osd_rows.specs.declared.WaitingAsk.{WaitingAsk}
 use Rattle.osd_rows.specs.FileStates.{FileState, Site, FileStep, ground_of, serves_to}
 use Rattle.osd_rows.specs.Primaries.{Led, issued_by, is_active}
 use Rattle.osd_rows.specs.ReplicaRows.{kept_after}
-use Rattle.osd_rows.specs.Serving.{writes}
+use Rattle.osd_rows.specs.Serving.{reads, writes}
 use Rattle.osd_rows.specs.Turns.{quiet, joined}
-use Rattle.osd_rows.specs.Asks.{Served, is_read, serves, write_done, waits}
+use Rattle.osd_rows.specs.Asks.{Served, is_read, read_answer, serves, write_done, waits}
 use Rattle.osd_rows.specs.AskRows.{ask_served, ask_under, ask_waits}
 use Rattle.osd_invariants.proofs.Kept.{served_none}
 use Rattle.osd_files.specs.Asking.{asks_once_done}
@@ -51,6 +51,18 @@ write_waits site s ask asks so led wait =
     let left = waits s.asks ask in
     let by : Asks → FileStep = λ x. record { state = record s { asks = x }; turned = quiet } in
     ap (serves_to s) (written site s ask so ∙ ap (λ (o : Option Led). write_done (before s) ask o left) led) ∙ ap by (sym wait)
+
+-- a read is answered, and the file stays as it is
+pub read_row : (site : Site) (s : FileState) (ask : WaitingAsk) → is_read ask.op ≡ true
+    → ask_served site s ask ≡ record { state = s; turned = read_answer (ground_of site s) ask.id (reads (ground_of site s) s.primary ask.op) }
+read_row site s ask so =
+    let left = waits s.asks ask in
+    let turned = read_answer (ground_of site s) ask.id (reads (ground_of site s) s.primary ask.op) in
+    let done : Served = record { primary = s.primary; asks = s.asks; turned = joined quiet turned } in
+    let is : serves (ground_of site s) (before s) ask left ≡ done = when_true (is_read ask.op) _ _ so in
+    let none : turned.rec ≡ None = sym (ap (λ (v : Served). v.turned.rec) is) ∙ served_none (ground_of site s) (before s) ask left refl in
+    let by : Option Record → FileStep = λ rec. record { state = record s { kept = kept_after s.kept rec }; turned = turned } in
+    ap (serves_to s) is ∙ ap by none
 
 -- By the lease.
 

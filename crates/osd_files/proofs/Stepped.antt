@@ -23,7 +23,7 @@ use Rattle.osd_rows.specs.Asks.{no_asks}
 use Rattle.osd_rows.specs.Primaries.{issued_by}
 use Rattle.osd_rows.specs.FileStates.{FileState, Site, FileStep, and_then, members_of}
 use Rattle.osd_rows.specs.FileLeases.{answer_comes}
-use Rattle.osd_rows.specs.FileSteps.{message_comes, primary_hears, step_of_file, wake_of_file}
+use Rattle.osd_rows.specs.FileSteps.{message_comes, primary_hears, replica_acts, step_of_file, wake_of_file}
 use Rattle.osd_rows.specs.Overdue.{expired}
 use Rattle.osd_rows.specs.Turns.{joined}
 use Rattle.osd_invariants.specs.Sound.{AreOne, IsSound, LedUnder, ListUnder, PeersAre, WaitsUnder}
@@ -31,6 +31,7 @@ use Rattle.osd_invariants.specs.OpenAsks.{AskIs, AsksAre, IsWithinLimits}
 use Rattle.osd_invariants.proofs.OpenAsks.{expired_are, none_are, step_are, wake_are}
 use Rattle.osd_invariants.proofs.SoundSteps.{expired_so, step_so, wake_so}
 use Rattle.osd_files.specs.declared.waking.Woken.{Woken}
+use Rattle.osd_files.specs.Kinds.{acted_on, is_for_lease, is_for_replica}
 use Rattle.osd_files.specs.Rows.{IsRow, IsStep}
 use Rattle.osd_files.specs.Views.{FileView, site_at}
 use Rattle.osd_files.specs.Whole.{IsRowOn, IsSealedBy, IsWhole, IsWoken}
@@ -92,27 +93,52 @@ pub told_row : (content made : Payload) (site : Site) (from : NodeId) (old new :
 told_row content made site from old new turned is row =
     record { here = row.here; step = ap (λ (x : Payload). message_comes site old.state from x) is ∙ row.step }
 
--- an answer to a round
-answers_as : (site : Site) (s : FileState) (from : NodeId) (content made : Payload) → content ≡ made → message_comes site s from made ≡ answer_comes site s from made
-    → message_comes site s from content ≡ answer_comes site s from content
-answers_as site s from content made is row =
-    ap (λ (x : Payload). message_comes site s from x) is ∙ row ∙ sym (ap (λ (x : Payload). answer_comes site s from x) is)
+-- a message to the replica
+pub replica_row : (site : Site) (s : FileState) (from : NodeId) (content : Payload) → is_for_replica content ≡ true
+    → message_comes site s from content ≡ replica_acts site s from (acted_on s.kept.file s.kept.head s.kept.held content)
+replica_row site s from (payload.Gather file epoch) so = refl
+replica_row site s from (payload.Stage file epoch object version bytes) so = refl
+replica_row site s from (payload.Head file epoch head) so = refl
+replica_row site s from (payload.Update file update) so = refl
+replica_row site s from content so = absurd cc
 
-answer_told : (site : Site) (s : FileState) (from : NodeId) (content : Payload)
-    → ((file : FileId) × (ballot : Ballot) × (boot : Boot) × (report : Option Lease) × (content ≡ payload.Promise file ballot boot report))
-    ⊎ (((file : FileId) × (ballot : Ballot) × (boot : Boot) × (content ≡ payload.Accepted file ballot boot))
-    ⊎ ((file : FileId) × (ballot : Ballot) × (seen : Ballot) × (content ≡ payload.Outrun file ballot seen)))
-    → message_comes site s from content ≡ answer_comes site s from content
-answer_told site s from content (inl h) = answers_as site s from content (payload.Promise h.0 h.1 h.2 h.3) h.4 refl
-answer_told site s from content (inr (inl h)) = answers_as site s from content (payload.Accepted h.0 h.1 h.2) h.3 refl
-answer_told site s from content (inr (inr h)) = answers_as site s from content (payload.Outrun h.0 h.1 h.2) h.3 refl
+-- it is one of these
+pub for_replica : (content : Payload)
+    → ((file : FileId) × (epoch : Epoch) × (content ≡ payload.Gather file epoch))
+    ⊎ (((file : FileId) × (epoch : Epoch) × (object : ℕ) × (version : Stamp) × (bytes : List ℕ) × (content ≡ payload.Stage file epoch object version bytes))
+    ⊎ (((file : FileId) × (epoch : Epoch) × (head : FileHead) × (content ≡ payload.Head file epoch head))
+    ⊎ ((file : FileId) × (update : Update) × (content ≡ payload.Update file update))))
+    → is_for_replica content ≡ true
+for_replica content (inl h) = ap is_for_replica h.2
+for_replica content (inr (inl h)) = ap is_for_replica h.5
+for_replica content (inr (inr (inl h))) = ap is_for_replica h.3
+for_replica content (inr (inr (inr h))) = ap is_for_replica h.2
 
-pub answer_row : (site : Site) (from : NodeId) (content : Payload) (old new : FileView) (turned : Turned)
-    → ((file : FileId) × (ballot : Ballot) × (boot : Boot) × (report : Option Lease) × (content ≡ payload.Promise file ballot boot report))
+-- a message of the lease that isn't to its register answers a round
+pub answer_row : (site : Site) (s : FileState) (from : NodeId) (content : Payload) → is_for_lease content ≡ true
+    → ((file : FileId) (ballot : Ballot) → content ≡ payload.Read file ballot → ⊥)
+    → ((file : FileId) (ballot : Ballot) (boot : Boot) (lease : Lease) → content ≡ payload.Write file ballot boot lease → ⊥)
+    → message_comes site s from content ≡ answer_comes site s from content
+answer_row site s from (payload.Promise file ballot boot report) so read write = refl
+answer_row site s from (payload.Accepted file ballot boot) so read write = refl
+answer_row site s from (payload.Outrun file ballot seen) so read write = refl
+answer_row site s from (payload.Read file ballot) so read write = absurd (read file ballot refl)
+answer_row site s from (payload.Write file ballot boot lease) so read write = absurd (write file ballot boot lease refl)
+answer_row site s from content so read write = absurd cc
+
+-- it is one of these
+pub for_lease : (content : Payload)
+    → ((file : FileId) × (ballot : Ballot) × (content ≡ payload.Read file ballot))
+    ⊎ (((file : FileId) × (ballot : Ballot) × (boot : Boot) × (lease : Lease) × (content ≡ payload.Write file ballot boot lease))
+    ⊎ (((file : FileId) × (ballot : Ballot) × (boot : Boot) × (report : Option Lease) × (content ≡ payload.Promise file ballot boot report))
     ⊎ (((file : FileId) × (ballot : Ballot) × (boot : Boot) × (content ≡ payload.Accepted file ballot boot))
-    ⊎ ((file : FileId) × (ballot : Ballot) × (seen : Ballot) × (content ≡ payload.Outrun file ballot seen)))
-    → IsStep (λ site s. answer_comes site s from content) site old new turned → IsStep (λ site s. message_comes site s from content) site old new turned
-answer_row site from content old new turned told row = record { here = row.here; step = answer_told site old.state from content told ∙ row.step }
+    ⊎ ((file : FileId) × (ballot : Ballot) × (seen : Ballot) × (content ≡ payload.Outrun file ballot seen)))))
+    → is_for_lease content ≡ true
+for_lease content (inl h) = ap is_for_lease h.2
+for_lease content (inr (inl h)) = ap is_for_lease h.4
+for_lease content (inr (inr (inl h))) = ap is_for_lease h.4
+for_lease content (inr (inr (inr (inl h)))) = ap is_for_lease h.3
+for_lease content (inr (inr (inr (inr h)))) = ap is_for_lease h.3
 
 -- A message that is neither an ask, nor of the register, the lease or the replica.
 pub record IsForPrimary (content : Payload) : Type 0 where

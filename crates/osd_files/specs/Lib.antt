@@ -8,3 +8,4 @@ pub mod Settled
 pub mod Counts
 pub mod Serves
 pub mod Whole
+pub mod Kinds

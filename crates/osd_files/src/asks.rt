@@ -7,7 +7,7 @@ ghost use Rattle.xt_protocol.specs.LeaseRows.{Proposer, free};
 ghost use Rattle.xt_protocol.specs.SeenBodies.{body_by};
 ghost use Rattle.file_lease.specs.Moves.{IsSettled, is_free, turn_of};
 ghost use Rattle.kept_bodies.specs.KeptBodies.{fault_of, ReadsOnly};
-ghost use Rattle.replica_primary.specs.Written.{ground};
+ghost use Rattle.osd_files.specs.Serves.{ground_at};
 ghost use Rattle.osd_invariants.specs.Sound.{IsStored};
 ghost use Rattle.osd_rows.specs.FileStates.{Site};
 ghost use Rattle.osd_rows.specs.Primaries.{Ground, is_active};
@@ -16,7 +16,6 @@ ghost use Rattle.osd_rows.specs.Asks.{is_read, read_answer};
 ghost use Rattle.osd_rows.specs.AskRows as rows;
 ghost use Rattle.osd_files.specs.Answers.{HasTurn};
 ghost use Rattle.osd_files.specs.Asking.{asks_once_done};
-ghost use Rattle.osd_files.specs.Leads.{place_of};
 ghost use Rattle.osd_files.specs.Views.{shown, site_at};
 ghost use Rattle.osd_files.specs.Rows.{IsStep, IsRow, IsRowBy};
 
@@ -25,7 +24,6 @@ use crate::lead::Lead;
 use crate::parts::Parts;
 use crate::waking::reads_of;
 use file_lease::FileLease;
-use flease_lease::Turn;
 use kept_bodies::{Bodies, StepErr};
 use osd_asks::OpenAsks;
 use osd_decisions::{is_read, refusal_of};
@@ -54,24 +52,24 @@ fn read_answer(
     }
 }
 
-/// A read in a turn of the primary.
+/// A read in a turn of the primary. The file stays as it is.
 pub fn read_served<B: Bodies>(
-    alloc: Global,
-    lead: &Lead,
-    turn: &Turn<'_>,
+    file: &Parts,
     bodies: &mut B,
-    node: NodeId,
-    file: &FileId,
+    now: u64,
     ask: &WaitingAsk,
 ) -> Result<Turned, StepErr>
-    requires turn { turn.now.node ≡ lead.now.node }
-    requires node { lead.now.node ≡ node }
-    requires file { lead.now.file ≡ file.now }
-    ensures turned { IfOk result (λ turned. (own : FileHead) (held : List ObjectVersion) → turned ≡ read_answer (ground (place_of lead.now) (B.records bodies.old) own held) ask.now.id (reads (ground (place_of lead.now) (B.records bodies.old) own held) lead.now.primary ask.now.op)) }
+    requires clock { now < 2 ^ 62 }
+    requires turn { HasTurn file.now.lease now }
+    ensures turned { IfOk result (λ turned. (own : FileHead) (held : List ObjectVersion) → turned ≡ read_answer (ground_at (shown file.now) (B.records bodies.old) own held) ask.now.id (reads (ground_at (shown file.now) (B.records bodies.old) own held) file.now.lead.primary ask.now.op)) }
     ensures reads { ReadsOnly B.records B.fault_count bodies.old bodies.new (fault_of result) }
 {
-    let answer = lead.read(turn, bodies, &ask.op)?;
-    Ok(read_answer(alloc, node, file, ask.id, answer)?)
+    let Some(turn) = file.lease.turn(now) else {
+        unreachable!()
+    };
+    let (alloc, node, id) = (file.alloc, file.awake.node(), file.replica.file());
+    let answer = file.lead.read(&turn, bodies, &ask.op)?;
+    Ok(read_answer(alloc, node, &id, ask.id, answer)?)
 }
 
 /// The ask of an update that was just issued, where one is and none was before.
@@ -180,11 +178,7 @@ fn ask_served<B: Bodies>(
     if !is_read(&ask.op) {
         return write_served(file, bodies, now, ask);
     }
-    let Some(turn) = file.lease.turn(now) else {
-        unreachable!()
-    };
-    let (alloc, node, id) = (file.alloc, file.awake.node(), file.replica.file());
-    read_served(alloc, &file.lead, &turn, bodies, node, &id, &ask)
+    read_served(file, bodies, now, &ask)
 }
 
 /// Whether the node holds the lease, and its primary is active.

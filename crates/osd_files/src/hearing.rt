@@ -1,10 +1,11 @@
-ghost use Rattle.std.specs.Prelude.{◌≡◌, [], ℕ, List, IfOk};
-ghost use Rattle.xt_messages.specs.Limits.{FitsEpoch, FitsHead, FitsUpdate};
+ghost use Rattle.std.specs.Prelude.{◌≡◌, [], ℕ, List, true, IfOk, OnErr};
+ghost use Rattle.xt_messages.specs.Limits.{FitsPayload};
 ghost use Rattle.osd_rows.specs.Primaries.{if_any};
-ghost use Rattle.osd_rows.specs.ReplicaRows as replica;
+ghost use Rattle.osd_rows.specs.ReplicaRows.{kept_after};
 ghost use Rattle.osd_rows.specs.FileSteps as rows;
 ghost use Rattle.osd_files.specs.Views.{shown};
 ghost use Rattle.osd_files.specs.Asking.{fetch_row};
+ghost use Rattle.osd_files.specs.Kinds.{acted_on, is_for_replica};
 ghost use Rattle.osd_files.specs.Rows.{IsRow, IsRowBy};
 ghost use Rattle.xt_protocol.specs.SeenBodies.{body_by};
 ghost use Rattle.kept_bodies.specs.KeptBodies.{fault_of, ReadsOnly};
@@ -14,11 +15,11 @@ use crate::parts::Parts;
 use kept_bodies::{Bodies, StepErr};
 use osd_peers::send_any;
 use osd_rows::Acted;
-use replica_state::fetched_from;
+use replica_state::{Replica, fetched_from};
 use std::alloc::Global;
 use step_outputs::{message, sends_one};
-use xt_base::{Epoch, NodeId, Octets, OptionalBox, OutOfMemory, Seq, Stamp};
-use xt_messages::{FileHead, Msgs, Payload, Update};
+use xt_base::{Epoch, NodeId, OptionalBox, OutOfMemory, Seq, Stamp};
+use xt_messages::{Msgs, Payload};
 use xt_protocol::Turned;
 
 /// The answer to whoever asked, if there is one.
@@ -53,54 +54,42 @@ fn replica_acts(
     })
 }
 
-/// Gather comes.
-pub fn gather_comes(file: &mut Parts, from: NodeId, epoch: &Epoch) -> Result<Turned, OutOfMemory>
-    requires { FitsEpoch epoch.now }
-    ensures { IfOk result (λ turned. (now : ℕ) → IsRow (λ site s. rows.replica_acts site s from (replica.gathered s.kept.file s.kept.head epoch.now)) now (shown file.old) (shown file.new) turned) }
+/// What the replica makes of a message; nothing of one that isn't to it.
+fn acts(replica: &mut Replica, content: &Payload) -> Result<Acted, OutOfMemory>
+    requires { FitsPayload content.now }
+    ensures row { IfOk result (λ acted. acted ≡ acted_on replica.old.file replica.old.head replica.old.held content.now) }
+    ensures kept { IfOk result (λ acted. replica.new ≡ kept_after replica.old acted.rec) }
+    ensures same { OnErr result (replica.new ≡ replica.old) }
 {
-    let (alloc, node) = (file.alloc, file.awake.node());
-    let acted = file.replica.on_gather(epoch)?;
-    replica_acts(alloc, node, from, acted)
+    match content {
+        Payload::Gather { epoch, .. } => replica.on_gather(epoch),
+        Payload::Stage {
+            epoch,
+            object,
+            version,
+            bytes,
+            ..
+        } => replica.on_stage(epoch, *object, version, bytes),
+        Payload::Head { epoch, head, .. } => replica.on_head(epoch, head),
+        Payload::Update { update, .. } => replica.on_update(update),
+        _ => Ok(Acted {
+            rec: None,
+            answer: None,
+        }),
+    }
 }
 
-/// Stage comes.
-pub fn stage_comes(
+/// A message to the replica comes: Gather, Stage, Head or Update.
+pub fn replica_comes(
     file: &mut Parts,
     from: NodeId,
-    epoch: &Epoch,
-    object: u64,
-    version: &Stamp,
-    bytes: &Octets,
+    content: &Payload,
 ) -> Result<Turned, OutOfMemory>
-    ensures { IfOk result (λ turned. (now : ℕ) → IsRow (λ site s. rows.replica_acts site s from (replica.staged s.kept.file s.kept.head s.kept.held epoch.now object version.now bytes.now)) now (shown file.old) (shown file.new) turned) }
+    requires { FitsPayload content.now }
+    ensures { IfOk result (λ turned. is_for_replica content.now ≡ true → (now : ℕ) → IsRow (λ site s. rows.message_comes site s from content.now) now (shown file.old) (shown file.new) turned) }
 {
     let (alloc, node) = (file.alloc, file.awake.node());
-    let acted = file.replica.on_stage(epoch, object, version, bytes)?;
-    replica_acts(alloc, node, from, acted)
-}
-
-/// Head comes.
-pub fn head_comes(
-    file: &mut Parts,
-    from: NodeId,
-    epoch: &Epoch,
-    head: &FileHead,
-) -> Result<Turned, OutOfMemory>
-    requires { FitsHead head.now }
-    ensures { IfOk result (λ turned. (now : ℕ) → IsRow (λ site s. rows.replica_acts site s from (replica.headed s.kept.file s.kept.head s.kept.held epoch.now head.now)) now (shown file.old) (shown file.new) turned) }
-{
-    let (alloc, node) = (file.alloc, file.awake.node());
-    let acted = file.replica.on_head(epoch, head)?;
-    replica_acts(alloc, node, from, acted)
-}
-
-/// Update comes.
-pub fn update_comes(file: &mut Parts, from: NodeId, update: &Update) -> Result<Turned, OutOfMemory>
-    requires { FitsUpdate update.now }
-    ensures { IfOk result (λ turned. (now : ℕ) → IsRow (λ site s. rows.replica_acts site s from (replica.updated s.kept.file s.kept.head update.now)) now (shown file.old) (shown file.new) turned) }
-{
-    let (alloc, node) = (file.alloc, file.awake.node());
-    let acted = file.replica.on_update(update)?;
+    let acted = acts(&mut file.replica, content)?;
     replica_acts(alloc, node, from, acted)
 }
 

@@ -1,4 +1,4 @@
-ghost use Rattle.std.specs.Prelude.{◌≡◌, ◌<◌, ◌^◌, ℕ, List, Bool, Option, None, IfOk, IfSome, OnOk, OnErr, map, if◌then◌else◌};
+ghost use Rattle.std.specs.Prelude.{◌≡◌, ◌<◌, ◌^◌, ℕ, List, Bool, true, Option, None, IfOk, IfSome, OnOk, OnErr, map, if◌then◌else◌};
 ghost use Rattle.xt_messages.specs.declared.file.Location.{Location};
 ghost use Rattle.xt_base.specs.declared.ids.NodeId.{NodeId};
 ghost use Rattle.xt_base.specs.declared.ids.Boot.{Boot};
@@ -10,8 +10,10 @@ ghost use Rattle.replica_state.specs.Kept.{IsNotable};
 ghost use Rattle.osd_rows.specs.ReplicaRows.{kept_after};
 ghost use Rattle.osd_rows.specs.Turns.{message};
 ghost use Rattle.osd_rows.specs.FileLeases as rows;
+ghost use Rattle.osd_rows.specs.FileSteps.{message_comes};
 ghost use Rattle.osd_files.specs.Answers.{read_answer, write_answer, answered_write, news_of, HasTurn, HoldBy};
 ghost use Rattle.osd_files.specs.Views.{shown};
+ghost use Rattle.osd_files.specs.Kinds.{is_for_lease};
 ghost use Rattle.osd_files.specs.Rows.{IsRow};
 
 use crate::joining::{both, join_next};
@@ -42,7 +44,7 @@ fn answer_to_read(file: FileId, boot: Boot, ballot: Ballot, answer: ReadAnswer) 
 
 /// A Read comes: promised, or outrun.
 #[tactic(auto, unfolding(osd_rows::specs::FileLeases::read_comes), using(crate::proofs::News::read_back))]
-pub fn read_comes(file: &mut Parts, from: NodeId, ballot: Ballot) -> Result<Turned, OutOfMemory>
+fn read_comes(file: &mut Parts, from: NodeId, ballot: Ballot) -> Result<Turned, OutOfMemory>
     ensures { IfOk result (λ turned. (now : ℕ) → IsRow (λ site s. rows.read_comes site s from ballot) now (shown file.old) (shown file.new) turned) }
 {
     let (alloc, node, id) = (file.alloc, file.awake.node(), file.replica.file());
@@ -89,7 +91,7 @@ fn end_after_write(end: u64, lease: Lease, answer: WriteAnswer) -> u64
 
 /// A Write comes: accepted, outrun, or for another boot.
 #[tactic(auto, unfolding(osd_rows::specs::FileLeases::write_comes), using(crate::proofs::News::write_back))]
-pub fn write_comes(
+fn write_comes(
     file: &mut Parts,
     from: NodeId,
     ballot: Ballot,
@@ -268,7 +270,7 @@ fn end_after_answer(lease: &FileLease, end: u64, now: u64, from: NodeId, content
 }
 
 /// An answer to a round comes.
-pub fn answer_comes(
+fn answer_comes(
     file: &mut Parts,
     now: u64,
     from: NodeId,
@@ -282,4 +284,28 @@ pub fn answer_comes(
     file.last_end = end_after_answer(&file.lease, file.last_end, now, from, content);
     let news = file.lease.answer(now, from, content);
     lease_news(file, now, news)
+}
+
+/// A message of the lease comes: to its register, or an answer to a round.
+pub fn lease_comes(
+    file: &mut Parts,
+    now: u64,
+    from: NodeId,
+    content: &Payload,
+) -> Result<Turned, OutOfMemory>
+    requires clock { now < 2 ^ 62 }
+    requires settled { IsSettled file.old.lease now }
+    requires stored { ListUnder file.old.lease file.old.lead.location }
+    ensures { IfOk result (λ turned. is_for_lease content.now ≡ true → IsRow (λ site s. message_comes site s from content.now) now (shown file.old) (shown file.new) turned) }
+{
+    match content {
+        Payload::Read { ballot, .. } => read_comes(file, from, *ballot),
+        Payload::Write {
+            ballot,
+            boot,
+            lease,
+            ..
+        } => write_comes(file, from, *ballot, *boot, *lease),
+        _ => answer_comes(file, now, from, content),
+    }
 }

@@ -1,16 +1,13 @@
-ghost use Rattle.std.specs.Prelude.{◌≡◌, ◌<◌, ◌^◌, ◌&&◌, List, false, not, IfOk, is_some};
+ghost use Rattle.std.specs.Prelude.{◌≡◌, ◌<◌, ◌^◌, ◌&&◌, false, not, IfOk, is_some};
 ghost use Rattle.std.specs.List.{AllByRecursion};
 ghost use Rattle.xt_messages.specs.Limits.{FitsOp};
-ghost use Rattle.xt_messages.specs.declared.file.FileHead.{FileHead};
-ghost use Rattle.xt_messages.specs.declared.file.ObjectVersion.{ObjectVersion};
 ghost use Rattle.kept_bodies.specs.KeptBodies.{fault_of, ReadsOnly};
 ghost use Rattle.osd_invariants.specs.Sound.{IsStored};
 ghost use Rattle.osd_invariants.specs.OpenAsks.{IsWithinLimits};
-ghost use Rattle.osd_rows.specs.Asks.{is_read, read_answer};
+ghost use Rattle.osd_rows.specs.Asks.{is_read};
 ghost use Rattle.osd_rows.specs.Primaries.{is_ready};
-ghost use Rattle.osd_rows.specs.Serving.{reads};
 ghost use Rattle.osd_files.specs.Answers.{HasTurn};
-ghost use Rattle.osd_files.specs.Serves.{ground_at, AsksFollow, AsksWait, ServesAll, ServesNext, ServesOne};
+ghost use Rattle.osd_files.specs.Serves.{AsksFollow, AsksWait, ServesAll, ServesNext, ServesOne};
 ghost use Rattle.osd_files.specs.Views.{shown};
 
 use crate::asks::{mark_issued, read_served};
@@ -23,25 +20,6 @@ use osd_rows::WaitingAsk;
 use step_outputs::quiet;
 use xt_base::OutOfMemory;
 use xt_protocol::Turned;
-
-/// A waiting read is served. The file stays as it is.
-fn waiting_read<B: Bodies>(
-    file: &Parts,
-    bodies: &mut B,
-    now: u64,
-    ask: &WaitingAsk,
-) -> Result<Turned, StepErr>
-    requires clock { now < 2 ^ 62 }
-    requires turn { HasTurn file.now.lease now }
-    ensures turned { IfOk result (λ turned. (own : FileHead) (held : List ObjectVersion) → turned ≡ read_answer (ground_at (shown file.now) (B.records bodies.old) own held) ask.now.id (reads (ground_at (shown file.now) (B.records bodies.old) own held) file.now.lead.primary ask.now.op)) }
-    ensures reads { ReadsOnly B.records B.fault_count bodies.old bodies.new (fault_of result) }
-{
-    let Some(turn) = file.lease.turn(now) else {
-        unreachable!()
-    };
-    let (alloc, node, id) = (file.alloc, file.awake.node(), file.replica.file());
-    read_served(alloc, &file.lead, &turn, bodies, node, &id, ask)
-}
 
 /// A waiting write, where no other one is issued: it is answered, refused or issued; else it stays.
 fn waiting_write<B: Bodies>(
@@ -88,7 +66,7 @@ fn serve_one<B: Bodies>(
     ensures reads { ReadsOnly B.records B.fault_count bodies.old bodies.new (fault_of result) }
 {
     if is_read(&ask.op) {
-        return waiting_read(file, bodies, now, &ask);
+        return read_served(file, bodies, now, &ask);
     }
     if file.asks.has_issued() {
         file.asks.stay(ask)?;

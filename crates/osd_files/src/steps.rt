@@ -10,10 +10,10 @@ ghost use Rattle.osd_files.specs.Views.{shown, site_at};
 ghost use Rattle.osd_files.specs.Whole.{IsRowOn, IsWhole};
 
 use crate::asks::ask_handled;
-use crate::hearing::{fetch_comes, gather_comes, head_comes, stage_comes, update_comes};
+use crate::hearing::{fetch_comes, replica_comes};
 use crate::joining::join_rest;
 use crate::leading::primary_hears;
-use crate::leases::{answer_comes, read_comes, write_comes};
+use crate::leases::lease_comes;
 use crate::overdue::expire;
 use crate::parts::Parts;
 use kept_bodies::{Bodies, StepErr};
@@ -73,32 +73,21 @@ fn message_comes<B: Bodies>(
             };
             ask_comes(file, bodies, now, sealed, id, capability, op)
         }
-        Payload::Read { ballot, .. } => Ok(read_comes(file, from, *ballot)?),
-        Payload::Write {
-            ballot,
-            boot,
-            lease,
-            ..
-        } => Ok(write_comes(file, from, *ballot, *boot, *lease)?),
-        Payload::Promise { .. } | Payload::Accepted { .. } | Payload::Outrun { .. } => {
-            Ok(answer_comes(file, now, from, content)?)
-        }
-        Payload::Gather { epoch, .. } => Ok(gather_comes(file, from, epoch)?),
+        Payload::Read { .. }
+        | Payload::Write { .. }
+        | Payload::Promise { .. }
+        | Payload::Accepted { .. }
+        | Payload::Outrun { .. } => Ok(lease_comes(file, now, from, content)?),
+        Payload::Gather { .. }
+        | Payload::Stage { .. }
+        | Payload::Head { .. }
+        | Payload::Update { .. } => Ok(replica_comes(file, from, content)?),
         Payload::Fetch {
             epoch,
             object,
             version,
             ..
         } => fetch_comes(file, bodies, from, epoch, *object, version),
-        Payload::Stage {
-            epoch,
-            object,
-            version,
-            bytes,
-            ..
-        } => Ok(stage_comes(file, from, epoch, *object, version, bytes)?),
-        Payload::Head { epoch, head, .. } => Ok(head_comes(file, from, epoch, head)?),
-        Payload::Update { update, .. } => Ok(update_comes(file, from, update)?),
         _ => primary_hears(file, bodies, now, from, content),
     }
 }

@@ -13,9 +13,9 @@ use crate::joining::{both, join_next};
 use crate::overdue::expire;
 use crate::parts::Parts;
 use std::alloc::Global;
-use step_outputs::{message, quiet, sends};
-use xt_base::{Ballot, FileId, Members, NodeId, OutOfMemory, Seq};
-use xt_messages::{Msgs, Payload};
+use step_outputs::{quiet, sends, to_each};
+use xt_base::{Ballot, FileId, Members, NodeId, OutOfMemory};
+use xt_messages::Payload;
 use xt_protocol::Turned;
 
 /// What a Wake gives at a file: of what was overdue, and of what is sent again or renewed.
@@ -23,27 +23,6 @@ use xt_protocol::Turned;
 pub struct Woken {
     pub overdue: Turned,
     pub again: Turned,
-}
-
-/// The messages of a round's Read, one to each of these.
-fn read_to_each(
-    alloc: Global,
-    node: NodeId,
-    file: &FileId,
-    members: &[NodeId],
-    ballot: Ballot,
-) -> Result<Msgs, OutOfMemory>
-    ensures { IfOk result (λ outs. outs ≡ to_each node members.now (payload.Read file.now ballot)) }
-{
-    let mut outs = Seq::new(alloc);
-    for to in members {
-        let content = Payload::Read {
-            file: *file,
-            ballot,
-        };
-        outs.push(message(node, *to, content))?;
-    }
-    Ok(outs)
 }
 
 /// A Read of the round's ballot to each of these.
@@ -56,7 +35,8 @@ pub fn reads_of(
 ) -> Result<Turned, OutOfMemory>
     ensures { IfOk result (λ turned. turned ≡ sends (to_each node members.now (payload.Read file ballot))) }
 {
-    let outs = read_to_each(alloc, node, &file, members.as_slice(), ballot)?;
+    let read = Payload::Read { file, ballot };
+    let outs = to_each(alloc, node, members.as_slice(), &read)?;
     Ok(sends(alloc, outs))
 }
 

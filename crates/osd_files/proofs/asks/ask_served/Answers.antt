@@ -1,11 +1,17 @@
-use Rattle.std.proofs.Common.{◌≡◌, ◌∙◌, sym, false}
+use Rattle.std.proofs.Common.{◌≡◌, ◌∙◌, ap, sym, refl, true, false, List}
+use Rattle.xt_messages.specs.declared.file.FileHead.{FileHead}
+use Rattle.xt_messages.specs.declared.file.ObjectVersion.{ObjectVersion}
 use Rattle.xt_protocol.specs.declared.Turned.{Turned}
 use Rattle.xt_protocol.specs.SeenBodies.{body_by}
-use Rattle.osd_rows.specs.Asks.{is_read}
+use Rattle.osd_rows.specs.Asks.{is_read, read_answer}
+use Rattle.osd_rows.specs.FileStates.{FileStep}
+use Rattle.osd_rows.specs.Serving.{reads}
 use Rattle.osd_rows.specs.AskRows.{ask_served}
 use Rattle.osd_files.specs.Rows.{IsRowBy}
-use Rattle.osd_files.specs.Views.{shown}
+use Rattle.osd_files.specs.Serves.{ground_at}
+use Rattle.osd_files.specs.Views.{shown, site_at}
 use Rattle.osd_files.proofs.Rows.{if_ok}
+use Rattle.osd_files.proofs.Served.{read_row}
 use Rattle.osd_files.proofs.asks.ask_served.Goals as goal
 
 pub returns-then-not-is_read-clause-row : goal.returns-then-not-is_read-clause-row
@@ -16,3 +22,22 @@ returns-then-not-is_read-clause-row g c =
     let no : is_read ask.op ≡ false = sym c.is_read.ensures ∙ c.if-not-is_read.true in
     let all : (turned : Turned) → P turned → Q turned = λ turned row. row no in
     if_ok P Q c.write_served.result all c.write_served.ensures.row
+
+pub returns-clause-row : goal.returns-clause-row
+returns-clause-row g c =
+    let f = c.args.file.now in
+    let old = shown f in
+    let ask = c.args.ask in
+    let records = g.B.Bodies.records c.args.bodies.now in
+    let P : Turned → Type 0 = λ turned. (own : FileHead) (held : List ObjectVersion) → turned ≡ read_answer (ground_at old records own held) ask.id (reads (ground_at old records own held) f.lead.primary ask.op) in
+    let Q : Turned → Type 0 = λ turned. IsRowBy (λ site s. ask_served site s ask) c.args.now (body_by records) old old turned in
+    let yes : is_read ask.op ≡ true = sym c.is_read.ensures ∙ c.if-not-is_read.false in
+    let all : (turned : Turned) → P turned → Q turned = λ turned is sealed.
+    record {
+      here = refl;
+      step =
+          read_row (site_at old.awake c.args.now sealed (body_by records)) old.state ask yes
+          ∙ ap (λ (t : Turned). let made : FileStep = record { state = old.state; turned = t } in made) (sym (is f.replica.head f.replica.held));
+    }
+    in
+    if_ok P Q c.read_served.result all c.read_served.ensures.turned

@@ -11,7 +11,7 @@ use Rattle.osd_files.specs.Rows.{IsRowBy, IsStep}
 use Rattle.osd_files.specs.Views.{shown, site_at}
 use Rattle.osd_files.specs.Whole.{IsRowOn, IsSealedBy}
 use Rattle.osd_files.proofs.Rows.{if_ok}
-use Rattle.osd_files.proofs.Stepped.{answer_row, heard_row, told_row}
+use Rattle.osd_files.proofs.Stepped.{for_lease, for_replica, heard_row, told_row}
 use Rattle.osd_files.proofs.steps.message_comes.Goals as goal
 
 pub returns-in-Ask-clause-row : goal.returns-in-Ask-clause-row
@@ -75,58 +75,10 @@ returns-in_default-clause-row g c =
     in
     if_ok P Q c.primary_hears.result all c.primary_hears.ensures.row
 
-pub returns-in_ok-read_comes-in-Read-clause-row : goal.returns-in_ok-read_comes-in-Read-clause-row
-returns-in_ok-read_comes-in-Read-clause-row g c =
-    λ test sealed.
-    let f = c.args.file.now in
-    let site = site_at f.awake c.args.now test (body_by (g.B.Bodies.records c.args.bodies.now)) in
-    told_row c.args.content.now (payload.Read c.in-Read.file c.in-Read.ballot) site c.args.from (shown f) (shown c.read_comes.new.file) c.in_ok-read_comes-in-Read.field-0 c.in-Read.is
-    (c.in_ok-read_comes-in-Read.ensures c.args.now test (body_by (g.B.Bodies.records c.args.bodies.now)))
+pub returns-in_ok-lease_comes-in-Read-clause-row : goal.returns-in_ok-lease_comes-in-Read-clause-row
+returns-in_ok-lease_comes-in-Read-clause-row g c =
+    λ test sealed. c.in_ok-lease_comes-in-Read.ensures (for_lease c.args.content.now c.in-Read.is) test (body_by (g.B.Bodies.records c.args.bodies.now))
 
-pub returns-in_ok-write_comes-in-Write-clause-row : goal.returns-in_ok-write_comes-in-Write-clause-row
-returns-in_ok-write_comes-in-Write-clause-row g c =
-    λ test sealed.
-    let f = c.args.file.now in
-    let site = site_at f.awake c.args.now test (body_by (g.B.Bodies.records c.args.bodies.now)) in
-    told_row c.args.content.now (payload.Write c.in-Write.file c.in-Write.ballot c.in-Write.boot c.in-Write.lease) site c.args.from (shown f) (shown c.write_comes.new.file) c.in_ok-write_comes-in-Write.field-0 c.in-Write.is
-    (c.in_ok-write_comes-in-Write.ensures c.args.now test (body_by (g.B.Bodies.records c.args.bodies.now)))
-
-pub returns-in_ok-gather_comes-in-Gather-clause-row : goal.returns-in_ok-gather_comes-in-Gather-clause-row
-returns-in_ok-gather_comes-in-Gather-clause-row g c =
-    λ test sealed.
-    let f = c.args.file.now in
-    let site = site_at f.awake c.args.now test (body_by (g.B.Bodies.records c.args.bodies.now)) in
-    told_row c.args.content.now (payload.Gather c.in-Gather.file c.in-Gather.epoch) site c.args.from (shown f) (shown c.gather_comes.new.file) c.in_ok-gather_comes-in-Gather.field-0 c.in-Gather.is
-    (c.in_ok-gather_comes-in-Gather.ensures c.args.now test (body_by (g.B.Bodies.records c.args.bodies.now)))
-
-pub returns-in_ok-stage_comes-in-Stage-clause-row : goal.returns-in_ok-stage_comes-in-Stage-clause-row
-returns-in_ok-stage_comes-in-Stage-clause-row g c =
-    λ test sealed.
-    let f = c.args.file.now in
-    let site = site_at f.awake c.args.now test (body_by (g.B.Bodies.records c.args.bodies.now)) in
-    told_row c.args.content.now (payload.Stage c.in-Stage.file c.in-Stage.epoch c.in-Stage.object c.in-Stage.version c.in-Stage.bytes) site c.args.from (shown f) (shown c.stage_comes.new.file) c.in_ok-stage_comes-in-Stage.field-0 c.in-Stage.is
-    (c.in_ok-stage_comes-in-Stage.ensures c.args.now test (body_by (g.B.Bodies.records c.args.bodies.now)))
-
-pub returns-in_ok-head_comes-in-Head-clause-row : goal.returns-in_ok-head_comes-in-Head-clause-row
-returns-in_ok-head_comes-in-Head-clause-row g c =
-    λ test sealed.
-    let f = c.args.file.now in
-    let site = site_at f.awake c.args.now test (body_by (g.B.Bodies.records c.args.bodies.now)) in
-    told_row c.args.content.now (payload.Head c.in-Head.file c.in-Head.epoch c.in-Head.head) site c.args.from (shown f) (shown c.head_comes.new.file) c.in_ok-head_comes-in-Head.field-0 c.in-Head.is
-    (c.in_ok-head_comes-in-Head.ensures c.args.now test (body_by (g.B.Bodies.records c.args.bodies.now)))
-
-pub returns-in_ok-update_comes-in-Update-clause-row : goal.returns-in_ok-update_comes-in-Update-clause-row
-returns-in_ok-update_comes-in-Update-clause-row g c =
-    λ test sealed.
-    let f = c.args.file.now in
-    let site = site_at f.awake c.args.now test (body_by (g.B.Bodies.records c.args.bodies.now)) in
-    told_row c.args.content.now (payload.Update c.in-Update.file c.in-Update.update) site c.args.from (shown f) (shown c.update_comes.new.file) c.in_ok-update_comes-in-Update.field-0 c.in-Update.is
-    (c.in_ok-update_comes-in-Update.ensures c.args.now test (body_by (g.B.Bodies.records c.args.bodies.now)))
-
-pub returns-in_ok-answer_comes-in-Promise-clause-row : goal.returns-in_ok-answer_comes-in-Promise-clause-row
-returns-in_ok-answer_comes-in-Promise-clause-row g c =
-    λ test sealed.
-    let f = c.args.file.now in
-    let body = body_by (g.B.Bodies.records c.args.bodies.now) in
-    answer_row (site_at f.awake c.args.now test body) c.args.from c.args.content.now (shown f) (shown c.answer_comes.new.file) c.in_ok-answer_comes-in-Promise.field-0 c.in-Promise.is
-    (c.in_ok-answer_comes-in-Promise.ensures test body)
+pub returns-in_ok-replica_comes-in-Gather-clause-row : goal.returns-in_ok-replica_comes-in-Gather-clause-row
+returns-in_ok-replica_comes-in-Gather-clause-row g c =
+    λ test sealed. c.in_ok-replica_comes-in-Gather.ensures (for_replica c.args.content.now c.in-Gather.is) c.args.now test (body_by (g.B.Bodies.records c.args.bodies.now))
