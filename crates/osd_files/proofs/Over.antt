@@ -5,7 +5,7 @@ use Rattle.xt_base.specs.declared.ids.Stamp.{Stamp}
 use Rattle.xt_messages.specs.declared.file.Capability.{Capability}
 use Rattle.xt_messages.specs.declared.reply.Reply.{Reply}
 use Rattle.xt_protocol.specs.declared.Turned.{Turned}
-use Rattle.xt_protocol.specs.LeaseRows.{Awake, LeaseState, free, asking, writing, held, lease_expired, has_run_out, has_turn, round_over, renewal_left}
+use Rattle.xt_protocol.specs.LeaseRows.{LeaseState, free, asking, writing, held, lease_expired, has_run_out, has_turn, round_over, renewal_left}
 use Rattle.file_lease.specs.declared.news.Expiry.{Expiry}
 use Rattle.file_lease.specs.declared.news.Expiry.TheVariants.{Stands, RanOut, Lapsed}
 use Rattle.file_lease.specs.Shown.{expiry_of}
@@ -15,7 +15,6 @@ use Rattle.osd_rows.specs.FileStates.{FileState, Site, FileStep, nothing}
 use Rattle.osd_rows.specs.Overdue.{expired, lease_became, lease_lapses, no_lease_for_all, deadlines_come, deadlines_under}
 use Rattle.osd_files.specs.Counts.{no_majority}
 use Rattle.osd_files.specs.Rows.{IsRow}
-use Rattle.osd_files.specs.Settled as lease
 use Rattle.osd_files.specs.Views.{FileView, site_at}
 
 -- the row that is meant by what was overdue
@@ -76,12 +75,12 @@ settled (held h) now =
     by true is = is
     by false is = tt
 
-pub settled_so : (l old : LeaseState) (now : ℕ) → l ≡ lease_expired old now → IsSettled l now
+settled_so : (l old : LeaseState) (now : ℕ) → l ≡ lease_expired old now → IsSettled l now
 settled_so l old now is = let P : LeaseState → Type 0 = λ x. IsSettled x now in subst P (sym is) (settled old now)
 
 -- Deadlines, where the lease stands.
 
-abbrev told_under : Site → FileState → Option Reply → FileStep
+abbrev pub told_under : Site → FileState → Option Reply → FileStep
 told_under site s None = nothing s
 told_under site s (Some answer) = deadlines_come site s answer
 
@@ -89,27 +88,25 @@ deadlines_by : (site : Site) (s : FileState) (tenure : Option Tenure) → deadli
 deadlines_by site s None = refl
 deadlines_by site s (Some t) = refl
 
-overdue_by : (now : ℕ) (old mid : FileView) (o : Option Reply) → lease.Stands now old mid → o ≡ no_majority mid.state.primary.tenure → (sealed : Capability → Bool) (body : FileId → ℕ → Stamp → List ℕ)
-    → expired (site_at old.awake now sealed body) old.state ≡ told_under (site_at mid.awake now sealed body) mid.state o
-overdue_by now old mid o stands is sealed body =
+-- by what the asks that are due are told
+pub deadlines_row : (now : ℕ) (old new : FileView) (o : Option Reply) (turned : Turned) → o ≡ no_majority old.state.primary.tenure
+    → IsRow (λ site s. told_under site s o) now old new turned → IsRow (λ site s. deadlines_under site s s.primary.tenure) now old new turned
+deadlines_row now old new o turned is row =
+    λ sealed body.
     let site = site_at old.awake now sealed body in
-    stands.left sealed body ∙ deadlines_by site mid.state mid.state.primary.tenure ∙ ap (told_under site mid.state) (sym is)
-    ∙ ap (λ (a : Awake). told_under (site_at a now sealed body) mid.state o) (sym stands.here)
+    let s = old.state in
+    record { here = (row sealed body).here; step = deadlines_by site s s.primary.tenure ∙ ap (told_under site s) (sym is) ∙ (row sealed body).step }
 
--- the asks that are due were told
-pub told_row : (now : ℕ) (old mid new : FileView) (answer : Reply) (turned : Turned) → lease.Stands now old mid → Some answer ≡ no_majority mid.state.primary.tenure
-    → IsRow (λ site s. deadlines_come site s answer) now mid new turned → IsRow expired now old new turned
-told_row now old mid new answer turned stands is row =
-    λ sealed body. record { here = (row sealed body).here ∙ stands.here; step = overdue_by now old mid (Some answer) stands is sealed body ∙ (row sealed body).step }
+-- a row behind which the lease is as before leaves it settled
+pub stays_settled : (row : Site → FileState → FileStep) → ((site : Site) (s : FileState) → (row site s).state.lease ≡ s.lease)
+    → (now : ℕ) (old : LeaseState) (mid new : FileView) (turned : Turned) → mid.state.lease ≡ lease_expired old now → IsRow row now mid new turned → IsSettled new.state.lease now
+stays_settled row keeps now old mid new turned is step =
+    let site = site_at mid.awake now (λ _. true) (λ _ _ _. []) in
+    settled_so new.state.lease old now (sym (ap (λ (st : FileStep). st.state.lease) (step (λ _. true) (λ _ _ _. [])).step) ∙ keeps site mid.state ∙ is)
 
--- telling leaves the lease
-pub told_settled : (now : ℕ) (mid new : FileView) (answer : Reply) (turned : Turned) → IsSettled mid.state.lease now
-    → IsRow (λ site s. deadlines_come site s answer) now mid new turned → IsSettled new.state.lease now
-told_settled now mid new answer turned is row =
-    let P : LeaseState → Type 0 = λ l. IsSettled l now in
-    subst P (ap (λ (st : FileStep). st.state.lease) (row (λ _. true) (λ _ _ _. [])).step) is
-
--- the lease stands where nothing came of it
-pub stands_when : (now : ℕ) (old mid : FileView) (o : Option Turned) → o ≡ None → lease.Settles now old mid o → lease.Stands now old mid
-stands_when now old mid None is settles = settles
-stands_when now old mid (Some turned) is settles = absurd cc
+pub deadlines_lease : (site : Site) (s : FileState) → (deadlines_under site s s.primary.tenure).state.lease ≡ s.lease
+deadlines_lease site s = by s.primary.tenure
+  where
+    by : (tenure : Option Tenure) → (deadlines_under site s tenure).state.lease ≡ s.lease
+    by None = refl
+    by (Some t) = refl

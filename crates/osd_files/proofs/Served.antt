@@ -13,8 +13,8 @@ use Rattle.osd_rows.specs.Primaries.{Led, issued_by, is_active}
 use Rattle.osd_rows.specs.ReplicaRows.{kept_after}
 use Rattle.osd_rows.specs.Serving.{reads, writes}
 use Rattle.osd_rows.specs.Turns.{quiet, joined}
-use Rattle.osd_rows.specs.Asks.{Served, is_read, read_answer, serves, write_done, waits}
-use Rattle.osd_rows.specs.AskRows.{ask_served, ask_under, ask_waits}
+use Rattle.osd_rows.specs.Asks.{Served, asked_already, is_read, read_answer, serves, write_done, waits}
+use Rattle.osd_rows.specs.AskRows.{ask_rows, ask_served, ask_under, ask_waits}
 use Rattle.osd_invariants.proofs.Kept.{served_none}
 use Rattle.osd_files.specs.Asking.{asks_once_done}
 use Rattle.osd_files.proofs.Rows.{when_true, when_false}
@@ -63,6 +63,10 @@ read_row site s ask so =
     let none : turned.rec ≡ None = sym (ap (λ (v : Served). v.turned.rec) is) ∙ served_none (ground_of site s) (before s) ask left refl in
     let by : Option Record → FileStep = λ rec. record { state = record s { kept = kept_after s.kept rec }; turned = turned } in
     ap (serves_to s) is ∙ ap by none
+
+-- an ask that wasn't asked already
+pub new_ask : (site : Site) (s : FileState) (ask : WaitingAsk) → asked_already s.asks ask.id ≡ false → ask_rows site s ask ≡ ask_under site s s.lease ask
+new_ask site s ask so = when_false (asked_already s.asks ask.id) _ _ so
 
 -- By the lease.
 

@@ -4,7 +4,6 @@ pub mod Answers
 pub mod Asking
 pub mod Views
 pub mod Rows
-pub mod Settled
 pub mod Counts
 pub mod Serves
 pub mod Whole

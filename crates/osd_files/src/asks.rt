@@ -189,31 +189,8 @@ fn may_serve(lease: &FileLease, lead: &Lead, now: u64) -> bool
     lease.turn(now).is_some() && lead.is_active()
 }
 
-/// An ask by the lease: served while the primary is active; else it waits for the primary or the round; else it is sent
-/// elsewhere, or a round starts.
-fn ask_under<B: Bodies>(
-    file: &mut Parts,
-    bodies: &mut B,
-    now: u64,
-    ask: WaitingAsk,
-) -> Result<Turned, StepErr>
-    requires clock { now < 2 ^ 62 }
-    requires settled { IsSettled file.old.lease now }
-    requires stored { IsStored file.old.lead.location }
-    requires fits { FitsOp ask.op }
-    ensures row { IfOk result (λ turned. IsRowBy (λ site s. rows.ask_under site s s.lease ask) now (body_by (B.records bodies.old)) (shown file.old) (shown file.new) turned) }
-    ensures reads { ReadsOnly B.records B.fault_count bodies.old bodies.new (fault_of result) }
-{
-    if file.lease.is_free() {
-        return Ok(ask_without_lease(file, now, ask)?);
-    }
-    if may_serve(&file.lease, &file.lead, now) {
-        return ask_served(file, bodies, now, ask);
-    }
-    Ok(ask_waits(file, ask)?)
-}
-
-/// Asked already, or a new ask.
+/// Asked already; or an ask by the lease: served while the primary is active; else it waits for the primary or the round; else it
+/// is sent elsewhere, or a round starts.
 fn ask_rows<B: Bodies>(
     file: &mut Parts,
     bodies: &mut B,
@@ -230,7 +207,13 @@ fn ask_rows<B: Bodies>(
     if file.asks.has(ask.id) {
         return Ok(quiet(file.alloc));
     }
-    ask_under(file, bodies, now, ask)
+    if file.lease.is_free() {
+        return Ok(ask_without_lease(file, now, ask)?);
+    }
+    if may_serve(&file.lease, &file.lead, now) {
+        return ask_served(file, bodies, now, ask);
+    }
+    Ok(ask_waits(file, ask)?)
 }
 
 /// An ask that is let in, as it may wait: for half the lease length.

@@ -8,7 +8,7 @@ ghost use Rattle.file_lease.specs.Moves.{IsSettled};
 ghost use Rattle.osd_invariants.specs.Sound.{IsStored, ListUnder};
 ghost use Rattle.replica_state.specs.Kept.{IsNotable};
 ghost use Rattle.osd_rows.specs.ReplicaRows.{kept_after};
-ghost use Rattle.osd_rows.specs.Turns.{message};
+ghost use Rattle.osd_rows.specs.Turns.{message, sends};
 ghost use Rattle.osd_rows.specs.FileLeases as rows;
 ghost use Rattle.osd_rows.specs.FileSteps.{message_comes};
 ghost use Rattle.osd_files.specs.Answers.{read_answer, write_answer, answered_write, news_of, HasTurn, HoldBy};
@@ -24,7 +24,7 @@ use replica_state::Replica;
 use std::alloc::Global;
 use step_outputs::{message, quiet, sends, sends_one, shows};
 use xt_base::{Ballot, Boot, FileId, Lease, NodeId, OptionalBox, OutOfMemory, Seq};
-use xt_messages::{Mark, Msgs, Payload, Record, Reply};
+use xt_messages::{Mark, Payload, Record, Reply};
 use xt_protocol::Turned;
 
 /// The message that answers a Read.
@@ -138,8 +138,8 @@ fn writes_to(
     ballot: Ballot,
     lease: Lease,
     targets: &[(NodeId, Boot)],
-) -> Result<Msgs, OutOfMemory>
-    ensures { IfOk result (λ outs. outs ≡ map (λ (target : NodeId × Boot). message node target.0 (payload.Write file.now ballot target.1 lease)) targets.now) }
+) -> Result<Turned, OutOfMemory>
+    ensures { IfOk result (λ turned. turned ≡ sends (map (λ (target : NodeId × Boot). message node target.0 (payload.Write file.now ballot target.1 lease)) targets.now)) }
 {
     let mut outs = Seq::new(alloc);
     for target in targets {
@@ -151,7 +151,7 @@ fn writes_to(
         };
         outs.push(message(node, target.0, content))?;
     }
-    Ok(outs)
+    Ok(sends(alloc, outs))
 }
 
 /// Takes what the primary recorded, if it did, in its own replica.
@@ -230,8 +230,7 @@ fn lease_news(file: &mut Parts, now: u64, news: News) -> Result<Turned, OutOfMem
             targets,
         } => {
             let (alloc, node, id) = (file.alloc, file.awake.node(), file.replica.file());
-            let outs = writes_to(alloc, node, &id, ballot, lease, targets.as_slice())?;
-            Ok(sends(alloc, outs))
+            writes_to(alloc, node, &id, ballot, lease, targets.as_slice())
         }
         News::Holds { end } => {
             file.last_end = end;

@@ -2,7 +2,6 @@ ghost use Rattle.std.specs.Prelude.{◌≡◌, ◌<◌, ◌^◌, ℕ, IfOk};
 ghost use Rattle.osd_rows.specs.Overdue as rows;
 ghost use Rattle.osd_files.specs.Views.{shown};
 ghost use Rattle.osd_files.specs.Rows.{IsRow};
-ghost use Rattle.osd_files.specs.Settled.{Settles};
 ghost use Rattle.file_lease.specs.Moves.{IsSettled};
 
 use crate::parts::Parts;
@@ -31,19 +30,6 @@ fn lease_lapses(file: &mut Parts) -> Result<Turned, OutOfMemory>
     no_lease_for_all(file)
 }
 
-/// Lease lapses, or round runs out: what comes of it; none where the lease stands, and then deadlines may have come.
-fn settle(file: &mut Parts, now: u64) -> Result<Option<Turned>, OutOfMemory>
-    requires { now < 2 ^ 62 }
-    ensures row { IfOk result (λ over. Settles now (shown file.old) (shown file.new) over) }
-    ensures settled { IfOk result (λ over. IsSettled file.new.lease now) }
-{
-    match file.lease.expire(now) {
-        Expiry::Lapsed => Ok(Some(lease_lapses(file)?)),
-        Expiry::RanOut => Ok(Some(no_lease_for_all(file)?)),
-        Expiry::Stands => Ok(None),
-    }
-}
-
 /// Deadlines come: the asks that are due are told this, those that wait first; the issued write stays.
 fn deadlines_come(file: &mut Parts, now: u64, reply: &Reply) -> Result<Turned, OutOfMemory>
     ensures { IfOk result (λ turned. IsRow (λ site s. rows.deadlines_come site s reply.now) now (shown file.old) (shown file.new) turned) }
@@ -53,17 +39,25 @@ fn deadlines_come(file: &mut Parts, now: u64, reply: &Reply) -> Result<Turned, O
     Ok(sends(alloc, outs))
 }
 
+/// Where the lease stands, the deadlines of asks may have come; an idle primary has none.
+fn deadlines_under(file: &mut Parts, now: u64) -> Result<Turned, OutOfMemory>
+    ensures { IfOk result (λ turned. IsRow (λ site s. rows.deadlines_under site s s.primary.tenure) now (shown file.old) (shown file.new) turned) }
+{
+    match file.lead.no_majority() {
+        Some(reply) => deadlines_come(file, now, &reply),
+        None => Ok(quiet(file.alloc)),
+    }
+}
+
 /// What is overdue at a file: its lease lapses, a round runs out, or the deadlines of asks come.
 pub fn expire(file: &mut Parts, now: u64) -> Result<Turned, OutOfMemory>
     requires { now < 2 ^ 62 }
     ensures row { IfOk result (λ turned. IsRow rows.expired now (shown file.old) (shown file.new) turned) }
     ensures settled { IfOk result (λ turned. IsSettled file.new.lease now) }
 {
-    if let Some(turned) = settle(file, now)? {
-        return Ok(turned);
-    }
-    match file.lead.no_majority() {
-        Some(reply) => deadlines_come(file, now, &reply),
-        None => Ok(quiet(file.alloc)),
+    match file.lease.expire(now) {
+        Expiry::Lapsed => lease_lapses(file),
+        Expiry::RanOut => no_lease_for_all(file),
+        Expiry::Stands => deadlines_under(file, now),
     }
 }
