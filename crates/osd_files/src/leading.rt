@@ -53,27 +53,6 @@ fn primary_led<B: Bodies>(
     Ok(noted(&mut file.replica, turned)?)
 }
 
-/// The primary hears a message in its turn, and the asks follow.
-fn primary_turns<B: Bodies>(
-    file: &mut Parts,
-    bodies: &mut B,
-    now: u64,
-    from: NodeId,
-    content: &Payload,
-) -> Result<Turned, StepErr>
-    requires clock { now < 2 ^ 62 }
-    requires turn { HasTurn file.old.lease now }
-    requires stored { IsStored file.old.lead.location }
-    requires fits { AllByRecursion IsWithinLimits file.old.asks.waiting }
-    ensures row { IfOk result (λ turned. IsRowBy (λ site s. rows.primary_hears site s s.lease from content.now) now (body_by (B.records bodies.old)) (shown file.old) (shown file.new) turned) }
-    ensures reads { ReadsOnly B.records B.fault_count bodies.old bodies.new (fault_of result) }
-{
-    let was_ready = file.lead.is_ready();
-    let led = primary_led(file, bodies, now, from, content)?;
-    let followed = asks_follow(file, bodies, now, was_ready);
-    join_rest(led, followed)
-}
-
 /// Whether the lease gives a turn.
 fn has_turn(lease: &FileLease, now: u64) -> bool
     requires { now < 2 ^ 62 }
@@ -82,7 +61,7 @@ fn has_turn(lease: &FileLease, now: u64) -> bool
     lease.turn(now).is_some()
 }
 
-/// A message to the primary: it counts only while the lease is held.
+/// A message to the primary: it counts only while the lease is held. The primary hears it in its turn, and the asks follow.
 pub fn primary_hears<B: Bodies>(
     file: &mut Parts,
     bodies: &mut B,
@@ -97,8 +76,11 @@ pub fn primary_hears<B: Bodies>(
     ensures row { IfOk result (λ turned. IsRowBy (λ site s. rows.primary_hears site s s.lease from content.now) now (body_by (B.records bodies.old)) (shown file.old) (shown file.new) turned) }
     ensures reads { ReadsOnly B.records B.fault_count bodies.old bodies.new (fault_of result) }
 {
-    if has_turn(&file.lease, now) {
-        return primary_turns(file, bodies, now, from, content);
+    if !has_turn(&file.lease, now) {
+        return Ok(quiet(file.alloc));
     }
-    Ok(quiet(file.alloc))
+    let was_ready = file.lead.is_ready();
+    let led = primary_led(file, bodies, now, from, content)?;
+    let followed = asks_follow(file, bodies, now, was_ready);
+    join_rest(led, followed)
 }

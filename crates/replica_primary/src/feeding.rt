@@ -134,28 +134,6 @@ pub fn feeds<B: Bodies>(
     Ok(peer_sent(alloc, place, tenure, node, state)?)
 }
 
-/// What is known of a peer that was sent a body or a head.
-fn known_of(alloc: Global, state: &PeerState) -> Result<Option<HeldPairs>, OutOfMemory>
-    ensures { IfOk result (λ known. known ≡ known_of state.now) }
-{
-    match state {
-        PeerState::Feeding { known, .. } | PeerState::Heading { known, .. } => {
-            Ok(Some(known.copy(alloc)?))
-        }
-        _ => Ok(None),
-    }
-}
-
-/// What is known of a peer that was sent a head.
-fn known_at_head(alloc: Global, state: &PeerState) -> Result<Option<HeldPairs>, OutOfMemory>
-    ensures { IfOk result (λ known. known ≡ known_at_head state.now) }
-{
-    match state {
-        PeerState::Heading { known, .. } => Ok(Some(known.copy(alloc)?)),
-        _ => Ok(None),
-    }
-}
-
 /// A peer of which these versions are known is fed on, where there is a head to which peers are brought.
 pub fn feeds_on<B: Bodies>(
     bodies: &mut B,
@@ -212,7 +190,7 @@ pub fn body_missed(
 ) -> Result<Next, OutOfMemory>
     ensures { IfOk result (λ next. (state : PeerState) → rows.peer_in peers.now from ≡ Some state → next ≡ next_fed (without_any (known_at_head state) version)) }
 {
-    let told = known_of_head(alloc, peers, from)?;
+    let told = known_at_head(alloc, peers, from)?;
     Ok(next_fed(alloc, without_any(told, version)))
 }
 
@@ -244,13 +222,15 @@ fn known_told(alloc: Global, peers: &[Peer], from: NodeId) -> Result<Option<Held
     ensures { IfOk result (λ known. (state : PeerState) → rows.peer_in peers.now from ≡ Some state → known ≡ known_of state) }
 {
     match peer_in(peers, from) {
-        Some(state) => known_of(alloc, state),
-        None => Ok(None),
+        Some(PeerState::Feeding { known, .. } | PeerState::Heading { known, .. }) => {
+            Ok(Some(known.copy(alloc)?))
+        }
+        _ => Ok(None),
     }
 }
 
 /// What is known of this peer, if it was sent a head.
-fn known_of_head(
+fn known_at_head(
     alloc: Global,
     peers: &[Peer],
     from: NodeId,
@@ -258,7 +238,7 @@ fn known_of_head(
     ensures { IfOk result (λ known. (state : PeerState) → rows.peer_in peers.now from ≡ Some state → known ≡ known_at_head state) }
 {
     match peer_in(peers, from) {
-        Some(state) => known_at_head(alloc, state),
-        None => Ok(None),
+        Some(PeerState::Heading { known, .. }) => Ok(Some(known.copy(alloc)?)),
+        _ => Ok(None),
     }
 }

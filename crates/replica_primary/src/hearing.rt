@@ -89,22 +89,6 @@ fn forget(peers: &mut Peers, from: NodeId)
     set_peer(peers, from, PeerState::Unknown);
 }
 
-/// A peer is asked what it has.
-fn gather_sent(
-    alloc: Global,
-    place: &Place,
-    epoch: Epoch,
-    to: NodeId,
-) -> Result<Turned, OutOfMemory>
-    ensures { IfOk result (λ turned. turned ≡ sends (message place.now.node to (payload.Gather place.now.file epoch) ∷ [])) }
-{
-    let gather = Payload::Gather {
-        file: place.file,
-        epoch,
-    };
-    sends_one(alloc, message(place.node, to, gather))
-}
-
 /// Peer behind: it is asked anew.
 fn peer_behind(
     alloc: Global,
@@ -115,7 +99,11 @@ fn peer_behind(
     ensures { IfOk result (λ turned. (learnt : ℕ) (records : List Record) (own : FileHead) (held : List ObjectVersion) (state : PeerState) → peer_in tenure.old.peers from ≡ Some state → goes_on learnt tenure.new turned ≡ rows.peer_behind (ground place.now records own held) learnt tenure.old from state) }
 {
     forget(&mut tenure.peers, from);
-    Ok(gather_sent(alloc, place, tenure.epoch, from)?)
+    let gather = Payload::Gather {
+        file: place.file,
+        epoch: tenure.epoch,
+    };
+    sends_one(alloc, message(place.node, from, gather))
 }
 
 /// Nothing comes of a message, and the tenure goes on.

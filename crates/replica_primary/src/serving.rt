@@ -258,30 +258,6 @@ fn write_stands<B: Bodies>(
     }
 }
 
-/// What a write gives in a tenure; none where the primary isn't active, and where another one is issued.
-pub fn writes_in<B: Bodies>(
-    bodies: &mut B,
-    alloc: Global,
-    place: &Place,
-    tenure: &Tenure,
-    id: OpId,
-    epoch: u64,
-    op: &Op,
-) -> Result<Option<Written>, StepErr>
-    requires some { 1024 ≤ place.now.stripe }
-    requires fits { FitsOp op.now }
-    requires rising { CommittedRises tenure.now.progress }
-    ensures value { IfOk result (λ written. (learnt : ℕ) (own : FileHead) (held : List ObjectVersion) → led_of learnt tenure.now written ≡ rows.writes_in (ground place.now (B.records bodies.old) own held) learnt tenure.now tenure.now.progress id epoch op.now) }
-    ensures reads { ReadsOnly B.records B.fault_count bodies.old bodies.new (fault_of result) }
-{
-    match &tenure.progress {
-        Progress::Active { committed, issued } => write_stands(
-            bodies, alloc, place, tenure, committed, issued, id, epoch, op,
-        ),
-        _ => Ok(None),
-    }
-}
-
 /// What a write gives; none where the primary isn't active, and where another one is issued.
 #[tactic(auto, unfolding(osd_rows::specs::Serving::writes))]
 pub fn writes<B: Bodies>(
@@ -299,9 +275,14 @@ pub fn writes<B: Bodies>(
     ensures value { IfOk result (λ written. (own : FileHead) (held : List ObjectVersion) → led_under primary.now.learnt primary.now.tenure written ≡ rows.writes (ground place.now (B.records bodies.old) own held) primary.now id epoch op.now) }
     ensures reads { ReadsOnly B.records B.fault_count bodies.old bodies.new (fault_of result) }
 {
-    match &primary.tenure {
-        Some(tenure) => writes_in(bodies, alloc, place, tenure, id, epoch, op),
-        None => Ok(None),
+    let Some(tenure) = &primary.tenure else {
+        return Ok(None);
+    };
+    match &tenure.progress {
+        Progress::Active { committed, issued } => write_stands(
+            bodies, alloc, place, tenure, committed, issued, id, epoch, op,
+        ),
+        _ => Ok(None),
     }
 }
 

@@ -1,28 +1,94 @@
-use Rattle.std.proofs.Common.{◌≡◌, ◌∙◌, ap, sym, refl, None}
+use Rattle.std.proofs.Common.{◌≡◌, ◌∙◌, ap, refl, subst, sym, Bool, true, None}
+use Rattle.std.specs.List.{AllByRecursion}
+use Rattle.xt_messages.specs.declared.file.Capability.{Capability}
+use Rattle.xt_protocol.specs.LeaseRows.{LeaseState}
 use Rattle.xt_protocol.specs.declared.Turned.{Turned}
 use Rattle.xt_protocol.specs.SeenBodies.{body_by}
 use Rattle.file_lease.specs.Moves.{turn_of}
 use Rattle.osd_rows.specs.FileStates.{FileStep}
+use Rattle.osd_rows.specs.FileSteps.{primary_hears}
+use Rattle.osd_rows.specs.Turns.{joined}
+use Rattle.osd_rows.specs.declared.Asks.{Asks}
+use Rattle.osd_invariants.specs.OpenAsks.{IsWithinLimits}
+use Rattle.osd_invariants.specs.Sound.{IsStored}
+use Rattle.osd_files.specs.Answers.{HasTurn}
+use Rattle.osd_files.specs.Rows.{IsRowBy}
+use Rattle.osd_files.specs.Serves.{AsksFollow}
 use Rattle.osd_files.specs.Views.{shown, site_at}
-use Rattle.osd_files.proofs.Followed.{unheard}
-use Rattle.osd_files.proofs.Wakes.{none_of, stored_by_turn}
+use Rattle.osd_files.proofs.Followed.{followed_row, same_asks, same_lease, same_list, unheard}
+use Rattle.osd_files.proofs.Rows.{reads_behind, rest_ok}
+use Rattle.osd_files.proofs.Wakes.{held_by_turn, none_of, stored_by_turn}
 use Rattle.osd_files.proofs.leading.primary_hears.Goals as goal
 
-pub primary_turns-requires-clause-turn : goal.primary_turns-requires-clause-turn
-primary_turns-requires-clause-turn g c = sym c.has_turn.ensures ∙ c.if-has_turn.true
+no_seal : Capability → Bool
+no_seal capability = true
 
-pub primary_turns-requires-clause-stored : goal.primary_turns-requires-clause-stored
-primary_turns-requires-clause-stored g c =
+pub primary_led-requires-clause-turn : goal.primary_led-requires-clause-turn
+primary_led-requires-clause-turn g c = sym c.has_turn.ensures ∙ c.if-not-has_turn.false
+
+pub primary_led-requires-clause-stored : goal.primary_led-requires-clause-stored
+primary_led-requires-clause-stored g c =
     let f = c.args.file.now in
-    stored_by_turn f.lease c.args.now f.lead.location (sym c.has_turn.ensures ∙ c.if-has_turn.true) c.requires.stored
+    stored_by_turn f.lease c.args.now f.lead.location (sym c.has_turn.ensures ∙ c.if-not-has_turn.false) c.requires.stored
+
+pub asks_follow-followed-requires-clause-turn : goal.asks_follow-followed-requires-clause-turn
+asks_follow-followed-requires-clause-turn g c =
+    let f = c.args.file.now in
+    let same = same_lease f.awake c.args.now no_seal (g.B.Bodies.records c.args.bodies.now) (shown f).state c.args.from c.args.content.now (shown c.primary_led.new.file) c.in_ok-led.led (c.in_ok-led.ensures.row no_seal) in
+    let P : LeaseState → Type 0 = λ l. HasTurn l c.args.now in
+    subst P same (sym c.has_turn.ensures ∙ c.if-not-has_turn.false)
+
+pub asks_follow-followed-requires-clause-stored : goal.asks_follow-followed-requires-clause-stored
+asks_follow-followed-requires-clause-stored g c =
+    let f = c.args.file.now in
+    let same = same_list f.awake c.args.now no_seal (g.B.Bodies.records c.args.bodies.now) (shown f).state c.args.from c.args.content.now (shown c.primary_led.new.file) c.in_ok-led.led (c.in_ok-led.ensures.row no_seal) in
+    subst IsStored (sym same) (stored_by_turn f.lease c.args.now f.lead.location (sym c.has_turn.ensures ∙ c.if-not-has_turn.false) c.requires.stored)
+
+pub asks_follow-followed-requires-clause-fits : goal.asks_follow-followed-requires-clause-fits
+asks_follow-followed-requires-clause-fits g c =
+    let f = c.args.file.now in
+    let same = same_asks f.awake c.args.now no_seal (g.B.Bodies.records c.args.bodies.now) (shown f).state c.args.from c.args.content.now (shown c.primary_led.new.file) c.in_ok-led.led (c.in_ok-led.ensures.row no_seal) in
+    let P : Asks → Type 0 = λ a. AllByRecursion IsWithinLimits a.waiting in
+    subst P same c.requires.fits
 
 pub returns-clause-row : goal.returns-clause-row
 returns-clause-row g c =
+    let f = c.args.file.now in
+    let now = c.args.now in
+    let from = c.args.from in
+    let content = c.args.content.now in
+    let by = held_by_turn f.lease c.args.now (sym c.has_turn.ensures ∙ c.if-not-has_turn.false) in
+    let records = g.B.Bodies.records in
+    let mid = shown c.primary_led.new.file in
+    let new = shown c.asks_follow-followed.new.file in
+    let led = c.in_ok-led.led in
+    let before = records c.args.bodies.now in
+    let was = c.is_ready-was_ready.result in
+    let P : Turned → Type 0 = λ turned. AsksFollow was (records c.primary_led.new.bodies) mid new turned in
+    let Q : Turned → Type 0 = λ turned. IsRowBy (λ site s. primary_hears site s s.lease from content) now (body_by before) (shown f) new turned in
+    let all : (second turned : Turned) → P second → turned ≡ joined led second → Q turned = λ second turned of is sealed.
+    let follow =
+    subst (λ (b : Bool). AsksFollow b before mid new second) c.is_ready-was_ready.ensures
+    (subst (λ rs. AsksFollow was rs mid new second) c.in_ok-led.ensures.reads.same of) in
+    followed_row f.awake now sealed before (shown f).state from content by.0 mid new led second turned by.1 (c.in_ok-led.ensures.row sealed) follow is
+    in
+    rest_ok P Q led c.asks_follow-followed.result c.join_rest.result all c.join_rest.ensures.joined c.asks_follow-followed.ensures.followed
+
+pub returns-clause-reads : goal.returns-clause-reads
+returns-clause-reads g c =
+    let records = g.B.Bodies.records in
+    let faults = g.B.Bodies.fault_count in
+    let old = c.args.bodies.now in
+    let mid = c.primary_led.new.bodies in
+    reads_behind records faults old mid _ _ _ c.join_rest.ensures.failed c.in_ok-led.ensures.reads c.asks_follow-followed.ensures.reads
+
+pub returns-then-not-has_turn-clause-row : goal.returns-then-not-has_turn-clause-row
+returns-then-not-has_turn-clause-row g c =
     λ sealed.
     let f = c.args.file.now in
     let old = shown f in
     let site = site_at old.awake c.args.now sealed (body_by (g.B.Bodies.records c.args.bodies.now)) in
-    let none : turn_of f.lease c.args.now ≡ None = none_of (turn_of f.lease c.args.now) (sym c.has_turn.ensures ∙ c.if-has_turn.false) in
+    let none : turn_of f.lease c.args.now ≡ None = none_of (turn_of f.lease c.args.now) (sym c.has_turn.ensures ∙ c.if-not-has_turn.true) in
     record {
       here = refl;
       step =
