@@ -1,7 +1,7 @@
-ghost use Rattle.std.specs.Prelude.{◌≡◌, ◌++◌, OnOk, OnErr};
+ghost use Rattle.std.specs.Prelude.{◌≡◌, ◌++◌, OnOk};
 ghost use Rattle.xt_messages.specs.Limits.{FitsMetaAnswer, FitsNames, FitsRegistryAnswer, FitsRow, FitsRows};
 ghost use Rattle.xt_messages.specs.declared.meta.MetaAnswer.TheVariants.{Refused};
-ghost use Rattle.xt_fields.specs.Reading.{Gives, made};
+ghost use Rattle.xt_fields.specs.Reading.{Gives, Tries, made};
 ghost use Rattle.xt_fields.specs.BasicFields.{byte_bytes, half_bytes, word_bytes, long_bytes, text_at, list_at};
 ghost use Rattle.xt_wire.specs.IdFields.{mark_bytes};
 ghost use Rattle.xt_wire.specs.FileFields.{capability_bytes};
@@ -256,8 +256,7 @@ fn rows_told(fields: &mut FieldReader<'_>, alloc: Global) -> Result<RegistryAnsw
 impl ReadAnswers for FieldReader<'_> {
     #[tactic(auto, unfolding(crate::specs::MetaAnswers::names_at))]
     fn names(&mut self, alloc: Global) -> Result<Names, FieldErr>
-        ensures given { Gives result self.new (names_at self.old) }
-        ensures kept { OnErr result (self.new ≡ self.old) }
+        ensures { Tries result self.old self.new (names_at self.old) }
     {
         let mut ahead = self.ahead();
         let count = ahead.word()?;
@@ -271,8 +270,7 @@ impl ReadAnswers for FieldReader<'_> {
 
     #[tactic(auto, unfolding(crate::specs::MetaAnswers::meta_answer_at))]
     fn meta_answer(&mut self, alloc: Global) -> Result<MetaAnswer, FieldErr>
-        ensures given { Gives result self.new (meta_answer_at self.old) }
-        ensures kept { OnErr result (self.new ≡ self.old) }
+        ensures { Tries result self.old self.new (meta_answer_at self.old) }
     {
         let mut ahead = self.ahead();
         let number = ahead.byte()?;
@@ -283,8 +281,7 @@ impl ReadAnswers for FieldReader<'_> {
 
     #[tactic(auto, unfolding(crate::specs::RegistryAnswers::row_at))]
     fn row(&mut self, alloc: Global) -> Result<RegistryRow, FieldErr>
-        ensures given { Gives result self.new (row_at self.old) }
-        ensures kept { OnErr result (self.new ≡ self.old) }
+        ensures { Tries result self.old self.new (row_at self.old) }
     {
         let mut ahead = self.ahead();
         let node = ahead.node()?;
@@ -302,8 +299,7 @@ impl ReadAnswers for FieldReader<'_> {
 
     #[tactic(auto, unfolding(crate::specs::RegistryAnswers::rows_at))]
     fn rows(&mut self, alloc: Global) -> Result<RegistryRows, FieldErr>
-        ensures given { Gives result self.new (rows_at self.old) }
-        ensures kept { OnErr result (self.new ≡ self.old) }
+        ensures { Tries result self.old self.new (rows_at self.old) }
     {
         let mut ahead = self.ahead();
         let count = ahead.word()?;
@@ -317,8 +313,7 @@ impl ReadAnswers for FieldReader<'_> {
 
     #[tactic(auto, unfolding(crate::specs::RegistryAnswers::registry_answer_at))]
     fn registry_answer(&mut self, alloc: Global) -> Result<RegistryAnswer, FieldErr>
-        ensures given { Gives result self.new (registry_answer_at self.old) }
-        ensures kept { OnErr result (self.new ≡ self.old) }
+        ensures { Tries result self.old self.new (registry_answer_at self.old) }
     {
         let mut ahead = self.ahead();
         let number = ahead.byte()?;

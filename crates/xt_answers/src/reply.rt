@@ -1,7 +1,6 @@
-ghost use Rattle.std.specs.Prelude.{◌≡◌, ◌≢◌, ◌<◌, ◌^◌, ◌++◌, length, OnOk, OnErr, IfErr};
-ghost use Rattle.xt_fields.specs.declared.fault.FieldErr.TheVariants.{OutOfMemory};
+ghost use Rattle.std.specs.Prelude.{◌≡◌, ◌<◌, ◌^◌, ◌++◌, length, OnOk};
 ghost use Rattle.xt_messages.specs.Limits.{FitsReply};
-ghost use Rattle.xt_fields.specs.Reading.{Gives};
+ghost use Rattle.xt_fields.specs.Reading.{Gives, Takes, Tries};
 ghost use Rattle.xt_fields.specs.BasicFields.{byte_bytes, word_bytes, long_bytes, octets_bytes};
 ghost use Rattle.xt_wire.specs.IdFields.{node_bytes, mark_bytes};
 ghost use Rattle.xt_answers.specs.ReplyFields.{denial_at, denial_arms, denial_bytes, reply_at, reply_arms, reply_bytes, ok_reply_at, no_lease_at, no_majority_at, elsewhere_at, denied_at, old_list_at, old_epoch_at, too_far_at};
@@ -27,8 +26,7 @@ pub trait ReadReplies {
 /// The rule of this number.
 #[tactic(auto, unfolding(crate::specs::ReplyFields::denial_arms))]
 fn denial_arm(fields: &mut FieldReader<'_>, number: u8) -> Result<Denial, FieldErr>
-    ensures given { Gives result fields.new (denial_arms number fields.old) }
-    ensures never { IfErr result (λ e. e ≢ OutOfMemory) }
+    ensures { Takes result fields.old fields.new (denial_arms number fields.old) }
 {
     match number {
         1 => Ok(Denial::Tag),
@@ -139,9 +137,7 @@ fn too_far(fields: &mut FieldReader<'_>) -> Result<Reply, FieldErr>
 impl ReadReplies for FieldReader<'_> {
     #[tactic(auto, unfolding(crate::specs::ReplyFields::denial_at))]
     fn denial(&mut self) -> Result<Denial, FieldErr>
-        ensures given { Gives result self.new (denial_at self.old) }
-        ensures kept { OnErr result (self.new ≡ self.old) }
-        ensures never { IfErr result (λ e. e ≢ OutOfMemory) }
+        ensures { Takes result self.old self.new (denial_at self.old) }
     {
         let mut ahead = self.ahead();
         let number = ahead.byte()?;
@@ -152,8 +148,7 @@ impl ReadReplies for FieldReader<'_> {
 
     #[tactic(auto, unfolding(crate::specs::ReplyFields::reply_at))]
     fn reply(&mut self, alloc: Global) -> Result<Reply, FieldErr>
-        ensures given { Gives result self.new (reply_at self.old) }
-        ensures kept { OnErr result (self.new ≡ self.old) }
+        ensures { Tries result self.old self.new (reply_at self.old) }
     {
         let mut ahead = self.ahead();
         let number = ahead.byte()?;

@@ -30,6 +30,14 @@ stops at e front count i bytes total lt h so_far =
     let one : with_front front (list_at at (count - i) bytes) ≡ Err e = rw (k, h) refl in
     sym so_far ∙ one
 
+-- reading that fails so, fails so
+pub as_fails : {A : Type 0} (e : FieldErr) (read : Result A FieldErr) → read ≡ Err e → Fails e read
+as_fails fault.OutOfMemory read h = tt
+as_fails fault.Short read h = h
+as_fails fault.Over read h = h
+as_fails fault.NotText read h = h
+as_fails fault.Unfit read h = h
+
 pub ends : {A : Type 0} (at : Field A) (e : FieldErr) (front : List A) (count i : ℕ) (bytes : List ℕ) (total : Result (List A × List ℕ) FieldErr) → i < count → Fails e (at bytes)
     → with_front front (list_at at (count - i) bytes) ≡ total → Fails e total
 ends at fault.OutOfMemory front count i bytes total lt h so_far = tt

@@ -1,5 +1,5 @@
 -- how fields are read from left to right: a field is a value and the bytes after it, or the first fault
-use Rattle.std.specs.Prelude.{◌≡◌, ℕ, Bool, List, Result, Ok, Err, if◌then◌else◌}
+use Rattle.std.specs.Prelude.{◌≡◌, ◌≢◌, ℕ, Bool, List, Result, Ok, Err, if◌then◌else◌}
 use Rattle.xt_fields.specs.declared.fault.FieldErr.{FieldErr}
 use Rattle.xt_fields.specs.declared.fault.FieldErr.TheVariants as fault
 
@@ -44,3 +44,13 @@ Fails fault.Unfit read = read ≡ Err fault.Unfit
 abbrev pub Gives : {A : Type 0} → Result A FieldErr → List ℕ → Result (A × List ℕ) FieldErr → Type 0
 Gives (Ok x) left read = read ≡ Ok (x, left)
 Gives (Err e) left read = Fails e read
+
+-- The same of a call that leaves the bytes as they were where it fails.
+abbrev pub Tries : {A : Type 0} → Result A FieldErr → List ℕ → List ℕ → Result (A × List ℕ) FieldErr → Type 0
+Tries (Ok x) bytes left read = read ≡ Ok (x, left)
+Tries (Err e) bytes left read = Fails e read × (left ≡ bytes)
+
+-- The same of a call that never wants memory.
+abbrev pub Takes : {A : Type 0} → Result A FieldErr → List ℕ → List ℕ → Result (A × List ℕ) FieldErr → Type 0
+Takes (Ok x) bytes left read = read ≡ Ok (x, left)
+Takes (Err e) bytes left read = (read ≡ Err e) × (left ≡ bytes) × (e ≢ fault.OutOfMemory)

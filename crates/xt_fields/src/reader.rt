@@ -1,6 +1,6 @@
 ghost use Rattle.std.specs.Prelude.{◌≡◌, ◌≢◌, length, OnErr, OnOk, IfErr, IfOk, MatchOption, Ok, Err, true, false};
 ghost use Rattle.std.specs.Str.{is_utf8};
-ghost use Rattle.xt_fields.specs.Reading.{Gives};
+ghost use Rattle.xt_fields.specs.Reading.{Takes, Tries};
 ghost use Rattle.xt_fields.specs.declared.fault.FieldErr.TheVariants.{OutOfMemory, Short, Unfit};
 ghost use Rattle.xt_fields.specs.BasicFields.{byte_at, half_at, word_at, long_at, count_at, raw_at, octets_at, text_at, within};
 
@@ -71,9 +71,7 @@ impl<'a> FieldReader<'a> {
     /// A number of one byte. `Short` exactly where no byte is left; nothing is read then.
     #[tactic(auto, unfolding(crate::specs::BasicFields::byte_at))]
     pub fn byte(&mut self) -> Result<u8, FieldErr>
-        ensures given { Gives result self.new (byte_at self.old) }
-        ensures kept { OnErr result (self.new ≡ self.old) }
-        ensures never { IfErr result (λ e. e ≢ OutOfMemory) }
+        ensures { Takes result self.old self.new (byte_at self.old) }
     {
         let Some((first, rest)) = self.rest.split_first() else {
             return Err(FieldErr::Short);
@@ -102,9 +100,7 @@ impl<'a> FieldReader<'a> {
     /// A number of two bytes. `Short` exactly where fewer are left; nothing is read then.
     #[tactic(auto, unfolding(crate::specs::BasicFields::half_at))]
     pub fn half(&mut self) -> Result<u16, FieldErr>
-        ensures given { Gives result self.new (half_at self.old) }
-        ensures kept { OnErr result (self.new ≡ self.old) }
-        ensures never { IfErr result (λ e. e ≢ OutOfMemory) }
+        ensures { Takes result self.old self.new (half_at self.old) }
     {
         if self.rest.len() < 2 {
             return Err(FieldErr::Short);
@@ -117,9 +113,7 @@ impl<'a> FieldReader<'a> {
     /// A number of four bytes. `Short` exactly where fewer are left; nothing is read then.
     #[tactic(auto, unfolding(crate::specs::BasicFields::word_at))]
     pub fn word(&mut self) -> Result<u32, FieldErr>
-        ensures given { Gives result self.new (word_at self.old) }
-        ensures kept { OnErr result (self.new ≡ self.old) }
-        ensures never { IfErr result (λ e. e ≢ OutOfMemory) }
+        ensures { Takes result self.old self.new (word_at self.old) }
     {
         if self.rest.len() < 4 {
             return Err(FieldErr::Short);
@@ -132,9 +126,7 @@ impl<'a> FieldReader<'a> {
     /// A number of eight bytes. `Short` exactly where fewer are left; nothing is read then.
     #[tactic(auto, unfolding(crate::specs::BasicFields::long_at))]
     pub fn long(&mut self) -> Result<u64, FieldErr>
-        ensures given { Gives result self.new (long_at self.old) }
-        ensures kept { OnErr result (self.new ≡ self.old) }
-        ensures never { IfErr result (λ e. e ≢ OutOfMemory) }
+        ensures { Takes result self.old self.new (long_at self.old) }
     {
         if self.rest.len() < 8 {
             return Err(FieldErr::Short);
@@ -149,9 +141,7 @@ impl<'a> FieldReader<'a> {
     /// A number of eight bytes below 2^62. After an error nothing is read.
     #[tactic(auto, unfolding(crate::specs::BasicFields::count_at))]
     pub fn count(&mut self) -> Result<u64, FieldErr>
-        ensures given { Gives result self.new (count_at self.old) }
-        ensures kept { OnErr result (self.new ≡ self.old) }
-        ensures never { IfErr result (λ e. e ≢ OutOfMemory) }
+        ensures { Takes result self.old self.new (count_at self.old) }
     {
         let mut ahead = self.ahead();
         let count = ahead.long()?;
@@ -164,9 +154,7 @@ impl<'a> FieldReader<'a> {
 
     /// A number of one byte from `low` to `high`. After an error nothing is read.
     pub fn byte_within(&mut self, low: u8, high: u8) -> Result<u8, FieldErr>
-        ensures given { Gives result self.new (within low high byte_at self.old) }
-        ensures kept { OnErr result (self.new ≡ self.old) }
-        ensures never { IfErr result (λ e. e ≢ OutOfMemory) }
+        ensures { Takes result self.old self.new (within low high byte_at self.old) }
     {
         let mut ahead = self.ahead();
         let value = ahead.byte()?;
@@ -179,9 +167,7 @@ impl<'a> FieldReader<'a> {
 
     /// A number of four bytes from `low` to `high`. After an error nothing is read.
     pub fn word_within(&mut self, low: u32, high: u32) -> Result<u32, FieldErr>
-        ensures given { Gives result self.new (within low high word_at self.old) }
-        ensures kept { OnErr result (self.new ≡ self.old) }
-        ensures never { IfErr result (λ e. e ≢ OutOfMemory) }
+        ensures { Takes result self.old self.new (within low high word_at self.old) }
     {
         let mut ahead = self.ahead();
         let value = ahead.word()?;
@@ -194,9 +180,7 @@ impl<'a> FieldReader<'a> {
 
     /// The sixteen bytes of a volume's UUID.
     pub fn volume(&mut self) -> Result<[u8; 16], FieldErr>
-        ensures given { Gives result self.new (raw_at 16 self.old) }
-        ensures kept { OnErr result (self.new ≡ self.old) }
-        ensures never { IfErr result (λ e. e ≢ OutOfMemory) }
+        ensures { Takes result self.old self.new (raw_at 16 self.old) }
     {
         let bytes = self.raw(16)?;
         let mut volume = [0; 16];
@@ -206,9 +190,7 @@ impl<'a> FieldReader<'a> {
 
     /// The 32 bytes of a tag. `Short` exactly where fewer are left; nothing is read then.
     pub fn tag(&mut self) -> Result<[u8; 32], FieldErr>
-        ensures given { Gives result self.new (raw_at 32 self.old) }
-        ensures kept { OnErr result (self.new ≡ self.old) }
-        ensures never { IfErr result (λ e. e ≢ OutOfMemory) }
+        ensures { Takes result self.old self.new (raw_at 32 self.old) }
     {
         let bytes = self.raw(32)?;
         let mut tag = [0; 32];
@@ -220,8 +202,7 @@ impl<'a> FieldReader<'a> {
     /// exactly where too few bytes are left; after an error nothing is read.
     #[tactic(auto, unfolding(crate::specs::BasicFields::octets_at))]
     pub fn octets(&mut self, alloc: Global, limit: u32) -> Result<Octets, FieldErr>
-        ensures given { Gives result self.new (octets_at limit self.old) }
-        ensures kept { OnErr result (self.new ≡ self.old) }
+        ensures { Tries result self.old self.new (octets_at limit self.old) }
     {
         let mut ahead = self.ahead();
         let len = ahead.word()?;
@@ -237,8 +218,7 @@ impl<'a> FieldReader<'a> {
     /// too few bytes are left, else `NotText` exactly where they aren't UTF-8; after an error nothing is read.
     #[tactic(auto, unfolding(crate::specs::BasicFields::text_at, crate::specs::BasicFields::utf8_at))]
     pub fn text(&mut self, alloc: Global, limit: u16) -> Result<Name, FieldErr>
-        ensures given { Gives result self.new (text_at limit self.old) }
-        ensures kept { OnErr result (self.new ≡ self.old) }
+        ensures { Tries result self.old self.new (text_at limit self.old) }
     {
         let mut ahead = self.ahead();
         let len = ahead.half()?;

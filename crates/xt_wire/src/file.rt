@@ -1,7 +1,7 @@
-ghost use Rattle.std.specs.Prelude.{◌≡◌, ◌≢◌, ◌≤◌, ◌<◌, ◌^◌, ◌++◌, length, map, take, OnOk, OnErr, IfErr, IfOk, Ok, Err};
+ghost use Rattle.std.specs.Prelude.{◌≡◌, ◌≢◌, ◌≤◌, ◌<◌, ◌^◌, ◌++◌, length, map, take, OnOk, IfErr, IfOk, Ok, Err};
 ghost use Rattle.xt_fields.specs.declared.fault.FieldErr.TheVariants.{OutOfMemory};
 ghost use Rattle.xt_messages.specs.Limits.{IsObject, IsObjectOrNone, FitsOp, FitsUpdate, FitsVersion, FitsVersions, FitsSessions, FitsHead, rise, is_at_most};
-ghost use Rattle.xt_fields.specs.Reading.{Gives, Fails};
+ghost use Rattle.xt_fields.specs.Reading.{Fails, Gives, Takes, Tries};
 ghost use Rattle.xt_fields.specs.BasicFields.{byte_bytes, word_bytes, long_bytes, octets_bytes, word_at, list_at};
 ghost use Rattle.xt_wire.specs.IdFields.{node_at};
 ghost use Rattle.xt_wire.specs.FileFields.{kind_bytes, kind_at, kind_arms, version_at, stripe_at, members_bytes, members_at, location_bytes, location_at, sealed_bytes, capability_bytes, capability_at, op_bytes, op_at, op_arms, read_op_at, write_op_at, truncate_op_at, some_octets_at, slot_bytes, slot_at, update_bytes, update_at, object_version_bytes, object_version_at, session_bytes, session_at, versions_bytes, versions_at, sessions_bytes, sessions_at, head_bytes, head_at};
@@ -131,8 +131,7 @@ fn slot(fields: &mut FieldReader<'_>) -> Result<u64, FieldErr>
 /// The kind of this number.
 #[tactic(auto, unfolding(crate::specs::FileFields::kind_arms))]
 fn kind_arm(fields: &mut FieldReader<'_>, number: u8) -> Result<Kind, FieldErr>
-    ensures given { Gives result fields.new (kind_arms number fields.old) }
-    ensures never { IfErr result (λ e. e ≢ OutOfMemory) }
+    ensures { Takes result fields.old fields.new (kind_arms number fields.old) }
 {
     match number {
         1 => Ok(Kind::Replicated),
@@ -246,18 +245,14 @@ fn session_list(
 
 impl ReadFiles for FieldReader<'_> {
     fn object(&mut self) -> Result<u64, FieldErr>
-        ensures given { Gives result self.new (word_at self.old) }
-        ensures kept { OnErr result (self.new ≡ self.old) }
-        ensures never { IfErr result (λ e. e ≢ OutOfMemory) }
+        ensures { Takes result self.old self.new (word_at self.old) }
     {
         Ok(u64::from(self.word()?))
     }
 
     #[tactic(auto, unfolding(crate::specs::FileFields::kind_at))]
     fn kind(&mut self) -> Result<Kind, FieldErr>
-        ensures given { Gives result self.new (kind_at self.old) }
-        ensures kept { OnErr result (self.new ≡ self.old) }
-        ensures never { IfErr result (λ e. e ≢ OutOfMemory) }
+        ensures { Takes result self.old self.new (kind_at self.old) }
     {
         let mut ahead = self.ahead();
         let number = ahead.byte()?;
@@ -268,9 +263,7 @@ impl ReadFiles for FieldReader<'_> {
 
     #[tactic(auto, unfolding(crate::specs::FileFields::version_at))]
     fn version(&mut self) -> Result<u32, FieldErr>
-        ensures given { Gives result self.new (version_at self.old) }
-        ensures kept { OnErr result (self.new ≡ self.old) }
-        ensures never { IfErr result (λ e. e ≢ OutOfMemory) }
+        ensures { Takes result self.old self.new (version_at self.old) }
     {
         let mut ahead = self.ahead();
         let version = ahead.word()?;
@@ -283,9 +276,7 @@ impl ReadFiles for FieldReader<'_> {
 
     #[tactic(auto, unfolding(crate::specs::FileFields::stripe_at))]
     fn stripe(&mut self) -> Result<u32, FieldErr>
-        ensures given { Gives result self.new (stripe_at self.old) }
-        ensures kept { OnErr result (self.new ≡ self.old) }
-        ensures never { IfErr result (λ e. e ≢ OutOfMemory) }
+        ensures { Takes result self.old self.new (stripe_at self.old) }
     {
         let mut ahead = self.ahead();
         let stripe = ahead.word_within(1_024, BODY_LIMIT)?;
@@ -298,9 +289,7 @@ impl ReadFiles for FieldReader<'_> {
 
     #[tactic(auto, unfolding(crate::specs::FileFields::members_at))]
     fn members(&mut self) -> Result<Members, FieldErr>
-        ensures given { Gives result self.new (members_at self.old) }
-        ensures kept { OnErr result (self.new ≡ self.old) }
-        ensures never { IfErr result (λ e. e ≢ OutOfMemory) }
+        ensures { Takes result self.old self.new (members_at self.old) }
     {
         let mut ahead = self.ahead();
         let count = ahead.byte()?;
@@ -319,9 +308,7 @@ impl ReadFiles for FieldReader<'_> {
 
     #[tactic(auto, unfolding(crate::specs::FileFields::location_at))]
     fn location(&mut self) -> Result<Location, FieldErr>
-        ensures given { Gives result self.new (location_at self.old) }
-        ensures kept { OnErr result (self.new ≡ self.old) }
-        ensures never { IfErr result (λ e. e ≢ OutOfMemory) }
+        ensures { Takes result self.old self.new (location_at self.old) }
     {
         let mut ahead = self.ahead();
         let version = ahead.version()?;
@@ -339,9 +326,7 @@ impl ReadFiles for FieldReader<'_> {
 
     #[tactic(auto, unfolding(crate::specs::FileFields::capability_at))]
     fn capability(&mut self) -> Result<Capability, FieldErr>
-        ensures given { Gives result self.new (capability_at self.old) }
-        ensures kept { OnErr result (self.new ≡ self.old) }
-        ensures never { IfErr result (λ e. e ≢ OutOfMemory) }
+        ensures { Takes result self.old self.new (capability_at self.old) }
     {
         let mut ahead = self.ahead();
         let file = ahead.file()?;
@@ -363,8 +348,7 @@ impl ReadFiles for FieldReader<'_> {
 
     #[tactic(auto, unfolding(crate::specs::FileFields::op_at))]
     fn op(&mut self, alloc: Global) -> Result<Op, FieldErr>
-        ensures given { Gives result self.new (op_at self.old) }
-        ensures kept { OnErr result (self.new ≡ self.old) }
+        ensures { Tries result self.old self.new (op_at self.old) }
     {
         let mut ahead = self.ahead();
         let number = ahead.byte()?;
@@ -375,8 +359,7 @@ impl ReadFiles for FieldReader<'_> {
 
     #[tactic(auto, unfolding(crate::specs::FileFields::update_at))]
     fn update(&mut self, alloc: Global) -> Result<Update, FieldErr>
-        ensures given { Gives result self.new (update_at self.old) }
-        ensures kept { OnErr result (self.new ≡ self.old) }
+        ensures { Tries result self.old self.new (update_at self.old) }
     {
         let mut ahead = self.ahead();
         let stamp = ahead.stamp()?;
@@ -401,9 +384,7 @@ impl ReadFiles for FieldReader<'_> {
 
     #[tactic(auto, unfolding(crate::specs::FileFields::object_version_at))]
     fn object_version(&mut self) -> Result<ObjectVersion, FieldErr>
-        ensures given { Gives result self.new (object_version_at self.old) }
-        ensures kept { OnErr result (self.new ≡ self.old) }
-        ensures never { IfErr result (λ e. e ≢ OutOfMemory) }
+        ensures { Takes result self.old self.new (object_version_at self.old) }
     {
         let mut ahead = self.ahead();
         let object = ahead.object()?;
@@ -414,9 +395,7 @@ impl ReadFiles for FieldReader<'_> {
 
     #[tactic(auto, unfolding(crate::specs::FileFields::session_at))]
     fn session(&mut self) -> Result<Session, FieldErr>
-        ensures given { Gives result self.new (session_at self.old) }
-        ensures kept { OnErr result (self.new ≡ self.old) }
-        ensures never { IfErr result (λ e. e ≢ OutOfMemory) }
+        ensures { Takes result self.old self.new (session_at self.old) }
     {
         let mut ahead = self.ahead();
         let client = ahead.node()?;
@@ -432,8 +411,7 @@ impl ReadFiles for FieldReader<'_> {
 
     #[tactic(auto, unfolding(crate::specs::FileFields::versions_at))]
     fn versions(&mut self, alloc: Global) -> Result<Versions, FieldErr>
-        ensures given { Gives result self.new (versions_at self.old) }
-        ensures kept { OnErr result (self.new ≡ self.old) }
+        ensures { Tries result self.old self.new (versions_at self.old) }
     {
         let mut ahead = self.ahead();
         let count = ahead.word()?;
@@ -450,8 +428,7 @@ impl ReadFiles for FieldReader<'_> {
 
     #[tactic(auto, unfolding(crate::specs::FileFields::sessions_at))]
     fn sessions(&mut self, alloc: Global) -> Result<Sessions, FieldErr>
-        ensures given { Gives result self.new (sessions_at self.old) }
-        ensures kept { OnErr result (self.new ≡ self.old) }
+        ensures { Tries result self.old self.new (sessions_at self.old) }
     {
         let mut ahead = self.ahead();
         let count = ahead.word()?;
@@ -468,8 +445,7 @@ impl ReadFiles for FieldReader<'_> {
 
     #[tactic(auto, unfolding(crate::specs::FileFields::head_at))]
     fn head(&mut self, alloc: Global) -> Result<FileHead, FieldErr>
-        ensures given { Gives result self.new (head_at self.old) }
-        ensures kept { OnErr result (self.new ≡ self.old) }
+        ensures { Tries result self.old self.new (head_at self.old) }
     {
         let mut ahead = self.ahead();
         let promised = ahead.epoch()?;

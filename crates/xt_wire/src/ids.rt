@@ -1,6 +1,5 @@
-ghost use Rattle.std.specs.Prelude.{◌≡◌, ◌≢◌, ◌++◌, OnOk, OnErr, IfErr};
-ghost use Rattle.xt_fields.specs.declared.fault.FieldErr.TheVariants.{OutOfMemory};
-ghost use Rattle.xt_fields.specs.Reading.{Gives};
+ghost use Rattle.std.specs.Prelude.{◌≡◌, ◌++◌, OnOk};
+ghost use Rattle.xt_fields.specs.Reading.{Takes};
 ghost use Rattle.xt_fields.specs.BasicFields.{byte_bytes};
 ghost use Rattle.xt_wire.specs.IdFields.{node_at, node_bytes, boot_at, boot_bytes, file_at, file_bytes, ballot_at, ballot_bytes, epoch_at, epoch_bytes, stamp_at, stamp_bytes, lease_at, lease_bytes, some_report_at, report_at, report_arms, report_bytes, op_id_at, op_id_bytes, mark_at, mark_bytes};
 
@@ -46,8 +45,7 @@ pub trait ReadIds {
 /// A lease that is reported.
 #[tactic(auto, unfolding(crate::specs::IdFields::some_report_at))]
 fn some_report(fields: &mut FieldReader<'_>) -> Result<Option<Lease>, FieldErr>
-    ensures given { Gives result fields.new (some_report_at fields.old) }
-    ensures never { IfErr result (λ e. e ≢ OutOfMemory) }
+    ensures { Takes result fields.old fields.new (some_report_at fields.old) }
 {
     let lease = fields.lease()?;
     Ok(Some(lease))
@@ -56,8 +54,7 @@ fn some_report(fields: &mut FieldReader<'_>) -> Result<Option<Lease>, FieldErr>
 /// The report that follows this number.
 #[tactic(auto, unfolding(crate::specs::IdFields::report_arms))]
 fn report_arm(fields: &mut FieldReader<'_>, number: u8) -> Result<Option<Lease>, FieldErr>
-    ensures given { Gives result fields.new (report_arms number fields.old) }
-    ensures never { IfErr result (λ e. e ≢ OutOfMemory) }
+    ensures { Takes result fields.old fields.new (report_arms number fields.old) }
 {
     match number {
         0 => Ok(None),
@@ -69,27 +66,21 @@ fn report_arm(fields: &mut FieldReader<'_>, number: u8) -> Result<Option<Lease>,
 impl ReadIds for FieldReader<'_> {
     #[tactic(auto, unfolding(crate::specs::IdFields::node_at))]
     fn node(&mut self) -> Result<NodeId, FieldErr>
-        ensures given { Gives result self.new (node_at self.old) }
-        ensures kept { OnErr result (self.new ≡ self.old) }
-        ensures never { IfErr result (λ e. e ≢ OutOfMemory) }
+        ensures { Takes result self.old self.new (node_at self.old) }
     {
         Ok(NodeId(self.word()?))
     }
 
     #[tactic(auto, unfolding(crate::specs::IdFields::boot_at))]
     fn boot(&mut self) -> Result<Boot, FieldErr>
-        ensures given { Gives result self.new (boot_at self.old) }
-        ensures kept { OnErr result (self.new ≡ self.old) }
-        ensures never { IfErr result (λ e. e ≢ OutOfMemory) }
+        ensures { Takes result self.old self.new (boot_at self.old) }
     {
         Ok(Boot(self.count()?))
     }
 
     #[tactic(auto, unfolding(crate::specs::IdFields::file_at))]
     fn file(&mut self) -> Result<FileId, FieldErr>
-        ensures given { Gives result self.new (file_at self.old) }
-        ensures kept { OnErr result (self.new ≡ self.old) }
-        ensures never { IfErr result (λ e. e ≢ OutOfMemory) }
+        ensures { Takes result self.old self.new (file_at self.old) }
     {
         let mut ahead = self.ahead();
         let volume = VolumeId(ahead.volume()?);
@@ -100,9 +91,7 @@ impl ReadIds for FieldReader<'_> {
 
     #[tactic(auto, unfolding(crate::specs::IdFields::ballot_at))]
     fn ballot(&mut self) -> Result<Ballot, FieldErr>
-        ensures given { Gives result self.new (ballot_at self.old) }
-        ensures kept { OnErr result (self.new ≡ self.old) }
-        ensures never { IfErr result (λ e. e ≢ OutOfMemory) }
+        ensures { Takes result self.old self.new (ballot_at self.old) }
     {
         let mut ahead = self.ahead();
         let count = ahead.count()?;
@@ -114,9 +103,7 @@ impl ReadIds for FieldReader<'_> {
 
     #[tactic(auto, unfolding(crate::specs::IdFields::epoch_at))]
     fn epoch(&mut self) -> Result<Epoch, FieldErr>
-        ensures given { Gives result self.new (epoch_at self.old) }
-        ensures kept { OnErr result (self.new ≡ self.old) }
-        ensures never { IfErr result (λ e. e ≢ OutOfMemory) }
+        ensures { Takes result self.old self.new (epoch_at self.old) }
     {
         let mut ahead = self.ahead();
         let number = ahead.count()?;
@@ -127,9 +114,7 @@ impl ReadIds for FieldReader<'_> {
 
     #[tactic(auto, unfolding(crate::specs::IdFields::stamp_at))]
     fn stamp(&mut self) -> Result<Stamp, FieldErr>
-        ensures given { Gives result self.new (stamp_at self.old) }
-        ensures kept { OnErr result (self.new ≡ self.old) }
-        ensures never { IfErr result (λ e. e ≢ OutOfMemory) }
+        ensures { Takes result self.old self.new (stamp_at self.old) }
     {
         let mut ahead = self.ahead();
         let epoch = ahead.epoch()?;
@@ -140,9 +125,7 @@ impl ReadIds for FieldReader<'_> {
 
     #[tactic(auto, unfolding(crate::specs::IdFields::lease_at))]
     fn lease(&mut self) -> Result<Lease, FieldErr>
-        ensures given { Gives result self.new (lease_at self.old) }
-        ensures kept { OnErr result (self.new ≡ self.old) }
-        ensures never { IfErr result (λ e. e ≢ OutOfMemory) }
+        ensures { Takes result self.old self.new (lease_at self.old) }
     {
         let mut ahead = self.ahead();
         let node = ahead.node()?;
@@ -154,9 +137,7 @@ impl ReadIds for FieldReader<'_> {
 
     #[tactic(auto, unfolding(crate::specs::IdFields::op_id_at))]
     fn op_id(&mut self) -> Result<OpId, FieldErr>
-        ensures given { Gives result self.new (op_id_at self.old) }
-        ensures kept { OnErr result (self.new ≡ self.old) }
-        ensures never { IfErr result (λ e. e ≢ OutOfMemory) }
+        ensures { Takes result self.old self.new (op_id_at self.old) }
     {
         let mut ahead = self.ahead();
         let client = ahead.node()?;
@@ -167,9 +148,7 @@ impl ReadIds for FieldReader<'_> {
 
     #[tactic(auto, unfolding(crate::specs::IdFields::mark_at))]
     fn mark(&mut self) -> Result<SizeMark, FieldErr>
-        ensures given { Gives result self.new (mark_at self.old) }
-        ensures kept { OnErr result (self.new ≡ self.old) }
-        ensures never { IfErr result (λ e. e ≢ OutOfMemory) }
+        ensures { Takes result self.old self.new (mark_at self.old) }
     {
         let mut ahead = self.ahead();
         let epoch = ahead.count()?;
@@ -180,9 +159,7 @@ impl ReadIds for FieldReader<'_> {
 
     #[tactic(auto, unfolding(crate::specs::IdFields::report_at))]
     fn report(&mut self) -> Result<Option<Lease>, FieldErr>
-        ensures given { Gives result self.new (report_at self.old) }
-        ensures kept { OnErr result (self.new ≡ self.old) }
-        ensures never { IfErr result (λ e. e ≢ OutOfMemory) }
+        ensures { Takes result self.old self.new (report_at self.old) }
     {
         let mut ahead = self.ahead();
         let number = ahead.byte()?;

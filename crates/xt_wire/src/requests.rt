@@ -1,6 +1,6 @@
-ghost use Rattle.std.specs.Prelude.{◌≡◌, ◌<◌, ◌^◌, ◌++◌, length, OnOk, OnErr};
+ghost use Rattle.std.specs.Prelude.{◌≡◌, ◌<◌, ◌^◌, ◌++◌, length, OnOk};
 ghost use Rattle.xt_messages.specs.Limits.{FitsMetaReq, FitsRegistryReq};
-ghost use Rattle.xt_fields.specs.Reading.{Gives};
+ghost use Rattle.xt_fields.specs.Reading.{Gives, Tries};
 ghost use Rattle.xt_fields.specs.BasicFields.{byte_bytes, half_bytes, word_bytes, long_bytes, text_bytes};
 ghost use Rattle.xt_wire.specs.IdFields.{node_bytes, mark_bytes};
 ghost use Rattle.xt_wire.specs.FileFields.{kind_bytes, capability_bytes};
@@ -223,8 +223,7 @@ fn remove_row(fields: &mut FieldReader<'_>) -> Result<RegistryReq, FieldErr>
 impl ReadRequests for FieldReader<'_> {
     #[tactic(auto, unfolding(crate::specs::MetaFields::meta_req_at))]
     fn meta_req(&mut self, alloc: Global) -> Result<MetaReq, FieldErr>
-        ensures given { Gives result self.new (meta_req_at self.old) }
-        ensures kept { OnErr result (self.new ≡ self.old) }
+        ensures { Tries result self.old self.new (meta_req_at self.old) }
     {
         let mut ahead = self.ahead();
         let number = ahead.byte()?;
@@ -235,8 +234,7 @@ impl ReadRequests for FieldReader<'_> {
 
     #[tactic(auto, unfolding(crate::specs::RegistryFields::registry_req_at))]
     fn registry_req(&mut self, alloc: Global) -> Result<RegistryReq, FieldErr>
-        ensures given { Gives result self.new (registry_req_at self.old) }
-        ensures kept { OnErr result (self.new ≡ self.old) }
+        ensures { Tries result self.old self.new (registry_req_at self.old) }
     {
         let mut ahead = self.ahead();
         let number = ahead.byte()?;
@@ -257,14 +255,42 @@ pub trait WriteRequests {
         requires { FitsRegistryReq registry_req.now };
 }
 
-/// A directory to be made.
-fn put_mkdir(fields: &mut FieldWriter, path: &str, mode: u16) -> Result<(), OutOfMemory>
+/// The number of a request and a path.
+fn put_path(fields: &mut FieldWriter, number: u8, path: &str) -> Result<(), OutOfMemory>
     requires { length path.now < 2 ^ 16 }
-    ensures { OnOk result (fields.new ≡ fields.old ++ (byte_bytes 1 ++ text_bytes path.now ++ half_bytes mode)) }
+    ensures { OnOk result (fields.new ≡ fields.old ++ (byte_bytes number ++ text_bytes path.now)) }
 {
-    fields.byte(1)?;
-    fields.text(path)?;
+    fields.byte(number)?;
+    fields.text(path)
+}
+
+/// The number of a request, a path and a mode.
+fn put_path_and_mode(
+    fields: &mut FieldWriter,
+    number: u8,
+    path: &str,
+    mode: u16,
+) -> Result<(), OutOfMemory>
+    requires { length path.now < 2 ^ 16 }
+    ensures { OnOk result (fields.new ≡ fields.old ++ (byte_bytes number ++ text_bytes path.now ++ half_bytes mode)) }
+{
+    put_path(fields, number, path)?;
     fields.half(mode)
+}
+
+/// The number of a request and two paths, or a path and a name.
+fn put_paths(
+    fields: &mut FieldWriter,
+    number: u8,
+    first: &str,
+    second: &str,
+) -> Result<(), OutOfMemory>
+    requires first_fits { length first.now < 2 ^ 16 }
+    requires second_fits { length second.now < 2 ^ 16 }
+    ensures { OnOk result (fields.new ≡ fields.old ++ (byte_bytes number ++ text_bytes first.now ++ text_bytes second.now)) }
+{
+    put_path(fields, number, first)?;
+    fields.text(second)
 }
 
 /// A file to be made.
@@ -279,71 +305,10 @@ fn put_create(
     requires { length path.now < 2 ^ 16 }
     ensures { OnOk result (fields.new ≡ fields.old ++ (byte_bytes 2 ++ text_bytes path.now ++ half_bytes mode ++ kind_bytes kind ++ byte_bytes n ++ word_bytes stripe)) }
 {
-    fields.byte(2)?;
-    fields.text(path)?;
-    fields.half(mode)?;
+    put_path_and_mode(fields, 2, path, mode)?;
     fields.kind(kind)?;
     fields.byte(n)?;
     fields.word(stripe)
-}
-
-/// A row to be moved.
-fn put_rename(fields: &mut FieldWriter, from: &str, to: &str) -> Result<(), OutOfMemory>
-    requires from_fits { length from.now < 2 ^ 16 }
-    requires to_fits { length to.now < 2 ^ 16 }
-    ensures { OnOk result (fields.new ≡ fields.old ++ (byte_bytes 3 ++ text_bytes from.now ++ text_bytes to.now)) }
-{
-    fields.byte(3)?;
-    fields.text(from)?;
-    fields.text(to)
-}
-
-/// A file to be removed.
-fn put_unlink(fields: &mut FieldWriter, path: &str) -> Result<(), OutOfMemory>
-    requires { length path.now < 2 ^ 16 }
-    ensures { OnOk result (fields.new ≡ fields.old ++ (byte_bytes 4 ++ text_bytes path.now)) }
-{
-    fields.byte(4)?;
-    fields.text(path)
-}
-
-/// A directory to be removed.
-fn put_rmdir(fields: &mut FieldWriter, path: &str) -> Result<(), OutOfMemory>
-    requires { length path.now < 2 ^ 16 }
-    ensures { OnOk result (fields.new ≡ fields.old ++ (byte_bytes 5 ++ text_bytes path.now)) }
-{
-    fields.byte(5)?;
-    fields.text(path)
-}
-
-/// A directory to be listed.
-fn put_list_names(fields: &mut FieldWriter, path: &str, after: &str) -> Result<(), OutOfMemory>
-    requires path_fits { length path.now < 2 ^ 16 }
-    requires after_fits { length after.now < 2 ^ 16 }
-    ensures { OnOk result (fields.new ≡ fields.old ++ (byte_bytes 6 ++ text_bytes path.now ++ text_bytes after.now)) }
-{
-    fields.byte(6)?;
-    fields.text(path)?;
-    fields.text(after)
-}
-
-/// A row to be told.
-fn put_stat(fields: &mut FieldWriter, path: &str) -> Result<(), OutOfMemory>
-    requires { length path.now < 2 ^ 16 }
-    ensures { OnOk result (fields.new ≡ fields.old ++ (byte_bytes 7 ++ text_bytes path.now)) }
-{
-    fields.byte(7)?;
-    fields.text(path)
-}
-
-/// A mode to be set.
-fn put_chmod(fields: &mut FieldWriter, path: &str, mode: u16) -> Result<(), OutOfMemory>
-    requires { length path.now < 2 ^ 16 }
-    ensures { OnOk result (fields.new ≡ fields.old ++ (byte_bytes 8 ++ text_bytes path.now ++ half_bytes mode)) }
-{
-    fields.byte(8)?;
-    fields.text(path)?;
-    fields.half(mode)
 }
 
 /// A capability that is wanted.
@@ -351,8 +316,7 @@ fn put_grant(fields: &mut FieldWriter, path: &str, want: u8) -> Result<(), OutOf
     requires { length path.now < 2 ^ 16 }
     ensures { OnOk result (fields.new ≡ fields.old ++ (byte_bytes 9 ++ text_bytes path.now ++ byte_bytes want)) }
 {
-    fields.byte(9)?;
-    fields.text(path)?;
+    put_path(fields, 9, path)?;
     fields.byte(want)
 }
 
@@ -419,7 +383,7 @@ impl WriteRequests for FieldWriter {
         ensures { OnOk result (self.new ≡ self.old ++ meta_req_bytes meta_req.now) }
     {
         match meta_req {
-            MetaReq::Mkdir { path, mode } => put_mkdir(self, path.as_str(), *mode),
+            MetaReq::Mkdir { path, mode } => put_path_and_mode(self, 1, path.as_str(), *mode),
             MetaReq::Create {
                 path,
                 mode,
@@ -427,12 +391,12 @@ impl WriteRequests for FieldWriter {
                 n,
                 stripe,
             } => put_create(self, path.as_str(), *mode, *kind, *n, *stripe),
-            MetaReq::Rename { from, to } => put_rename(self, from.as_str(), to.as_str()),
-            MetaReq::Unlink { path } => put_unlink(self, path.as_str()),
-            MetaReq::Rmdir { path } => put_rmdir(self, path.as_str()),
-            MetaReq::List { path, after } => put_list_names(self, path.as_str(), after.as_str()),
-            MetaReq::Stat { path } => put_stat(self, path.as_str()),
-            MetaReq::Chmod { path, mode } => put_chmod(self, path.as_str(), *mode),
+            MetaReq::Rename { from, to } => put_paths(self, 3, from.as_str(), to.as_str()),
+            MetaReq::Unlink { path } => put_path(self, 4, path.as_str()),
+            MetaReq::Rmdir { path } => put_path(self, 5, path.as_str()),
+            MetaReq::List { path, after } => put_paths(self, 6, path.as_str(), after.as_str()),
+            MetaReq::Stat { path } => put_path(self, 7, path.as_str()),
+            MetaReq::Chmod { path, mode } => put_path_and_mode(self, 8, path.as_str(), *mode),
             MetaReq::Grant { path, want } => put_grant(self, path.as_str(), *want),
             MetaReq::Report { capability, mark } => put_size_report(self, capability, *mark),
         }

@@ -1,17 +1,17 @@
 use Rattle.std.proofs.lemmas.Result.{err_from_is_err_and}
 use Rattle.xt_fields.specs.BasicFields.{list_at}
 use Rattle.xt_wire.specs.FileFields.{object_version_at}
-use Rattle.xt_fields.proofs.Loops.{goes_on, ends, is_done}
+use Rattle.xt_fields.proofs.Loops.{as_fails, goes_on, ends, is_done}
 use Rattle.xt_wire.proofs.file.object_version_list.Goals as goal
 
 pub returns-in_err-entry : goal.returns-in_err-entry
 returns-in_err-entry c =
     let p = err_from_is_err_and c.from_residual.result c.from_residual.ensures.1 in
-    rw (p.1, p.2) (ends object_version_at c.in_err-entry.field-0.0 c.loop.list c.args.count c.loop.counter c.loop.fields (list_at object_version_at c.args.count c.args.fields.now) c.loop-test.true c.in_err-entry.ensures.given c.loop.invariant)
+    rw (p.1, p.2) (ends object_version_at c.in_err-entry.field-0.0 c.loop.list c.args.count c.loop.counter c.loop.fields (list_at object_version_at c.args.count c.args.fields.now) c.loop-test.true (as_fails c.in_err-entry.field-0.0 (object_version_at c.loop.fields) c.in_err-entry.ensures.0) c.loop.invariant)
 
 pub loop-preserved : goal.loop-preserved
 loop-preserved c =
-    rw c.in_ok-push.ensures.ok (goes_on object_version_at c.loop.list c.args.count c.loop.counter c.loop.fields c.in_ok-entry.entry c.object_version.new.self (list_at object_version_at c.args.count c.args.fields.now) c.loop-test.true c.in_ok-entry.ensures.given c.loop.invariant)
+    rw c.in_ok-push.ensures.ok (goes_on object_version_at c.loop.list c.args.count c.loop.counter c.loop.fields c.in_ok-entry.entry c.object_version.new.self (list_at object_version_at c.args.count c.args.fields.now) c.loop-test.true c.in_ok-entry.ensures c.loop.invariant)
 
 pub returns : goal.returns
 returns c = is_done object_version_at c.loop.list c.args.count c.loop.counter c.loop.fields (list_at object_version_at c.args.count c.args.fields.now) c.loop-test.false c.loop.invariant
