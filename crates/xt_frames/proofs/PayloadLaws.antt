@@ -1,16 +1,17 @@
 -- the fields of each kind: what is read is spelled so, and what is spelled so is read
-use Rattle.std.proofs.Common.{◌≡◌, ℕ, true, false, cond, ltb, List, ◌∷◌, ◌++◌, Result, Ok, refl, sym, ap, subst, ◌∙◌, append_assoc, leb, ◌&&◌}
+use Rattle.std.proofs.Common.{◌≡◌, ◌<◌, ◌^◌, ℕ, true, false, cond, ltb, List, ◌∷◌, ◌++◌, Result, Ok, refl, sym, ap, subst, ◌∙◌, append_assoc, leb, ◌&&◌}
 use Rattle.xt_fields.specs.declared.fault.FieldErr.{FieldErr}
 use Rattle.xt_base.specs.FieldLimits.{AreBytes}
-use Rattle.xt_messages.specs.Limits.{FitsPayload, FitsMessage}
+use Rattle.xt_messages.specs.Limits.{FitsFile, FitsEpoch, FitsStamp, FitsPayload, FitsMessage}
 use Rattle.xt_messages.specs.declared.message.Payload.{Payload}
 use Rattle.xt_messages.specs.declared.message.Payload.TheVariants as payload
 use Rattle.xt_messages.specs.declared.message.Msg.{Msg}
+use Rattle.xt_frames.specs.declared.reading.Versioned.{Versioned}
 use Rattle.xt_fields.specs.Reading.{Field, ◌>>=◌, ◌&◌}
-use Rattle.xt_fields.specs.BasicFields.{byte_bytes}
-use Rattle.xt_wire.specs.IdFields.{node_bytes, node_at}
-use Rattle.xt_fields.specs.OneSpelling.{Taken}
-use Rattle.xt_fields.proofs.Laws.{IsArm, AreArms, bind_ok, ok_is, both, arm, arm_again, no_more, or_arm}
+use Rattle.xt_fields.specs.BasicFields.{byte_bytes, word_bytes}
+use Rattle.xt_wire.specs.IdFields.{node_bytes, node_at, file_bytes, epoch_bytes, stamp_bytes}
+use Rattle.xt_fields.specs.OneSpelling.{IsField, Taken}
+use Rattle.xt_fields.proofs.Laws.{IsArm, AreArms, bind_ok, ok_is, both, made_field, arm, arm_again, no_more, or_arm}
 use Rattle.xt_fields.proofs.BasicLaws.{word_field, count_field, body_field, tag_field}
 use Rattle.xt_wire.proofs.IdLaws.{node_field, boot_field, file_field, ballot_field, epoch_field, stamp_field, lease_field, report_field}
 use Rattle.xt_wire.proofs.FileLaws.{capability_field, op_field, update_field, head_field}
@@ -20,58 +21,67 @@ use Rattle.xt_answers.proofs.MetaAnswerLaws.{meta_answer_field}
 use Rattle.xt_wire.proofs.RegistryLaws.{registry_req_field}
 use Rattle.xt_answers.proofs.RegistryAnswerLaws.{registry_answer_field}
 use Rattle.xt_frames.specs.Frames.{kind_of, payload_bytes}
-use Rattle.xt_frames.specs.PayloadFields.{read_fields, promise_fields, write_fields, accepted_fields, outrun_fields, gather_fields, status_fields, fetch_fields, object_fields, stage_fields, staged_fields, head_fields, update_fields, ack_fields, refused_fields, behind_fields, missing_fields, ask_fields, reply_fields, meta_fields, meta_reply_fields, registry_fields, registry_reply_fields, stop_fields, lease_arms, replica_arms, service_arms, payload_arms, message_at}
+use Rattle.xt_frames.specs.PayloadFields.{ballot_of_at, epoch_of_at, versioned_at, read_fields, promise_fields, write_fields, accepted_fields, outrun_fields, gather_fields, status_fields, fetch_fields, object_fields, stage_fields, staged_fields, head_fields, update_fields, ack_fields, refused_fields, behind_fields, missing_fields, ask_fields, reply_fields, meta_fields, meta_reply_fields, registry_fields, registry_reply_fields, stop_fields, lease_arms, replica_arms, service_arms, payload_arms, message_at}
 
 -- the fields behind the kind
 abbrev pub marked : Payload → List ℕ
 marked p = byte_bytes (kind_of p) ++ payload_bytes p
 
+-- what the kinds about a version of an object begin with
+versioned_field : IsField (λ (v : Versioned). file_bytes v.file ++ epoch_bytes v.epoch ++ word_bytes v.object ++ stamp_bytes v.version)
+    (λ (v : Versioned). ((FitsFile v.file × FitsEpoch v.epoch) × (v.object < 2 ^ 32)) × FitsStamp v.version) versioned_at
+unfolding versioned_at epoch_of_at
+versioned_field =
+    made_field (λ v. record { file = v.0.0.0; epoch = v.0.0.1; object = v.0.1; version = v.1 })
+    (λ (v : Versioned). (((v.file, v.epoch), v.object), v.version)) (λ a. refl) (λ b. refl)
+    (both (both (both file_field epoch_field) word_field) stamp_field)
+
 read_arm : IsArm marked FitsPayload 1 read_fields
-unfolding read_fields
+unfolding read_fields ballot_of_at
 read_arm = arm 1 (both file_field ballot_field) (λ f. payload.Read f.0 f.1) (λ a. refl) (λ a h. assumption)
 
 promise_arm : IsArm marked FitsPayload 2 promise_fields
-unfolding promise_fields
+unfolding promise_fields ballot_of_at
 promise_arm = arm 2 (both (both (both file_field ballot_field) boot_field) report_field) (λ f. payload.Promise f.0.0.0 f.0.0.1 f.0.1 f.1) (λ a. refl) (λ a h. assumption)
 
 write_arm : IsArm marked FitsPayload 3 write_fields
-unfolding write_fields
+unfolding write_fields ballot_of_at
 write_arm = arm 3 (both (both (both file_field ballot_field) boot_field) lease_field) (λ f. payload.Write f.0.0.0 f.0.0.1 f.0.1 f.1) (λ a. refl) (λ a h. assumption)
 
 accepted_arm : IsArm marked FitsPayload 4 accepted_fields
-unfolding accepted_fields
+unfolding accepted_fields ballot_of_at
 accepted_arm = arm 4 (both (both file_field ballot_field) boot_field) (λ f. payload.Accepted f.0.0 f.0.1 f.1) (λ a. refl) (λ a h. assumption)
 
 outrun_arm : IsArm marked FitsPayload 5 outrun_fields
-unfolding outrun_fields
+unfolding outrun_fields ballot_of_at
 outrun_arm = arm 5 (both (both file_field ballot_field) ballot_field) (λ f. payload.Outrun f.0.0 f.0.1 f.1) (λ a. refl) (λ a h. assumption)
 
 gather_arm : IsArm marked FitsPayload 6 gather_fields
-unfolding gather_fields
+unfolding gather_fields epoch_of_at
 gather_arm = arm 6 (both file_field epoch_field) (λ f. payload.Gather f.0 f.1) (λ a. refl) (λ a h. assumption)
 
 status_arm : IsArm marked FitsPayload 7 status_fields
-unfolding status_fields
+unfolding status_fields epoch_of_at
 status_arm = arm 7 (both (both file_field epoch_field) head_field) (λ f. payload.Status f.0.0 f.0.1 f.1) (λ a. refl) (λ a h. assumption)
 
 fetch_arm : IsArm marked FitsPayload 8 fetch_fields
 unfolding fetch_fields
-fetch_arm = arm 8 (both (both (both file_field epoch_field) word_field) stamp_field) (λ f. payload.Fetch f.0.0.0 f.0.0.1 f.0.1 f.1) (λ a. refl) (λ a h. assumption)
+fetch_arm = arm 8 versioned_field (λ v. payload.Fetch v.file v.epoch v.object v.version) (λ a. refl) (λ a h. assumption)
 
 object_arm : IsArm marked FitsPayload 9 object_fields
 unfolding object_fields
-object_arm = arm 9 (both (both (both (both file_field epoch_field) word_field) stamp_field) body_field) (λ f. payload.Object f.0.0.0.0 f.0.0.0.1 f.0.0.1 f.0.1 f.1) (λ a. refl) (λ a h. assumption)
+object_arm = arm 9 (both versioned_field body_field) (λ f. payload.Object f.0.file f.0.epoch f.0.object f.0.version f.1) (λ a. refl) (λ a h. assumption)
 
 stage_arm : IsArm marked FitsPayload 10 stage_fields
 unfolding stage_fields
-stage_arm = arm 10 (both (both (both (both file_field epoch_field) word_field) stamp_field) body_field) (λ f. payload.Stage f.0.0.0.0 f.0.0.0.1 f.0.0.1 f.0.1 f.1) (λ a. refl) (λ a h. assumption)
+stage_arm = arm 10 (both versioned_field body_field) (λ f. payload.Stage f.0.file f.0.epoch f.0.object f.0.version f.1) (λ a. refl) (λ a h. assumption)
 
 staged_arm : IsArm marked FitsPayload 11 staged_fields
 unfolding staged_fields
-staged_arm = arm 11 (both (both (both file_field epoch_field) word_field) stamp_field) (λ f. payload.Staged f.0.0.0 f.0.0.1 f.0.1 f.1) (λ a. refl) (λ a h. assumption)
+staged_arm = arm 11 versioned_field (λ v. payload.Staged v.file v.epoch v.object v.version) (λ a. refl) (λ a h. assumption)
 
 head_arm : IsArm marked FitsPayload 12 head_fields
-unfolding head_fields
+unfolding head_fields epoch_of_at
 head_arm = arm 12 (both (both file_field epoch_field) head_field) (λ f. payload.Head f.0.0 f.0.1 f.1) (λ a. refl) (λ a h. assumption)
 
 update_arm : IsArm marked FitsPayload 13 update_fields
@@ -83,16 +93,16 @@ unfolding ack_fields
 ack_arm = arm 14 (both file_field stamp_field) (λ f. payload.Ack f.0 f.1) (λ a. refl) (λ a h. assumption)
 
 refused_arm : IsArm marked FitsPayload 15 refused_fields
-unfolding refused_fields
+unfolding refused_fields epoch_of_at
 refused_arm = arm 15 (both (both file_field epoch_field) epoch_field) (λ f. payload.Refused f.0.0 f.0.1 f.1) (λ a. refl) (λ a h. assumption)
 
 behind_arm : IsArm marked FitsPayload 16 behind_fields
-unfolding behind_fields
+unfolding behind_fields epoch_of_at
 behind_arm = arm 16 (both (both file_field epoch_field) stamp_field) (λ f. payload.Behind f.0.0 f.0.1 f.1) (λ a. refl) (λ a h. assumption)
 
 missing_arm : IsArm marked FitsPayload 17 missing_fields
 unfolding missing_fields
-missing_arm = arm 17 (both (both (both file_field epoch_field) word_field) stamp_field) (λ f. payload.Missing f.0.0.0 f.0.0.1 f.0.1 f.1) (λ a. refl) (λ a h. assumption)
+missing_arm = arm 17 versioned_field (λ v. payload.Missing v.file v.epoch v.object v.version) (λ a. refl) (λ a h. assumption)
 
 ask_arm : IsArm marked FitsPayload 18 ask_fields
 unfolding ask_fields
@@ -150,7 +160,7 @@ unfolding payload_arms
 payload_arms_take = either 6 lease_arms_take (either 18 replica_arms_take service_arms_take)
 
 pub payload_again : (p : Payload) (rest : List ℕ) → FitsPayload p → payload_arms (kind_of p) (payload_bytes p ++ rest) ≡ Ok (p, rest)
-unfolding payload_arms lease_arms replica_arms service_arms read_fields promise_fields write_fields accepted_fields outrun_fields gather_fields status_fields fetch_fields object_fields stage_fields staged_fields head_fields update_fields ack_fields refused_fields behind_fields missing_fields ask_fields reply_fields meta_fields meta_reply_fields registry_fields registry_reply_fields stop_fields
+unfolding payload_arms lease_arms replica_arms service_arms ballot_of_at epoch_of_at read_fields promise_fields write_fields accepted_fields outrun_fields gather_fields status_fields fetch_fields object_fields stage_fields staged_fields head_fields update_fields ack_fields refused_fields behind_fields missing_fields ask_fields reply_fields meta_fields meta_reply_fields registry_fields registry_reply_fields stop_fields
 payload_again (payload.Read file ballot) rest h = arm_again (both file_field ballot_field) (λ f. payload.Read f.0 f.1) (file, ballot) rest assumption
 payload_again (payload.Promise file ballot boot report) rest h = arm_again (both (both (both file_field ballot_field) boot_field) report_field) (λ f. payload.Promise f.0.0.0 f.0.0.1 f.0.1 f.1) (((file, ballot), boot), report) rest assumption
 payload_again (payload.Write file ballot boot lease) rest h = arm_again (both (both (both file_field ballot_field) boot_field) lease_field) (λ f. payload.Write f.0.0.0 f.0.0.1 f.0.1 f.1) (((file, ballot), boot), lease) rest assumption
@@ -158,16 +168,16 @@ payload_again (payload.Accepted file ballot boot) rest h = arm_again (both (both
 payload_again (payload.Outrun file ballot seen) rest h = arm_again (both (both file_field ballot_field) ballot_field) (λ f. payload.Outrun f.0.0 f.0.1 f.1) ((file, ballot), seen) rest assumption
 payload_again (payload.Gather file epoch) rest h = arm_again (both file_field epoch_field) (λ f. payload.Gather f.0 f.1) (file, epoch) rest assumption
 payload_again (payload.Status file epoch head) rest h = arm_again (both (both file_field epoch_field) head_field) (λ f. payload.Status f.0.0 f.0.1 f.1) ((file, epoch), head) rest assumption
-payload_again (payload.Fetch file epoch object version) rest h = arm_again (both (both (both file_field epoch_field) word_field) stamp_field) (λ f. payload.Fetch f.0.0.0 f.0.0.1 f.0.1 f.1) (((file, epoch), object), version) rest assumption
-payload_again (payload.Object file epoch object version bytes) rest h = arm_again (both (both (both (both file_field epoch_field) word_field) stamp_field) body_field) (λ f. payload.Object f.0.0.0.0 f.0.0.0.1 f.0.0.1 f.0.1 f.1) ((((file, epoch), object), version), bytes) rest assumption
-payload_again (payload.Stage file epoch object version bytes) rest h = arm_again (both (both (both (both file_field epoch_field) word_field) stamp_field) body_field) (λ f. payload.Stage f.0.0.0.0 f.0.0.0.1 f.0.0.1 f.0.1 f.1) ((((file, epoch), object), version), bytes) rest assumption
-payload_again (payload.Staged file epoch object version) rest h = arm_again (both (both (both file_field epoch_field) word_field) stamp_field) (λ f. payload.Staged f.0.0.0 f.0.0.1 f.0.1 f.1) (((file, epoch), object), version) rest assumption
+payload_again (payload.Fetch file epoch object version) rest h = arm_again versioned_field (λ v. payload.Fetch v.file v.epoch v.object v.version) (record { file = file; epoch = epoch; object = object; version = version }) rest assumption
+payload_again (payload.Object file epoch object version bytes) rest h = arm_again (both versioned_field body_field) (λ f. payload.Object f.0.file f.0.epoch f.0.object f.0.version f.1) (record { file = file; epoch = epoch; object = object; version = version }, bytes) rest assumption
+payload_again (payload.Stage file epoch object version bytes) rest h = arm_again (both versioned_field body_field) (λ f. payload.Stage f.0.file f.0.epoch f.0.object f.0.version f.1) (record { file = file; epoch = epoch; object = object; version = version }, bytes) rest assumption
+payload_again (payload.Staged file epoch object version) rest h = arm_again versioned_field (λ v. payload.Staged v.file v.epoch v.object v.version) (record { file = file; epoch = epoch; object = object; version = version }) rest assumption
 payload_again (payload.Head file epoch head) rest h = arm_again (both (both file_field epoch_field) head_field) (λ f. payload.Head f.0.0 f.0.1 f.1) ((file, epoch), head) rest assumption
 payload_again (payload.Update file update) rest h = arm_again (both file_field update_field) (λ f. payload.Update f.0 f.1) (file, update) rest assumption
 payload_again (payload.Ack file stamp) rest h = arm_again (both file_field stamp_field) (λ f. payload.Ack f.0 f.1) (file, stamp) rest assumption
 payload_again (payload.Refused file epoch promised) rest h = arm_again (both (both file_field epoch_field) epoch_field) (λ f. payload.Refused f.0.0 f.0.1 f.1) ((file, epoch), promised) rest assumption
 payload_again (payload.Behind file epoch stamp) rest h = arm_again (both (both file_field epoch_field) stamp_field) (λ f. payload.Behind f.0.0 f.0.1 f.1) ((file, epoch), stamp) rest assumption
-payload_again (payload.Missing file epoch object version) rest h = arm_again (both (both (both file_field epoch_field) word_field) stamp_field) (λ f. payload.Missing f.0.0.0 f.0.0.1 f.0.1 f.1) (((file, epoch), object), version) rest assumption
+payload_again (payload.Missing file epoch object version) rest h = arm_again versioned_field (λ v. payload.Missing v.file v.epoch v.object v.version) (record { file = file; epoch = epoch; object = object; version = version }) rest assumption
 payload_again (payload.Ask number capability op) rest h = arm_again (both (both count_field capability_field) op_field) (λ f. payload.Ask f.0.0 f.0.1 f.1) ((number, capability), op) rest assumption
 payload_again (payload.Reply number file reply) rest h = arm_again (both (both count_field file_field) reply_field) (λ f. payload.Reply f.0.0 f.0.1 f.1) ((number, file), reply) rest assumption
 payload_again (payload.Meta number user group request) rest h = arm_again (both (both (both count_field word_field) word_field) meta_req_field) (λ f. payload.Meta f.0.0.0 f.0.0.1 f.0.1 f.1) (((number, user), group), request) rest assumption

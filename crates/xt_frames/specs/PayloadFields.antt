@@ -1,9 +1,13 @@
 -- the fields of each kind, read from the front of bytes
 use Rattle.std.specs.Prelude.{ℕ, Err, nat_lt, ◌==◌, if◌then◌else◌}
 use Rattle.xt_base.specs.declared.TheConstants.{BODY}
+use Rattle.xt_base.specs.declared.ids.FileId.{FileId}
+use Rattle.xt_base.specs.declared.ids.Ballot.{Ballot}
+use Rattle.xt_base.specs.declared.ids.Epoch.{Epoch}
 use Rattle.xt_messages.specs.declared.message.Payload.{Payload}
 use Rattle.xt_messages.specs.declared.message.Payload.TheVariants as payload
 use Rattle.xt_messages.specs.declared.message.Msg.{Msg}
+use Rattle.xt_frames.specs.declared.reading.Versioned.{Versioned}
 use Rattle.xt_fields.specs.declared.fault.FieldErr.TheVariants as fault
 use Rattle.xt_fields.specs.Reading.{Field, ◌&◌, made}
 use Rattle.xt_fields.specs.BasicFields.{word_at, count_at, raw_at, octets_at}
@@ -15,41 +19,55 @@ use Rattle.xt_answers.specs.MetaAnswers.{meta_answer_at}
 use Rattle.xt_wire.specs.RegistryFields.{registry_req_at}
 use Rattle.xt_answers.specs.RegistryAnswers.{registry_answer_at}
 
+-- a file and a ballot, as the kinds of leases begin
+unfoldable pub ballot_of_at : Field (FileId × Ballot)
+ballot_of_at = file_at & ballot_at
+
+-- a file and an epoch, as most kinds of replicas begin
+unfoldable pub epoch_of_at : Field (FileId × Epoch)
+epoch_of_at = file_at & epoch_at
+
+-- a version of an object, asked for or sent in an epoch
+unfoldable pub versioned_at : Field Versioned
+versioned_at =
+    made (λ v. record { file = v.0.0.0; epoch = v.0.0.1; object = v.0.1; version = v.1 })
+    (epoch_of_at & word_at & stamp_at)
+
 unfoldable pub read_fields : Field Payload
-read_fields = made (λ f. payload.Read f.0 f.1) (file_at & ballot_at)
+read_fields = made (λ f. payload.Read f.0 f.1) ballot_of_at
 
 unfoldable pub promise_fields : Field Payload
-promise_fields = made (λ f. payload.Promise f.0.0.0 f.0.0.1 f.0.1 f.1) (file_at & ballot_at & boot_at & report_at)
+promise_fields = made (λ f. payload.Promise f.0.0.0 f.0.0.1 f.0.1 f.1) (ballot_of_at & boot_at & report_at)
 
 unfoldable pub write_fields : Field Payload
-write_fields = made (λ f. payload.Write f.0.0.0 f.0.0.1 f.0.1 f.1) (file_at & ballot_at & boot_at & lease_at)
+write_fields = made (λ f. payload.Write f.0.0.0 f.0.0.1 f.0.1 f.1) (ballot_of_at & boot_at & lease_at)
 
 unfoldable pub accepted_fields : Field Payload
-accepted_fields = made (λ f. payload.Accepted f.0.0 f.0.1 f.1) (file_at & ballot_at & boot_at)
+accepted_fields = made (λ f. payload.Accepted f.0.0 f.0.1 f.1) (ballot_of_at & boot_at)
 
 unfoldable pub outrun_fields : Field Payload
-outrun_fields = made (λ f. payload.Outrun f.0.0 f.0.1 f.1) (file_at & ballot_at & ballot_at)
+outrun_fields = made (λ f. payload.Outrun f.0.0 f.0.1 f.1) (ballot_of_at & ballot_at)
 
 unfoldable pub gather_fields : Field Payload
-gather_fields = made (λ f. payload.Gather f.0 f.1) (file_at & epoch_at)
+gather_fields = made (λ f. payload.Gather f.0 f.1) epoch_of_at
 
 unfoldable pub status_fields : Field Payload
-status_fields = made (λ f. payload.Status f.0.0 f.0.1 f.1) (file_at & epoch_at & head_at)
+status_fields = made (λ f. payload.Status f.0.0 f.0.1 f.1) (epoch_of_at & head_at)
 
 unfoldable pub fetch_fields : Field Payload
-fetch_fields = made (λ f. payload.Fetch f.0.0.0 f.0.0.1 f.0.1 f.1) (file_at & epoch_at & word_at & stamp_at)
+fetch_fields = made (λ v. payload.Fetch v.file v.epoch v.object v.version) versioned_at
 
 unfoldable pub object_fields : Field Payload
-object_fields = made (λ f. payload.Object f.0.0.0.0 f.0.0.0.1 f.0.0.1 f.0.1 f.1) (file_at & epoch_at & word_at & stamp_at & octets_at BODY)
+object_fields = made (λ f. payload.Object f.0.file f.0.epoch f.0.object f.0.version f.1) (versioned_at & octets_at BODY)
 
 unfoldable pub stage_fields : Field Payload
-stage_fields = made (λ f. payload.Stage f.0.0.0.0 f.0.0.0.1 f.0.0.1 f.0.1 f.1) (file_at & epoch_at & word_at & stamp_at & octets_at BODY)
+stage_fields = made (λ f. payload.Stage f.0.file f.0.epoch f.0.object f.0.version f.1) (versioned_at & octets_at BODY)
 
 unfoldable pub staged_fields : Field Payload
-staged_fields = made (λ f. payload.Staged f.0.0.0 f.0.0.1 f.0.1 f.1) (file_at & epoch_at & word_at & stamp_at)
+staged_fields = made (λ v. payload.Staged v.file v.epoch v.object v.version) versioned_at
 
 unfoldable pub head_fields : Field Payload
-head_fields = made (λ f. payload.Head f.0.0 f.0.1 f.1) (file_at & epoch_at & head_at)
+head_fields = made (λ f. payload.Head f.0.0 f.0.1 f.1) (epoch_of_at & head_at)
 
 unfoldable pub update_fields : Field Payload
 update_fields = made (λ f. payload.Update f.0 f.1) (file_at & update_at)
@@ -58,13 +76,13 @@ unfoldable pub ack_fields : Field Payload
 ack_fields = made (λ f. payload.Ack f.0 f.1) (file_at & stamp_at)
 
 unfoldable pub refused_fields : Field Payload
-refused_fields = made (λ f. payload.Refused f.0.0 f.0.1 f.1) (file_at & epoch_at & epoch_at)
+refused_fields = made (λ f. payload.Refused f.0.0 f.0.1 f.1) (epoch_of_at & epoch_at)
 
 unfoldable pub behind_fields : Field Payload
-behind_fields = made (λ f. payload.Behind f.0.0 f.0.1 f.1) (file_at & epoch_at & stamp_at)
+behind_fields = made (λ f. payload.Behind f.0.0 f.0.1 f.1) (epoch_of_at & stamp_at)
 
 unfoldable pub missing_fields : Field Payload
-missing_fields = made (λ f. payload.Missing f.0.0.0 f.0.0.1 f.0.1 f.1) (file_at & epoch_at & word_at & stamp_at)
+missing_fields = made (λ v. payload.Missing v.file v.epoch v.object v.version) versioned_at
 
 unfoldable pub ask_fields : Field Payload
 ask_fields = made (λ f. payload.Ask f.0.0 f.0.1 f.1) (count_at & capability_at & op_at)

@@ -1,10 +1,10 @@
 ghost use Rattle.std.specs.Prelude.{◌≡◌};
 ghost use Rattle.xt_fields.specs.Reading.{Gives};
-ghost use Rattle.xt_frames.specs.PayloadFields.{read_fields, promise_fields, write_fields, accepted_fields, outrun_fields, gather_fields, status_fields, fetch_fields, object_fields, stage_fields, staged_fields, head_fields, update_fields, ack_fields, refused_fields, behind_fields, missing_fields, ask_fields, reply_fields, meta_fields, meta_reply_fields, registry_fields, registry_reply_fields, stop_fields, lease_arms, replica_arms, service_arms, payload_arms, message_at};
+ghost use Rattle.xt_frames.specs.PayloadFields.{ballot_of_at, epoch_of_at, versioned_at, read_fields, promise_fields, write_fields, accepted_fields, outrun_fields, gather_fields, status_fields, fetch_fields, object_fields, stage_fields, staged_fields, head_fields, update_fields, ack_fields, refused_fields, behind_fields, missing_fields, ask_fields, reply_fields, meta_fields, meta_reply_fields, registry_fields, registry_reply_fields, stop_fields, lease_arms, replica_arms, service_arms, payload_arms, message_at};
 
 use std::alloc::Global;
 use xt_answers::{ReadAnswers, ReadReplies};
-use xt_base::BODY;
+use xt_base::{BODY, Ballot, Epoch, FileId, Stamp};
 use xt_fields::{FieldErr, FieldReader};
 use xt_messages::{Msg, Payload};
 use xt_wire::{ReadFiles, ReadIds, ReadRequests};
@@ -108,13 +108,56 @@ pub(crate) fn message(
     })
 }
 
+/// A version of an object, asked for or sent in an epoch.
+struct Versioned {
+    file: FileId,
+    epoch: Epoch,
+    object: u64,
+    version: Stamp,
+}
+
+/// A file and a ballot, as the kinds of leases begin.
+#[tactic(auto, unfolding(crate::specs::PayloadFields::ballot_of_at))]
+fn file_and_ballot(reader: &mut FieldReader<'_>) -> Result<(FileId, Ballot), FieldErr>
+    ensures { Gives result reader.new (ballot_of_at reader.old) }
+{
+    let file = reader.file()?;
+    let ballot = reader.ballot()?;
+    Ok((file, ballot))
+}
+
+/// A file and an epoch, as most kinds of replicas begin.
+#[tactic(auto, unfolding(crate::specs::PayloadFields::epoch_of_at))]
+fn file_and_epoch(reader: &mut FieldReader<'_>) -> Result<(FileId, Epoch), FieldErr>
+    ensures { Gives result reader.new (epoch_of_at reader.old) }
+{
+    let file = reader.file()?;
+    let epoch = reader.epoch()?;
+    Ok((file, epoch))
+}
+
+/// What the kinds about a version of an object begin with.
+#[tactic(auto, unfolding(crate::specs::PayloadFields::versioned_at))]
+fn version_of_object(reader: &mut FieldReader<'_>) -> Result<Versioned, FieldErr>
+    ensures { Gives result reader.new (versioned_at reader.old) }
+{
+    let (file, epoch) = file_and_epoch(reader)?;
+    let object = reader.object()?;
+    let version = reader.stamp()?;
+    Ok(Versioned {
+        file,
+        epoch,
+        object,
+        version,
+    })
+}
+
 /// A ballot that is to be promised.
 #[tactic(auto, unfolding(crate::specs::PayloadFields::read_fields))]
 fn read_read(reader: &mut FieldReader<'_>) -> Result<Payload, FieldErr>
     ensures { Gives result reader.new (read_fields reader.old) }
 {
-    let file = reader.file()?;
-    let ballot = reader.ballot()?;
+    let (file, ballot) = file_and_ballot(reader)?;
     Ok(Payload::Read { file, ballot })
 }
 
@@ -123,8 +166,7 @@ fn read_read(reader: &mut FieldReader<'_>) -> Result<Payload, FieldErr>
 fn read_promise(reader: &mut FieldReader<'_>) -> Result<Payload, FieldErr>
     ensures { Gives result reader.new (promise_fields reader.old) }
 {
-    let file = reader.file()?;
-    let ballot = reader.ballot()?;
+    let (file, ballot) = file_and_ballot(reader)?;
     let boot = reader.boot()?;
     let report = reader.report()?;
     Ok(Payload::Promise {
@@ -140,8 +182,7 @@ fn read_promise(reader: &mut FieldReader<'_>) -> Result<Payload, FieldErr>
 fn read_write(reader: &mut FieldReader<'_>) -> Result<Payload, FieldErr>
     ensures { Gives result reader.new (write_fields reader.old) }
 {
-    let file = reader.file()?;
-    let ballot = reader.ballot()?;
+    let (file, ballot) = file_and_ballot(reader)?;
     let boot = reader.boot()?;
     let lease = reader.lease()?;
     Ok(Payload::Write {
@@ -157,8 +198,7 @@ fn read_write(reader: &mut FieldReader<'_>) -> Result<Payload, FieldErr>
 fn read_accepted(reader: &mut FieldReader<'_>) -> Result<Payload, FieldErr>
     ensures { Gives result reader.new (accepted_fields reader.old) }
 {
-    let file = reader.file()?;
-    let ballot = reader.ballot()?;
+    let (file, ballot) = file_and_ballot(reader)?;
     let boot = reader.boot()?;
     Ok(Payload::Accepted { file, ballot, boot })
 }
@@ -168,8 +208,7 @@ fn read_accepted(reader: &mut FieldReader<'_>) -> Result<Payload, FieldErr>
 fn read_outrun(reader: &mut FieldReader<'_>) -> Result<Payload, FieldErr>
     ensures { Gives result reader.new (outrun_fields reader.old) }
 {
-    let file = reader.file()?;
-    let ballot = reader.ballot()?;
+    let (file, ballot) = file_and_ballot(reader)?;
     let seen = reader.ballot()?;
     Ok(Payload::Outrun { file, ballot, seen })
 }
@@ -179,8 +218,7 @@ fn read_outrun(reader: &mut FieldReader<'_>) -> Result<Payload, FieldErr>
 fn read_gather(reader: &mut FieldReader<'_>) -> Result<Payload, FieldErr>
     ensures { Gives result reader.new (gather_fields reader.old) }
 {
-    let file = reader.file()?;
-    let epoch = reader.epoch()?;
+    let (file, epoch) = file_and_epoch(reader)?;
     Ok(Payload::Gather { file, epoch })
 }
 
@@ -189,8 +227,7 @@ fn read_gather(reader: &mut FieldReader<'_>) -> Result<Payload, FieldErr>
 fn read_status(reader: &mut FieldReader<'_>, alloc: Global) -> Result<Payload, FieldErr>
     ensures { Gives result reader.new (status_fields reader.old) }
 {
-    let file = reader.file()?;
-    let epoch = reader.epoch()?;
+    let (file, epoch) = file_and_epoch(reader)?;
     let head = reader.head(alloc)?;
     Ok(Payload::Status { file, epoch, head })
 }
@@ -200,10 +237,12 @@ fn read_status(reader: &mut FieldReader<'_>, alloc: Global) -> Result<Payload, F
 fn read_fetch(reader: &mut FieldReader<'_>) -> Result<Payload, FieldErr>
     ensures { Gives result reader.new (fetch_fields reader.old) }
 {
-    let file = reader.file()?;
-    let epoch = reader.epoch()?;
-    let object = reader.object()?;
-    let version = reader.stamp()?;
+    let Versioned {
+        file,
+        epoch,
+        object,
+        version,
+    } = version_of_object(reader)?;
     Ok(Payload::Fetch {
         file,
         epoch,
@@ -217,10 +256,12 @@ fn read_fetch(reader: &mut FieldReader<'_>) -> Result<Payload, FieldErr>
 fn read_object(reader: &mut FieldReader<'_>, alloc: Global) -> Result<Payload, FieldErr>
     ensures { Gives result reader.new (object_fields reader.old) }
 {
-    let file = reader.file()?;
-    let epoch = reader.epoch()?;
-    let object = reader.object()?;
-    let version = reader.stamp()?;
+    let Versioned {
+        file,
+        epoch,
+        object,
+        version,
+    } = version_of_object(reader)?;
     let bytes = reader.octets(alloc, BODY_LIMIT)?;
     Ok(Payload::Object {
         file,
@@ -236,10 +277,12 @@ fn read_object(reader: &mut FieldReader<'_>, alloc: Global) -> Result<Payload, F
 fn read_stage(reader: &mut FieldReader<'_>, alloc: Global) -> Result<Payload, FieldErr>
     ensures { Gives result reader.new (stage_fields reader.old) }
 {
-    let file = reader.file()?;
-    let epoch = reader.epoch()?;
-    let object = reader.object()?;
-    let version = reader.stamp()?;
+    let Versioned {
+        file,
+        epoch,
+        object,
+        version,
+    } = version_of_object(reader)?;
     let bytes = reader.octets(alloc, BODY_LIMIT)?;
     Ok(Payload::Stage {
         file,
@@ -255,10 +298,12 @@ fn read_stage(reader: &mut FieldReader<'_>, alloc: Global) -> Result<Payload, Fi
 fn read_staged(reader: &mut FieldReader<'_>) -> Result<Payload, FieldErr>
     ensures { Gives result reader.new (staged_fields reader.old) }
 {
-    let file = reader.file()?;
-    let epoch = reader.epoch()?;
-    let object = reader.object()?;
-    let version = reader.stamp()?;
+    let Versioned {
+        file,
+        epoch,
+        object,
+        version,
+    } = version_of_object(reader)?;
     Ok(Payload::Staged {
         file,
         epoch,
@@ -272,8 +317,7 @@ fn read_staged(reader: &mut FieldReader<'_>) -> Result<Payload, FieldErr>
 fn read_head(reader: &mut FieldReader<'_>, alloc: Global) -> Result<Payload, FieldErr>
     ensures { Gives result reader.new (head_fields reader.old) }
 {
-    let file = reader.file()?;
-    let epoch = reader.epoch()?;
+    let (file, epoch) = file_and_epoch(reader)?;
     let head = reader.head(alloc)?;
     Ok(Payload::Head { file, epoch, head })
 }
@@ -303,8 +347,7 @@ fn read_ack(reader: &mut FieldReader<'_>) -> Result<Payload, FieldErr>
 fn read_refused(reader: &mut FieldReader<'_>) -> Result<Payload, FieldErr>
     ensures { Gives result reader.new (refused_fields reader.old) }
 {
-    let file = reader.file()?;
-    let epoch = reader.epoch()?;
+    let (file, epoch) = file_and_epoch(reader)?;
     let promised = reader.epoch()?;
     Ok(Payload::Refused {
         file,
@@ -318,8 +361,7 @@ fn read_refused(reader: &mut FieldReader<'_>) -> Result<Payload, FieldErr>
 fn read_behind(reader: &mut FieldReader<'_>) -> Result<Payload, FieldErr>
     ensures { Gives result reader.new (behind_fields reader.old) }
 {
-    let file = reader.file()?;
-    let epoch = reader.epoch()?;
+    let (file, epoch) = file_and_epoch(reader)?;
     let stamp = reader.stamp()?;
     Ok(Payload::Behind { file, epoch, stamp })
 }
@@ -329,10 +371,12 @@ fn read_behind(reader: &mut FieldReader<'_>) -> Result<Payload, FieldErr>
 fn read_missing(reader: &mut FieldReader<'_>) -> Result<Payload, FieldErr>
     ensures { Gives result reader.new (missing_fields reader.old) }
 {
-    let file = reader.file()?;
-    let epoch = reader.epoch()?;
-    let object = reader.object()?;
-    let version = reader.stamp()?;
+    let Versioned {
+        file,
+        epoch,
+        object,
+        version,
+    } = version_of_object(reader)?;
     Ok(Payload::Missing {
         file,
         epoch,

@@ -57,7 +57,7 @@ pub(crate) fn put_payload(writer: &mut FieldWriter, payload: &Payload) -> Result
     ensures { OnOk result (writer.new ≡ writer.old ++ payload_bytes payload.now) }
 {
     match payload {
-        Payload::Read { file, ballot } => put_read(writer, *file, *ballot),
+        Payload::Read { file, ballot } => put_ballot(writer, *file, *ballot),
         Payload::Promise {
             file,
             ballot,
@@ -70,9 +70,9 @@ pub(crate) fn put_payload(writer: &mut FieldWriter, payload: &Payload) -> Result
             boot,
             lease,
         } => put_write(writer, *file, *ballot, *boot, *lease),
-        Payload::Accepted { file, ballot, boot } => put_accepted(writer, *file, *ballot, *boot),
+        Payload::Accepted { file, ballot, boot } => put_boot(writer, *file, *ballot, *boot),
         Payload::Outrun { file, ballot, seen } => put_outrun(writer, *file, *ballot, *seen),
-        Payload::Gather { file, epoch } => put_gather(writer, *file, *epoch),
+        Payload::Gather { file, epoch } => put_epoch(writer, *file, *epoch),
         Payload::Status { file, epoch, head } | Payload::Head { file, epoch, head } => put_head(
             writer, *file, *epoch, head,
         ),
@@ -139,12 +139,25 @@ pub(crate) fn put_payload(writer: &mut FieldWriter, payload: &Payload) -> Result
     }
 }
 
-/// A ballot that is to be promised.
-fn put_read(writer: &mut FieldWriter, file: FileId, ballot: Ballot) -> Result<(), OutOfMemory>
+/// A file and a ballot, as the kinds of leases begin.
+fn put_ballot(writer: &mut FieldWriter, file: FileId, ballot: Ballot) -> Result<(), OutOfMemory>
     ensures { OnOk result (writer.new ≡ writer.old ++ (file_bytes file ++ ballot_bytes ballot)) }
 {
     writer.file(file)?;
     writer.ballot(ballot)
+}
+
+/// A file, a ballot and a boot, as a promise, a lease to be accepted and an accepted one begin.
+fn put_boot(
+    writer: &mut FieldWriter,
+    file: FileId,
+    ballot: Ballot,
+    boot: Boot,
+) -> Result<(), OutOfMemory>
+    ensures { OnOk result (writer.new ≡ writer.old ++ (file_bytes file ++ ballot_bytes ballot ++ boot_bytes boot)) }
+{
+    put_ballot(writer, file, ballot)?;
+    writer.boot(boot)
 }
 
 /// A promise.
@@ -157,9 +170,7 @@ fn put_promise(
 ) -> Result<(), OutOfMemory>
     ensures { OnOk result (writer.new ≡ writer.old ++ (file_bytes file ++ ballot_bytes ballot ++ boot_bytes boot ++ report_bytes report)) }
 {
-    writer.file(file)?;
-    writer.ballot(ballot)?;
-    writer.boot(boot)?;
+    put_boot(writer, file, ballot, boot)?;
     writer.report(report)
 }
 
@@ -173,24 +184,8 @@ fn put_write(
 ) -> Result<(), OutOfMemory>
     ensures { OnOk result (writer.new ≡ writer.old ++ (file_bytes file ++ ballot_bytes ballot ++ boot_bytes boot ++ lease_bytes lease)) }
 {
-    writer.file(file)?;
-    writer.ballot(ballot)?;
-    writer.boot(boot)?;
+    put_boot(writer, file, ballot, boot)?;
     writer.lease(lease)
-}
-
-/// That a lease is accepted.
-fn put_accepted(
-    writer: &mut FieldWriter,
-    file: FileId,
-    ballot: Ballot,
-    boot: Boot,
-) -> Result<(), OutOfMemory>
-    ensures { OnOk result (writer.new ≡ writer.old ++ (file_bytes file ++ ballot_bytes ballot ++ boot_bytes boot)) }
-{
-    writer.file(file)?;
-    writer.ballot(ballot)?;
-    writer.boot(boot)
 }
 
 /// That a round at least as high was promised.
@@ -202,13 +197,12 @@ fn put_outrun(
 ) -> Result<(), OutOfMemory>
     ensures { OnOk result (writer.new ≡ writer.old ++ (file_bytes file ++ ballot_bytes ballot ++ ballot_bytes seen)) }
 {
-    writer.file(file)?;
-    writer.ballot(ballot)?;
+    put_ballot(writer, file, ballot)?;
     writer.ballot(seen)
 }
 
-/// A new primary's question.
-fn put_gather(writer: &mut FieldWriter, file: FileId, epoch: Epoch) -> Result<(), OutOfMemory>
+/// A file and an epoch, as most kinds of replicas begin.
+fn put_epoch(writer: &mut FieldWriter, file: FileId, epoch: Epoch) -> Result<(), OutOfMemory>
     ensures { OnOk result (writer.new ≡ writer.old ++ (file_bytes file ++ epoch_bytes epoch)) }
 {
     writer.file(file)?;
@@ -225,8 +219,7 @@ fn put_head(
     requires { FitsHead head.now }
     ensures { OnOk result (writer.new ≡ writer.old ++ (file_bytes file ++ epoch_bytes epoch ++ head_bytes head.now)) }
 {
-    writer.file(file)?;
-    writer.epoch(epoch)?;
+    put_epoch(writer, file, epoch)?;
     writer.head(head)
 }
 
@@ -241,8 +234,7 @@ fn put_version(
     requires { IsObject object }
     ensures { OnOk result (writer.new ≡ writer.old ++ (file_bytes file ++ epoch_bytes epoch ++ word_bytes object ++ stamp_bytes version)) }
 {
-    writer.file(file)?;
-    writer.epoch(epoch)?;
+    put_epoch(writer, file, epoch)?;
     writer.object(object)?;
     writer.stamp(version)
 }
@@ -290,8 +282,7 @@ fn put_refused(
 ) -> Result<(), OutOfMemory>
     ensures { OnOk result (writer.new ≡ writer.old ++ (file_bytes file ++ epoch_bytes epoch ++ epoch_bytes promised)) }
 {
-    writer.file(file)?;
-    writer.epoch(epoch)?;
+    put_epoch(writer, file, epoch)?;
     writer.epoch(promised)
 }
 
@@ -304,8 +295,7 @@ fn put_behind(
 ) -> Result<(), OutOfMemory>
     ensures { OnOk result (writer.new ≡ writer.old ++ (file_bytes file ++ epoch_bytes epoch ++ stamp_bytes stamp)) }
 {
-    writer.file(file)?;
-    writer.epoch(epoch)?;
+    put_epoch(writer, file, epoch)?;
     writer.stamp(stamp)
 }
 
