@@ -141,6 +141,22 @@ pub fn answers(
     })
 }
 
+/// The same to each of these nodes, in order.
+pub fn to_each(
+    alloc: Global,
+    from: NodeId,
+    nodes: &[NodeId],
+    payload: &Payload,
+) -> Result<Msgs, OutOfMemory>
+    ensures { IfOk result (λ outs. outs ≡ rows.to_each from nodes.now payload.now) }
+{
+    let mut outs = Seq::new(alloc);
+    for to in nodes {
+        outs.push(message(from, *to, payload.copy(alloc)?))?;
+    }
+    Ok(outs)
+}
+
 /// Takes these items behind the others.
 fn append<T: Drop>(items: &mut Seq<T>, more: &mut Seq<T>) -> Result<(), OutOfMemory>
     ensures { OnOk result (items.new ≡ items.old ++ more.old) }
