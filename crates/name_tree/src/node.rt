@@ -1,4 +1,4 @@
-ghost use Rattle.std.specs.Prelude.{◌≡◌, ◌<◌, [], ◌∷◌, length, map, false, OnOk, OnErr, IfOk, IfSome, IfNone, IsSome, Some};
+ghost use Rattle.std.specs.Prelude.{◌≡◌, ◌<◌, [], ◌∷◌, ◌++◌, length, map, false, OnOk, OnErr, IfOk, IfSome, IfNone, IsSome, Some};
 ghost use Rattle.volume_rows.specs.Paths.{parent_of, is_within};
 ghost use Rattle.volume_rows.specs.Rows.{entry_in, with_row, rows_outside, rows_within, renamed, names_in, page_of};
 ghost use Rattle.volume_rows.specs.Rights.{ancestors};
@@ -51,6 +51,13 @@ impl Model for Node {
     ghost use Rattle.name_tree.specs.Trees.{most_le-length-inside};
 
     ghost size_decreases = { λ a h. Prim.omega (arith, most_le-length-inside a.kids.entries) };
+}
+
+/// Appends a name to a page.
+fn push_name(alloc: Global, page: &mut Names, name: &str) -> Result<(), OutOfMemory>
+    ensures { OnOk result (page.new ≡ page.old ++ name.now ∷ []) }
+{
+    page.push(Name::of(alloc, name)?)
 }
 
 impl Node {
@@ -236,7 +243,7 @@ impl Node {
             if page.len() == PAGE {
                 return Ok(page);
             }
-            page.push(Name::of(alloc, name.as_str())?)?;
+            push_name(alloc, &mut page, name.as_str())?;
         }
         Ok(page)
     }
