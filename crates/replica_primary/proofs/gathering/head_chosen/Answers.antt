@@ -1,4 +1,4 @@
-use Rattle.std.proofs.Common.{◌∙◌, List, ap, None}
+use Rattle.std.proofs.Common.{◌∙◌, List, ap}
 use Rattle.xt_messages.specs.declared.file.ObjectVersion.{ObjectVersion}
 use Rattle.osd_rows.specs.Choice.{difference}
 use Rattle.osd_rows.specs.PrimaryRows.{fetches}
