@@ -21,9 +21,9 @@ use kept_bodies::{Bodies, StepErr};
 use osd_decisions::{Standing, standing_of, update_of};
 use osd_rows::{IssuedUpdate, Nodes, Peer, PeerState, Place, PrimaryState, Progress, Tenure};
 use std::alloc::Global;
-use step_outputs::{answers, message, one, quiet, tells};
+use step_outputs::{answers, join, message, one, quiet, sends, shows, tells};
 use xt_base::{
-    COUNTS, Copies, FileId, NodeId, OBJECTS, Octets, OpId, OptionalBox, OutOfMemory, Seq, Stamp,
+    COUNTS, Copies, FileId, NodeId, OBJECTS, Octets, OpId, OutOfMemory, Seq, Stamp,
 };
 use xt_messages::{FileHead, Mark, Msgs, Op, Payload, Update};
 use xt_protocol::Turned;
@@ -118,13 +118,9 @@ fn issue_told(
         count: update.stamp.count,
         id: update.id,
     };
-    let marks = one(alloc, mark)?;
-    let outs = issue_sent(alloc, place, peers, update)?;
-    Ok(Turned {
-        rec: OptionalBox::none(),
-        outs,
-        marks,
-    })
+    let marked = shows(alloc, mark)?;
+    let sent = sends(alloc, issue_sent(alloc, place, peers, update)?);
+    join(marked, sent)
 }
 
 /// The next update, where there is a count left.
