@@ -1,5 +1,6 @@
 pub mod Words
 pub mod CallText
+pub mod WordText
 pub mod LineText
 pub mod OutcomeText
 pub mod EntryText

@@ -1,9 +1,10 @@
 ghost use Rattle.std.specs.Prelude.{◌≡◌, ◌++◌, ◌∷◌, [], OnOk, codes};
 ghost use Rattle.std.specs.Fmt.{decimal};
 ghost use Rattle.schedule_text.specs.Words.{behind, hex_of};
+ghost use Rattle.schedule_text.specs.WordText.{text_of};
 ghost use Rattle.schedule_text.specs.CallText.{call_name, call_words, kind_word, meta_words, mode_word, name_or_dash, registry_words, want_word};
 
-use crate::spelling::{kind_word, push_bytes, push_node, push_number, push_word};
+use crate::spelling::{Word, kind_word, push_words};
 use xt_base::{Name, NodeId, Octets, OutOfMemory};
 use xt_messages::{Call, Kind, MetaReq, RegistryReq};
 
@@ -18,10 +19,15 @@ fn push_read(
     ensures { OnOk result (out.new.items ≡
         out.old.items ++ behind (decimal file ∷ decimal object ∷ decimal at ∷ decimal len ∷ [])) }
 {
-    push_number(out, file)?;
-    push_number(out, object)?;
-    push_number(out, u64::from(at))?;
-    push_number(out, u64::from(len))
+    push_words(
+        out,
+        &[
+            Word::Number(file),
+            Word::Number(object),
+            Word::Small(at),
+            Word::Small(len),
+        ],
+    )
 }
 
 /// Appends ` F OBJ AT HEX`.
@@ -36,10 +42,15 @@ fn push_write(
         out.old.items ++
         behind (decimal file ∷ decimal object ∷ decimal at ∷ hex_of bytes.now ∷ [])) }
 {
-    push_number(out, file)?;
-    push_number(out, object)?;
-    push_number(out, u64::from(at))?;
-    push_bytes(out, bytes.as_slice())
+    push_words(
+        out,
+        &[
+            Word::Number(file),
+            Word::Number(object),
+            Word::Small(at),
+            Word::Hex(bytes.as_slice()),
+        ],
+    )
 }
 
 /// Appends ` F SIZE EPOCH`.
@@ -47,18 +58,10 @@ fn push_truncate(out: &mut Vec<u8>, file: u64, size: u64, epoch: u64) -> Result<
     ensures { OnOk result (out.new.items ≡
         out.old.items ++ behind (decimal file ∷ decimal size ∷ decimal epoch ∷ [])) }
 {
-    push_number(out, file)?;
-    push_number(out, size)?;
-    push_number(out, epoch)
-}
-
-/// Appends ` USER GROUP`.
-fn push_asker(out: &mut Vec<u8>, user: u32, group: u32) -> Result<(), OutOfMemory>
-    ensures { OnOk result (out.new.items ≡
-        out.old.items ++ behind (decimal user ∷ decimal group ∷ [])) }
-{
-    push_number(out, u64::from(user))?;
-    push_number(out, u64::from(group))
+    push_words(
+        out,
+        &[Word::Number(file), Word::Number(size), Word::Number(epoch)],
+    )
 }
 
 /// Appends ` report F`.
@@ -66,69 +69,54 @@ fn push_report(out: &mut Vec<u8>, file: u64) -> Result<(), OutOfMemory>
     ensures { OnOk result (out.new.items ≡
         out.old.items ++ behind (codes "report" ∷ decimal file ∷ [])) }
 {
-    push_word(out, b"report")?;
-    push_number(out, file)
+    push_words(out, &[Word::Text(b"report"), Word::Number(file)])
 }
 
-/// Appends a mode, as three octal digits.
-pub(crate) fn push_mode(out: &mut Vec<u8>, mode: u16) -> Result<(), OutOfMemory>
-    ensures { OnOk result (out.new.items ≡ out.old.items ++ 32 ∷ mode_word mode) }
-{
-    let digits = [
-        b'0' + (mode / 64 % 8) as u8,
-        b'0' + (mode / 8 % 8) as u8,
-        b'0' + (mode % 8) as u8,
-    ];
-    push_word(out, &digits)
-}
-
-/// Appends a name, or a dash for the empty one.
-fn push_name_or_dash(out: &mut Vec<u8>, name: &Name) -> Result<(), OutOfMemory>
-    ensures { OnOk result (out.new.items ≡ out.old.items ++ 32 ∷ name_or_dash name.now) }
+/// A name, or a dash for the empty one.
+fn name_or_dash(name: &Name) -> Word<'_>
+    ensures { text_of result ≡ name_or_dash name.now }
 {
     let bytes = name.as_str().as_bytes();
     if bytes.is_empty() {
-        push_word(out, b"-")
+        Word::Text(b"-")
     } else {
-        push_word(out, bytes)
+        Word::Text(bytes)
     }
 }
 
-/// Appends what a capability is wanted for.
-fn push_want(out: &mut Vec<u8>, want: u8) -> Result<(), OutOfMemory>
-    ensures { OnOk result (out.new.items ≡ out.old.items ++ 32 ∷ want_word want) }
+/// What a capability is wanted for.
+fn want_word(want: u8) -> Word<'static>
+    ensures { text_of result ≡ want_word want }
 {
     if want == 1 {
-        push_word(out, b"read")
+        Word::Text(b"read")
     } else if want == 2 {
-        push_word(out, b"write")
+        Word::Text(b"write")
     } else if want == 3 {
-        push_word(out, b"truncate")
+        Word::Text(b"truncate")
     } else {
-        push_number(out, u64::from(want))
+        Word::Number(u64::from(want))
     }
 }
 
 /// Appends a verb and a path.
-fn push_path(out: &mut Vec<u8>, verb: &[u8], path: &Name) -> Result<(), OutOfMemory>
+fn push_path<'a>(out: &mut Vec<u8>, verb: &'a [u8], path: &'a Name) -> Result<(), OutOfMemory>
     ensures { OnOk result (out.new.items ≡ out.old.items ++ behind (verb.now ∷ path.now ∷ [])) }
 {
-    push_word(out, verb)?;
-    push_word(out, path.as_str().as_bytes())
+    push_words(out, &[Word::Text(verb), Word::Name(path)])
 }
 
 /// Appends a verb, a path and a mode.
-fn push_path_and_mode(
+fn push_path_and_mode<'a>(
     out: &mut Vec<u8>,
-    verb: &[u8],
-    path: &Name,
+    verb: &'a [u8],
+    path: &'a Name,
     mode: u16,
 ) -> Result<(), OutOfMemory>
     ensures { OnOk result (out.new.items ≡
         out.old.items ++ behind (verb.now ∷ path.now ∷ mode_word mode ∷ [])) }
 {
-    push_path(out, verb, path)?;
-    push_mode(out, mode)
+    push_words(out, &[Word::Text(verb), Word::Name(path), Word::Mode(mode)])
 }
 
 /// Appends ` create PATH MODE rep|str N STRIPE`.
@@ -146,27 +134,36 @@ fn push_create(
         ∷ decimal stripe ∷ [])) }
 {
     push_path_and_mode(out, b"create", path, mode)?;
-    push_word(out, kind_word(kind))?;
-    push_number(out, u64::from(n))?;
-    push_number(out, u64::from(stripe))
+    push_words(
+        out,
+        &[
+            Word::Text(kind_word(kind)),
+            Word::Number(u64::from(n)),
+            Word::Small(stripe),
+        ],
+    )
 }
 
 /// Appends ` rename PATH PATH`.
-fn push_rename(out: &mut Vec<u8>, from: &Name, to: &Name) -> Result<(), OutOfMemory>
+fn push_rename<'a>(out: &mut Vec<u8>, from: &'a Name, to: &'a Name) -> Result<(), OutOfMemory>
     ensures { OnOk result (out.new.items ≡
         out.old.items ++ behind (codes "rename" ∷ from.now ∷ to.now ∷ [])) }
 {
-    push_path(out, b"rename", from)?;
-    push_word(out, to.as_str().as_bytes())
+    push_words(
+        out,
+        &[Word::Text(b"rename"), Word::Name(from), Word::Name(to)],
+    )
 }
 
 /// Appends ` list PATH NAME|-`.
-fn push_list(out: &mut Vec<u8>, path: &Name, after: &Name) -> Result<(), OutOfMemory>
+fn push_list<'a>(out: &mut Vec<u8>, path: &'a Name, after: &'a Name) -> Result<(), OutOfMemory>
     ensures { OnOk result (out.new.items ≡
         out.old.items ++ behind (codes "list" ∷ path.now ∷ name_or_dash after.now ∷ [])) }
 {
-    push_path(out, b"list", path)?;
-    push_name_or_dash(out, after)
+    push_words(
+        out,
+        &[Word::Text(b"list"), Word::Name(path), name_or_dash(after)],
+    )
 }
 
 /// Appends ` grant PATH read|write|truncate`.
@@ -174,8 +171,10 @@ fn push_grant(out: &mut Vec<u8>, path: &Name, want: u8) -> Result<(), OutOfMemor
     ensures { OnOk result (out.new.items ≡
         out.old.items ++ behind (codes "grant" ∷ path.now ∷ want_word want ∷ [])) }
 {
-    push_path(out, b"grant", path)?;
-    push_want(out, want)
+    push_words(
+        out,
+        &[Word::Text(b"grant"), Word::Name(path), want_word(want)],
+    )
 }
 
 /// Appends a request to the MRC, as ` VERB ARGS`.
@@ -216,11 +215,16 @@ fn push_set(
         behind (codes "set" ∷ decimal node.0 ∷ decimal kind ∷ address.now ∷ decimal expected
         ∷ [])) }
 {
-    push_word(out, b"set")?;
-    push_node(out, node)?;
-    push_number(out, u64::from(kind))?;
-    push_word(out, address.as_str().as_bytes())?;
-    push_number(out, expected)
+    push_words(
+        out,
+        &[
+            Word::Text(b"set"),
+            Word::Node(node),
+            Word::Number(u64::from(kind)),
+            Word::Name(address),
+            Word::Number(expected),
+        ],
+    )
 }
 
 /// Appends ` get NODE`.
@@ -228,8 +232,7 @@ fn push_get(out: &mut Vec<u8>, node: NodeId) -> Result<(), OutOfMemory>
     ensures { OnOk result (out.new.items ≡
         out.old.items ++ behind (codes "get" ∷ decimal node.0 ∷ [])) }
 {
-    push_word(out, b"get")?;
-    push_node(out, node)
+    push_words(out, &[Word::Text(b"get"), Word::Node(node)])
 }
 
 /// Appends ` list KIND AFTER`.
@@ -237,9 +240,14 @@ fn push_rows_after(out: &mut Vec<u8>, kind: u8, after: NodeId) -> Result<(), Out
     ensures { OnOk result (out.new.items ≡
         out.old.items ++ behind (codes "list" ∷ decimal kind ∷ decimal after.0 ∷ [])) }
 {
-    push_word(out, b"list")?;
-    push_number(out, u64::from(kind))?;
-    push_node(out, after)
+    push_words(
+        out,
+        &[
+            Word::Text(b"list"),
+            Word::Number(u64::from(kind)),
+            Word::Node(after),
+        ],
+    )
 }
 
 /// Appends ` remove NODE EXPECTED`.
@@ -247,9 +255,14 @@ fn push_remove(out: &mut Vec<u8>, node: NodeId, expected: u64) -> Result<(), Out
     ensures { OnOk result (out.new.items ≡
         out.old.items ++ behind (codes "remove" ∷ decimal node.0 ∷ decimal expected ∷ [])) }
 {
-    push_word(out, b"remove")?;
-    push_node(out, node)?;
-    push_number(out, expected)
+    push_words(
+        out,
+        &[
+            Word::Text(b"remove"),
+            Word::Node(node),
+            Word::Number(expected),
+        ],
+    )
 }
 
 /// Appends a request to the DIR, as ` VERB ARGS`.
@@ -323,7 +336,7 @@ fn push_meta_call(
     ensures { OnOk result (out.new.items ≡
         out.old.items ++ behind (decimal user ∷ decimal group ∷ meta_words request.now)) }
 {
-    push_asker(out, user, group)?;
+    push_words(out, &[Word::Small(user), Word::Small(group)])?;
     push_meta(out, request)
 }
 
@@ -333,6 +346,13 @@ fn push_report_call(out: &mut Vec<u8>, user: u32, group: u32, file: u64) -> Resu
         out.old.items ++
         behind (decimal user ∷ decimal group ∷ codes "report" ∷ decimal file ∷ [])) }
 {
-    push_asker(out, user, group)?;
-    push_report(out, file)
+    push_words(
+        out,
+        &[
+            Word::Small(user),
+            Word::Small(group),
+            Word::Text(b"report"),
+            Word::Number(file),
+        ],
+    )
 }

@@ -1,7 +1,7 @@
 ghost use Rattle.std.specs.Prelude.{◌≡◌, ◌++◌, ◌∷◌, [], List, OnOk, IfOk, codes};
 ghost use Rattle.std.specs.List.{AllByRecursion};
 ghost use Rattle.std.specs.Fmt.{decimal};
-ghost use Rattle.schedule_text.specs.Words.{behind, spaced, hex_or_dash};
+ghost use Rattle.schedule_text.specs.Words.{spaced, hex_or_dash};
 ghost use Rattle.schedule_text.specs.CallText.{call_name, call_words};
 ghost use Rattle.schedule_text.specs.OutcomeText.{outcome_words};
 ghost use Rattle.time_line.specs.declared.entry.Entry.{Entry};
@@ -10,22 +10,12 @@ ghost use Rattle.schedule_text.specs.EntryText.{entry_text, trace_text, update_w
 use crate::call::{call_name, push_call};
 use crate::outcome::push_outcome;
 use crate::spelling::{
-    push_bytes_or_dash, push_clock, push_file_line, push_named, push_named_node, push_node,
-    push_number, push_times, push_word,
+    Word, hex_or_dash, push_clock, push_file_line, push_named, push_named_words, push_times,
 };
 use std::alloc::Global;
 use time_line::{Entry, Halt};
 use xt_base::{Boot, NodeId, Octets, OpId, OutOfMemory};
 use xt_messages::{Call, Outcome};
-
-/// Appends ` CLIENT NUMBER`.
-fn push_id(out: &mut Vec<u8>, id: OpId) -> Result<(), OutOfMemory>
-    ensures { OnOk result (out.new.items ≡
-        out.old.items ++ behind (decimal id.client.0 ∷ decimal id.number ∷ [])) }
-{
-    push_node(out, id.client)?;
-    push_number(out, id.number)
-}
 
 /// Appends `up N BOOT CLOCK`.
 fn push_up(out: &mut Vec<u8>, node: NodeId, boot: Boot, clock: u64) -> Result<(), OutOfMemory>
@@ -33,8 +23,11 @@ fn push_up(out: &mut Vec<u8>, node: NodeId, boot: Boot, clock: u64) -> Result<()
         out.old.items ++
         spaced (codes "up" ∷ decimal node.0 ∷ decimal boot.0 ∷ decimal clock ∷ [])) }
 {
-    push_clock(out, b"up", node, boot.0)?;
-    push_number(out, clock)
+    push_named_words(
+        out,
+        b"up",
+        &[Word::Node(node), Word::Number(boot.0), Word::Number(clock)],
+    )
 }
 
 /// The word of how a node stopped.
@@ -55,8 +48,15 @@ fn push_down(out: &mut Vec<u8>, node: NodeId, clock: u64, how: Halt) -> Result<(
         out.old.items ++
         spaced (codes "down" ∷ decimal node.0 ∷ decimal clock ∷ halt_word how ∷ [])) }
 {
-    push_clock(out, b"down", node, clock)?;
-    push_word(out, halt_word(how))
+    push_named_words(
+        out,
+        b"down",
+        &[
+            Word::Node(node),
+            Word::Number(clock),
+            Word::Text(halt_word(how)),
+        ],
+    )
 }
 
 /// Appends `begin C NUMBER` and the call.
@@ -71,8 +71,15 @@ fn push_begin(
         spaced (codes "begin" ∷ decimal client.0 ∷ decimal number ∷ call_name call.now
         ∷ call_words call.now)) }
 {
-    push_clock(out, b"begin", client, number)?;
-    push_word(out, call_name(call))?;
+    push_named_words(
+        out,
+        b"begin",
+        &[
+            Word::Node(client),
+            Word::Number(number),
+            Word::Text(call_name(call)),
+        ],
+    )?;
     push_call(out, call)
 }
 
@@ -82,8 +89,11 @@ fn push_held(out: &mut Vec<u8>, node: NodeId, file: u64, end: u64) -> Result<(),
         out.old.items ++
         spaced (codes "held" ∷ decimal node.0 ∷ decimal file ∷ decimal end ∷ [])) }
 {
-    push_clock(out, b"held", node, file)?;
-    push_number(out, end)
+    push_named_words(
+        out,
+        b"held",
+        &[Word::Node(node), Word::Number(file), Word::Number(end)],
+    )
 }
 
 /// Appends a name and `N F COUNT CLIENT NUMBER`.
@@ -98,9 +108,17 @@ fn push_update(
     ensures { OnOk result (out.new.items ≡
         out.old.items ++ spaced (name.now ∷ update_words node file count id)) }
 {
-    push_clock(out, name, node, file)?;
-    push_number(out, count)?;
-    push_id(out, id)
+    push_named_words(
+        out,
+        name,
+        &[
+            Word::Node(node),
+            Word::Number(file),
+            Word::Number(count),
+            Word::Node(id.client),
+            Word::Number(id.number),
+        ],
+    )
 }
 
 /// Appends `answer N F CLIENT NUMBER COUNT HEX`.
@@ -117,10 +135,18 @@ fn push_answer(
         spaced (codes "answer" ∷ decimal node.0 ∷ decimal file ∷ decimal id.client.0
         ∷ decimal id.number ∷ decimal count ∷ hex_or_dash bytes.now ∷ [])) }
 {
-    push_clock(out, b"answer", node, file)?;
-    push_id(out, id)?;
-    push_number(out, count)?;
-    push_bytes_or_dash(out, bytes.as_slice())
+    push_named_words(
+        out,
+        b"answer",
+        &[
+            Word::Node(node),
+            Word::Number(file),
+            Word::Node(id.client),
+            Word::Number(id.number),
+            Word::Number(count),
+            hex_or_dash(bytes.as_slice()),
+        ],
+    )
 }
 
 /// Appends `done C NUMBER` and how the call ended.

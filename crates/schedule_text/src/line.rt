@@ -9,8 +9,7 @@ use crate::bounds::is_line;
 use crate::call::{call_name, push_call};
 use crate::forms::loose_line;
 use crate::spelling::{
-    push_bytes, push_clock, push_file_line, push_named, push_named_node, push_node, push_times,
-    push_wide_number,
+    Word, push_clock, push_file_line, push_named, push_named_node, push_named_words, push_times,
 };
 use std::alloc::Global;
 use time_line::Line;
@@ -40,8 +39,7 @@ fn push_call_line(out: &mut Vec<u8>, client: NodeId, call: &Call) -> Result<(), 
     ensures { OnOk result (out.new.items ≡
         out.old.items ++ spaced (call_name call.now ∷ decimal client.0 ∷ call_words call.now)) }
 {
-    out.extend_from_slice(call_name(call))?;
-    push_node(out, client)?;
+    push_named_node(out, call_name(call), client)?;
     push_call(out, call)
 }
 
@@ -51,8 +49,15 @@ fn push_crash(out: &mut Vec<u8>, node: NodeId, call: u8, fill: u8) -> Result<(),
         out.old.items ++
         spaced (codes "crash" ∷ decimal node.0 ∷ decimal call ∷ hex_pair fill ∷ [])) }
 {
-    push_clock(out, b"crash", node, u64::from(call))?;
-    push_bytes(out, &[fill])
+    push_named_words(
+        out,
+        b"crash",
+        &[
+            Word::Node(node),
+            Word::Number(u64::from(call)),
+            Word::Hex(&[fill]),
+        ],
+    )
 }
 
 /// Appends `cut N COUNT`.
@@ -60,8 +65,7 @@ fn push_cut(out: &mut Vec<u8>, node: NodeId, count: u128) -> Result<(), OutOfMem
     ensures { OnOk result (out.new.items ≡
         out.old.items ++ spaced (codes "cut" ∷ decimal node.0 ∷ decimal count ∷ [])) }
 {
-    push_named_node(out, b"cut", node)?;
-    push_wide_number(out, count)
+    push_named_words(out, b"cut", &[Word::Node(node), Word::Wide(count)])
 }
 
 /// Appends `aim C F N`.
@@ -70,8 +74,11 @@ fn push_aim(out: &mut Vec<u8>, client: NodeId, file: u64, node: NodeId) -> Resul
         out.old.items ++
         spaced (codes "aim" ∷ decimal client.0 ∷ decimal file ∷ decimal node.0 ∷ [])) }
 {
-    push_clock(out, b"aim", client, file)?;
-    push_node(out, node)
+    push_named_words(
+        out,
+        b"aim",
+        &[Word::Node(client), Word::Number(file), Word::Node(node)],
+    )
 }
 
 /// Appends a line, without a line feed.

@@ -1,12 +1,13 @@
 ghost use Rattle.std.specs.Prelude.{◌≡◌, ◌++◌, ◌∷◌, [], OnOk, codes};
 ghost use Rattle.std.specs.Fmt.{decimal};
 ghost use Rattle.schedule_text.specs.Words.{behind, hex_or_dash};
+ghost use Rattle.schedule_text.specs.WordText.{phrase_words};
 ghost use Rattle.schedule_text.specs.CallText.{mode_word, node_words};
 ghost use Rattle.schedule_text.specs.OutcomeText.{denial_number, ask_refusal_words, meta_refusal_words, retry_text, answer_word, answer_words, row_word, meta_outcome_words, registry_outcome_words, outcome_words};
 
-use crate::call::push_mode;
 use crate::spelling::{
-    push_bytes_or_dash, push_digits, push_node, push_nodes, push_number, push_word,
+    Phrase, Word, hex_or_dash, push_counted, push_digits, push_lone, push_nodes, push_phrase,
+    push_word, push_words,
 };
 use xt_base::{Name, NodeId, Octets, OutOfMemory, SizeMark};
 use xt_messages::{
@@ -28,60 +29,37 @@ fn denial_number(rule: Denial) -> u64
     }
 }
 
-/// Appends a word and a number.
-pub(crate) fn push_word_and_number(
-    out: &mut Vec<u8>,
-    word: &[u8],
-    number: u64,
-) -> Result<(), OutOfMemory>
-    ensures { OnOk result (out.new.items ≡ out.old.items ++ behind (word.now ∷ decimal number ∷ [])) }
-{
-    push_word(out, word)?;
-    push_number(out, number)
-}
-
-/// Appends a lone word.
-pub(crate) fn push_lone_word(out: &mut Vec<u8>, word: &[u8]) -> Result<(), OutOfMemory>
-    ensures { OnOk result (out.new.items ≡ out.old.items ++ behind (word.now ∷ [])) }
-{
-    push_word(out, word)
-}
-
-/// Appends an OSD's refusal.
+/// An OSD's refusal.
 #[tactic(auto, unfolding(crate::specs::OutcomeText::ask_refusal_words))]
-pub(crate) fn push_ask_refusal(out: &mut Vec<u8>, refusal: &AskRefusal) -> Result<(), OutOfMemory>
-    ensures { OnOk result (out.new.items ≡ out.old.items ++ behind (ask_refusal_words refusal.now)) }
+pub(crate) fn ask_refusal(refusal: &AskRefusal) -> Phrase
+    ensures { phrase_words result ≡ ask_refusal_words refusal.now }
 {
     match refusal {
-        AskRefusal::Denied { rule } => push_word_and_number(out, b"denied", denial_number(*rule)),
-        AskRefusal::OldList { version } => {
-            push_word_and_number(out, b"oldlist", u64::from(*version))
-        }
-        AskRefusal::OldEpoch { epoch } => push_word_and_number(out, b"oldepoch", *epoch),
-        AskRefusal::TooFar { object } => push_word_and_number(out, b"toofar", *object),
-        AskRefusal::ClientsFull => push_lone_word(out, b"clientsfull"),
+        AskRefusal::Denied { rule } => Phrase::Counted(b"denied", denial_number(*rule)),
+        AskRefusal::OldList { version } => Phrase::Counted(b"oldlist", u64::from(*version)),
+        AskRefusal::OldEpoch { epoch } => Phrase::Counted(b"oldepoch", *epoch),
+        AskRefusal::TooFar { object } => Phrase::Counted(b"toofar", *object),
+        AskRefusal::ClientsFull => Phrase::Lone(b"clientsfull"),
     }
 }
 
-/// Appends the MRC's refusal.
+/// The MRC's refusal.
 #[tactic(auto, unfolding(crate::specs::OutcomeText::meta_refusal_words))]
-pub(crate) fn push_meta_refusal(out: &mut Vec<u8>, refusal: &MetaRefusal) -> Result<(), OutOfMemory>
-    ensures { OnOk result (out.new.items ≡ out.old.items ++ behind (meta_refusal_words refusal.now)) }
+pub(crate) fn meta_refusal(refusal: &MetaRefusal) -> Phrase
+    ensures { phrase_words result ≡ meta_refusal_words refusal.now }
 {
     match refusal {
-        MetaRefusal::NotFound => push_lone_word(out, b"notfound"),
-        MetaRefusal::Exists => push_lone_word(out, b"exists"),
-        MetaRefusal::NotDir => push_lone_word(out, b"notdir"),
-        MetaRefusal::IsDir => push_lone_word(out, b"isdir"),
-        MetaRefusal::NotEmpty => push_lone_word(out, b"notempty"),
-        MetaRefusal::IntoSelf => push_lone_word(out, b"intoself"),
-        MetaRefusal::OtherVolume => push_lone_word(out, b"othervolume"),
-        MetaRefusal::Forbidden { rule } => {
-            push_word_and_number(out, b"forbidden", u64::from(*rule))
-        }
-        MetaRefusal::NameBad => push_lone_word(out, b"namebad"),
-        MetaRefusal::TooFew { have } => push_word_and_number(out, b"toofew", u64::from(*have)),
-        MetaRefusal::Denied { rule } => push_word_and_number(out, b"denied", denial_number(*rule)),
+        MetaRefusal::NotFound => Phrase::Lone(b"notfound"),
+        MetaRefusal::Exists => Phrase::Lone(b"exists"),
+        MetaRefusal::NotDir => Phrase::Lone(b"notdir"),
+        MetaRefusal::IsDir => Phrase::Lone(b"isdir"),
+        MetaRefusal::NotEmpty => Phrase::Lone(b"notempty"),
+        MetaRefusal::IntoSelf => Phrase::Lone(b"intoself"),
+        MetaRefusal::OtherVolume => Phrase::Lone(b"othervolume"),
+        MetaRefusal::Forbidden { rule } => Phrase::Counted(b"forbidden", u64::from(*rule)),
+        MetaRefusal::NameBad => Phrase::Lone(b"namebad"),
+        MetaRefusal::TooFew { have } => Phrase::Counted(b"toofew", u64::from(*have)),
+        MetaRefusal::Denied { rule } => Phrase::Counted(b"denied", denial_number(*rule)),
     }
 }
 
@@ -139,7 +117,7 @@ fn push_retry(out: &mut Vec<u8>, retry: &Retry) -> Result<(), OutOfMemory>
 fn push_answer(out: &mut Vec<u8>, answered: &Answered) -> Result<(), OutOfMemory>
     ensures { OnOk result (out.new.items ≡ out.old.items ++ 32 ∷ answer_word answered.now) }
 {
-    push_node(out, answered.node)?;
+    push_word(out, &Word::Node(answered.node))?;
     push_retry(out, &answered.outcome)
 }
 
@@ -158,7 +136,7 @@ fn push_names(out: &mut Vec<u8>, names: &[Name]) -> Result<(), OutOfMemory>
     ensures { OnOk result (out.new.items ≡ out.old.items ++ behind names.now) }
 {
     for name in names {
-        push_word(out, name.as_str().as_bytes())?;
+        push_word(out, &Word::Name(name))?;
     }
     Ok(())
 }
@@ -171,15 +149,6 @@ fn row_word(kind: RowKind) -> &'static [u8]
         RowKind::Directory => b"dir",
         RowKind::File => b"file",
     }
-}
-
-/// Appends ` EPOCH SIZE`.
-fn push_mark(out: &mut Vec<u8>, mark: SizeMark) -> Result<(), OutOfMemory>
-    ensures { OnOk result (out.new.items ≡
-        out.old.items ++ behind (decimal mark.epoch ∷ decimal mark.size ∷ [])) }
-{
-    push_number(out, mark.epoch)?;
-    push_number(out, mark.size)
 }
 
 /// Appends ` row dir|file OWNER GROUP MODE EPOCH SIZE`.
@@ -196,12 +165,18 @@ fn push_row(
         behind (codes "row" ∷ row_word kind ∷ decimal owner ∷ decimal group ∷ mode_word mode
         ∷ decimal mark.epoch ∷ decimal mark.size ∷ [])) }
 {
-    push_word(out, b"row")?;
-    push_word(out, row_word(kind))?;
-    push_number(out, u64::from(owner))?;
-    push_number(out, u64::from(group))?;
-    push_mode(out, mode)?;
-    push_mark(out, mark)
+    push_words(
+        out,
+        &[
+            Word::Text(b"row"),
+            Word::Text(row_word(kind)),
+            Word::Small(owner),
+            Word::Small(group),
+            Word::Mode(mode),
+            Word::Number(mark.epoch),
+            Word::Number(mark.size),
+        ],
+    )
 }
 
 /// Appends ` granted F EPOCH SIZE`.
@@ -210,15 +185,22 @@ fn push_granted(out: &mut Vec<u8>, file: u64, mark: SizeMark) -> Result<(), OutO
         out.old.items ++
         behind (codes "granted" ∷ decimal file ∷ decimal mark.epoch ∷ decimal mark.size ∷ [])) }
 {
-    push_word_and_number(out, b"granted", file)?;
-    push_mark(out, mark)
+    push_words(
+        out,
+        &[
+            Word::Text(b"granted"),
+            Word::Number(file),
+            Word::Number(mark.epoch),
+            Word::Number(mark.size),
+        ],
+    )
 }
 
 /// Appends ` names` and the names.
 fn push_named_names(out: &mut Vec<u8>, names: &[Name]) -> Result<(), OutOfMemory>
     ensures { OnOk result (out.new.items ≡ out.old.items ++ behind (codes "names" ∷ names.now)) }
 {
-    push_word(out, b"names")?;
+    push_word(out, &Word::Text(b"names"))?;
     push_names(out, names)
 }
 
@@ -228,8 +210,8 @@ fn push_meta_outcome(out: &mut Vec<u8>, answer: &MetaOutcome) -> Result<(), OutO
     ensures { OnOk result (out.new.items ≡ out.old.items ++ behind (meta_outcome_words answer.now)) }
 {
     match answer {
-        MetaOutcome::Done => push_lone_word(out, b"ok"),
-        MetaOutcome::Refused { refusal } => push_meta_refusal(out, refusal),
+        MetaOutcome::Done => push_lone(out, b"ok"),
+        MetaOutcome::Refused { refusal } => push_phrase(out, &meta_refusal(refusal)),
         MetaOutcome::Names { names } => push_named_names(out, names.as_slice()),
         MetaOutcome::Row {
             kind,
@@ -249,11 +231,16 @@ fn push_registry_row(out: &mut Vec<u8>, row: &RegistryRow) -> Result<(), OutOfMe
         behind (codes "row" ∷ decimal row.now.node.0 ∷ decimal row.now.kind ∷ row.now.address
         ∷ decimal row.now.version ∷ [])) }
 {
-    push_word(out, b"row")?;
-    push_node(out, row.node)?;
-    push_number(out, u64::from(row.kind))?;
-    push_word(out, row.address.as_str().as_bytes())?;
-    push_number(out, row.version)
+    push_words(
+        out,
+        &[
+            Word::Text(b"row"),
+            Word::Node(row.node),
+            Word::Number(u64::from(row.kind)),
+            Word::Name(&row.address),
+            Word::Number(row.version),
+        ],
+    )
 }
 
 /// Appends ` rows` and the nodes.
@@ -261,7 +248,7 @@ fn push_rows(out: &mut Vec<u8>, nodes: &[NodeId]) -> Result<(), OutOfMemory>
     ensures { OnOk result (out.new.items ≡
         out.old.items ++ behind (codes "rows" ∷ node_words nodes.now)) }
 {
-    push_word(out, b"rows")?;
+    push_word(out, &Word::Text(b"rows"))?;
     push_nodes(out, nodes)
 }
 
@@ -272,9 +259,9 @@ fn push_registry_outcome(out: &mut Vec<u8>, answer: &RegistryOutcome) -> Result<
         out.old.items ++ behind (registry_outcome_words answer.now)) }
 {
     match answer {
-        RegistryOutcome::Done { version } => push_word_and_number(out, b"ok", *version),
-        RegistryOutcome::Changed { version } => push_word_and_number(out, b"changed", *version),
-        RegistryOutcome::Absent => push_lone_word(out, b"absent"),
+        RegistryOutcome::Done { version } => push_counted(out, b"ok", *version),
+        RegistryOutcome::Changed { version } => push_counted(out, b"changed", *version),
+        RegistryOutcome::Absent => push_lone(out, b"absent"),
         RegistryOutcome::Row { row } => push_registry_row(out, row),
         RegistryOutcome::Rows { nodes } => push_rows(out, nodes.as_slice()),
     }
@@ -285,8 +272,14 @@ fn push_ok(out: &mut Vec<u8>, count: u64, bytes: &Octets) -> Result<(), OutOfMem
     ensures { OnOk result (out.new.items ≡
         out.old.items ++ behind (codes "ok" ∷ decimal count ∷ hex_or_dash bytes.now ∷ [])) }
 {
-    push_word_and_number(out, b"ok", count)?;
-    push_bytes_or_dash(out, bytes.as_slice())
+    push_words(
+        out,
+        &[
+            Word::Text(b"ok"),
+            Word::Number(count),
+            hex_or_dash(bytes.as_slice()),
+        ],
+    )
 }
 
 /// Appends ` retry ANSWERS`.
@@ -294,7 +287,7 @@ pub(crate) fn push_retries(out: &mut Vec<u8>, answers: &[Answered]) -> Result<()
     ensures { OnOk result (out.new.items ≡
         out.old.items ++ behind (codes "retry" ∷ answer_words answers.now)) }
 {
-    push_word(out, b"retry")?;
+    push_word(out, &Word::Text(b"retry"))?;
     push_answers(out, answers)
 }
 
@@ -303,7 +296,7 @@ fn push_meta(out: &mut Vec<u8>, answer: &MetaOutcome) -> Result<(), OutOfMemory>
     ensures { OnOk result (out.new.items ≡
         out.old.items ++ behind (codes "meta" ∷ meta_outcome_words answer.now)) }
 {
-    push_word(out, b"meta")?;
+    push_word(out, &Word::Text(b"meta"))?;
     push_meta_outcome(out, answer)
 }
 
@@ -312,7 +305,7 @@ fn push_registry(out: &mut Vec<u8>, answer: &RegistryOutcome) -> Result<(), OutO
     ensures { OnOk result (out.new.items ≡
         out.old.items ++ behind (codes "registry" ∷ registry_outcome_words answer.now)) }
 {
-    push_word(out, b"registry")?;
+    push_word(out, &Word::Text(b"registry"))?;
     push_registry_outcome(out, answer)
 }
 
@@ -324,7 +317,7 @@ pub(crate) fn push_outcome(out: &mut Vec<u8>, outcome: &Outcome) -> Result<(), O
     match outcome {
         Outcome::Ok { count, bytes } => push_ok(out, *count, bytes),
         Outcome::Retry { answers } => push_retries(out, answers.as_slice()),
-        Outcome::Refused { refusal } => push_ask_refusal(out, refusal),
+        Outcome::Refused { refusal } => push_phrase(out, &ask_refusal(refusal)),
         Outcome::Meta { answer } => push_meta(out, answer),
         Outcome::Registry { answer } => push_registry(out, answer),
     }

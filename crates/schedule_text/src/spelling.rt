@@ -1,9 +1,10 @@
-ghost use Rattle.std.specs.Prelude.{◌≡◌, ◌++◌, ◌∷◌, ◌<◌, [], OnOk, codes};
+ghost use Rattle.std.specs.Prelude.{◌≡◌, ◌++◌, ◌∷◌, ◌<◌, [], map, OnOk, codes};
 ghost use Rattle.std.specs.Fmt.{decimal};
 ghost use Rattle.schedule_text.specs.Words.{behind, spaced, hex_digit, hex_pair, hex_of, hex_or_dash};
-ghost use Rattle.schedule_text.specs.CallText.{file_words, kind_word, node_words};
+ghost use Rattle.schedule_text.specs.WordText.{phrase_words, text_of};
+ghost use Rattle.schedule_text.specs.CallText.{file_words, kind_word, mode_word, node_words};
 
-use xt_base::{NodeId, OutOfMemory};
+use xt_base::{Name, NodeId, OutOfMemory};
 use xt_messages::{Kind, Location};
 
 /// Appends a number below 2^64.
@@ -33,36 +34,34 @@ pub(crate) fn push_wide_digits(out: &mut Vec<u8>, number: u128) -> Result<(), Ou
     Ok(())
 }
 
-/// Appends a space and a word.
-pub(crate) fn push_word(out: &mut Vec<u8>, word: &[u8]) -> Result<(), OutOfMemory>
-    ensures { OnOk result (out.new.items ≡ out.old.items ++ 32 ∷ word.now) }
-{
-    out.push(b' ')?;
-    out.extend_from_slice(word)?;
-    Ok(())
+/// A word of a line, by what it spells.
+#[derive(Clone, Copy)]
+pub(crate) enum Word<'a> {
+    /// These bytes.
+    Text(&'a [u8]),
+    Name(&'a Name),
+    Number(u64),
+    /// A number below 2^32.
+    Small(u32),
+    /// A number below 2^128.
+    Wide(u128),
+    /// A node's number.
+    Node(NodeId),
+    /// A mode, as three octal digits.
+    Mode(u16),
+    /// Bytes in hex.
+    Hex(&'a [u8]),
 }
 
-/// Appends a space and a number.
-pub(crate) fn push_number(out: &mut Vec<u8>, number: u64) -> Result<(), OutOfMemory>
-    ensures { OnOk result (out.new.items ≡ out.old.items ++ 32 ∷ decimal number) }
-{
-    out.push(b' ')?;
-    push_digits(out, number)
-}
-
-/// Appends a space and a number.
-pub(crate) fn push_wide_number(out: &mut Vec<u8>, number: u128) -> Result<(), OutOfMemory>
-    ensures { OnOk result (out.new.items ≡ out.old.items ++ 32 ∷ decimal number) }
-{
-    out.push(b' ')?;
-    push_wide_digits(out, number)
-}
-
-/// Appends a space and a node's number.
-pub(crate) fn push_node(out: &mut Vec<u8>, node: NodeId) -> Result<(), OutOfMemory>
-    ensures { OnOk result (out.new.items ≡ out.old.items ++ 32 ∷ decimal node.0) }
-{
-    push_number(out, u64::from(node.0))
+/// What most rules and refusals are spelled by: a name, and what it is about.
+#[derive(Clone, Copy)]
+pub(crate) enum Phrase {
+    Lone(&'static [u8]),
+    Counted(&'static [u8], u64),
+    /// With a number below 2^128.
+    Wide(&'static [u8], u128),
+    Pair(&'static [u8], u64, u64),
+    At(&'static [u8], NodeId),
 }
 
 /// The digit of a number below 16.
@@ -78,7 +77,7 @@ pub(crate) fn hex_digit(number: u8) -> u8
 }
 
 /// Appends a byte's two hex digits.
-pub(crate) fn push_pair(out: &mut Vec<u8>, byte: u8) -> Result<(), OutOfMemory>
+fn push_byte(out: &mut Vec<u8>, byte: u8) -> Result<(), OutOfMemory>
     ensures { OnOk result (out.new.items ≡ out.old.items ++ hex_pair byte) }
 {
     out.push(hex_digit(byte / 16))?;
@@ -92,27 +91,121 @@ pub(crate) fn push_hex(out: &mut Vec<u8>, bytes: &[u8]) -> Result<(), OutOfMemor
 {
     out.reserve(bytes.len().saturating_mul(2))?;
     for byte in bytes {
-        push_pair(out, *byte)?;
+        push_byte(out, *byte)?;
     }
     Ok(())
 }
 
-/// Appends a space and bytes in hex.
-pub(crate) fn push_bytes(out: &mut Vec<u8>, bytes: &[u8]) -> Result<(), OutOfMemory>
-    ensures { OnOk result (out.new.items ≡ out.old.items ++ 32 ∷ hex_of bytes.now) }
+/// A mode as three octal digits.
+fn mode_digits(mode: u16) -> [u8; 3]
+    ensures { result ≡ mode_word mode }
 {
-    out.push(b' ')?;
-    push_hex(out, bytes)
+    [
+        b'0' + (mode / 64 % 8) as u8,
+        b'0' + (mode / 8 % 8) as u8,
+        b'0' + (mode % 8) as u8,
+    ]
 }
 
-/// Appends a space and bytes in hex, or a dash where there are none.
-pub(crate) fn push_bytes_or_dash(out: &mut Vec<u8>, bytes: &[u8]) -> Result<(), OutOfMemory>
-    ensures { OnOk result (out.new.items ≡ out.old.items ++ 32 ∷ hex_or_dash bytes.now) }
+/// Appends bytes as they are.
+fn push_bytes(out: &mut Vec<u8>, bytes: &[u8]) -> Result<(), OutOfMemory>
+    ensures { OnOk result (out.new.items ≡ out.old.items ++ bytes.now) }
+{
+    out.extend_from_slice(bytes)?;
+    Ok(())
+}
+
+/// Appends a space and a word.
+pub(crate) fn push_word(out: &mut Vec<u8>, word: &Word<'_>) -> Result<(), OutOfMemory>
+    ensures { OnOk result (out.new.items ≡ out.old.items ++ 32 ∷ text_of word.now) }
+{
+    out.push(b' ')?;
+    match word {
+        Word::Text(bytes) => push_bytes(out, bytes),
+        Word::Name(name) => push_bytes(out, name.as_str().as_bytes()),
+        Word::Number(number) => push_digits(out, *number),
+        Word::Small(number) => push_digits(out, u64::from(*number)),
+        Word::Wide(number) => push_wide_digits(out, *number),
+        Word::Node(node) => push_digits(out, u64::from(node.0)),
+        Word::Mode(mode) => push_bytes(out, &mode_digits(*mode)),
+        Word::Hex(bytes) => push_hex(out, bytes),
+    }
+}
+
+/// Appends words, a space before each.
+pub(crate) fn push_words(out: &mut Vec<u8>, words: &[Word<'_>]) -> Result<(), OutOfMemory>
+    ensures { OnOk result (out.new.items ≡ out.old.items ++ behind (map text_of words.now)) }
+{
+    for word in words {
+        push_word(out, word)?;
+    }
+    Ok(())
+}
+
+/// Appends a name and words, one space between.
+pub(crate) fn push_named_words(
+    out: &mut Vec<u8>,
+    name: &[u8],
+    words: &[Word<'_>],
+) -> Result<(), OutOfMemory>
+    ensures { OnOk result (out.new.items ≡
+        out.old.items ++ spaced (name.now ∷ map text_of words.now)) }
+{
+    out.extend_from_slice(name)?;
+    push_words(out, words)
+}
+
+/// Appends a space and a name.
+pub(crate) fn push_lone(out: &mut Vec<u8>, name: &[u8]) -> Result<(), OutOfMemory>
+    ensures { OnOk result (out.new.items ≡ out.old.items ++ behind (name.now ∷ [])) }
+{
+    push_words(out, &[Word::Text(name)])
+}
+
+/// Appends a name and a number, a space before each.
+pub(crate) fn push_counted(out: &mut Vec<u8>, name: &[u8], number: u64) -> Result<(), OutOfMemory>
+    ensures { OnOk result (out.new.items ≡ out.old.items ++ behind (name.now ∷ decimal number ∷ [])) }
+{
+    push_words(out, &[Word::Text(name), Word::Number(number)])
+}
+
+/// Appends a name and two numbers, a space before each.
+pub(crate) fn push_pair(
+    out: &mut Vec<u8>,
+    name: &[u8],
+    first: u64,
+    second: u64,
+) -> Result<(), OutOfMemory>
+    ensures { OnOk result (out.new.items ≡
+        out.old.items ++ behind (name.now ∷ decimal first ∷ decimal second ∷ [])) }
+{
+    push_words(
+        out,
+        &[Word::Text(name), Word::Number(first), Word::Number(second)],
+    )
+}
+
+/// Appends the words of a phrase, a space before each.
+pub(crate) fn push_phrase(out: &mut Vec<u8>, phrase: &Phrase) -> Result<(), OutOfMemory>
+    ensures { OnOk result (out.new.items ≡ out.old.items ++ behind (phrase_words phrase.now)) }
+{
+    match phrase {
+        Phrase::Lone(name) => push_lone(out, name),
+        Phrase::Counted(name, number) => push_counted(out, name, *number),
+        Phrase::Wide(name, number) => push_words(out, &[Word::Text(name), Word::Wide(*number)]),
+        Phrase::Pair(name, first, second) => push_pair(out, name, *first, *second),
+        Phrase::At(name, node) => push_words(out, &[Word::Text(name), Word::Node(*node)]),
+    }
+}
+
+/// Bytes in hex, or a dash where there are none.
+pub(crate) fn hex_or_dash(bytes: &[u8]) -> Word<'_>
+    ensures { text_of result ≡ hex_or_dash bytes.now }
 {
     if bytes.is_empty() {
-        push_word(out, b"-")
+        Word::Text(b"-")
     } else {
-        push_bytes(out, bytes)
+        Word::Hex(bytes)
     }
 }
 
@@ -131,67 +224,24 @@ pub(crate) fn push_nodes(out: &mut Vec<u8>, nodes: &[NodeId]) -> Result<(), OutO
     ensures { OnOk result (out.new.items ≡ out.old.items ++ behind (node_words nodes.now)) }
 {
     for node in nodes {
-        push_node(out, *node)?;
+        push_word(out, &Word::Node(*node))?;
     }
     Ok(())
 }
 
 /// Appends ` F rep STRIPE NODE .. NODE`.
-pub(crate) fn push_file(
-    out: &mut Vec<u8>,
-    number: u64,
-    location: &Location,
-) -> Result<(), OutOfMemory>
+fn push_file(out: &mut Vec<u8>, number: u64, location: &Location) -> Result<(), OutOfMemory>
     ensures { OnOk result (out.new.items ≡ out.old.items ++ behind (file_words number location.now)) }
 {
-    push_number(out, number)?;
-    push_word(out, kind_word(location.kind))?;
-    push_number(out, u64::from(location.stripe))?;
+    push_words(
+        out,
+        &[
+            Word::Number(number),
+            Word::Text(kind_word(location.kind)),
+            Word::Small(location.stripe),
+        ],
+    )?;
     push_nodes(out, location.members.as_slice())
-}
-
-/// Appends `times L E`.
-pub(crate) fn push_times(out: &mut Vec<u8>, lease: u64, drift: u64) -> Result<(), OutOfMemory>
-    ensures { OnOk result (out.new.items ≡
-        out.old.items ++ spaced (codes "times" ∷ decimal lease ∷ decimal drift ∷ [])) }
-{
-    out.extend_from_slice(b"times")?;
-    push_number(out, lease)?;
-    push_number(out, drift)
-}
-
-/// Appends a name and a node.
-pub(crate) fn push_named_node(
-    out: &mut Vec<u8>,
-    name: &[u8],
-    node: NodeId,
-) -> Result<(), OutOfMemory>
-    ensures { OnOk result (out.new.items ≡ out.old.items ++ spaced (name.now ∷ decimal node.0 ∷ [])) }
-{
-    out.extend_from_slice(name)?;
-    push_node(out, node)
-}
-
-/// Appends a name, a node and a clock.
-pub(crate) fn push_clock(
-    out: &mut Vec<u8>,
-    name: &[u8],
-    node: NodeId,
-    clock: u64,
-) -> Result<(), OutOfMemory>
-    ensures { OnOk result (out.new.items ≡
-        out.old.items ++ spaced (name.now ∷ decimal node.0 ∷ decimal clock ∷ [])) }
-{
-    push_named_node(out, name, node)?;
-    push_number(out, clock)
-}
-
-/// Appends a name and a number.
-pub(crate) fn push_named(out: &mut Vec<u8>, name: &[u8], number: u128) -> Result<(), OutOfMemory>
-    ensures { OnOk result (out.new.items ≡ out.old.items ++ spaced (name.now ∷ decimal number ∷ [])) }
-{
-    out.extend_from_slice(name)?;
-    push_wide_number(out, number)
 }
 
 /// Appends `file F rep STRIPE NODE .. NODE`.
@@ -205,4 +255,43 @@ pub(crate) fn push_file_line(
 {
     out.extend_from_slice(b"file")?;
     push_file(out, number, location)
+}
+
+/// Appends `times L E`.
+pub(crate) fn push_times(out: &mut Vec<u8>, lease: u64, drift: u64) -> Result<(), OutOfMemory>
+    ensures { OnOk result (out.new.items ≡
+        out.old.items ++ spaced (codes "times" ∷ decimal lease ∷ decimal drift ∷ [])) }
+{
+    push_named_words(out, b"times", &[Word::Number(lease), Word::Number(drift)])
+}
+
+/// Appends a name and a node.
+pub(crate) fn push_named_node(
+    out: &mut Vec<u8>,
+    name: &[u8],
+    node: NodeId,
+) -> Result<(), OutOfMemory>
+    ensures { OnOk result (out.new.items ≡ out.old.items ++ spaced (name.now ∷ decimal node.0 ∷ [])) }
+{
+    push_named_words(out, name, &[Word::Node(node)])
+}
+
+/// Appends a name, a node and a clock.
+pub(crate) fn push_clock(
+    out: &mut Vec<u8>,
+    name: &[u8],
+    node: NodeId,
+    clock: u64,
+) -> Result<(), OutOfMemory>
+    ensures { OnOk result (out.new.items ≡
+        out.old.items ++ spaced (name.now ∷ decimal node.0 ∷ decimal clock ∷ [])) }
+{
+    push_named_words(out, name, &[Word::Node(node), Word::Number(clock)])
+}
+
+/// Appends a name and a number.
+pub(crate) fn push_named(out: &mut Vec<u8>, name: &[u8], number: u128) -> Result<(), OutOfMemory>
+    ensures { OnOk result (out.new.items ≡ out.old.items ++ spaced (name.now ∷ decimal number ∷ [])) }
+{
+    push_named_words(out, name, &[Word::Wide(number)])
 }

@@ -1,58 +1,34 @@
 ghost use Rattle.std.specs.Prelude.{◌≡◌, ◌++◌, ◌∷◌, [], OnOk, IfOk, codes};
 ghost use Rattle.std.specs.Fmt.{decimal};
 ghost use Rattle.schedule_text.specs.Words.{behind, hex_of};
+ghost use Rattle.schedule_text.specs.WordText.{phrase_words};
 ghost use Rattle.schedule_text.specs.StatusText.{last_line, status_text, limited_word, refusal_words, rule_words, status_words};
 
-use crate::outcome::{
-    push_ask_refusal, push_lone_word, push_meta_refusal, push_retries, push_word_and_number,
+use crate::outcome::{ask_refusal, meta_refusal, push_retries};
+use crate::spelling::{
+    Phrase, Word, push_counted, push_lone, push_pair, push_phrase, push_word, push_words,
 };
-use crate::spelling::{push_bytes, push_number, push_wide_number, push_word};
 use std::alloc::Global;
-use xt_base::{NodeId, Octets, OutOfMemory};
+use xt_base::{Octets, OutOfMemory};
 use xt_messages::{Limited, Refusal, Rule, Status};
 
-/// Appends ` drift A B`.
-fn push_drift(out: &mut Vec<u8>, a: u64, b: u64) -> Result<(), OutOfMemory>
-    ensures { OnOk result (out.new.items ≡
-        out.old.items ++ behind (codes "drift" ∷ decimal a ∷ decimal b ∷ [])) }
-{
-    push_word_and_number(out, b"drift", a)?;
-    push_number(out, b)
-}
-
-/// Appends ` nosuchmessage M`.
-fn push_no_such_message(out: &mut Vec<u8>, number: u128) -> Result<(), OutOfMemory>
-    ensures { OnOk result (out.new.items ≡
-        out.old.items ++ behind (codes "nosuchmessage" ∷ decimal number ∷ [])) }
-{
-    push_word(out, b"nosuchmessage")?;
-    push_wide_number(out, number)
-}
-
-/// Appends a rule's name and a node.
-fn push_at_node(out: &mut Vec<u8>, name: &[u8], node: NodeId) -> Result<(), OutOfMemory>
-    ensures { OnOk result (out.new.items ≡ out.old.items ++ behind (name.now ∷ decimal node.0 ∷ [])) }
-{
-    push_word_and_number(out, name, u64::from(node.0))
-}
-
-/// Appends a rule's name and its values.
+/// A rule's name and its values.
 #[tactic(auto, unfolding(crate::specs::StatusText::rule_words))]
-fn push_rule(out: &mut Vec<u8>, rule: &Rule) -> Result<(), OutOfMemory>
-    ensures { OnOk result (out.new.items ≡ out.old.items ++ behind (rule_words rule.now)) }
+fn rule_phrase(rule: &Rule) -> Phrase
+    ensures { phrase_words result ≡ rule_words rule.now }
 {
     match rule {
-        Rule::Drift { a, b } => push_drift(out, *a, *b),
-        Rule::NoSuchMessage { number } => push_no_such_message(out, *number),
-        Rule::NotRunning { node } => push_at_node(out, b"notrunning", *node),
-        Rule::Running { node } => push_at_node(out, b"running", *node),
-        Rule::NoSuchNode { node } => push_at_node(out, b"nosuchnode", *node),
-        Rule::ClientBusy { client } => push_at_node(out, b"clientbusy", *client),
-        Rule::ClockBack { last } => push_word_and_number(out, b"clockback", *last),
-        Rule::Declared { number } => push_word_and_number(out, b"declared", *number),
-        Rule::NoSuchFile { number } => push_word_and_number(out, b"nosuchfile", *number),
-        Rule::NoCall { client } => push_at_node(out, b"nocall", *client),
-        Rule::ClockEnd { node } => push_at_node(out, b"clockend", *node),
+        Rule::Drift { a, b } => Phrase::Pair(b"drift", *a, *b),
+        Rule::NoSuchMessage { number } => Phrase::Wide(b"nosuchmessage", *number),
+        Rule::NotRunning { node } => Phrase::At(b"notrunning", *node),
+        Rule::Running { node } => Phrase::At(b"running", *node),
+        Rule::NoSuchNode { node } => Phrase::At(b"nosuchnode", *node),
+        Rule::ClientBusy { client } => Phrase::At(b"clientbusy", *client),
+        Rule::ClockBack { last } => Phrase::Counted(b"clockback", *last),
+        Rule::Declared { number } => Phrase::Counted(b"declared", *number),
+        Rule::NoSuchFile { number } => Phrase::Counted(b"nosuchfile", *number),
+        Rule::NoCall { client } => Phrase::At(b"nocall", *client),
+        Rule::ClockEnd { node } => Phrase::At(b"clockend", *node),
     }
 }
 
@@ -71,16 +47,16 @@ fn limited_word(what: Limited) -> &'static [u8]
     }
 }
 
-/// Appends a refusal.
+/// A refusal.
 #[tactic(auto, unfolding(crate::specs::StatusText::refusal_words))]
-fn push_refusal(out: &mut Vec<u8>, refusal: &Refusal) -> Result<(), OutOfMemory>
-    ensures { OnOk result (out.new.items ≡ out.old.items ++ behind (refusal_words refusal.now)) }
+fn refusal_phrase(refusal: &Refusal) -> Phrase
+    ensures { phrase_words result ≡ refusal_words refusal.now }
 {
     match refusal {
-        Refusal::Ask { refusal } => push_ask_refusal(out, refusal),
-        Refusal::Meta { refusal } => push_meta_refusal(out, refusal),
-        Refusal::Changed { version } => push_word_and_number(out, b"changed", *version),
-        Refusal::Absent => push_lone_word(out, b"absent"),
+        Refusal::Ask { refusal } => ask_refusal(refusal),
+        Refusal::Meta { refusal } => meta_refusal(refusal),
+        Refusal::Changed { version } => Phrase::Counted(b"changed", *version),
+        Refusal::Absent => Phrase::Lone(b"absent"),
     }
 }
 
@@ -89,8 +65,8 @@ fn push_illegal(out: &mut Vec<u8>, line: u64, rule: &Rule) -> Result<(), OutOfMe
     ensures { OnOk result (out.new.items ≡
         out.old.items ++ behind (codes "illegal" ∷ decimal line ∷ rule_words rule.now)) }
 {
-    push_word_and_number(out, b"illegal", line)?;
-    push_rule(out, rule)
+    push_words(out, &[Word::Text(b"illegal"), Word::Number(line)])?;
+    push_phrase(out, &rule_phrase(rule))
 }
 
 /// Appends ` limit WHAT LIMIT`.
@@ -98,17 +74,14 @@ fn push_limit(out: &mut Vec<u8>, what: Limited, limit: u64) -> Result<(), OutOfM
     ensures { OnOk result (out.new.items ≡
         out.old.items ++ behind (codes "limit" ∷ limited_word what ∷ decimal limit ∷ [])) }
 {
-    push_word(out, b"limit")?;
-    push_word_and_number(out, limited_word(what), limit)
-}
-
-/// Appends a word and two numbers.
-fn push_two(out: &mut Vec<u8>, word: &[u8], first: u64, second: u64) -> Result<(), OutOfMemory>
-    ensures { OnOk result (out.new.items ≡
-        out.old.items ++ behind (word.now ∷ decimal first ∷ decimal second ∷ [])) }
-{
-    push_word_and_number(out, word, first)?;
-    push_number(out, second)
+    push_words(
+        out,
+        &[
+            Word::Text(b"limit"),
+            Word::Text(limited_word(what)),
+            Word::Number(limit),
+        ],
+    )
 }
 
 /// Appends ` notours HEX`.
@@ -116,8 +89,7 @@ fn push_not_ours(out: &mut Vec<u8>, first: &[u8]) -> Result<(), OutOfMemory>
     ensures { OnOk result (out.new.items ≡
         out.old.items ++ behind (codes "notours" ∷ hex_of first.now ∷ [])) }
 {
-    push_word(out, b"notours")?;
-    push_bytes(out, first)
+    push_words(out, &[Word::Text(b"notours"), Word::Hex(first)])
 }
 
 /// Appends ` refused` and the refusal.
@@ -125,8 +97,8 @@ fn push_refused(out: &mut Vec<u8>, refusal: &Refusal) -> Result<(), OutOfMemory>
     ensures { OnOk result (out.new.items ≡
         out.old.items ++ behind (codes "refused" ∷ refusal_words refusal.now)) }
 {
-    push_word(out, b"refused")?;
-    push_refusal(out, refusal)
+    push_word(out, &Word::Text(b"refused"))?;
+    push_phrase(out, &refusal_phrase(refusal))
 }
 
 /// Appends the words of a status, a space before each.
@@ -136,23 +108,23 @@ fn push_status(out: &mut Vec<u8>, status: &Status) -> Result<(), OutOfMemory>
 {
     match status {
         Status::Done => Ok(()),
-        Status::Usage => push_lone_word(out, b"usage"),
-        Status::Malformed { line } => push_word_and_number(out, b"malformed", *line),
+        Status::Usage => push_lone(out, b"usage"),
+        Status::Malformed { line } => push_counted(out, b"malformed", *line),
         Status::Illegal { line, rule } => push_illegal(out, *line, rule),
-        Status::DiskFault { count } => push_word_and_number(out, b"disk", *count),
-        Status::LinkFault { count } => push_word_and_number(out, b"link", *count),
-        Status::SourceFault { count } => push_word_and_number(out, b"source", *count),
-        Status::SinkFault { count } => push_word_and_number(out, b"sink", *count),
-        Status::ClockFault { count } => push_word_and_number(out, b"clock", *count),
-        Status::ChildFault { count } => push_word_and_number(out, b"child", *count),
-        Status::TurnsSpent { turns } => push_word_and_number(out, b"turns", *turns),
-        Status::OutOfMemory => push_lone_word(out, b"memory"),
+        Status::DiskFault { count } => push_counted(out, b"disk", *count),
+        Status::LinkFault { count } => push_counted(out, b"link", *count),
+        Status::SourceFault { count } => push_counted(out, b"source", *count),
+        Status::SinkFault { count } => push_counted(out, b"sink", *count),
+        Status::ClockFault { count } => push_counted(out, b"clock", *count),
+        Status::ChildFault { count } => push_counted(out, b"child", *count),
+        Status::TurnsSpent { turns } => push_counted(out, b"turns", *turns),
+        Status::OutOfMemory => push_lone(out, b"memory"),
         Status::NotOurs { first } => push_not_ours(out, first),
-        Status::Layout { version } => push_word_and_number(out, b"layout", u64::from(*version)),
+        Status::Layout { version } => push_counted(out, b"layout", u64::from(*version)),
         Status::Limit { what, limit } => push_limit(out, *what, *limit),
-        Status::JournalFull { need, limit } => push_two(out, b"full", *need, *limit),
-        Status::Broken { clause, entry } => push_two(out, b"broken", u64::from(*clause), *entry),
-        Status::Damaged { place } => push_word_and_number(out, b"damaged", *place),
+        Status::JournalFull { need, limit } => push_pair(out, b"full", *need, *limit),
+        Status::Broken { clause, entry } => push_pair(out, b"broken", u64::from(*clause), *entry),
+        Status::Damaged { place } => push_counted(out, b"damaged", *place),
         Status::Retry { answers } => push_retries(out, answers.as_slice()),
         Status::Refused { rule } => push_refused(out, rule),
     }
