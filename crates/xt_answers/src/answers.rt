@@ -2,20 +2,18 @@ ghost use Rattle.std.specs.Prelude.{◌≡◌, ◌++◌, OnOk};
 ghost use Rattle.xt_messages.specs.Limits.{FitsMetaAnswer, FitsNames, FitsRegistryAnswer, FitsRow, FitsRows};
 ghost use Rattle.xt_messages.specs.declared.meta.MetaAnswer.TheVariants.{Refused};
 ghost use Rattle.xt_fields.specs.Reading.{Gives, Tries, made};
-ghost use Rattle.xt_fields.specs.BasicFields.{byte_bytes, half_bytes, word_bytes, long_bytes, text_at, list_at};
+ghost use Rattle.xt_fields.specs.BasicFields.{byte_bytes, half_bytes, word_bytes, text_at, list_at};
 ghost use Rattle.xt_wire.specs.IdFields.{mark_bytes};
 ghost use Rattle.xt_wire.specs.FileFields.{capability_bytes};
-ghost use Rattle.xt_answers.specs.ReplyFields.{denial_bytes};
 ghost use Rattle.xt_answers.specs.MetaAnswers.{refusal_bytes, refusal_arms, forbidden_at, too_few_at, report_denied_at, names_bytes, names_at, row_kind_bytes, row_kind_at, meta_answer_bytes, meta_answer_at, meta_answer_arms, names_answer_at, row_answer_at, granted_at};
-ghost use Rattle.xt_answers.specs.RegistryAnswers.{row_bytes, row_at, rows_bytes, rows_at, registry_answer_bytes, registry_answer_at, registry_answer_arms, done_at, changed_at, row_told_at, rows_told_at};
+ghost use Rattle.xt_answers.specs.RegistryAnswers.{row_bytes, row_at, rows_bytes, rows_at, registry_answer_bytes, registry_answer_at, registry_answer_arms};
 
-use crate::reply::{ReadReplies, WriteReplies};
+use crate::reply::{ReadReplies, put_denied, put_long};
 use std::alloc::Global;
 use xt_base::{OutOfMemory, Seq, SizeMark};
 use xt_fields::{FieldErr, FieldReader, FieldWriter};
 use xt_messages::{
-    Capability, Denial, MetaAnswer, MetaRefusal, Names, RegistryAnswer, RegistryRow, RegistryRows,
-    RowKind,
+    Capability, MetaAnswer, MetaRefusal, Names, RegistryAnswer, RegistryRow, RegistryRows, RowKind,
 };
 use xt_wire::{ReadFiles, ReadIds, WriteFiles, WriteIds};
 
@@ -199,7 +197,7 @@ fn row_list(
 }
 
 /// The answer of this number.
-#[tactic(auto, unfolding(crate::specs::RegistryAnswers::registry_answer_arms))]
+#[tactic(auto, unfolding(crate::specs::RegistryAnswers::registry_answer_arms, crate::specs::RegistryAnswers::done_at, crate::specs::RegistryAnswers::changed_at, crate::specs::RegistryAnswers::row_told_at, crate::specs::RegistryAnswers::rows_told_at))]
 fn registry_answer_arm(
     fields: &mut FieldReader<'_>,
     number: u8,
@@ -208,49 +206,21 @@ fn registry_answer_arm(
     ensures { Gives result fields.new (registry_answer_arms number fields.old) }
 {
     match number {
-        0 => done(fields),
-        1 => changed(fields),
+        0 => Ok(RegistryAnswer::Done {
+            version: fields.count()?,
+        }),
+        1 => Ok(RegistryAnswer::Changed {
+            version: fields.count()?,
+        }),
         2 => Ok(RegistryAnswer::Absent),
-        3 => row_told(fields, alloc),
-        4 => rows_told(fields, alloc),
+        3 => Ok(RegistryAnswer::Row {
+            row: fields.row(alloc)?,
+        }),
+        4 => Ok(RegistryAnswer::Rows {
+            rows: fields.rows(alloc)?,
+        }),
         _ => Err(FieldErr::Unfit),
     }
-}
-
-/// That it is done.
-#[tactic(auto, unfolding(crate::specs::RegistryAnswers::done_at))]
-fn done(fields: &mut FieldReader<'_>) -> Result<RegistryAnswer, FieldErr>
-    ensures { Gives result fields.new (done_at fields.old) }
-{
-    let version = fields.count()?;
-    Ok(RegistryAnswer::Done { version })
-}
-
-/// That the row's version is another.
-#[tactic(auto, unfolding(crate::specs::RegistryAnswers::changed_at))]
-fn changed(fields: &mut FieldReader<'_>) -> Result<RegistryAnswer, FieldErr>
-    ensures { Gives result fields.new (changed_at fields.old) }
-{
-    let version = fields.count()?;
-    Ok(RegistryAnswer::Changed { version })
-}
-
-/// The row.
-#[tactic(auto, unfolding(crate::specs::RegistryAnswers::row_told_at))]
-fn row_told(fields: &mut FieldReader<'_>, alloc: Global) -> Result<RegistryAnswer, FieldErr>
-    ensures { Gives result fields.new (row_told_at fields.old) }
-{
-    let row = fields.row(alloc)?;
-    Ok(RegistryAnswer::Row { row })
-}
-
-/// The rows.
-#[tactic(auto, unfolding(crate::specs::RegistryAnswers::rows_told_at))]
-fn rows_told(fields: &mut FieldReader<'_>, alloc: Global) -> Result<RegistryAnswer, FieldErr>
-    ensures { Gives result fields.new (rows_told_at fields.old) }
-{
-    let rows = fields.rows(alloc)?;
-    Ok(RegistryAnswer::Rows { rows })
 }
 
 impl ReadAnswers for FieldReader<'_> {
@@ -356,6 +326,14 @@ fn put_row_kind(fields: &mut FieldWriter, kind: RowKind) -> Result<(), OutOfMemo
     })
 }
 
+/// The number of a refusal, and one of a byte.
+fn put_small(fields: &mut FieldWriter, number: u8, value: u8) -> Result<(), OutOfMemory>
+    ensures { OnOk result (fields.new ≡ fields.old ++ (byte_bytes number ++ byte_bytes value)) }
+{
+    fields.byte(number)?;
+    fields.byte(value)
+}
+
 /// A refusal.
 fn put_refusal(fields: &mut FieldWriter, refusal: MetaRefusal) -> Result<(), OutOfMemory>
     ensures { OnOk result (fields.new ≡ fields.old ++ refusal_bytes refusal) }
@@ -368,35 +346,11 @@ fn put_refusal(fields: &mut FieldWriter, refusal: MetaRefusal) -> Result<(), Out
         MetaRefusal::NotEmpty => fields.byte(5),
         MetaRefusal::IntoSelf => fields.byte(6),
         MetaRefusal::OtherVolume => fields.byte(7),
-        MetaRefusal::Forbidden { rule } => put_forbidden(fields, rule),
+        MetaRefusal::Forbidden { rule } => put_small(fields, 8, rule),
         MetaRefusal::NameBad => fields.byte(9),
-        MetaRefusal::TooFew { have } => put_too_few(fields, have),
-        MetaRefusal::Denied { rule } => put_report_denied(fields, rule),
+        MetaRefusal::TooFew { have } => put_small(fields, 10, have),
+        MetaRefusal::Denied { rule } => put_denied(fields, 11, rule),
     }
-}
-
-/// That a rule forbids it.
-fn put_forbidden(fields: &mut FieldWriter, rule: u8) -> Result<(), OutOfMemory>
-    ensures { OnOk result (fields.new ≡ fields.old ++ (byte_bytes 8 ++ byte_bytes rule)) }
-{
-    fields.byte(8)?;
-    fields.byte(rule)
-}
-
-/// That too few nodes are there.
-fn put_too_few(fields: &mut FieldWriter, have: u8) -> Result<(), OutOfMemory>
-    ensures { OnOk result (fields.new ≡ fields.old ++ (byte_bytes 10 ++ byte_bytes have)) }
-{
-    fields.byte(10)?;
-    fields.byte(have)
-}
-
-/// That the report is denied.
-fn put_report_denied(fields: &mut FieldWriter, rule: Denial) -> Result<(), OutOfMemory>
-    ensures { OnOk result (fields.new ≡ fields.old ++ (byte_bytes 11 ++ denial_bytes rule)) }
-{
-    fields.byte(11)?;
-    fields.denial(rule)
 }
 
 /// The names of a directory.
@@ -438,22 +392,6 @@ fn put_granted(
     fields.byte(14)?;
     fields.capability(capability)?;
     fields.mark(mark)
-}
-
-/// That it is done.
-fn put_done(fields: &mut FieldWriter, version: u64) -> Result<(), OutOfMemory>
-    ensures { OnOk result (fields.new ≡ fields.old ++ (byte_bytes 0 ++ long_bytes version)) }
-{
-    fields.byte(0)?;
-    fields.long(version)
-}
-
-/// That the row's version is another.
-fn put_changed(fields: &mut FieldWriter, version: u64) -> Result<(), OutOfMemory>
-    ensures { OnOk result (fields.new ≡ fields.old ++ (byte_bytes 1 ++ long_bytes version)) }
-{
-    fields.byte(1)?;
-    fields.long(version)
 }
 
 /// The row.
@@ -533,8 +471,8 @@ impl WriteAnswers for FieldWriter {
         ensures { OnOk result (self.new ≡ self.old ++ registry_answer_bytes registry_answer.now) }
     {
         match registry_answer {
-            RegistryAnswer::Done { version } => put_done(self, *version),
-            RegistryAnswer::Changed { version } => put_changed(self, *version),
+            RegistryAnswer::Done { version } => put_long(self, 0, *version),
+            RegistryAnswer::Changed { version } => put_long(self, 1, *version),
             RegistryAnswer::Absent => self.byte(2),
             RegistryAnswer::Row { row } => put_row_told(self, row),
             RegistryAnswer::Rows { rows } => put_rows_told(self, rows),

@@ -184,12 +184,12 @@ fn put_ok_reply(
     fields.octets(bytes)
 }
 
-/// That no lease was to be had.
-fn put_no_lease(fields: &mut FieldWriter, end: u64) -> Result<(), OutOfMemory>
-    ensures { OnOk result (fields.new ≡ fields.old ++ (byte_bytes 2 ++ long_bytes end)) }
+/// The number of a reply or an answer, and a value.
+pub(crate) fn put_long(fields: &mut FieldWriter, number: u8, value: u64) -> Result<(), OutOfMemory>
+    ensures { OnOk result (fields.new ≡ fields.old ++ (byte_bytes number ++ long_bytes value)) }
 {
-    fields.byte(2)?;
-    fields.long(end)
+    fields.byte(number)?;
+    fields.long(value)
 }
 
 /// That too few acknowledgements came in time.
@@ -210,11 +210,15 @@ fn put_elsewhere(fields: &mut FieldWriter, node: NodeId, end: u64) -> Result<(),
     fields.long(end)
 }
 
-/// That the ask is denied.
-fn put_denied(fields: &mut FieldWriter, rule: Denial) -> Result<(), OutOfMemory>
-    ensures { OnOk result (fields.new ≡ fields.old ++ (byte_bytes 5 ++ denial_bytes rule)) }
+/// The number of a reply or a refusal, and why it is denied.
+pub(crate) fn put_denied(
+    fields: &mut FieldWriter,
+    number: u8,
+    rule: Denial,
+) -> Result<(), OutOfMemory>
+    ensures { OnOk result (fields.new ≡ fields.old ++ (byte_bytes number ++ denial_bytes rule)) }
 {
-    fields.byte(5)?;
+    fields.byte(number)?;
     fields.denial(rule)
 }
 
@@ -224,22 +228,6 @@ fn put_old_list(fields: &mut FieldWriter, version: u32) -> Result<(), OutOfMemor
 {
     fields.byte(6)?;
     fields.word(version)
-}
-
-/// That the truncate epoch is older.
-fn put_old_epoch(fields: &mut FieldWriter, epoch: u64) -> Result<(), OutOfMemory>
-    ensures { OnOk result (fields.new ≡ fields.old ++ (byte_bytes 7 ++ long_bytes epoch)) }
-{
-    fields.byte(7)?;
-    fields.long(epoch)
-}
-
-/// That an object would be too far.
-fn put_too_far(fields: &mut FieldWriter, object: u64) -> Result<(), OutOfMemory>
-    ensures { OnOk result (fields.new ≡ fields.old ++ (byte_bytes 8 ++ long_bytes object)) }
-{
-    fields.byte(8)?;
-    fields.long(object)
 }
 
 impl WriteReplies for FieldWriter {
@@ -262,13 +250,13 @@ impl WriteReplies for FieldWriter {
     {
         match reply {
             Reply::Ok { count, mark, bytes } => put_ok_reply(self, *count, *mark, bytes.as_slice()),
-            Reply::NoLease { end } => put_no_lease(self, *end),
+            Reply::NoLease { end } => put_long(self, 2, *end),
             Reply::NoMajority { have, need } => put_no_majority(self, *have, *need),
             Reply::Elsewhere { node, end } => put_elsewhere(self, *node, *end),
-            Reply::Denied { rule } => put_denied(self, *rule),
+            Reply::Denied { rule } => put_denied(self, 5, *rule),
             Reply::OldList { version } => put_old_list(self, *version),
-            Reply::OldEpoch { epoch } => put_old_epoch(self, *epoch),
-            Reply::TooFar { object } => put_too_far(self, *object),
+            Reply::OldEpoch { epoch } => put_long(self, 7, *epoch),
+            Reply::TooFar { object } => put_long(self, 8, *object),
             Reply::ClientsFull => self.byte(9),
         }
     }
