@@ -1,5 +1,5 @@
 /// What a piece of work made or read: messages or payloads, and the bytes of all.
-#[derive(Clone, Copy, PartialEq, Eq)]
+#[derive(Clone, Copy)]
 pub struct Done {
     pub pieces: u64,
     pub bytes: u64,

@@ -19,6 +19,15 @@ pub fn longer<D: Disk>(alloc: Global, journal: Journal<D>, payload: &[u8]) -> Re
     }
 }
 
+/// What is done with the journal in a file.
+#[derive(Clone, Copy)]
+pub enum Filing {
+    /// A payload of so many bytes is appended so many times.
+    Append { size: usize, times: u32 },
+    /// It is loaded.
+    Load,
+}
+
 /// Appends a payload of so many bytes so many times to the journal on a disk, and gives where its records end.
 fn append_to<D: Disk>(alloc: Global, disk: D, size: usize, times: u32) -> Result<u64> {
     ensure!(size >= 1 && size <= BODY, "no payload has {size} bytes");
@@ -38,24 +47,6 @@ pub fn append_times(alloc: Global, size: usize, times: u32) -> Result<u64> {
     append_to(alloc, disk, size, times)
 }
 
-/// A disk with the file at this path.
-fn attached<'a, R: Files>(rt: &'a R, path: &str) -> Result<FileDisk<&'a R>> {
-    let mut disk = FileDisk::new(rt);
-    disk.attach(path).context("attach")?;
-    Ok(disk)
-}
-
-/// The same in a file.
-pub fn append_file_times<R: Files>(
-    rt: &R,
-    alloc: Global,
-    size: usize,
-    times: u32,
-    path: &str,
-) -> Result<u64> {
-    append_to(alloc, attached(rt, path)?, size, times)
-}
-
 /// Loads the journal on a disk, and gives how many payloads it has, and their bytes.
 fn load_from<D: Disk>(alloc: Global, disk: D) -> Result<Done> {
     let Ok((_journal, placed)) = Journal::load(alloc, disk, u64::MAX) else {
@@ -71,7 +62,20 @@ fn load_from<D: Disk>(alloc: Global, disk: D) -> Result<Done> {
     })
 }
 
-/// The same from a file.
-pub fn load_file<R: Files>(rt: &R, alloc: Global, path: &str) -> Result<Done> {
-    load_from(alloc, attached(rt, path)?)
+/// Does this with the journal on a disk, and gives what was made or read.
+fn done_on<D: Disk>(alloc: Global, disk: D, filing: Filing) -> Result<Done> {
+    match filing {
+        Filing::Append { size, times } => Ok(Done {
+            pieces: u64::from(times),
+            bytes: append_to(alloc, disk, size, times)?,
+        }),
+        Filing::Load => load_from(alloc, disk),
+    }
+}
+
+/// Does it with the journal in the file at this path.
+pub fn done_in_file<R: Files>(rt: &R, alloc: Global, filing: Filing, path: &str) -> Result<Done> {
+    let mut disk = FileDisk::new(rt);
+    disk.attach(path).context("attach")?;
+    done_on(alloc, disk, filing)
 }

@@ -17,6 +17,7 @@ mod work;
 
 use anyhow::{Context, Result};
 use done::Done;
+use std::alloc::Global;
 use std::env;
 use work::Work;
 use xt_base::{Name, Words};
@@ -32,12 +33,20 @@ fn tell(rt: &impl Print, words: &[Name], done: Done) -> Result<()> {
     Ok(())
 }
 
-fn main(rt: HostRuntime) -> Result<()> {
-    let alloc = rt.alloc();
+/// The words of the command line behind the program's name.
+fn words_of(rt: &HostRuntime, alloc: Global) -> Result<Words> {
+    let mut args = env::args(rt)?;
+    let _name = args.next();
     let mut words = Words::new(alloc);
-    for word in env::args(&rt)?.skip(1) {
+    for word in args {
         words.push(alloc, word.as_str())?;
     }
+    Ok(words)
+}
+
+fn main(rt: HostRuntime) -> Result<()> {
+    let alloc = rt.alloc();
+    let words = words_of(&rt, alloc)?;
     let words = words.as_slice();
     let work = Work::of(words).context(
         "usage: xt_bench encode|decode|cut|join|append|tag SIZE N | registry NODES N | append-file SIZE N PATH | load PATH | start N | volume CALL FILES N",

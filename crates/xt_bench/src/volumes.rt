@@ -3,14 +3,14 @@ use anyhow::{Result, bail};
 use std::alloc::Global;
 use volume_rows::{Asker, Picked};
 use volume_tree::Tree;
-use xt_base::{COUNTS, Members, Name, NodeId};
+use xt_base::{COUNTS, Members, Name, NodeId, OutOfMemory};
 use xt_messages::{Kind, Location};
 
 /// Who asks.
 const ASKER: Asker = Asker { user: 1, group: 1 };
 
 /// What is done with volumes, so many times.
-#[derive(Clone, Copy, PartialEq, Eq)]
+#[derive(Clone, Copy)]
 pub enum Errand {
     /// Tells a file.
     Stat,
@@ -24,22 +24,24 @@ pub enum Errand {
     Rename,
 }
 
+/// The errands by their names.
+static ERRANDS: [(&str, Errand); 5] = [
+    ("stat", Errand::Stat),
+    ("create", Errand::Create),
+    ("grant", Errand::Grant),
+    ("list", Errand::List),
+    ("rename", Errand::Rename),
+];
+
 impl Errand {
     /// The errand of this name.
     pub fn of(word: &str) -> Option<Errand> {
-        if word == "stat" {
-            Some(Errand::Stat)
-        } else if word == "create" {
-            Some(Errand::Create)
-        } else if word == "grant" {
-            Some(Errand::Grant)
-        } else if word == "list" {
-            Some(Errand::List)
-        } else if word == "rename" {
-            Some(Errand::Rename)
-        } else {
-            None
+        for (name, errand) in &ERRANDS {
+            if *name == word {
+                return Some(*errand);
+            }
         }
+        None
     }
 
     /// Runs it once, on the directory `/v/d` with a file `0`; whether it was done.
@@ -75,25 +77,30 @@ fn create(tree: &mut Tree, path: &Name, pick: &Picked) -> bool {
     tree.next() < COUNTS && tree.create(ASKER, path, 0o644, pick).is_ok()
 }
 
-/// The paths.
-fn all_paths(alloc: Global) -> Result<Paths> {
+/// Where the files are.
+fn place() -> Result<Picked> {
     let Ok(members) = Members::new(&[NodeId(1), NodeId(2), NodeId(3)]) else {
         bail!("no place for a file");
     };
+    Ok(Picked::On {
+        location: Location {
+            version: 1,
+            kind: Kind::Replicated,
+            stripe: 4096,
+            members,
+        },
+    })
+}
+
+/// The paths, with the place of the files.
+fn paths_to(alloc: Global, pick: Picked) -> Result<Paths, OutOfMemory> {
     Ok(Paths {
         directory: Name::of(alloc, "/v/d")?,
         target: Name::of(alloc, "/v/e")?,
         file: Name::of(alloc, "/v/d/0")?,
         new: Name::of(alloc, "/v/d/new")?,
         none: Name::of(alloc, "")?,
-        pick: Picked::On {
-            location: Location {
-                version: 1,
-                kind: Kind::Replicated,
-                stripe: 4096,
-                members,
-            },
-        },
+        pick,
     })
 }
 
@@ -103,12 +110,15 @@ fn file_path(alloc: Global, number: u32) -> Result<Name> {
     Ok(Name::of(alloc, path.as_str())?)
 }
 
+/// Makes a volume with a directory; whether both were made.
+fn found(alloc: Global, tree: &mut Tree, directory: &Name) -> Result<bool, OutOfMemory> {
+    let volume = Name::of(alloc, "/v")?;
+    Ok(tree.mkdir(ASKER, &volume, 0o755).is_ok() && tree.mkdir(ASKER, directory, 0o755).is_ok())
+}
+
 /// Makes a volume with so many files in a directory.
 fn fill(alloc: Global, tree: &mut Tree, paths: &Paths, files: u32) -> Result<()> {
-    let volume = Name::of(alloc, "/v")?;
-    if tree.mkdir(ASKER, &volume, 0o755).is_err()
-        || tree.mkdir(ASKER, &paths.directory, 0o755).is_err()
-    {
+    if !found(alloc, tree, &paths.directory)? {
         bail!("no directory is made");
     }
     for number in 0..files {
@@ -139,11 +149,12 @@ fn run_on(
 
 /// Runs an errand so many times over a directory of so many files, and gives how many calls were done.
 pub fn run_errands(alloc: Global, errand: Errand, files: u32, times: u32) -> Result<Done> {
-    let paths = all_paths(alloc)?;
+    let paths = paths_to(alloc, place()?)?;
     let mut tree = Tree::new(alloc);
     let done = run_on(alloc, &mut tree, &paths, errand, files, times);
-    // by a call, so that it is no part of the way out
+    // by calls, so that they are no part of the way out
     drop(tree);
+    drop(paths);
     done?;
     Ok(Done {
         pieces: u64::from(times),

@@ -1,6 +1,6 @@
 use crate::done::Done;
 use crate::frames::{decode_times, encode_times};
-use crate::journals::{append_file_times, append_times, load_file};
+use crate::journals::{Filing, append_times, done_in_file};
 use crate::parts::{cut_times, join_times};
 use crate::services::{get_times, tag_times};
 use crate::starts::start_from;
@@ -11,7 +11,7 @@ use std::rt::Files;
 use xt_base::Name;
 
 /// What is done so many times.
-#[derive(Clone, Copy, PartialEq, Eq)]
+#[derive(Clone, Copy)]
 pub enum Task {
     /// Makes the frame of an object's message.
     Encode,
@@ -29,26 +29,26 @@ pub enum Task {
     Registry,
 }
 
+/// The tasks by their names.
+static TASKS: [(&str, Task); 7] = [
+    ("encode", Task::Encode),
+    ("decode", Task::Decode),
+    ("cut", Task::Cut),
+    ("join", Task::Join),
+    ("append", Task::Append),
+    ("tag", Task::Tag),
+    ("registry", Task::Registry),
+];
+
 impl Task {
     /// The task of this name.
     fn of(word: &str) -> Option<Task> {
-        if word == "encode" {
-            Some(Task::Encode)
-        } else if word == "decode" {
-            Some(Task::Decode)
-        } else if word == "cut" {
-            Some(Task::Cut)
-        } else if word == "join" {
-            Some(Task::Join)
-        } else if word == "append" {
-            Some(Task::Append)
-        } else if word == "tag" {
-            Some(Task::Tag)
-        } else if word == "registry" {
-            Some(Task::Registry)
-        } else {
-            None
+        for (name, task) in &TASKS {
+            if *name == word {
+                return Some(*task);
+            }
         }
+        None
     }
 
     /// Does it on so many bytes (or, for the registry, nodes), so many times, and gives how many bytes it made or read.
@@ -73,12 +73,8 @@ pub enum Work<'a> {
         size: usize,
         times: u32,
     },
-    AppendFile {
-        size: usize,
-        times: u32,
-        path: &'a str,
-    },
-    LoadFile {
+    InFile {
+        filing: Filing,
         path: &'a str,
     },
     Start {
@@ -116,8 +112,10 @@ fn append_of<'a>(words: &'a [Name]) -> Option<Work<'a>> {
         return None;
     };
     let (size, times) = numbers(size, times)?;
-    let path = path.as_str();
-    Some(Work::AppendFile { size, times, path })
+    Some(Work::InFile {
+        filing: Filing::Append { size, times },
+        path: path.as_str(),
+    })
 }
 
 /// The task that these words name, if they name one.
@@ -132,7 +130,10 @@ fn task_of<'a>(task: &str, words: &'a [Name]) -> Option<Work<'a>> {
 fn single_of<'a>(name: &str, word: &'a Name) -> Option<Work<'a>> {
     let word = word.as_str();
     if name == "load" {
-        Some(Work::LoadFile { path: word })
+        Some(Work::InFile {
+            filing: Filing::Load,
+            path: word,
+        })
     } else if name == "start" {
         let updates = word.parse::<u32>().ok()?;
         Some(Work::Start { updates })
@@ -161,11 +162,7 @@ impl<'a> Work<'a> {
                 pieces: u64::from(times),
                 bytes: task.run(alloc, size, times)?,
             }),
-            Work::AppendFile { size, times, path } => Ok(Done {
-                pieces: u64::from(times),
-                bytes: append_file_times(rt, alloc, size, times, path)?,
-            }),
-            Work::LoadFile { path } => load_file(rt, alloc, path),
+            Work::InFile { filing, path } => done_in_file(rt, alloc, filing, path),
             Work::Start { updates } => start_from(alloc, updates),
             Work::Volume {
                 errand,
