@@ -16,11 +16,21 @@ use xt_messages::{Event, Logged, Msg, Payload, Record, RegistryAnswer, RegistryR
 use xt_protocol::Turned;
 
 /// The directory service. Contracts see its secret and its state.
-#[derive(Drop)]
 pub struct Dir {
     key: Octets,
     registry: Registry,
     clients: KeptAnswers<RegistryAnswer>,
+}
+
+// A derived drop is part of the code of each function that may drop a value. This one is proved once.
+impl Drop for Dir {
+    fn drop(self) {
+        let Dir {
+            key: _,
+            registry: _,
+            clients: _,
+        } = self;
+    }
 }
 
 impl Model for Dir {
