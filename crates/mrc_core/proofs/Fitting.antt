@@ -7,7 +7,7 @@ use Rattle.xt_messages.specs.declared.message.Payload.TheVariants as payload
 use Rattle.xt_messages.specs.declared.record.Logged.TheVariants as logged
 use Rattle.xt_messages.specs.declared.record.Record.{Record}
 use Rattle.xt_messages.specs.declared.record.Record.TheVariants as kept
-use Rattle.mrc_catalogue.specs.Picking.{WantsSome, CanHear, CanTake}
+use Rattle.mrc_core.specs.Picking.{WantsSome, CanHear, CanTake}
 
 wants : (request : MetaReq) → FitsMetaReq request → WantsSome request
 wants (ask.Create path mode kind n stripe) fits = (fits.2, fits.3)

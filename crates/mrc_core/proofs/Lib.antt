@@ -1,1 +1,4 @@
+pub mod Different
+pub mod Calling
+pub mod Sizes
 pub mod Fitting

@@ -4,12 +4,14 @@ ghost use Rattle.osd_rows.specs.OsdSteps.{asks_dir};
 ghost use Rattle.mrc_rows.specs.Laws.{files_made};
 ghost use Rattle.mrc_rows.specs.Steps as steps;
 ghost use Rattle.mrc_rows.specs.Steps.{catalogue_of};
-ghost use Rattle.mrc_catalogue.specs.Asking.{at_clock};
-ghost use Rattle.mrc_catalogue.specs.Picking.{CanHandle, CanHear, CanTake};
+ghost use Rattle.mrc_core.specs.Asking.{at_clock};
+ghost use Rattle.mrc_core.specs.Picking.{CanHandle, CanHear, CanTake};
 
+use crate::asking::{Asking, Site};
+use crate::catalogue::Catalogue;
+use crate::picking::nodes_of;
 use crate::serving::requested;
 use capabilities::is_stop;
-use mrc_catalogue::{Asking, Catalogue, Site, nodes_of};
 use std::alloc::Global;
 use std::marker::Model;
 use step_outputs::{message, quiet, sends_one};
@@ -22,7 +24,6 @@ use xt_protocol::Turned;
 const OSD: u8 = 1;
 
 /// The metadata server. Contracts see its secret and its state.
-#[derive(Drop)]
 pub struct Mrc {
     alloc: Global,
     key: Octets,
@@ -32,9 +33,22 @@ pub struct Mrc {
     last: u64,
 }
 
+// A derived drop is part of the code of each function that may drop a value. This one is proved once.
+impl Drop for Mrc {
+    fn drop(self) {
+        let Mrc {
+            alloc: _,
+            key: _,
+            catalogue: _,
+            osds: _,
+            last: _,
+        } = self;
+    }
+}
+
 impl Model for Mrc {
     ghost use Rattle.mrc_rows.specs.Steps.{MrcNode};
-    ghost use Rattle.mrc_catalogue.specs.Asking.{IsServer};
+    ghost use Rattle.mrc_core.specs.Asking.{IsServer};
 
     ghost Value = { MrcNode };
 

@@ -2,15 +2,17 @@ ghost use Rattle.std.specs.Prelude.{◌≡◌, ◌<◌, ◌∷◌, [], if◌then
 ghost use Rattle.std.specs.Vec.{vec_len, vec_capacity};
 ghost use Rattle.mrc_rows.specs.Requests as rows;
 ghost use Rattle.mrc_rows.specs.Steps as steps;
-ghost use Rattle.mrc_catalogue.specs.Asking.{IsSite, fresh_at, requested_at, server_at};
-ghost use Rattle.mrc_catalogue.specs.Picking.{WantsSome};
-ghost use Rattle.mrc_catalogue.specs.Plans.{Changes, Sets};
-ghost use Rattle.mrc_catalogue.specs.Settling.{answer_of};
+ghost use Rattle.mrc_core.specs.Asking.{IsSite, fresh_at, requested_at, server_at};
+ghost use Rattle.mrc_core.specs.Picking.{WantsSome};
+ghost use Rattle.mrc_core.specs.Plans.{Changes, Sets};
+ghost use Rattle.mrc_core.specs.Settling.{answer_of};
 
+use crate::asking::{Asking, Site};
+use crate::catalogue::Catalogue;
+use crate::picking::{marks_on, nodes_for, place_of};
+use crate::plan::Plan;
+use crate::settling::{Settled, Settling};
 use kept_answers::Standing;
-use mrc_catalogue::{
-    Asking, Catalogue, Plan, Settled, Settling, Site, marks_on, nodes_for, place_of,
-};
 use std::alloc::Global;
 use step_outputs::{message, quiet, sends_one};
 use xt_base::{Copies, MRC_NODE, Members, NodeId, OptionalBox, OutOfMemory, Seq};
@@ -60,31 +62,63 @@ fn one_in(room: Vec<Msg>, message: Msg) -> Msgs
     }
 }
 
-/// What a recorded request gives: its record, the marks where it is done, and its answer, in the room for it.
-fn recorded(
-    alloc: Global,
+/// What a recorded request needs before it is settled: its record, the marks that it has where it is done, and room for its answer.
+struct Prepared {
     rec: OptionalBox<Record>,
-    asking: &Asking,
-    settled: &Settled,
     marks: Marks,
     room: Vec<Msg>,
-) -> Turned
-    requires empty { room.items ≡ [] }
-    requires room { vec_len room < vec_capacity room }
-    ensures { result ≡ record { rec = rec; outs = steps.reply_to asking.now.client asking.now.number (answer_of settled.now) ∷ []; marks = if rows.is_done (answer_of settled.now) then marks else [] } }
-{
-    let marks = if settled.is_done() {
-        marks
-    } else {
-        Seq::new(alloc)
-    };
-    Turned {
-        rec,
-        outs: one_in(
-            room,
-            reply_to(asking.client, asking.number, settled.answer()),
-        ),
-        marks,
+}
+
+// A derived drop is part of the code of each function that may drop a value. This one is proved once.
+impl Drop for Prepared {
+    fn drop(self) {
+        let Prepared {
+            rec: _,
+            marks: _,
+            room: _,
+        } = self;
+    }
+}
+
+impl Prepared {
+    /// Of a request with these nodes and marks.
+    fn of(
+        alloc: Global,
+        site: &Site,
+        asking: &Asking,
+        nodes: &Option<Members>,
+        marks: Marks,
+    ) -> Result<Prepared, OutOfMemory>
+        ensures rec { IfOk result (λ made. made.rec ≡ Some (steps.record_of asking.now.client asking.now.number site.now.clock nodes.now asking.now.who asking.now.request.now)) }
+        ensures marks { IfOk result (λ made. made.marks ≡ marks) }
+        ensures empty { IfOk result (λ made. made.room.items ≡ []) }
+        ensures room { IfOk result (λ made. vec_len made.room < vec_capacity made.room) }
+    {
+        let room = Vec::with_capacity(alloc, 1)?;
+        let rec = OptionalBox::some(alloc, record_of(alloc, site, asking, nodes)?)?;
+        Ok(Prepared { rec, marks, room })
+    }
+
+    /// What the request gives, once it is settled.
+    fn turned(self, alloc: Global, asking: &Asking, settled: &Settled) -> Turned
+        requires empty { self.room.items ≡ [] }
+        requires room { vec_len self.room < vec_capacity self.room }
+        ensures { result ≡ record { rec = self.rec; outs = steps.reply_to asking.now.client asking.now.number (answer_of settled.now) ∷ []; marks = if rows.is_done (answer_of settled.now) then self.marks else [] } }
+    {
+        let Prepared { rec, marks, room } = self;
+        let marks = if settled.is_done() {
+            marks
+        } else {
+            Seq::new(alloc)
+        };
+        Turned {
+            rec,
+            outs: one_in(
+                room,
+                reply_to(asking.client, asking.number, settled.answer()),
+            ),
+            marks,
+        }
     }
 }
 
@@ -104,19 +138,10 @@ fn changed(
 {
     let next = catalogue.next();
     let nodes = nodes_for(alloc, site.osds, next, asking.request)?;
-    let room = Vec::with_capacity(alloc, 1)?;
     let marks = marks_on(alloc, next, &place_of(&nodes, asking.request))?;
-    let rec = OptionalBox::some(alloc, record_of(alloc, site, asking, &nodes)?)?;
-    match catalogue.change(alloc, site, asking, &nodes) {
-        Ok(settled) => Ok(recorded(alloc, rec, asking, &settled, marks, room)),
-        Err(error) => {
-            // by calls, so that they are no part of the way out
-            drop(rec);
-            drop(marks);
-            drop(room);
-            Err(error)
-        }
-    }
+    let made = Prepared::of(alloc, site, asking, &nodes, marks)?;
+    let settled = catalogue.change(alloc, site, asking, &nodes)?;
+    Ok(made.turned(alloc, asking, &settled))
 }
 
 /// Handles a fresh request that is recorded, and sets sizes at most.
@@ -132,17 +157,9 @@ fn sized(
     ensures state { OnOk result (server_at site.now catalogue.new ≡ (fresh_at site.now catalogue.old asking.now).mrc) }
     ensures err { OnErr result (catalogue.new ≡ catalogue.old) }
 {
-    let room = Vec::with_capacity(alloc, 1)?;
-    let rec = OptionalBox::some(alloc, record_of(alloc, site, asking, &None)?)?;
-    match catalogue.set(asking.client, asking.number, settling) {
-        Ok(()) => Ok(recorded(alloc, rec, asking, &settling.settled, Seq::new(alloc), room)),
-        Err(error) => {
-            // by calls, so that they are no part of the way out
-            drop(rec);
-            drop(room);
-            Err(error)
-        }
-    }
+    let made = Prepared::of(alloc, site, asking, &None, Seq::new(alloc))?;
+    catalogue.set(asking.client, asking.number, settling)?;
+    Ok(made.turned(alloc, asking, &settling.settled))
 }
 
 /// Handles a request under a number above the client's last recorded one.

@@ -11,11 +11,11 @@ use Rattle.volume_rows.specs.declared.Picked.TheVariants as place
 use Rattle.volume_rows.specs.Rows.{Volumes}
 use Rattle.mrc_rows.specs.Laws.{IsChange}
 use Rattle.mrc_rows.specs.Requests.{outcome_of, settled, grant_settled, wants_truncating, is_last_epoch, is_recorded, is_spent, nodes_for, subject_of, place_of}
-use Rattle.mrc_catalogue.specs.declared.asking.Site.{Site}
-use Rattle.mrc_catalogue.specs.declared.plan.Plan.{Plan}
-use Rattle.mrc_catalogue.specs.declared.plan.Plan.TheVariants as plan
-use Rattle.mrc_catalogue.specs.declared.settling.Settling.{Settling}
-use Rattle.mrc_catalogue.specs.Settling.{answer_of, settlement_of}
+use Rattle.mrc_core.specs.declared.asking.Site.{Site}
+use Rattle.mrc_core.specs.declared.plan.Plan.{Plan}
+use Rattle.mrc_core.specs.declared.plan.Plan.TheVariants as plan
+use Rattle.mrc_core.specs.declared.settling.Settling.{Settling}
+use Rattle.mrc_core.specs.Settling.{answer_of, settlement_of}
 
 -- the request is only answered
 pub record Tells (site : Site) (volumes : Volumes) (who : Asker) (request : MetaReq) (answer : MetaAnswer) : Type 0 where

@@ -1,7 +1,7 @@
 ghost use Rattle.std.specs.Prelude.{◌≡◌, ◌≤◌, ◌<◌, ◌^◌, length, IfOk, None, true};
 ghost use Rattle.capabilities.specs.Denials.{denial_of};
 ghost use Rattle.mrc_rows.specs.Requests as rows;
-ghost use Rattle.mrc_catalogue.specs.Settling.{answer_of, settlement_of};
+ghost use Rattle.mrc_core.specs.Settling.{answer_of, settlement_of};
 
 use capabilities::{CapErr, check, seal};
 use mrc_rows::{LIFE, NewSizes};

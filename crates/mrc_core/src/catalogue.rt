@@ -11,9 +11,9 @@ ghost use Rattle.volume_tree.specs.Calls.{Comes};
 ghost use Rattle.mrc_rows.specs.Requests as rows;
 ghost use Rattle.mrc_rows.specs.Laws.{IsChange, Settles, files_made};
 ghost use Rattle.mrc_rows.specs.Steps.{empty_catalogue, after_record};
-ghost use Rattle.mrc_catalogue.specs.Picking.{WantsSome, CanTake};
-ghost use Rattle.mrc_catalogue.specs.Settling.{answer_of, IsSettled};
-ghost use Rattle.mrc_catalogue.specs.Asking.{IsSite, outcome_at, after_asking, after_meta_at, after_setting};
+ghost use Rattle.mrc_core.specs.Picking.{WantsSome, CanTake};
+ghost use Rattle.mrc_core.specs.Settling.{answer_of, IsSettled};
+ghost use Rattle.mrc_core.specs.Asking.{IsSite, outcome_at, after_asking, after_meta_at, after_setting};
 
 use crate::asking::{Asking, Site};
 use crate::picking::place_of;

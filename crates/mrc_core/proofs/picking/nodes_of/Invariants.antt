@@ -1,6 +1,6 @@
 use Rattle.std.proofs.Common.{◌≡◌, take}
 use Rattle.mrc_rows.specs.Steps.{nodes_of}
-use Rattle.mrc_catalogue.proofs.picking.nodes_of.Given as goal
+use Rattle.mrc_core.proofs.picking.nodes_of.Given as goal
 
 abbrev pub invariant-loop-row : goal.invariant-loop-row
 invariant-loop-row l = l.nodes.items ≡ nodes_of (take l.row-index l.rows)

@@ -1,6 +1,6 @@
 use Rattle.mrc_rows.proofs.Refusing.{changes_settle}
 use Rattle.volume_rows.specs.Requests.{applied}
-use Rattle.mrc_catalogue.proofs.catalogue.change.Goals as goal
+use Rattle.mrc_core.proofs.catalogue.change.Goals as goal
 
 pub returns : goal.returns
 returns c =

@@ -6,10 +6,10 @@ use Rattle.kept_answers.specs.Standings.{with_answer}
 use Rattle.volume_rows.specs.Requests.{Outcome}
 use Rattle.mrc_rows.specs.Requests.{outcome_of, with_sizes}
 use Rattle.mrc_rows.specs.Steps.{Catalogue, MrcState, MrcStep, after_meta, after_request, requested, fresh}
-use Rattle.mrc_catalogue.specs.declared.asking.Site.{Site}
-use Rattle.mrc_catalogue.specs.declared.asking.Asking.{Asking}
-use Rattle.mrc_catalogue.specs.declared.settling.Settling.{Settling}
-use Rattle.mrc_catalogue.specs.Settling.{answer_of}
+use Rattle.mrc_core.specs.declared.asking.Site.{Site}
+use Rattle.mrc_core.specs.declared.asking.Asking.{Asking}
+use Rattle.mrc_core.specs.declared.settling.Settling.{Settling}
+use Rattle.mrc_core.specs.Settling.{answer_of}
 
 -- a key has 1 to 64 bytes, the OSDs are different, and the clock is one
 pub record IsServer (key : List ℕ) (osds : List NodeId) (clock : ℕ) : Type 0 where

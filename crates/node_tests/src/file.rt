@@ -17,16 +17,18 @@ fn appends_one<D: Disk>(alloc: Global, disk: D) -> bool {
 }
 
 /// Whether a disk has no length before it is attached, and writes a journal with one record to the file at this path then.
-fn writes_one<R: Files>(rt: &R, alloc: Global, path: &str) -> bool {
-    let mut disk = FileDisk::new(rt);
+fn writes_one<D: Disk>(alloc: Global, disk: D, path: &str) -> bool {
+    let mut disk = disk;
     disk.length().is_err() && disk.attach(path).is_ok() && appends_one(alloc, disk)
 }
 
-/// Whether that journal is read there, and not a byte more.
-fn reads_one<R: Files>(rt: &R, path: &str) -> bool {
+/// Whether one disk writes that journal to the file at this path, and another one reads it there, and not a byte more.
+fn keeps_one<R: Files>(rt: &R, alloc: Global, path: &str) -> bool {
+    let written = writes_one(alloc, FileDisk::new(rt), path);
     let mut disk = FileDisk::new(rt);
     let mut bytes = [0; 27];
-    disk.attach(path).is_ok()
+    written
+        && disk.attach(path).is_ok()
         && disk.read(0, &mut bytes).is_ok()
         && bytes == ONE
         && disk.read(1, &mut bytes).is_err()
@@ -39,7 +41,6 @@ fn a_file_keeps_what_it_was_given(rt: HostRuntime) {
     let path = folder.join(rt.alloc(), "xtfs-disk-test");
     let path = path.ok().expect(&rt, OTHERWISE);
     let _ = fs::remove_file(&rt, path.as_path());
-    assert!(rt; writes_one(&rt, rt.alloc(), path.as_str()));
-    assert!(rt; reads_one(&rt, path.as_str()));
+    assert!(rt; keeps_one(&rt, rt.alloc(), path.as_str()));
     assert!(rt; fs::remove_file(&rt, path.as_path()).is_ok());
 }

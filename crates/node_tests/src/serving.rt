@@ -1,4 +1,4 @@
-ghost use Rattle.mrc_catalogue.specs.Picking.{CanHear, WantsSome};
+ghost use Rattle.mrc_core.specs.Picking.{CanHear, WantsSome};
 
 use mrc_core::Mrc;
 use std::alloc::Global;

@@ -5,9 +5,9 @@ use Rattle.xt_messages.specs.declared.meta.MetaAnswer.TheVariants as answer
 use Rattle.volume_rows.specs.Rows.{Volumes}
 use Rattle.volume_rows.specs.Requests.{Outcome}
 use Rattle.mrc_rows.specs.Requests.{Settlement}
-use Rattle.mrc_catalogue.specs.declared.settling.Settled.{Settled}
-use Rattle.mrc_catalogue.specs.declared.settling.Settled.TheVariants as settled
-use Rattle.mrc_catalogue.specs.declared.settling.Settling.{Settling}
+use Rattle.mrc_core.specs.declared.settling.Settled.{Settled}
+use Rattle.mrc_core.specs.declared.settling.Settled.TheVariants as settled
+use Rattle.mrc_core.specs.declared.settling.Settling.{Settling}
 
 abbrev pub answer_of : Settled → MetaAnswer
 answer_of settled.Done = answer.Done

@@ -1,7 +1,7 @@
 ghost use Rattle.std.specs.Prelude.{◌≡◌, IfOk};
 ghost use Rattle.mrc_rows.specs.Requests as rows;
-ghost use Rattle.mrc_catalogue.specs.Asking.{IsSite};
-ghost use Rattle.mrc_catalogue.specs.Plans.{IsPlan, IsGrantPlan, IsReportPlan};
+ghost use Rattle.mrc_core.specs.Asking.{IsSite};
+ghost use Rattle.mrc_core.specs.Plans.{IsPlan, IsGrantPlan, IsReportPlan};
 
 use crate::asking::Site;
 use crate::catalogue::Catalogue;

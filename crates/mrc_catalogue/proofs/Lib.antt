@@ -1,3 +1,0 @@
-pub mod Different
-pub mod Calling
-pub mod Sizes
