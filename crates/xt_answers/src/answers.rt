@@ -5,7 +5,7 @@ ghost use Rattle.xt_fields.specs.Reading.{Gives, Tries, made};
 ghost use Rattle.xt_fields.specs.BasicFields.{byte_bytes, half_bytes, word_bytes, text_at, list_at};
 ghost use Rattle.xt_wire.specs.IdFields.{mark_bytes};
 ghost use Rattle.xt_wire.specs.FileFields.{capability_bytes};
-ghost use Rattle.xt_answers.specs.MetaAnswers.{refusal_bytes, refusal_arms, forbidden_at, too_few_at, report_denied_at, names_bytes, names_at, row_kind_bytes, row_kind_at, meta_answer_bytes, meta_answer_at, meta_answer_arms, names_answer_at, row_answer_at, granted_at};
+ghost use Rattle.xt_answers.specs.MetaAnswers.{refusal_bytes, refusal_arms, names_bytes, names_at, row_kind_bytes, row_kind_at, meta_answer_bytes, meta_answer_at, meta_answer_arms, names_answer_at, row_answer_at, granted_at};
 ghost use Rattle.xt_answers.specs.RegistryAnswers.{row_bytes, row_at, rows_bytes, rows_at, registry_answer_bytes, registry_answer_at, registry_answer_arms};
 
 use crate::reply::{ReadReplies, put_denied, put_long};
@@ -69,7 +69,7 @@ fn name_list(fields: &mut FieldReader<'_>, alloc: Global, count: u32) -> Result<
 }
 
 /// The refusal of this number.
-#[tactic(auto, unfolding(crate::specs::MetaAnswers::refusal_arms))]
+#[tactic(auto, unfolding(crate::specs::MetaAnswers::refusal_arms, crate::specs::MetaAnswers::forbidden_at, crate::specs::MetaAnswers::too_few_at, crate::specs::MetaAnswers::report_denied_at))]
 fn refusal(fields: &mut FieldReader<'_>, number: u8) -> Result<MetaRefusal, FieldErr>
     ensures { Gives result fields.new (refusal_arms number fields.old) }
 {
@@ -81,39 +81,18 @@ fn refusal(fields: &mut FieldReader<'_>, number: u8) -> Result<MetaRefusal, Fiel
         5 => Ok(MetaRefusal::NotEmpty),
         6 => Ok(MetaRefusal::IntoSelf),
         7 => Ok(MetaRefusal::OtherVolume),
-        8 => forbidden(fields),
+        8 => Ok(MetaRefusal::Forbidden {
+            rule: fields.byte_within(1, 4)?,
+        }),
         9 => Ok(MetaRefusal::NameBad),
-        10 => too_few(fields),
-        11 => report_denied(fields),
+        10 => Ok(MetaRefusal::TooFew {
+            have: fields.byte()?,
+        }),
+        11 => Ok(MetaRefusal::Denied {
+            rule: fields.denial()?,
+        }),
         _ => Err(FieldErr::Unfit),
     }
-}
-
-/// That a rule forbids it.
-#[tactic(auto, unfolding(crate::specs::MetaAnswers::forbidden_at))]
-fn forbidden(fields: &mut FieldReader<'_>) -> Result<MetaRefusal, FieldErr>
-    ensures { Gives result fields.new (forbidden_at fields.old) }
-{
-    let rule = fields.byte_within(1, 4)?;
-    Ok(MetaRefusal::Forbidden { rule })
-}
-
-/// That too few nodes are there.
-#[tactic(auto, unfolding(crate::specs::MetaAnswers::too_few_at))]
-fn too_few(fields: &mut FieldReader<'_>) -> Result<MetaRefusal, FieldErr>
-    ensures { Gives result fields.new (too_few_at fields.old) }
-{
-    let have = fields.byte()?;
-    Ok(MetaRefusal::TooFew { have })
-}
-
-/// That the report is denied.
-#[tactic(auto, unfolding(crate::specs::MetaAnswers::report_denied_at))]
-fn report_denied(fields: &mut FieldReader<'_>) -> Result<MetaRefusal, FieldErr>
-    ensures { Gives result fields.new (report_denied_at fields.old) }
-{
-    let rule = fields.denial()?;
-    Ok(MetaRefusal::Denied { rule })
 }
 
 /// The answer that makes a refusal known.

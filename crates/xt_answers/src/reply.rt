@@ -3,7 +3,7 @@ ghost use Rattle.xt_messages.specs.Limits.{FitsReply};
 ghost use Rattle.xt_fields.specs.Reading.{Gives, Takes, Tries};
 ghost use Rattle.xt_fields.specs.BasicFields.{byte_bytes, word_bytes, long_bytes, octets_bytes};
 ghost use Rattle.xt_wire.specs.IdFields.{node_bytes, mark_bytes};
-ghost use Rattle.xt_answers.specs.ReplyFields.{denial_at, denial_arms, denial_bytes, reply_at, reply_arms, reply_bytes, ok_reply_at, no_lease_at, no_majority_at, elsewhere_at, denied_at, old_list_at, old_epoch_at, too_far_at};
+ghost use Rattle.xt_answers.specs.ReplyFields.{denial_at, denial_arms, denial_bytes, reply_at, reply_arms, reply_bytes, ok_reply_at, no_majority_at, elsewhere_at};
 
 use std::alloc::Global;
 use xt_base::{BODY, NodeId, OutOfMemory, SizeMark};
@@ -40,19 +40,29 @@ fn denial_arm(fields: &mut FieldReader<'_>, number: u8) -> Result<Denial, FieldE
 }
 
 /// The reply of this number.
-#[tactic(auto, unfolding(crate::specs::ReplyFields::reply_arms))]
+#[tactic(auto, unfolding(crate::specs::ReplyFields::reply_arms, crate::specs::ReplyFields::no_lease_at, crate::specs::ReplyFields::denied_at, crate::specs::ReplyFields::old_list_at, crate::specs::ReplyFields::old_epoch_at, crate::specs::ReplyFields::too_far_at))]
 fn reply_arm(fields: &mut FieldReader<'_>, number: u8, alloc: Global) -> Result<Reply, FieldErr>
     ensures { Gives result fields.new (reply_arms number fields.old) }
 {
     match number {
         1 => ok_reply(fields, alloc),
-        2 => no_lease(fields),
+        2 => Ok(Reply::NoLease {
+            end: fields.long()?,
+        }),
         3 => no_majority(fields),
         4 => elsewhere(fields),
-        5 => denied(fields),
-        6 => old_list(fields),
-        7 => old_epoch(fields),
-        8 => too_far(fields),
+        5 => Ok(Reply::Denied {
+            rule: fields.denial()?,
+        }),
+        6 => Ok(Reply::OldList {
+            version: fields.version()?,
+        }),
+        7 => Ok(Reply::OldEpoch {
+            epoch: fields.count()?,
+        }),
+        8 => Ok(Reply::TooFar {
+            object: fields.long()?,
+        }),
         9 => Ok(Reply::ClientsFull),
         _ => Err(FieldErr::Unfit),
     }
@@ -67,15 +77,6 @@ fn ok_reply(fields: &mut FieldReader<'_>, alloc: Global) -> Result<Reply, FieldE
     let mark = fields.mark()?;
     let bytes = fields.octets(alloc, BODY_LIMIT)?;
     Ok(Reply::Ok { count, mark, bytes })
-}
-
-/// That no lease was to be had.
-#[tactic(auto, unfolding(crate::specs::ReplyFields::no_lease_at))]
-fn no_lease(fields: &mut FieldReader<'_>) -> Result<Reply, FieldErr>
-    ensures { Gives result fields.new (no_lease_at fields.old) }
-{
-    let end = fields.long()?;
-    Ok(Reply::NoLease { end })
 }
 
 /// That too few acknowledgements came in time.
@@ -96,42 +97,6 @@ fn elsewhere(fields: &mut FieldReader<'_>) -> Result<Reply, FieldErr>
     let node = fields.node()?;
     let end = fields.long()?;
     Ok(Reply::Elsewhere { node, end })
-}
-
-/// That the ask is denied.
-#[tactic(auto, unfolding(crate::specs::ReplyFields::denied_at))]
-fn denied(fields: &mut FieldReader<'_>) -> Result<Reply, FieldErr>
-    ensures { Gives result fields.new (denied_at fields.old) }
-{
-    let rule = fields.denial()?;
-    Ok(Reply::Denied { rule })
-}
-
-/// That the list is older.
-#[tactic(auto, unfolding(crate::specs::ReplyFields::old_list_at))]
-fn old_list(fields: &mut FieldReader<'_>) -> Result<Reply, FieldErr>
-    ensures { Gives result fields.new (old_list_at fields.old) }
-{
-    let version = fields.version()?;
-    Ok(Reply::OldList { version })
-}
-
-/// That the truncate epoch is older.
-#[tactic(auto, unfolding(crate::specs::ReplyFields::old_epoch_at))]
-fn old_epoch(fields: &mut FieldReader<'_>) -> Result<Reply, FieldErr>
-    ensures { Gives result fields.new (old_epoch_at fields.old) }
-{
-    let epoch = fields.count()?;
-    Ok(Reply::OldEpoch { epoch })
-}
-
-/// That an object would be too far.
-#[tactic(auto, unfolding(crate::specs::ReplyFields::too_far_at))]
-fn too_far(fields: &mut FieldReader<'_>) -> Result<Reply, FieldErr>
-    ensures { Gives result fields.new (too_far_at fields.old) }
-{
-    let object = fields.long()?;
-    Ok(Reply::TooFar { object })
 }
 
 impl ReadReplies for FieldReader<'_> {
