@@ -4,7 +4,7 @@ ghost use Rattle.xt_messages.specs.Limits.{IsObject, IsObjectOrNone, FitsOp, Fit
 ghost use Rattle.xt_fields.specs.Reading.{Fails, Gives, Takes, Tries};
 ghost use Rattle.xt_fields.specs.BasicFields.{byte_bytes, word_bytes, long_bytes, octets_bytes, word_at, list_at};
 ghost use Rattle.xt_wire.specs.IdFields.{node_at};
-ghost use Rattle.xt_wire.specs.FileFields.{kind_bytes, kind_at, kind_arms, version_at, stripe_at, members_bytes, members_at, location_bytes, location_at, sealed_bytes, capability_bytes, capability_at, op_bytes, op_at, op_arms, read_op_at, write_op_at, truncate_op_at, some_octets_at, slot_bytes, slot_at, update_bytes, update_at, object_version_bytes, object_version_at, session_bytes, session_at, versions_bytes, versions_at, sessions_bytes, sessions_at, head_bytes, head_at};
+ghost use Rattle.xt_wire.specs.FileFields.{kind_bytes, kind_at, kind_arms, version_at, stripe_at, members_bytes, members_at, location_bytes, location_at, sealed_bytes, capability_bytes, capability_at, op_bytes, op_at, op_arms, read_op_at, write_op_at, some_octets_at, slot_bytes, slot_at, update_bytes, update_at, object_version_bytes, object_version_at, session_bytes, session_at, versions_bytes, versions_at, sessions_bytes, sessions_at, head_bytes, head_at};
 
 use crate::ids::{ReadIds, WriteIds};
 use std::alloc::Global;
@@ -156,14 +156,16 @@ fn node_list(fields: &mut FieldReader<'_>, count: u8) -> Result<[NodeId; 9], Fie
 }
 
 /// The operation of this number.
-#[tactic(auto, unfolding(crate::specs::FileFields::op_arms))]
+#[tactic(auto, unfolding(crate::specs::FileFields::op_arms, crate::specs::FileFields::truncate_op_at))]
 fn op_arm(fields: &mut FieldReader<'_>, number: u8, alloc: Global) -> Result<Op, FieldErr>
     ensures { Gives result fields.new (op_arms number fields.old) }
 {
     match number {
         1 => read_op(fields),
         2 => write_op(fields, alloc),
-        3 => truncate_op(fields),
+        3 => Ok(Op::Truncate {
+            size: fields.long()?,
+        }),
         _ => Err(FieldErr::Unfit),
     }
 }
@@ -188,15 +190,6 @@ fn write_op(fields: &mut FieldReader<'_>, alloc: Global) -> Result<Op, FieldErr>
     let at = fields.word()?;
     let bytes = some_octets(fields, alloc)?;
     Ok(Op::Write { object, at, bytes })
-}
-
-/// A truncation.
-#[tactic(auto, unfolding(crate::specs::FileFields::truncate_op_at))]
-fn truncate_op(fields: &mut FieldReader<'_>) -> Result<Op, FieldErr>
-    ensures { Gives result fields.new (truncate_op_at fields.old) }
-{
-    let size = fields.long()?;
-    Ok(Op::Truncate { size })
 }
 
 /// Bytes that aren't empty.

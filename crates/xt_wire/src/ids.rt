@@ -1,7 +1,7 @@
 ghost use Rattle.std.specs.Prelude.{◌≡◌, ◌++◌, OnOk};
 ghost use Rattle.xt_fields.specs.Reading.{Takes};
 ghost use Rattle.xt_fields.specs.BasicFields.{byte_bytes};
-ghost use Rattle.xt_wire.specs.IdFields.{node_at, node_bytes, boot_at, boot_bytes, file_at, file_bytes, ballot_at, ballot_bytes, epoch_at, epoch_bytes, stamp_at, stamp_bytes, lease_at, lease_bytes, some_report_at, report_at, report_arms, report_bytes, op_id_at, op_id_bytes, mark_at, mark_bytes};
+ghost use Rattle.xt_wire.specs.IdFields.{node_at, node_bytes, boot_at, boot_bytes, file_at, file_bytes, ballot_at, ballot_bytes, epoch_at, epoch_bytes, stamp_at, stamp_bytes, lease_at, lease_bytes, report_at, report_arms, report_bytes, op_id_at, op_id_bytes, mark_at, mark_bytes};
 
 use xt_base::{
     Ballot, Boot, Epoch, FileId, Lease, NodeId, OpId, OutOfMemory, SizeMark, Stamp, VolumeId,
@@ -42,23 +42,14 @@ pub trait ReadIds {
     fn report(&mut self) -> Result<Option<Lease>, FieldErr>;
 }
 
-/// A lease that is reported.
-#[tactic(auto, unfolding(crate::specs::IdFields::some_report_at))]
-fn some_report(fields: &mut FieldReader<'_>) -> Result<Option<Lease>, FieldErr>
-    ensures { Takes result fields.old fields.new (some_report_at fields.old) }
-{
-    let lease = fields.lease()?;
-    Ok(Some(lease))
-}
-
 /// The report that follows this number.
-#[tactic(auto, unfolding(crate::specs::IdFields::report_arms))]
+#[tactic(auto, unfolding(crate::specs::IdFields::report_arms, crate::specs::IdFields::some_report_at))]
 fn report_arm(fields: &mut FieldReader<'_>, number: u8) -> Result<Option<Lease>, FieldErr>
     ensures { Takes result fields.old fields.new (report_arms number fields.old) }
 {
     match number {
         0 => Ok(None),
-        1 => some_report(fields),
+        1 => Ok(Some(fields.lease()?)),
         _ => Err(FieldErr::Unfit),
     }
 }

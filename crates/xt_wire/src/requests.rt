@@ -4,8 +4,8 @@ ghost use Rattle.xt_fields.specs.Reading.{Gives, Tries};
 ghost use Rattle.xt_fields.specs.BasicFields.{byte_bytes, half_bytes, word_bytes, long_bytes, text_bytes};
 ghost use Rattle.xt_wire.specs.IdFields.{node_bytes, mark_bytes};
 ghost use Rattle.xt_wire.specs.FileFields.{kind_bytes, capability_bytes};
-ghost use Rattle.xt_wire.specs.MetaFields.{meta_req_bytes, meta_req_at, meta_req_arms, mkdir_at, create_at, rename_at, unlink_at, rmdir_at, list_names_at, stat_at, chmod_at, grant_at, size_report_at};
-ghost use Rattle.xt_wire.specs.RegistryFields.{registry_req_bytes, registry_req_at, registry_req_arms, set_row_at, get_row_at, list_rows_at, remove_row_at};
+ghost use Rattle.xt_wire.specs.MetaFields.{meta_req_bytes, meta_req_at, meta_req_arms, mkdir_at, create_at, rename_at, list_names_at, chmod_at, grant_at, size_report_at};
+ghost use Rattle.xt_wire.specs.RegistryFields.{registry_req_bytes, registry_req_at, registry_req_arms, set_row_at, list_rows_at, remove_row_at};
 
 use crate::file::{ReadFiles, WriteFiles};
 use crate::ids::{ReadIds, WriteIds};
@@ -27,7 +27,7 @@ pub trait ReadRequests {
 }
 
 /// The request of this number.
-#[tactic(auto, unfolding(crate::specs::MetaFields::meta_req_arms))]
+#[tactic(auto, unfolding(crate::specs::MetaFields::meta_req_arms, crate::specs::MetaFields::unlink_at, crate::specs::MetaFields::rmdir_at, crate::specs::MetaFields::stat_at))]
 fn meta_req_arm(
     fields: &mut FieldReader<'_>,
     number: u8,
@@ -39,10 +39,16 @@ fn meta_req_arm(
         1 => mkdir(fields, alloc),
         2 => create(fields, alloc),
         3 => rename(fields, alloc),
-        4 => unlink(fields, alloc),
-        5 => rmdir(fields, alloc),
+        4 => Ok(MetaReq::Unlink {
+            path: fields.text(alloc, u16::MAX)?,
+        }),
+        5 => Ok(MetaReq::Rmdir {
+            path: fields.text(alloc, u16::MAX)?,
+        }),
         6 => list_names(fields, alloc),
-        7 => stat(fields, alloc),
+        7 => Ok(MetaReq::Stat {
+            path: fields.text(alloc, u16::MAX)?,
+        }),
         8 => chmod(fields, alloc),
         9 => grant(fields, alloc),
         10 => size_report(fields),
@@ -89,24 +95,6 @@ fn rename(fields: &mut FieldReader<'_>, alloc: Global) -> Result<MetaReq, FieldE
     Ok(MetaReq::Rename { from, to })
 }
 
-/// A file to be removed.
-#[tactic(auto, unfolding(crate::specs::MetaFields::unlink_at))]
-fn unlink(fields: &mut FieldReader<'_>, alloc: Global) -> Result<MetaReq, FieldErr>
-    ensures { Gives result fields.new (unlink_at fields.old) }
-{
-    let path = fields.text(alloc, u16::MAX)?;
-    Ok(MetaReq::Unlink { path })
-}
-
-/// A directory to be removed.
-#[tactic(auto, unfolding(crate::specs::MetaFields::rmdir_at))]
-fn rmdir(fields: &mut FieldReader<'_>, alloc: Global) -> Result<MetaReq, FieldErr>
-    ensures { Gives result fields.new (rmdir_at fields.old) }
-{
-    let path = fields.text(alloc, u16::MAX)?;
-    Ok(MetaReq::Rmdir { path })
-}
-
 /// A directory to be listed.
 #[tactic(auto, unfolding(crate::specs::MetaFields::list_names_at))]
 fn list_names(fields: &mut FieldReader<'_>, alloc: Global) -> Result<MetaReq, FieldErr>
@@ -115,15 +103,6 @@ fn list_names(fields: &mut FieldReader<'_>, alloc: Global) -> Result<MetaReq, Fi
     let path = fields.text(alloc, u16::MAX)?;
     let after = fields.text(alloc, u16::MAX)?;
     Ok(MetaReq::List { path, after })
-}
-
-/// A row to be told.
-#[tactic(auto, unfolding(crate::specs::MetaFields::stat_at))]
-fn stat(fields: &mut FieldReader<'_>, alloc: Global) -> Result<MetaReq, FieldErr>
-    ensures { Gives result fields.new (stat_at fields.old) }
-{
-    let path = fields.text(alloc, u16::MAX)?;
-    Ok(MetaReq::Stat { path })
 }
 
 /// A mode to be set.
@@ -157,7 +136,7 @@ fn size_report(fields: &mut FieldReader<'_>) -> Result<MetaReq, FieldErr>
 }
 
 /// The request of this number.
-#[tactic(auto, unfolding(crate::specs::RegistryFields::registry_req_arms))]
+#[tactic(auto, unfolding(crate::specs::RegistryFields::registry_req_arms, crate::specs::RegistryFields::get_row_at))]
 fn registry_req_arm(
     fields: &mut FieldReader<'_>,
     number: u8,
@@ -167,7 +146,9 @@ fn registry_req_arm(
 {
     match number {
         1 => set_row(fields, alloc),
-        2 => get_row(fields),
+        2 => Ok(RegistryReq::Get {
+            node: fields.node()?,
+        }),
         3 => list_rows(fields),
         4 => remove_row(fields),
         _ => Err(FieldErr::Unfit),
@@ -189,15 +170,6 @@ fn set_row(fields: &mut FieldReader<'_>, alloc: Global) -> Result<RegistryReq, F
         address,
         expected,
     })
-}
-
-/// A row to be told.
-#[tactic(auto, unfolding(crate::specs::RegistryFields::get_row_at))]
-fn get_row(fields: &mut FieldReader<'_>) -> Result<RegistryReq, FieldErr>
-    ensures { Gives result fields.new (get_row_at fields.old) }
-{
-    let node = fields.node()?;
-    Ok(RegistryReq::Get { node })
 }
 
 /// Rows to be listed.
