@@ -10,7 +10,7 @@ use xt_base::OptionalBox;
 use xt_messages::{Msg, Msgs, Record};
 
 /// How the step of a running node ends.
-#[derive(Clone, Copy, PartialEq, Eq)]
+#[derive(Clone, Copy)]
 pub enum Ending {
     /// With all that it gives.
     Whole,

@@ -1,9 +1,9 @@
 //! The lines of a trace that the marks of a step give.
-ghost use Rattle.std.specs.Prelude.{◌≡◌, map, IfOk};
+ghost use Rattle.std.specs.Prelude.{◌≡◌, ◌++◌, ◌∷◌, [], map, IfOk};
 ghost use Rattle.cluster_runs.specs.NodeSteps.{entry_of};
 
 use std::alloc::Global;
-use time_line::Entry;
+use time_line::{Entry, Halt};
 use xt_base::{NodeId, OutOfMemory};
 use xt_messages::{Mark, Marks};
 
@@ -64,9 +64,21 @@ fn entry_of(node: NodeId, mark: Mark) -> Entry
 pub fn entries_of(alloc: Global, node: NodeId, marks: Marks) -> Result<Vec<Entry>, OutOfMemory>
     ensures { IfOk result (λ entries. entries.items ≡ map (entry_of node) marks) }
 {
-    let mut entries = Vec::with_capacity(alloc, marks.len())?;
-    for mark in marks.items {
-        entries.push(entry_of(node, mark))?;
-    }
+    let marks = marks.items.into_iter();
+    marks.map(|mark| entry_of(node, mark)).collect(alloc)
+}
+
+/// The lines of the trace for the marks of a node whose sending is cut at this reading of its clock.
+pub fn entries_to_cut(
+    alloc: Global,
+    node: NodeId,
+    clock: u64,
+    marks: Marks,
+) -> Result<Vec<Entry>, OutOfMemory>
+    ensures { IfOk result (λ entries. entries.items ≡ map (entry_of node) marks ++ Entry.Down node clock Halt.Cut ∷ []) }
+{
+    let how = Halt::Cut;
+    let mut entries = entries_of(alloc, node, marks)?;
+    entries.push(Entry::Down { node, clock, how })?;
     Ok(entries)
 }

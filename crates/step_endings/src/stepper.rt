@@ -1,4 +1,4 @@
-ghost use Rattle.std.specs.Prelude.{◌≡◌, ◌<◌, ◌++◌, Some, length, IfErr, IfSome, OnOk};
+ghost use Rattle.std.specs.Prelude.{◌≡◌, ◌<◌, ◌++◌, ◌∷◌, [], Some, length, IfErr, IfSome, OnOk};
 ghost use Rattle.std.specs.List.{AllByRecursion};
 ghost use Rattle.xt_messages.specs.Limits.{FitsMessage};
 ghost use Rattle.cluster_runs.specs.World.{Node, Running};
@@ -10,7 +10,7 @@ ghost use Rattle.step_endings.specs.Steps.{Around, working, IsStepped};
 ghost use Rattle.step_endings.specs.Endings.{given_by, IsGiven, Halts, IsWithin, ended_whole, ended_sending, ended_in_append};
 
 use crate::ending::{Ending, ending_of, front, halt_of};
-use crate::entries::entries_of;
+use crate::entries::{entries_of, entries_to_cut};
 use crate::limits::limit;
 use disk_model::Stop;
 use own_messages::OwnMessages;
@@ -34,6 +34,26 @@ pub struct Stepper<H: Hull> {
     pub entries: Vec<Entry>,
 }
 
+/// Carries and numbers a message of a node, where it is to another declared node.
+fn send_one<H: Hull>(
+    alloc: Global,
+    nodes: &mut Nodes<H>,
+    sent: &mut SentMessages,
+    node: NodeId,
+    message: &Msg,
+) -> Result<(), WorldErr>
+    requires { FitsMessage message.now }
+    ensures sent { OnOk result (sent.new ≡ sent.old ++ numbered nodes.old.nodes node (message.now ∷ [])) }
+    ensures same { nodes.new ≡ nodes.old }
+    ensures error { IfErr result (λ error. error ≡ WorldErr.OutOfMemory) }
+{
+    if message.to.0 != node.0 && nodes.is_declared(message.to) {
+        let carried = nodes.carry(alloc, message)?;
+        sent.push(carried)?;
+    }
+    Ok(())
+}
+
 /// Carries and numbers the messages of a node to other declared nodes.
 fn send<H: Hull>(
     alloc: Global,
@@ -48,12 +68,19 @@ fn send<H: Hull>(
     ensures error { IfErr result (λ error. error ≡ WorldErr.OutOfMemory) }
 {
     for message in outs {
-        if message.to.0 != node.0 && nodes.is_declared(message.to) {
-            let carried = nodes.carry(alloc, message)?;
-            sent.push(carried)?;
-        }
+        send_one(alloc, nodes, sent, node, message)?;
     }
     Ok(())
+}
+
+/// Where the messages pass a limit, tells it.
+fn test_limits(sent: &SentMessages) -> Result<(), WorldErr>
+    ensures { IsWithin (limit_passed sent.now) result }
+{
+    match sent.passed() {
+        Some(what) => Err(limit(what)),
+        None => Ok(()),
+    }
 }
 
 impl<H: Hull> Stepper<H> {
@@ -64,16 +91,6 @@ impl<H: Hull> Stepper<H> {
     {
         self.nodes.stop(place);
         self.own.lose();
-    }
-
-    /// Where the messages would pass a limit, tells it.
-    fn test_limits(&self) -> Result<(), WorldErr>
-        ensures { IsWithin (limit_passed self.now.sent) result }
-    {
-        match self.sent.passed() {
-            Some(what) => Err(limit(what)),
-            None => Ok(()),
-        }
     }
 
     /// Keeps the record of a node's step, and numbers its messages to other nodes, within the limits.
@@ -92,7 +109,7 @@ impl<H: Hull> Stepper<H> {
         let node = self.nodes.id(place);
         self.nodes.keep(alloc, place, rec)?;
         send(alloc, &mut self.nodes, &mut self.sent, node, outs)?;
-        self.test_limits()
+        test_limits(&self.sent)
     }
 
     /// Ends a step with all that it gives.
@@ -132,9 +149,8 @@ impl<H: Hull> Stepper<H> {
         ensures { (around : Around) (node : Node) (running : Running) → IsAt self.old.nodes.nodes place node → node.up ≡ Some running → running.clock ≡ clock → IsStepped (working around self.old) (ended_sending H.overflow (working around self.old).doing node running count (given_by rec.now outs.now marks.old)) (working around self.new) result }
     {
         let node = self.nodes.id(place);
-        let how = Halt::Cut;
-        let mut made = entries_of(alloc, node, replace(marks, Marks::new(alloc)))?;
-        made.push(Entry::Down { node, clock, how })?;
+        let told = replace(marks, Marks::new(alloc));
+        let mut made = entries_to_cut(alloc, node, clock, told)?;
         self.give(alloc, place, rec, front(outs, count))?;
         self.entries.append(&mut made)?;
         self.halt(place);
@@ -158,7 +174,7 @@ impl<H: Hull> Stepper<H> {
         let node = self.nodes.id(place);
         self.entries.reserve(1)?;
         let end = self.nodes.append(alloc, place, rec, Some(stop))?;
-        self.test_limits()?;
+        test_limits(&self.sent)?;
         let how = halt_of(end);
         self.entries.push(Entry::Down { node, clock, how })?;
         self.halt(place);

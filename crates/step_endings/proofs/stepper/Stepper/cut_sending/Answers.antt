@@ -3,7 +3,9 @@ use Rattle.std.specs.List.{AllByRecursion}
 use Rattle.std.proofs.lemmas.Result.{err_from_is_err_and}
 use Rattle.xt_messages.specs.Limits.{FitsMessage}
 use Rattle.xt_messages.specs.declared.message.Msg.{Msg}
+use Rattle.xt_messages.specs.declared.event.Mark.{Mark}
 use Rattle.time_line.specs.declared.entry.Halt.TheVariants as halt
+use Rattle.time_line.specs.declared.entry.Entry.{Entry}
 use Rattle.time_line.specs.declared.entry.Entry.TheVariants as entry
 use Rattle.cluster_runs.specs.NodeSteps.{Doing, loses_own, cut_in_sending, numbered, entry_of}
 use Rattle.step_endings.specs.Steps.{working}
@@ -37,7 +39,8 @@ halt-requires g c =
 
 pub returns : goal.returns
 returns g c = λ around node running at up clock.
+    let told : ℕ → List Mark → List Entry = λ k marks. map (entry_of c.id-node.result) marks ++ entry.Down c.id-node.result k halt.Cut ∷ [] in
     sending_told (Unit {0}) g.H.Hull.overflow (working around c.args.self.now) (working around c.args.self.now) (working around c.give.new.self) (working around c.give.new.self) (working around c.halt.new.self) c.args.place node running c.args.count (given_by c.args.rec.now c.args.outs.now c.args.marks.now) tt c.front.result.now c.id-node.result
-    c.in_ok-made.made.items c.push.new.self.items c.append.new.self.items refl at up (c.in_ok-give.ensures around) c.front.ensures c.id-node.ensures.id (c.in_ok-made.ensures ∙ ap (map (entry_of c.id-node.result)) c.replace.ensures.value)
-    (c.in_ok-push.ensures.items ∙ ap (λ (k : ℕ). c.in_ok-made.made.items ++ entry.Down c.id-node.result k halt.Cut ∷ []) (sym clock))
+    (map (entry_of c.id-node.result) c.args.marks.now) c.in_ok-made.made.items c.append.new.self.items refl at up (c.in_ok-give.ensures around) c.front.ensures c.id-node.ensures.id refl
+    (c.in_ok-made.ensures ∙ ap (told c.args.clock) c.replace-told.ensures.value ∙ ap (λ (k : ℕ). told k c.args.marks.now) (sym clock))
     refl c.in_ok-append.ensures.items (c.halt.ensures around)
