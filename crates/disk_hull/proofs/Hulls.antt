@@ -71,6 +71,18 @@ is_appended old mid new node rec stop end store ends own others put =
 abbrev records_at : BTreeMap ℕ Stored → ℕ → List Record
 records_at stores node = (unwrap_or (get nat_cmp stores node) none_stored).records
 
+-- what is written over a node is what it has then
+pub written_at : (old new : BTreeMap ℕ Stored) (node : ℕ) (store : Stored) → Updates nat_cmp old new node (Some store)
+    → unwrap_or (get nat_cmp new node) none_stored ≡ store
+written_at old new node store updates =
+    put_at old new node store updates node ∙ ap (λ (b : Bool). if b then store else unwrap_or (get nat_cmp old node) none_stored) (eq-eqb node node refl)
+
+-- and every other one has what it had
+pub written_beside : (old new : BTreeMap ℕ Stored) (node : ℕ) (store : Stored) → Updates nat_cmp old new node (Some store)
+    → (n : ℕ) → (n == node) ≡ false → unwrap_or (get nat_cmp new n) none_stored ≡ unwrap_or (get nat_cmp old n) none_stored
+written_beside old new node store updates n differs =
+    put_at old new node store updates n ∙ ap (λ (b : Bool). if b then store else unwrap_or (get nat_cmp old n) none_stored) differs
+
 -- the same records, written over those of a node
 pub written_same : (old new : BTreeMap ℕ Stored) (node : ℕ) (store : Stored) → Updates nat_cmp old new node (Some store)
     → store.records ≡ records_at old node → records_at new ≡ records_at old

@@ -28,6 +28,19 @@ pub struct DiskHull {
     carried: u64,
 }
 
+/// A node starts again from what a crash leaves of its disk. Gives the records that it finds there.
+fn read_again(alloc: Global, store: &mut NodeStore) -> Result<Vec<Record>, WorldErr>
+    ensures same { store.new.records ≡ store.old.records }
+    ensures found { IfOk result (λ found. found.items ≡ store.old.records) }
+    ensures read { IfOk result (λ found. IsReadAgain store.old.disk store.new.disk found.items) }
+    ensures error { IfErr result (λ error. error ≡ WorldErr.OutOfMemory) }
+{
+    let again = store.reloaded(alloc)?;
+    let found = again.copies(alloc)?;
+    *store = again;
+    Ok(found)
+}
+
 impl DiskHull {
     /// No record is kept.
     pub fn new(alloc: Global) -> DiskHull
@@ -139,13 +152,10 @@ impl Hull for DiskHull {
         ensures read { IfOk result (λ found. IsReadAgain (disk_of self.old node.0) (disk_of self.new node.0) found.items) }
         ensures other_disks { AreOtherNodesSame self.old self.new node }
     {
-        let Some(store) = self.stores.get_mut(&node.0) else {
-            return Ok(Vec::new(alloc));
-        };
-        let again = store.reloaded(alloc)?;
-        let found = again.copies(alloc)?;
-        *store = again;
-        Ok(found)
+        match self.stores.get_mut(&node.0) {
+            Some(store) => read_again(alloc, store),
+            None => Ok(Vec::new(alloc)),
+        }
     }
 
     fn body(

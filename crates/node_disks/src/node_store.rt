@@ -29,9 +29,15 @@ use xt_journal::{Journal, LoadErr, Placed};
 use xt_messages::Record;
 
 /// The records of a node on a disk that doesn't fail. Contracts see their list, and the disk.
-#[derive(Drop)]
 pub struct NodeStore {
     store: Store<MemoryDisk>,
+}
+
+// A derived drop is part of the code of each function that may drop a value. This one is proved once.
+impl Drop for NodeStore {
+    fn drop(self) {
+        let NodeStore { store: _ } = self;
+    }
 }
 
 impl Model for NodeStore {
@@ -166,7 +172,8 @@ impl NodeStore {
         ensures room { IsFullExactly (journal_overflow self.records rec.now) result }
         ensures error { IfErr result IsFullOrMemory }
     {
-        match self.store.put(alloc, rec) {
+        let NodeStore { store } = self;
+        match store.put(alloc, rec) {
             Ok(store) => Ok(NodeStore { store }),
             Err(AppendErr::Full { need, limit, .. }) => Err(WorldErr::Full { need, limit }),
             Err(AppendErr::OutOfMemory { .. }) => Err(WorldErr::OutOfMemory),
