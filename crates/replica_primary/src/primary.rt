@@ -24,7 +24,6 @@ use osd_peers::peer_in;
 use osd_rows::{Peer, PeerState, Place, PrimaryState, Progress, Tenure};
 use std::alloc::Global;
 use std::marker::Model;
-use step_outputs::quiet;
 use xt_base::{FileId, Members, NodeId, OpId, OutOfMemory};
 use xt_messages::{FileHead, HeldSet, Op, Payload, Reply};
 use xt_protocol::Turned;

@@ -22,9 +22,7 @@ use osd_decisions::{Standing, standing_of, update_of};
 use osd_rows::{IssuedUpdate, Nodes, Peer, PeerState, Place, PrimaryState, Progress, Tenure};
 use std::alloc::Global;
 use step_outputs::{answers, join, message, one, quiet, sends, shows, tells};
-use xt_base::{
-    COUNTS, Copies, FileId, NodeId, OBJECTS, Octets, OpId, OutOfMemory, Seq, Stamp,
-};
+use xt_base::{COUNTS, Copies, NodeId, OBJECTS, Octets, OpId, OutOfMemory, Seq, Stamp};
 use xt_messages::{FileHead, Mark, Msgs, Op, Payload, Update};
 use xt_protocol::Turned;
 

@@ -16,7 +16,7 @@ use disk_model::Stop;
 use own_messages::OwnMessages;
 use std::alloc::Global;
 use std::mem::replace;
-use time_line::{Entry, Halt};
+use time_line::Entry;
 use world_hull::{Hull, WorldErr};
 use world_nodes::Nodes;
 use world_tables::SentMessages;
