@@ -1,4 +1,5 @@
-use crate::journals::{OTHERWISE, disk};
+use crate::OTHERWISE;
+use crate::journals::disk;
 use disk_model::{Disk, Stop};
 use std::alloc::Global;
 use std::process::Abort;

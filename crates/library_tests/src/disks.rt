@@ -1,6 +1,7 @@
 ghost use Rattle.std.specs.Prelude.{◌<◌, ◌^◌};
 ghost use Rattle.world_hull.specs.Appends.{IsInAppend};
 
+use crate::OTHERWISE;
 use disk_hull::DiskHull;
 use disk_model::Stop;
 use std::alloc::Global;
@@ -9,9 +10,6 @@ use std::test::*;
 use world_hull::{BodyErr, Hull, Kept};
 use xt_base::{Boot, Epoch, FileId, NodeId, Stamp, VolumeId};
 use xt_messages::{Msg, Payload, Record, RegistryReq};
-
-/// What is told of a call that was to answer otherwise.
-const OTHERWISE: &str = "a call answers otherwise";
 
 const NODE: NodeId = NodeId(7);
 

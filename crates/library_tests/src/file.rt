@@ -1,4 +1,5 @@
-use crate::journals::{LIMIT, ONE, OTHERWISE, append, load};
+use crate::OTHERWISE;
+use crate::journals::{LIMIT, ONE, append, load};
 use disk_model::{Disk, FileDisk};
 use std::alloc::Global;
 use std::rt::Files;

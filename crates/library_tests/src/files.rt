@@ -1,4 +1,5 @@
-use crate::serving::{ASIDE, Ask, Asker, KEPT, Kept, OTHERWISE, Row, Told, run};
+use crate::OTHERWISE;
+use crate::serving::{ASIDE, Ask, Asker, KEPT, Kept, Row, Told, run};
 use mrc_core::Mrc;
 use std::process::Abort;
 use std::test::*;

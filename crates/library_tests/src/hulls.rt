@@ -1,6 +1,6 @@
 ghost use Rattle.world_hull.specs.Appends.{IsInAppend};
 
-use crate::stores::OTHERWISE;
+use crate::OTHERWISE;
 use disk_model::Stop;
 use std::alloc::Global;
 use std::process::Abort;

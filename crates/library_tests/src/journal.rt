@@ -1,4 +1,5 @@
-use crate::journals::{LIMIT, ONE, OTHERWISE, append, disk, load};
+use crate::OTHERWISE;
+use crate::journals::{LIMIT, ONE, append, disk, load};
 use disk_model::{MemoryDisk, Stop};
 use std::alloc::Global;
 use std::process::Abort;

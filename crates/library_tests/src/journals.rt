@@ -1,13 +1,11 @@
 //! What the tests of journals share.
 
+use crate::OTHERWISE;
 use disk_model::{Disk, MemoryDisk, Stop};
 use std::alloc::Global;
 use std::process::Abort;
 use xt_base::{CallList, Octets};
 use xt_journal::{AppendErr, Journal, LoadErr};
-
-/// What is told where a test stops that can't go on.
-pub const OTHERWISE: &str = "a call answers otherwise";
 
 /// A journal with one record, of a node's first start.
 pub const ONE: [u8; 27] = [

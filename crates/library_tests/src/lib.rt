@@ -66,3 +66,7 @@ mod stripes;
 mod texts;
 #[cfg(test)]
 mod wakes;
+
+/// What is told where a test stops that can't go on.
+#[cfg(test)]
+const OTHERWISE: &str = "a call answers otherwise";

@@ -1,12 +1,10 @@
+use crate::OTHERWISE;
 use node_links::{MemorySink, MemorySource, Sink, Source, StdinSource, StdoutSink};
 use std::alloc::Global;
 use std::io::{self, Read, Write};
 use std::process::Abort;
 use std::test::*;
 use xt_base::{CallList, Octets};
-
-/// What is told where a test stops that can't go on.
-pub const OTHERWISE: &str = "a call answers otherwise";
 
 /// The calls of these numbers.
 fn calls(rt: &impl Abort, alloc: Global, numbers: &[u64]) -> CallList {

@@ -1,4 +1,4 @@
-use crate::stores::OTHERWISE;
+use crate::OTHERWISE;
 use replica_records::{BodyErr, Folding, RecordErr, RecordLog, fold, read_record, record_bytes};
 use std::alloc::Global;
 use std::process::Abort;

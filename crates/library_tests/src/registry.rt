@@ -1,4 +1,4 @@
-use crate::sealing::OTHERWISE;
+use crate::OTHERWISE;
 use dir_core::Dir;
 use std::alloc::Global;
 use std::process::Abort;

@@ -3,7 +3,7 @@ ghost use Rattle.std.specs.Prelude.{Some};
 ghost use Rattle.xt_messages.specs.Limits.{FitsHead};
 ghost use Rattle.world_hull.specs.Appends.{IsInAppend};
 
-use crate::stores::OTHERWISE;
+use crate::OTHERWISE;
 use disk_model::Stop;
 use node_disks::NodeStore;
 use record_folds::fold;

@@ -1,5 +1,6 @@
 ghost use Rattle.std.specs.Prelude.{◌<◌, ◌^◌};
 
+use crate::OTHERWISE;
 use client_core::{CallErr, CallResult, Client};
 use std::alloc::Global;
 use std::process::Abort;
@@ -10,9 +11,6 @@ use xt_messages::{
     RowKind,
 };
 use xt_protocol::Turned;
-
-/// What is told where a scene stops that can't go on.
-const OTHERWISE: &str = "a call answers otherwise";
 
 /// A call.
 #[derive(Clone, Copy)]

@@ -1,3 +1,4 @@
+use crate::OTHERWISE;
 use capabilities::{CapErr, check, hmac, is_stop, seal};
 use hex::FromHex;
 use std::alloc::Global;
@@ -5,9 +6,6 @@ use std::process::Abort;
 use std::test::*;
 use xt_base::{FileId, Members, NodeId, VolumeId};
 use xt_messages::{Capability, Denial, Kind, Location, Payload};
-
-/// What is told where a test stops that can't go on.
-pub const OTHERWISE: &str = "a call answers otherwise";
 
 /// Keys, messages and tags. The first are of RFC 4231, but for the one with a key of a whole block.
 static TAGS: [(&[u8], &[u8], &str); 3] = [

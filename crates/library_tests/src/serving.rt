@@ -1,5 +1,6 @@
 ghost use Rattle.mrc_core.specs.Picking.{CanHear, WantsSome};
 
+use crate::OTHERWISE;
 use mrc_core::Mrc;
 use std::alloc::Global;
 use std::process::Abort;
@@ -9,9 +10,6 @@ use xt_messages::{
     RegistryAnswer, RegistryRow, RowKind,
 };
 use xt_protocol::Turned;
-
-/// What is told where a test stops that can't go on.
-pub const OTHERWISE: &str = "a call answers otherwise";
 
 /// The key of the server.
 pub const KEY: [u8; 32] = [0; 32];

@@ -1,5 +1,6 @@
 ghost use Rattle.xt_messages.specs.Limits.{FitsFile};
 
+use crate::OTHERWISE;
 use disk_model::MemoryDisk;
 use object_store::{AppendErr, Store, StoreErr};
 use replica_records::{Bodies, BodyErr};
@@ -9,9 +10,6 @@ use std::test::*;
 use xt_base::{Boot, CallList, Epoch, FileId, NodeId, Octets, Stamp, VolumeId};
 use xt_journal::{Journal, LoadErr, Placed};
 use xt_messages::Record;
-
-/// What is told of a call that was to answer otherwise.
-pub const OTHERWISE: &str = "a call answers otherwise";
 
 const LIMIT: u64 = 1 << 20;
 

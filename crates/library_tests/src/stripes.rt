@@ -1,4 +1,4 @@
-use crate::sealing::OTHERWISE;
+use crate::OTHERWISE;
 use std::alloc::Global;
 use std::process::Abort;
 use std::test::*;

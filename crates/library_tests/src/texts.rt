@@ -1,5 +1,5 @@
 //! Entries and a last line that the vectors have seldom, or not at all.
-use crate::links::OTHERWISE;
+use crate::OTHERWISE;
 use schedule_text::{print_entry, print_status};
 use std::alloc::Global;
 use std::process::Abort;

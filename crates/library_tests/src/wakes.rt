@@ -1,4 +1,5 @@
-use crate::serving::{KEY, OTHERWISE};
+use crate::OTHERWISE;
+use crate::serving::KEY;
 use mrc_core::Mrc;
 use std::alloc::Global;
 use std::process::Abort;
