@@ -6,7 +6,7 @@ ghost use Rattle.world_hull.specs.Appends.{IsInAppend};
 use crate::OTHERWISE;
 use disk_model::Stop;
 use node_disks::NodeStore;
-use record_folds::fold;
+use replica_records::fold;
 use replica_records::read_record;
 use replica_state::{Acted, Replica};
 use std::alloc::Global;

@@ -1,3 +1,6 @@
+pub mod Told
+pub mod Refusing
+pub mod Making
 pub mod Different
 pub mod Calling
 pub mod Sizes

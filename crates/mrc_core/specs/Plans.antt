@@ -9,8 +9,8 @@ use Rattle.volume_rows.specs.declared.Asker.{Asker}
 use Rattle.volume_rows.specs.declared.Granting.{Granting}
 use Rattle.volume_rows.specs.declared.Picked.TheVariants as place
 use Rattle.volume_rows.specs.Rows.{Volumes}
-use Rattle.mrc_rows.specs.Laws.{IsChange}
-use Rattle.mrc_rows.specs.Requests.{outcome_of, settled, grant_settled, wants_truncating, is_last_epoch, is_recorded, is_spent, nodes_for, subject_of, place_of}
+use Rattle.mrc_core.specs.Laws.{IsChange}
+use Rattle.mrc_core.specs.Requests.{outcome_of, settled, grant_settled, wants_truncating, is_last_epoch, is_recorded, is_spent, nodes_for, subject_of, place_of}
 use Rattle.mrc_core.specs.declared.asking.Site.{Site}
 use Rattle.mrc_core.specs.declared.plan.Plan.{Plan}
 use Rattle.mrc_core.specs.declared.plan.Plan.TheVariants as plan

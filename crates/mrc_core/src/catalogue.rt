@@ -8,9 +8,9 @@ ghost use Rattle.volume_rows.specs.Requests.{Outcome, applied};
 ghost use Rattle.volume_rows.specs.Grants.{sizes_in};
 ghost use Rattle.volume_rows.specs.declared.Picked.TheVariants.{TooFew};
 ghost use Rattle.volume_tree.specs.Calls.{Comes};
-ghost use Rattle.mrc_rows.specs.Requests as rows;
-ghost use Rattle.mrc_rows.specs.Laws.{IsChange, Settles, files_made};
-ghost use Rattle.mrc_rows.specs.Steps.{empty_catalogue, after_record};
+ghost use Rattle.mrc_core.specs.Requests as rows;
+ghost use Rattle.mrc_core.specs.Laws.{IsChange, Settles, files_made};
+ghost use Rattle.mrc_core.specs.Steps.{empty_catalogue, after_record};
 ghost use Rattle.mrc_core.specs.Picking.{WantsSome, CanTake};
 ghost use Rattle.mrc_core.specs.Settling.{answer_of, IsSettled};
 ghost use Rattle.mrc_core.specs.Asking.{IsSite, outcome_at, after_asking, after_meta_at, after_setting};
@@ -19,9 +19,9 @@ use crate::asking::{Asking, Site};
 use crate::picking::place_of;
 use crate::plan::Plan;
 use crate::settling::{Settled, Settling};
+use crate::{MadeFile, NewSizes};
 use indexmap::IndexMap;
 use kept_answers::{KeptAnswers, Standing};
-use mrc_rows::{MadeFile, NewSizes};
 use std::alloc::{AllocError, Global};
 use std::marker::Model;
 use volume_rows::{Asker, Granting, Picked, path_in, volume_id};
@@ -38,7 +38,7 @@ pub struct Catalogue {
 }
 
 impl Model for Catalogue {
-    ghost use Rattle.mrc_rows.specs.Steps.{Catalogue as Known};
+    ghost use Rattle.mrc_core.specs.Steps.{Catalogue as Known};
 
     ghost Value = { Known };
 

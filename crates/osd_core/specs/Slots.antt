@@ -10,7 +10,7 @@ use Rattle.xt_protocol.specs.Folds.{new_row}
 use Rattle.xt_protocol.specs.LeaseRows.{Silent, Awake}
 use Rattle.xt_protocol.specs.declared.Turned.{Turned}
 use Rattle.version_lists.specs.Rising.{rises}
-use Rattle.record_folds.specs.RowPlaces.{FilesRise}
+use Rattle.replica_records.specs.RowPlaces.{FilesRise}
 use Rattle.osd_rows.specs.FileStates.{FileState, file_from}
 use Rattle.osd_rows.specs.Overdue.{expired}
 use Rattle.osd_rows.specs.FileSteps.{wake_of_file}

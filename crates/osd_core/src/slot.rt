@@ -12,7 +12,7 @@ ghost use Rattle.osd_core.specs.Slots.{id_of, view_of, IsSoundSlot, WakesSlot};
 use flease_lease::Awake;
 use kept_bodies::{Bodies, StepErr};
 use osd_files::{OsdFile, Woken};
-use record_folds::new_head;
+use replica_records::new_head;
 use std::alloc::Global;
 use std::mem;
 use step_outputs::quiet;

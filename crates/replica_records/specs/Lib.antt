@@ -1,3 +1,5 @@
+pub mod RowPlaces
+pub mod Sound
 pub mod RecordText
 pub mod RecordFields
 pub mod Places

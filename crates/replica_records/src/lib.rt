@@ -1,20 +1,24 @@
-//! What a replica keeps: each record as bytes, and the records of a node with their bodies.
+//! What a node keeps: each record as bytes, the records of a node with their bodies, and what they say, folded one by one.
 //!
-//! A record within its limits has one spelling, which is read back, and no other bytes are read. A `RecordLog` is the
-//! records of one node in memory; a body is found by its file, object and version. What records say, folded one by one, is
-//! `record_folds`, which is passed on.
+//! A record within its limits has one spelling, which is read back, and no other bytes are read. A `RecordLog` is the records of one
+//! node in memory; a body is found by its file, object and version. A `Folding` takes records in order and holds what they say: the
+//! last start, and of each file its head and the bodies that it holds. Lists rise and are searched by halves.
 #![tactic(auto)]
 
 mod errors;
+mod folding;
+mod head;
 mod log;
+mod order;
 mod payload;
 mod places;
 mod reading;
 mod writing;
 
 pub use errors::RecordErr;
+pub use folding::{Folding, fold};
+pub use head::{head_after, new_head, plain_stamp};
 pub use kept_bodies::{Bodies, BodyErr};
 pub use log::RecordLog;
 pub use payload::{read_record, record_bytes};
-pub use record_folds::{Folding, fold, head_after, new_head, plain_stamp};
 pub use xt_messages::{FileRow, FileTable, Folded, HeldPairs, Keep, Record};

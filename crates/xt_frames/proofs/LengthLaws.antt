@@ -9,15 +9,15 @@ use Rattle.xt_messages.specs.FrameLength.{payload_length, frame_length}
 use Rattle.xt_fields.specs.BasicFields.{word_bytes, long_bytes, octets_bytes}
 use Rattle.xt_wire.specs.IdFields.{node_bytes, boot_bytes, file_bytes, ballot_bytes, epoch_bytes, stamp_bytes, lease_bytes, report_bytes}
 use Rattle.xt_wire.specs.FileFields.{capability_bytes, op_bytes, update_bytes, head_bytes}
-use Rattle.xt_answers.specs.ReplyFields.{reply_bytes}
+use Rattle.xt_frames.specs.ReplyFields.{reply_bytes}
 use Rattle.xt_wire.specs.MetaFields.{meta_req_bytes}
-use Rattle.xt_answers.specs.MetaAnswers.{meta_answer_bytes}
+use Rattle.xt_frames.specs.MetaAnswers.{meta_answer_bytes}
 use Rattle.xt_wire.specs.RegistryFields.{registry_req_bytes}
-use Rattle.xt_answers.specs.RegistryAnswers.{registry_answer_bytes}
+use Rattle.xt_frames.specs.RegistryAnswers.{registry_answer_bytes}
 use Rattle.xt_fields.proofs.BasicLaws.{word-length, long-length}
 use Rattle.xt_frames.specs.Frames.{payload_bytes, content_of, frame_of}
 use Rattle.xt_wire.proofs.FieldLengths.{file_len, ballot_len, epoch_len, stamp_len, lease_len, report_len, octets_len, capability_len, op_len, update_len, head_len, meta_req_len, registry_req_len, members_bound, op_bound, meta_req_bound, registry_req_bound, report_bound}
-use Rattle.xt_answers.proofs.AnswerLengths.{reply_len, meta_answer_len, registry_answer_len, reply_bound, meta_answer_bound, registry_answer_bound}
+use Rattle.xt_frames.proofs.AnswerLengths.{reply_len, meta_answer_len, registry_answer_len, reply_bound, meta_answer_bound, registry_answer_bound}
 
 payload_len : (x : Payload) → FitsPayload x → length (payload_bytes x) ≡ payload_length x
 payload_len (payload.Read file ballot) h = omega (arith, file_len file h.0, length-append (file_bytes file) (ballot_bytes ballot), ballot_len ballot)

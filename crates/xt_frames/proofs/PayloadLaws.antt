@@ -15,11 +15,11 @@ use Rattle.xt_fields.proofs.Laws.{IsArm, AreArms, bind_ok, ok_is, both, made_fie
 use Rattle.xt_fields.proofs.BasicLaws.{word_field, count_field, body_field, tag_field}
 use Rattle.xt_wire.proofs.IdLaws.{node_field, boot_field, file_field, ballot_field, epoch_field, stamp_field, lease_field, report_field}
 use Rattle.xt_wire.proofs.FileLaws.{capability_field, op_field, update_field, head_field}
-use Rattle.xt_answers.proofs.ReplyLaws.{reply_field}
+use Rattle.xt_frames.proofs.ReplyLaws.{reply_field}
 use Rattle.xt_wire.proofs.MetaLaws.{meta_req_field}
-use Rattle.xt_answers.proofs.MetaAnswerLaws.{meta_answer_field}
+use Rattle.xt_frames.proofs.MetaAnswerLaws.{meta_answer_field}
 use Rattle.xt_wire.proofs.RegistryLaws.{registry_req_field}
-use Rattle.xt_answers.proofs.RegistryAnswerLaws.{registry_answer_field}
+use Rattle.xt_frames.proofs.RegistryAnswerLaws.{registry_answer_field}
 use Rattle.xt_frames.specs.Frames.{kind_of, payload_bytes}
 use Rattle.xt_frames.specs.PayloadFields.{ballot_of_at, epoch_of_at, versioned_at, read_fields, promise_fields, write_fields, accepted_fields, outrun_fields, gather_fields, status_fields, fetch_fields, object_fields, stage_fields, staged_fields, head_fields, update_fields, ack_fields, refused_fields, behind_fields, missing_fields, ask_fields, reply_fields, meta_fields, meta_reply_fields, registry_fields, registry_reply_fields, stop_fields, lease_arms, replica_arms, service_arms, payload_arms, message_at}
 

@@ -6,11 +6,11 @@ use Rattle.xt_messages.specs.declared.message.Msg.{Msg}
 use Rattle.xt_fields.specs.BasicFields.{byte_bytes, word_bytes, long_bytes, octets_bytes}
 use Rattle.xt_wire.specs.IdFields.{node_bytes, boot_bytes, file_bytes, ballot_bytes, epoch_bytes, stamp_bytes, lease_bytes, report_bytes}
 use Rattle.xt_wire.specs.FileFields.{capability_bytes, op_bytes, update_bytes, head_bytes}
-use Rattle.xt_answers.specs.ReplyFields.{reply_bytes}
+use Rattle.xt_frames.specs.ReplyFields.{reply_bytes}
 use Rattle.xt_wire.specs.MetaFields.{meta_req_bytes}
-use Rattle.xt_answers.specs.MetaAnswers.{meta_answer_bytes}
+use Rattle.xt_frames.specs.MetaAnswers.{meta_answer_bytes}
 use Rattle.xt_wire.specs.RegistryFields.{registry_req_bytes}
-use Rattle.xt_answers.specs.RegistryAnswers.{registry_answer_bytes}
+use Rattle.xt_frames.specs.RegistryAnswers.{registry_answer_bytes}
 
 -- the number of each kind
 abbrev pub kind_of : Payload → ℕ

@@ -1,3 +1,6 @@
+pub mod ReplyFields
+pub mod MetaAnswers
+pub mod RegistryAnswers
 pub mod Frames
 pub mod PayloadFields
 pub mod Decoding

@@ -13,11 +13,11 @@ use Rattle.xt_fields.specs.Reading.{Field, ◌&◌, made}
 use Rattle.xt_fields.specs.BasicFields.{word_at, count_at, raw_at, octets_at}
 use Rattle.xt_wire.specs.IdFields.{node_at, boot_at, file_at, ballot_at, epoch_at, stamp_at, lease_at, report_at}
 use Rattle.xt_wire.specs.FileFields.{capability_at, op_at, update_at, head_at}
-use Rattle.xt_answers.specs.ReplyFields.{reply_at}
+use Rattle.xt_frames.specs.ReplyFields.{reply_at}
 use Rattle.xt_wire.specs.MetaFields.{meta_req_at}
-use Rattle.xt_answers.specs.MetaAnswers.{meta_answer_at}
+use Rattle.xt_frames.specs.MetaAnswers.{meta_answer_at}
 use Rattle.xt_wire.specs.RegistryFields.{registry_req_at}
-use Rattle.xt_answers.specs.RegistryAnswers.{registry_answer_at}
+use Rattle.xt_frames.specs.RegistryAnswers.{registry_answer_at}
 
 -- a file and a ballot, as the kinds of leases begin
 unfoldable pub ballot_of_at : Field (FileId × Ballot)

@@ -2,8 +2,9 @@ ghost use Rattle.std.specs.Prelude.{◌≡◌};
 ghost use Rattle.xt_fields.specs.Reading.{Gives};
 ghost use Rattle.xt_frames.specs.PayloadFields.{ballot_of_at, epoch_of_at, versioned_at, read_fields, promise_fields, write_fields, accepted_fields, outrun_fields, gather_fields, status_fields, fetch_fields, object_fields, stage_fields, staged_fields, head_fields, update_fields, ack_fields, refused_fields, behind_fields, missing_fields, ask_fields, reply_fields, meta_fields, meta_reply_fields, registry_fields, registry_reply_fields, stop_fields, lease_arms, replica_arms, service_arms, payload_arms, message_at};
 
+use crate::answers::ReadAnswers;
+use crate::reply::ReadReplies;
 use std::alloc::Global;
-use xt_answers::{ReadAnswers, ReadReplies};
 use xt_base::{BODY, Ballot, Epoch, FileId, Stamp};
 use xt_fields::{FieldErr, FieldReader};
 use xt_messages::{Msg, Payload};

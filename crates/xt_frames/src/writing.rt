@@ -3,14 +3,15 @@ ghost use Rattle.xt_messages.specs.Limits.{IsObject, FitsHead, FitsUpdate, FitsO
 ghost use Rattle.xt_fields.specs.BasicFields.{byte_bytes, word_bytes, long_bytes, octets_bytes};
 ghost use Rattle.xt_wire.specs.IdFields.{node_bytes, boot_bytes, file_bytes, ballot_bytes, epoch_bytes, stamp_bytes, lease_bytes, report_bytes};
 ghost use Rattle.xt_wire.specs.FileFields.{capability_bytes, op_bytes, update_bytes, head_bytes};
-ghost use Rattle.xt_answers.specs.ReplyFields.{reply_bytes};
+ghost use Rattle.xt_frames.specs.ReplyFields.{reply_bytes};
 ghost use Rattle.xt_wire.specs.MetaFields.{meta_req_bytes};
-ghost use Rattle.xt_answers.specs.MetaAnswers.{meta_answer_bytes};
+ghost use Rattle.xt_frames.specs.MetaAnswers.{meta_answer_bytes};
 ghost use Rattle.xt_wire.specs.RegistryFields.{registry_req_bytes};
-ghost use Rattle.xt_answers.specs.RegistryAnswers.{registry_answer_bytes};
+ghost use Rattle.xt_frames.specs.RegistryAnswers.{registry_answer_bytes};
 ghost use Rattle.xt_frames.specs.Frames.{kind_of, payload_bytes};
 
-use xt_answers::{WriteAnswers, WriteReplies};
+use crate::answers::WriteAnswers;
+use crate::reply::WriteReplies;
 use xt_base::{Ballot, Boot, Epoch, FileId, Lease, OutOfMemory, Stamp};
 use xt_fields::FieldWriter;
 use xt_messages::{

@@ -13,7 +13,7 @@ ghost use Rattle.world_nodes.specs.Nodes.{IsAt, Changes, kept_when};
 
 use crate::nodes::Nodes;
 use disk_model::Stop;
-use record_folds::fold;
+use replica_records::fold;
 use std::alloc::{AllocError, Global};
 use world_hull::{Hull, Kept, WorldErr};
 use xt_base::{Boot, OptionalBox, OutOfMemory};

@@ -1,4 +1,0 @@
-pub mod Requests
-pub mod Steps
-pub mod Laws
-pub mod Examples

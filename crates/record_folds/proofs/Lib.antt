@@ -1,5 +1,0 @@
-pub mod HeadRows
-pub mod FileRows
-pub mod Held
-pub mod AfterUpdate
-pub mod SoundRows

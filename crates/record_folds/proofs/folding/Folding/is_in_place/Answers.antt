@@ -1,4 +1,0 @@
-use Rattle.record_folds.proofs.folding.Folding.is_in_place.Goals as goal
-
-pub returns-in-Head : goal.returns-in-Head
-returns-in-Head c = rw c.in-Head.is c.allows_head.ensures

@@ -1,9 +1,0 @@
-use Rattle.std.proofs.Common.{sym, subst}
-use Rattle.record_folds.specs.Sound.{AreSoundRows}
-use Rattle.record_folds.proofs.SoundRows.{sound_after}
-use Rattle.record_folds.proofs.folding.Folding.take.Goals as goal
-
-pub invariant_of-self-in_default : goal.invariant_of-self-in_default
-invariant_of-self-in_default c =
-    subst (λ rows. AreSoundRows c.stays_within-self-inside.result rows) (sym c.in_ok-change_files.ensures.after)
-    (sound_after c.self.inside.within c.stays_within-self-inside.result c.self.inside.folded.files c.args.rec.now c.stays_within-self-inside.ensures c.self.invariant)

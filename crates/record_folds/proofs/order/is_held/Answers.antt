@@ -1,5 +1,0 @@
-use Rattle.record_folds.proofs.Held.{is_among}
-use Rattle.record_folds.proofs.order.is_held.Goals as goal
-
-pub returns : goal.returns
-returns c = is_among c.args.held.now c.args.version c.holds.result c.holds.ensures

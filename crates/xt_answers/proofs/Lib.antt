@@ -1,4 +1,0 @@
-pub mod ReplyLaws
-pub mod MetaAnswerLaws
-pub mod RegistryAnswerLaws
-pub mod AnswerLengths

@@ -1,9 +1,0 @@
-use Rattle.std.proofs.Common.{◌≡◌, ◌-◌}
-use Rattle.xt_fields.specs.BasicFields.{list_at}
-use Rattle.xt_answers.specs.RegistryAnswers.{row_at}
-use Rattle.xt_fields.proofs.Loops.{with_front}
-use Rattle.xt_answers.proofs.answers.row_list.Given as goal
-
--- what was read and what is still read are the whole list
-abbrev pub invariant-loop : goal.invariant-loop
-invariant-loop l = with_front l.rows (list_at row_at (l.count - l.counter) l.fields) ≡ list_at row_at l.count l.initial.fields

@@ -1,3 +1,0 @@
-pub mod ReplyFields
-pub mod MetaAnswers
-pub mod RegistryAnswers
