@@ -1,5 +1,5 @@
 //! What is to be known of a line before its first step.
-ghost use Rattle.std.specs.Prelude.{◌≡◌, IfOk};
+ghost use Rattle.std.specs.Prelude.{◌≡◌, ◌++◌, ◌∷◌, [], IfOk, OnOk, OnErr};
 ghost use Rattle.cluster_runs.specs.Lines.{events_of};
 ghost use Rattle.cluster_core.specs.Standing.{left_of};
 
@@ -28,7 +28,7 @@ pub fn left_of(line: &Line) -> u128
 }
 
 /// The same line.
-pub fn copy_of(alloc: Global, line: &Line) -> Result<Line, OutOfMemory>
+fn copy_of(alloc: Global, line: &Line) -> Result<Line, OutOfMemory>
     ensures { IfOk result (λ copy. copy ≡ line.now) }
 {
     Ok(match line {
@@ -78,4 +78,13 @@ pub fn copy_of(alloc: Global, line: &Line) -> Result<Line, OutOfMemory>
         Line::Drop { number } => Line::Drop { number: *number },
         Line::Settle { count } => Line::Settle { count: *count },
     })
+}
+
+/// The same line comes behind these.
+pub fn push_copy(alloc: Global, lines: &mut Vec<Line>, line: &Line) -> Result<(), OutOfMemory>
+    ensures ok { OnOk result (lines.new.items ≡ lines.old.items ++ line.now ∷ []) }
+    ensures err { OnErr result (lines.new.items ≡ lines.old.items) }
+{
+    lines.push(copy_of(alloc, line)?)?;
+    Ok(())
 }

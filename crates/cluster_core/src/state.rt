@@ -9,7 +9,7 @@ mod nodes;
 mod rules;
 mod running;
 
-use crate::lines::{copy_of, left_of};
+use crate::lines::{left_of, push_copy};
 use own_messages::OwnMessages;
 use std::alloc::Global;
 use std::marker::Model;
@@ -106,8 +106,7 @@ impl<H: Hull> State<H> {
         self.stepper.own.lose();
         self.left = left_of(line);
         self.lines.truncate(self.shown);
-        self.lines.push(copy_of(self.alloc, line)?)?;
-        Ok(())
+        push_copy(self.alloc, &mut self.lines, line)
     }
 
     /// The line that has begun is shown.

@@ -1,5 +1,5 @@
 //! The lines of a trace that the marks of a step give.
-ghost use Rattle.std.specs.Prelude.{◌≡◌, ◌++◌, ◌∷◌, [], map, IfOk};
+ghost use Rattle.std.specs.Prelude.{◌≡◌, ◌++◌, ◌∷◌, [], map, IfOk, OnOk, OnErr};
 ghost use Rattle.cluster_runs.specs.NodeSteps.{entry_of};
 
 use std::alloc::Global;
@@ -60,6 +60,15 @@ fn entry_of(node: NodeId, mark: Mark) -> Entry
     }
 }
 
+/// A line of the trace is told. It is a call, so that the line is no part of the way out.
+pub fn tell(entries: &mut Vec<Entry>, entry: Entry) -> Result<(), OutOfMemory>
+    ensures items { OnOk result (entries.new.items ≡ entries.old.items ++ entry ∷ []) }
+    ensures err { OnErr result (entries.new.items ≡ entries.old.items) }
+{
+    entries.push(entry)?;
+    Ok(())
+}
+
 /// The lines of the trace for the marks of a node.
 pub fn entries_of(alloc: Global, node: NodeId, marks: Marks) -> Result<Vec<Entry>, OutOfMemory>
     ensures { IfOk result (λ entries. entries.items ≡ map (entry_of node) marks) }
@@ -79,6 +88,6 @@ pub fn entries_to_cut(
 {
     let how = Halt::Cut;
     let mut entries = entries_of(alloc, node, marks)?;
-    entries.push(Entry::Down { node, clock, how })?;
+    tell(&mut entries, Entry::Down { node, clock, how })?;
     Ok(entries)
 }

@@ -10,5 +10,6 @@ mod entries;
 mod limits;
 mod stepper;
 
+pub use entries::tell;
 pub use limits::limit;
 pub use stepper::Stepper;

@@ -10,7 +10,7 @@ ghost use Rattle.step_endings.specs.Steps.{Around, working, IsStepped};
 ghost use Rattle.step_endings.specs.Endings.{given_by, IsGiven, Halts, IsWithin, ended_whole, ended_sending, ended_in_append};
 
 use crate::ending::{Ending, ending_of, front, halt_of};
-use crate::entries::{entries_of, entries_to_cut};
+use crate::entries::{entries_of, entries_to_cut, tell};
 use crate::limits::limit;
 use disk_model::Stop;
 use own_messages::OwnMessages;
@@ -176,7 +176,7 @@ impl<H: Hull> Stepper<H> {
         let end = self.nodes.append(alloc, place, rec, Some(stop))?;
         test_limits(&self.sent)?;
         let how = halt_of(end);
-        self.entries.push(Entry::Down { node, clock, how })?;
+        tell(&mut self.entries, Entry::Down { node, clock, how })?;
         self.halt(place);
         Ok(())
     }

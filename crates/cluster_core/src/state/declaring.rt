@@ -7,7 +7,7 @@ ghost use Rattle.step_endings.specs.Steps.{IsStepped};
 
 use crate::state::State;
 use cluster_runs::NODES;
-use step_endings::limit;
+use step_endings::{limit, tell};
 use time_line::{Entry, Line};
 use world_hull::{Hull, WorldErr};
 use xt_base::{Boot, NodeId, Times};
@@ -20,7 +20,7 @@ impl<H: Hull> State<H> {
         requires first { self.old.doing.world.nodes ≡ [] }
         ensures { IsStepped self.old (first_step H.overflow self.old.doing (Line.Times lease drift)) self.new result }
     {
-        self.stepper.entries.push(Entry::Times { lease, drift })?;
+        tell(&mut self.stepper.entries, Entry::Times { lease, drift })?;
         self.stepper
             .nodes
             .set_times(Times::new(lease, drift).unwrap());
@@ -50,7 +50,7 @@ impl<H: Hull> State<H> {
         }
         let boot = Boot(1);
         self.stepper.nodes.declare_client(self.alloc, node, clock)?;
-        self.stepper.entries.push(Entry::Up { node, boot, clock })?;
+        tell(&mut self.stepper.entries, Entry::Up { node, boot, clock })?;
         Ok(())
     }
 
@@ -60,10 +60,13 @@ impl<H: Hull> State<H> {
         ensures { IsStepped self.old (first_step H.overflow self.old.doing (Line.File number location.now)) self.new result }
     {
         self.files.declare(number, location)?;
-        self.stepper.entries.push(Entry::File {
-            number,
-            location: *location,
-        })?;
+        tell(
+            &mut self.stepper.entries,
+            Entry::File {
+                number,
+                location: *location,
+            },
+        )?;
         Ok(())
     }
 }

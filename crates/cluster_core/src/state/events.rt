@@ -51,14 +51,6 @@ impl<H: Hull> State<H> {
         }
     }
 
-    /// Time has passed for a node.
-    pub fn wake(&mut self, node: NodeId) -> Result<(), WorldErr>
-        requires { FitsComing self.old.doing.world node Event.Wake }
-        ensures { IsStepped self.old (event_comes H.overflow self.old.doing node Event.Wake) self.new result }
-    {
-        self.event_comes(node, &Event::Wake)
-    }
-
     /// A message comes to its node.
     pub fn hand(&mut self, message: Msg) -> Result<(), WorldErr>
         requires { FitsComing self.old.doing.world message.to (Event.Deliver message) }

@@ -15,7 +15,7 @@ ghost use Rattle.step_endings.specs.Steps.{WentOn, IsStepped};
 use crate::state::State;
 use disk_model::Stop;
 use std::alloc::Global;
-use step_endings::limit;
+use step_endings::{limit, tell};
 use time_line::{Entry, Halt, Line};
 use world_hull::{Hull, Kept, WorldErr};
 use world_nodes::Nodes;
@@ -41,7 +41,7 @@ impl<H: Hull> State<H> {
             .start(self.alloc, place, folded, boot, clock)?;
         self.stepper.entries.reserve(1)?;
         keep_boot(self.alloc, &mut self.stepper.nodes, place, boot)?;
-        self.stepper.entries.push(Entry::Up { node, boot, clock })?;
+        tell(&mut self.stepper.entries, Entry::Up { node, boot, clock })?;
         Ok(())
     }
 
@@ -57,7 +57,7 @@ impl<H: Hull> State<H> {
             return Ok(());
         };
         let (clock, how) = (moment.clock, Halt::Idle);
-        self.stepper.entries.push(Entry::Down { node, clock, how })?;
+        tell(&mut self.stepper.entries, Entry::Down { node, clock, how })?;
         self.stepper.halt(place);
         Ok(())
     }
@@ -87,7 +87,7 @@ impl<H: Hull> State<H> {
     pub fn set_clock(&mut self, node: NodeId, clock: u64) -> Result<(), WorldErr>
         ensures { IsStepped self.old (first_step H.overflow self.old.doing (Line.Clock node clock)) self.new result }
     {
-        self.stepper.entries.push(Entry::Clock { node, clock })?;
+        tell(&mut self.stepper.entries, Entry::Clock { node, clock })?;
         if let Some(place) = self.stepper.nodes.find(node) {
             self.stepper.nodes.set_clock(place, clock);
         }
@@ -99,7 +99,7 @@ impl<H: Hull> State<H> {
         requires { clock_ends count self.old.doing.world.nodes ≡ None }
         ensures { IsStepped self.old (first_step H.overflow self.old.doing (Line.Tick count)) self.new result }
     {
-        self.stepper.entries.push(Entry::Tick { count })?;
+        tell(&mut self.stepper.entries, Entry::Tick { count })?;
         self.stepper.nodes.tick(count);
         Ok(())
     }

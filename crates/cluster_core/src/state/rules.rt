@@ -9,8 +9,49 @@ use cluster_runs::NODES;
 use node_cores::called_file;
 use time_line::Line;
 use world_hull::Hull;
+use world_tables::{DeclaredFiles, SentMessages};
 use xt_base::NodeId;
 use xt_messages::{Call, Location, Rule};
+
+/// A file that isn't declared.
+fn no_file(files: &DeclaredFiles, number: u64) -> Option<Rule>
+    ensures { result ≡ no_file files.now number }
+{
+    match files.find(number) {
+        Some(_) => None,
+        None => Some(Rule::NoSuchFile { number }),
+    }
+}
+
+/// A call on a file that isn't declared.
+fn no_called_file(files: &DeclaredFiles, call: &Call) -> Option<Rule>
+    ensures { result ≡ no_called_file files.now (called_file call.now) }
+{
+    no_file(files, called_file(call)?)
+}
+
+/// A node that isn't of the file's list.
+fn no_member(files: &DeclaredFiles, number: u64, node: NodeId) -> Option<Rule>
+    ensures { result ≡ no_member (file_in files.now number) node }
+{
+    let location = files.find(number)?;
+    if location.members.contains(node) {
+        None
+    } else {
+        Some(Rule::NoSuchNode { node })
+    }
+}
+
+/// A message that was never sent.
+fn no_message(sent: &SentMessages, number: u128) -> Option<Rule>
+    ensures { result ≡ no_message (length sent.now) number }
+{
+    if number >= 1 && number <= u128::from(sent.len()) {
+        None
+    } else {
+        Some(Rule::NoSuchMessage { number })
+    }
+}
 
 impl<H: Hull> State<H> {
     /// A file that is declared already, or not of declared OSDs.
@@ -23,46 +64,6 @@ impl<H: Hull> State<H> {
                 .stepper
                 .nodes
                 .first_stranger(location.members.as_slice()),
-        }
-    }
-
-    /// A file that isn't declared.
-    fn no_file(&self, number: u64) -> Option<Rule>
-        ensures { result ≡ no_file self.now.doing.world.files number }
-    {
-        match self.files.find(number) {
-            Some(_) => None,
-            None => Some(Rule::NoSuchFile { number }),
-        }
-    }
-
-    /// A call on a file that isn't declared.
-    fn no_called_file(&self, call: &Call) -> Option<Rule>
-        ensures { result ≡ no_called_file self.now.doing.world.files (called_file call.now) }
-    {
-        self.no_file(called_file(call)?)
-    }
-
-    /// A node that isn't of the file's list.
-    fn no_member(&self, number: u64, node: NodeId) -> Option<Rule>
-        ensures { result ≡ no_member (file_in self.now.doing.world.files number) node }
-    {
-        let location = self.files.find(number)?;
-        if location.members.contains(node) {
-            None
-        } else {
-            Some(Rule::NoSuchNode { node })
-        }
-    }
-
-    /// A message that was never sent.
-    fn no_message(&self, number: u128) -> Option<Rule>
-        ensures { result ≡ no_message (length self.now.doing.world.sent) number }
-    {
-        if number >= 1 && number <= u128::from(self.stepper.sent.len()) {
-            None
-        } else {
-            Some(Rule::NoSuchMessage { number })
         }
     }
 
@@ -105,14 +106,17 @@ impl<H: Hull> State<H> {
             Line::Tick { count } => nodes.clock_ends(*count),
             Line::Wake { node } => nodes.no_node(*node).or(nodes.runs_not(*node)),
             Line::Call { client, call } => {
-                let free = self.no_called_file(call).or(nodes.busy(*client));
+                let free = no_called_file(&self.files, call).or(nodes.busy(*client));
                 nodes.no_client(*client).or(free)
             }
             Line::Aim { client, file, node } => {
-                let member = self.no_file(*file).or(self.no_member(*file, *node));
+                let member = no_file(&self.files, *file).or(no_member(&self.files, *file, *node));
                 nodes.no_client(*client).or(member)
             }
-            Line::Deliver { number } | Line::Drop { number } => self.no_message(*number),
+            Line::Deliver { number } | Line::Drop { number } => no_message(
+                &self.stepper.sent,
+                *number,
+            ),
         }
     }
 }

@@ -10,6 +10,7 @@ use crate::lines::events_of;
 use crate::state::State;
 use time_line::Line;
 use world_hull::{Hull, WorldErr};
+use xt_messages::Event;
 
 /// How many messages of a node to itself a file may have behind one event.
 const OWN: u128 = 16_532;
@@ -40,7 +41,7 @@ impl<H: Hull> State<H> {
             }
             Line::Clock { node, clock } => self.set_clock(*node, *clock),
             Line::Tick { count } => self.tick(*count),
-            Line::Wake { node } => self.wake(*node),
+            Line::Wake { node } => self.event_comes(*node, &Event::Wake),
             Line::Call { client, call } => self.call(*client, call),
             Line::Aim { client, file, node } => self.aim(*client, *file, *node),
             Line::Deliver { number } => self.deliver(*number),

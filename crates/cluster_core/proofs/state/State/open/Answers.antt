@@ -29,8 +29,8 @@ pub tick-requires : goal.tick-requires
 tick-requires g c =
     tick_ends c.args.self.now.doing.world c.in-Tick.count (legal_so c.args.self.now.doing.world c.args.line.now (line.Tick c.in-Tick.count) c.in-Tick.is c.requires.legal)
 
-pub wake-requires : goal.wake-requires
-wake-requires g c =
+pub event_comes-requires : goal.event_comes-requires
+event_comes-requires g c =
     coming c.args.self.now.doing.world [] c.in-Wake.node event.Wake c.requires.fits tt
 
 pub call-requires : goal.call-requires
@@ -52,7 +52,7 @@ settle-requires g c =
 
 pub returns-in-Wake : goal.returns-in-Wake
 returns-in-Wake g c =
-    steps_as (Unit {0}) g.H.Hull.overflow c.args.self.now c.wake.new.self c.args.line.now (line.Wake c.in-Wake.node) _ c.wake.result c.in-Wake.is (wake_first g.H.Hull.overflow c.args.self.now.doing c.in-Wake.node) c.wake.ensures
+    steps_as (Unit {0}) g.H.Hull.overflow c.args.self.now c.event_comes.new.self c.args.line.now (line.Wake c.in-Wake.node) _ c.event_comes.result c.in-Wake.is (wake_first g.H.Hull.overflow c.args.self.now.doing c.in-Wake.node) c.event_comes.ensures
 
 pub returns-in-Call : goal.returns-in-Call
 returns-in-Call g c =

@@ -93,6 +93,6 @@ returns g c =
           c.in_ok-folded.ensures.same
           (c.in_ok-start.ensures c.in-Some.ensures.0 (subst (λ (v : NodesView). IsAt v.nodes c.in-Some.place c.in-Some.ensures.0) (sym c.in_ok-folded.ensures.same) c.in-Some.ensures.1) (c.in_ok-folded.ensures.said c.in-Some.ensures.0 c.in-Some.ensures.1)))
           c.in_ok-keep_boot.ensures.done.0 c.in_ok-keep_boot.ensures.done.1
-          (c.in_ok-push.ensures.items ∙ ap (λ (es : List Entry). es ++ entry.Up c.args.node c.in-Some-next_boot.boot c.args.clock ∷ []) c.reserve.ensures.items),
+          (c.in_ok-tell.ensures.items ∙ ap (λ (es : List Entry). es ++ entry.Up c.args.node c.in-Some-next_boot.boot c.args.clock ∷ []) c.reserve.ensures.items),
       record { rest = refl; lines = refl },
     )

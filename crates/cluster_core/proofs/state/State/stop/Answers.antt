@@ -24,5 +24,5 @@ returns g c =
       ended = c.self.inside.ended;
     } in
     from_view _ _ _ (λ (d : Doing). first_step g.H.Hull.overflow d (line.Stop c.args.node)) c.self.view_is
-    (stop_told g.H.Hull.overflow _ (working around c.halt.new.self) c.args.node c.in-Some.place c.in-Some.ensures c.in-Some-moment.moment _ (λ node at. sym c.in-Some-moment.is ∙ c.moment.ensures.moment node at) c.in_ok-push.ensures.items
+    (stop_told g.H.Hull.overflow _ (working around c.halt.new.self) c.args.node c.in-Some.place c.in-Some.ensures c.in-Some-moment.moment _ (λ node at. sym c.in-Some-moment.is ∙ c.moment.ensures.moment node at) c.in_ok-tell.ensures.items
     (ap (λ (x : Working). x.doing.own) c.self.view_is ∙ c.requires) (c.halt.ensures around c.in-Some.ensures.0 c.in-Some.ensures.1))

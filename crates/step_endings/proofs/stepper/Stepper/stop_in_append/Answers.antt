@@ -21,7 +21,7 @@ returns-in_err-test_limits g c = λ around node running at up clock.
 
 pub returns : goal.returns
 returns g c = λ around node running at up clock.
-    append_told g.H.Hull.overflow (working around c.args.self.now) (working around c.args.self.now) (working around c.halt.new.self) c.args.place node running c.args.stop c.args.rec.now c.in_ok-end.end c.id-node.result c.args.clock c.halt_of-how.result c.append.new.self c.push.new.self.items
+    append_told g.H.Hull.overflow (working around c.args.self.now) (working around c.args.self.now) (working around c.halt.new.self) c.args.place node running c.args.stop c.args.rec.now c.in_ok-end.end c.id-node.result c.args.clock c.halt_of-how.result c.append.new.self c.tell.new.entries.items
     refl at clock c.id-node.ensures.id c.in_ok-end.ensures.done.0 c.in_ok-end.ensures.done.1 c.in_ok-end.ensures.room c.in_ok-test_limits.ensures c.halt_of-how.ensures
-    (c.in_ok-push.ensures.items ∙ ap (λ (es : List Entry). es ++ entry.Down c.id-node.result c.args.clock c.halt_of-how.result ∷ []) c.reserve.ensures.items)
+    (c.in_ok-tell.ensures.items ∙ ap (λ (es : List Entry). es ++ entry.Down c.id-node.result c.args.clock c.halt_of-how.result ∷ []) c.reserve.ensures.items)
     (c.halt.ensures around)
