@@ -37,7 +37,7 @@ pub struct Running {
 }
 
 /// What a running node's clock reads, and what is planned for it.
-#[derive(Clone, Copy, PartialEq, Eq)]
+#[derive(Clone, Copy)]
 pub struct Moment {
     pub clock: u64,
     pub crash: Option<Stop>,
