@@ -28,7 +28,7 @@ use Rattle.cluster_runs.specs.NodeSteps.{core_step}
 use Rattle.node_cores.specs.Hosts.{HostView, node_of}
 use Rattle.node_cores.specs.Turns.{Took, Handles, Calls, call_step}
 use Rattle.node_clocks.specs.Hosts.{nodes_of}
-use Rattle.world_nodes.specs.Nodes.{NodesView, has_host, AreHosts, IsAt, Changes, NodeTook, NodeHandles, NodeCalls, kept_when}
+use Rattle.world_nodes.specs.Nodes.{NodesView, has_host, AreHosts, IsAt, IsPlace, Changes, NodeTook, NodeHandles, NodeCalls, kept_when}
 use Rattle.world_nodes.proofs.Hosts.{AreOthers, same_kept, at_place, changed, still, times_at, pushed, declared_is}
 
 -- ---- results
@@ -94,6 +94,13 @@ module _ (kept : ℕ → List Record) (times : TimeSettings) (hosts : List HostV
   -- a node in this place is this one
   pub this_node : (node : Node) → IsAt self.nodes place node → node ≡ node_of (kept old.id.0) old
   this_node node at = (changed kept kept hosts place old old node are.distinct inside is_old refl (same_kept kept old.id.0) (at_self node at)).0
+
+  -- what is said of it is said of the node of its id
+  pub said_of : {A : Type 0} (id : NodeId) (say : Option Node → A) → IsPlace self.nodes id (Some place) → say (Some (node_of (kept old.id.0) old)) ≡ say (node_in self.nodes id.0)
+  said_of id say found =
+      sym
+      (ap say
+      (ap (λ (i : NodeId). node_in self.nodes i.0) (sym found.2) ∙ found.1.found ∙ ap (λ (n : Node). Some n) (this_node found.0 found.1)))
 
   -- this one is in this place
   pub stands : IsAt self.nodes place (node_of (kept old.id.0) old)
