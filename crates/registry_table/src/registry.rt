@@ -1,4 +1,4 @@
-ghost use Rattle.std.specs.Prelude.{◌≡◌, [], IfOk, OnOk, OnErr};
+ghost use Rattle.std.specs.Prelude.{◌≡◌, ◌++◌, ◌∷◌, [], IfOk, OnOk, OnErr};
 ghost use Rattle.std.specs.Option.{option_map};
 ghost use Rattle.registry_table.specs.Registry.{row_of, with_row, without_row, page_of, version_in, shown};
 ghost use Rattle.registry_table.specs.Plans.{applied};
@@ -54,6 +54,18 @@ fn shown(alloc: Global, node: u32, row: &Registered) -> Result<RegistryRow, OutO
         address: row.address.copy(alloc)?,
         version: row.version,
     })
+}
+
+/// Appends a row to a page, as it is shown.
+fn push_shown(
+    alloc: Global,
+    page: &mut RegistryRows,
+    node: u32,
+    row: &Registered,
+) -> Result<(), OutOfMemory>
+    ensures { OnOk result (page.new ≡ page.old ++ shown (node, row.now) ∷ []) }
+{
+    page.push(shown(alloc, node, row)?)
 }
 
 impl Registry {
@@ -115,7 +127,7 @@ impl Registry {
                 return Ok(page);
             }
             if row.kind == kind {
-                page.push(shown(alloc, *node, row)?)?;
+                push_shown(alloc, &mut page, *node, row)?;
             }
         }
         Ok(page)
