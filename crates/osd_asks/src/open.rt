@@ -1,5 +1,6 @@
 ghost use Rattle.std.specs.Prelude.{◌≡◌, ◌++◌, ◌∷◌, ◌<◌, ◌^◌, [], false, not, filter, length, is_some, Some, None, IfOk, OnOk, OnErr};
 ghost use Rattle.osd_rows.specs.Asks as rows;
+ghost use Rattle.osd_rows.specs.Turns as turns;
 ghost use Rattle.osd_rows.specs.Overdue as overdue;
 ghost use Rattle.std.specs.List.{list_any};
 
@@ -29,6 +30,20 @@ impl Model for OpenAsks {
     ghost view = { λ a. record { waiting = a.waiting; issued = a.issued } };
 }
 
+/// Puts the reply that tells the ask of this id something behind the messages.
+fn tell(
+    alloc: Global,
+    outs: &mut Msgs,
+    node: NodeId,
+    file: &FileId,
+    id: OpId,
+    reply: &Reply,
+) -> Result<(), OutOfMemory>
+    ensures { OnOk result (outs.new ≡ outs.old ++ turns.reply_to node file.now id reply.now ∷ []) }
+{
+    outs.push(reply_to(node, file, id, reply.copy(alloc)?))
+}
+
 /// Puts the replies that tell these asks something behind the messages.
 fn tell_each(
     alloc: Global,
@@ -41,7 +56,7 @@ fn tell_each(
     ensures { OnOk result (outs.new ≡ outs.old ++ rows.tells_each node file.now asks.now reply.now) }
 {
     for ask in asks {
-        outs.push(reply_to(node, file, ask.id, reply.copy(alloc)?))?;
+        tell(alloc, outs, node, file, ask.id, reply)?;
     }
     Ok(())
 }
@@ -60,7 +75,7 @@ fn tell_untold(
     if let Some(issued) = issued
         && !issued.told
     {
-        outs.push(reply_to(node, file, issued.ask.id, reply.copy(alloc)?))?;
+        tell(alloc, outs, node, file, issued.ask.id, reply)?;
     }
     Ok(())
 }
@@ -79,7 +94,7 @@ fn tell_due_of(
 {
     for ask in asks {
         if ask.deadline <= now {
-            outs.push(reply_to(node, file, ask.id, reply.copy(alloc)?))?;
+            tell(alloc, outs, node, file, ask.id, reply)?;
         }
     }
     Ok(())
@@ -117,7 +132,7 @@ fn tell_issued_due(
 {
     match issued {
         Some(issued) if issued.ask.deadline <= now && !issued.told => {
-            outs.push(reply_to(node, file, issued.ask.id, reply.copy(alloc)?))
+            tell(alloc, outs, node, file, issued.ask.id, reply)
         }
         _ => Ok(()),
     }
