@@ -1,12 +1,11 @@
 -- the step of an OSD, from the steps of its slots
-use Rattle.std.proofs.Common.{◌≡◌, ℕ, Bool, true, false, cond, max, List, [], ◌∷◌, get_or, set, Some, None, Result, Ok, Err, IfOk, refl, ap, sym, subst, ◌∙◌}
+use Rattle.std.proofs.Common.{◌≡◌, ℕ, Bool, true, false, cond, max, List, [], ◌∷◌, get_or, set, Some, None, Result, Ok, Err, IfOk, ap, sym, subst, ◌∙◌}
 use Rattle.xt_base.specs.declared.ids.FileId.{FileId}
 use Rattle.xt_base.specs.declared.ids.NodeId.{NodeId}
 use Rattle.xt_base.specs.declared.ids.Stamp.{Stamp}
 use Rattle.xt_messages.specs.declared.file.Capability.{Capability}
 use Rattle.xt_messages.specs.declared.message.Msg.{Msg}
 use Rattle.xt_messages.specs.declared.message.Payload.{Payload}
-use Rattle.xt_messages.specs.declared.message.Payload.TheVariants as payload
 use Rattle.xt_messages.specs.declared.event.Event.{Event}
 use Rattle.xt_messages.specs.declared.record.FileRow.{FileRow}
 use Rattle.xt_protocol.specs.LeaseRows.{Silent, Awake, awake_at, is_silent}
@@ -19,32 +18,14 @@ use Rattle.osd_rows.specs.Overdue.{expired}
 use Rattle.osd_rows.specs.FileSteps.{step_of_file, wake_of_file}
 use Rattle.osd_rows.specs.OsdSteps.{Outside, OsdState, OsdStep, FilesStep, file_at, with_file, each_file, asks_dir, file_concerned, message_handled, woken, event_handled, handled_awake, step_of_osd}
 use Rattle.osd_invariants.proofs.Kept.{step_follows}
-use Rattle.osd_files.specs.Views.{FileView, site_at}
+use Rattle.osd_files.specs.Views.{site_at}
 use Rattle.osd_files.specs.declared.waking.Woken.{Woken}
 use Rattle.osd_files.specs.Whole.{IsRowOn, IsSealedBy}
-use Rattle.osd_core.specs.declared.slot.Slot.{Slot}
-use Rattle.osd_core.specs.declared.slot.Slot.TheVariants as slot
-use Rattle.osd_core.specs.Slots.{awake_of, id_of, state_of, view_of, states_of, IsSoundSlot, AreSound, AreSlots, IsMade, WakesSlots, StepsFiles}
+use Rattle.file_slots.specs.declared.slot.Slot.{Slot}
+use Rattle.file_slots.specs.FileSlots.{id_of, state_of, view_of, IsSoundSlot}
+use Rattle.osd_core.specs.Slots.{awake_of, states_of, AreSound, AreSlots, IsMade, WakesSlots, StepsFiles}
 use Rattle.osd_core.proofs.Standing.{state_of-file, sound-set}
 use Rattle.osd_core.proofs.Waking.{kept_file}
-
-if_ok : {A E : Type 0} (P Q : A → Type 0) (r : Result A E) → ((a : A) → P a → Q a) → IfOk r P → IfOk r Q
-if_ok P Q (Ok a) all h = all a h
-if_ok P Q (Err e) all h = h
-
--- ---- a message at a slot
-
--- a test that says so of all capabilities
-says_so : (content : Payload) (sealed : Bool) → IsSealedBy (λ capability. sealed) content sealed
-says_so (payload.Ask number capability asked) sealed = refl
-says_so _ sealed = tt
-
--- its file stays at this OSD
-pub slot_stays : {E : Type 0} (row : Site → FileState → FileStep) (content : Payload) (sealed : Bool) (now : ℕ) (body : FileId → ℕ → Stamp → List ℕ) (awake : Awake) (old : Slot) (file new : FileView)
-    (r : Result Turned E) → file ≡ view_of awake old → IfOk r (λ turned. IsRowOn row content sealed now body file new turned) → IfOk r (λ turned. IsSoundSlot awake (slot.File new))
-slot_stays row content sealed now body awake old file new r is took =
-    if_ok (λ turned. IsRowOn row content sealed now body file new turned) (λ turned. IsSoundSlot awake (slot.File new)) r
-    (λ turned did. (did (λ capability. sealed) (says_so content sealed)).here ∙ ap (λ (f : FileView). f.awake) is) took
 
 -- ---- a message at the slots
 

@@ -13,17 +13,16 @@ use Rattle.xt_protocol.specs.declared.Turned.{Turned}
 use Rattle.xt_protocol.proofs.Folds.{row_after-file}
 use Rattle.osd_rows.specs.Turns.{quiet, joined, the_record}
 use Rattle.osd_rows.specs.ReplicaRows.{kept_after}
-use Rattle.osd_rows.specs.FileStates.{FileState, FileStep, Site, file_from, nothing}
+use Rattle.osd_rows.specs.FileStates.{FileState, FileStep}
 use Rattle.osd_rows.specs.Overdue.{expired}
 use Rattle.osd_rows.specs.FileSteps.{wake_of_file}
 use Rattle.osd_rows.specs.OsdSteps.{FilesStep, each_file}
 use Rattle.osd_invariants.proofs.Kept.{expired_follows, wake_follows}
 use Rattle.osd_files.specs.Views.{site_at}
 use Rattle.osd_files.specs.declared.waking.Woken.{Woken}
-use Rattle.osd_files.specs.Whole.{RowRises}
-use Rattle.osd_core.specs.declared.slot.Slot.{Slot}
-use Rattle.osd_core.specs.declared.slot.Slot.TheVariants as slot
-use Rattle.osd_core.specs.Slots.{id_of, state_of, states_of, IsSoundSlot, AreSound, WakesSlot, WakesSlots}
+use Rattle.file_slots.specs.declared.slot.Slot.{Slot}
+use Rattle.file_slots.specs.FileSlots.{id_of, state_of, IsSoundSlot, WakesSlot}
+use Rattle.osd_core.specs.Slots.{states_of, AreSound, WakesSlots}
 use Rattle.osd_core.proofs.Standing.{state_of-file, sound_at}
 
 -- ---- what steps give, put together
@@ -88,36 +87,6 @@ woke_id now awake old new woken woke =
     ∙ ap file_in (wake_follows site first.state) ∙ kept_file first.state.kept then.turned.rec
     ∙ ap file_in (expired_follows site s) ∙ kept_file s.kept first.turned.rec
     ∙ state_of-file awake old
-
--- nothing comes of a row
-row_expires : (site : Site) (awake : Awake) (row : FileRow) → expired site (file_from awake row) ≡ nothing (file_from awake row)
-unfolding expired
-row_expires site awake row = refl
-
-row_sleeps : (site : Site) (awake : Awake) (row : FileRow) → wake_of_file site (file_from awake row) ≡ nothing (file_from awake row)
-unfolding wake_of_file
-row_sleeps site awake row = refl
-
-at_row : (now : ℕ) (awake : Awake) (row : FileRow) (woken : Woken) → woken.overdue ≡ quiet → woken.again ≡ quiet → RowRises row → WakesSlot now awake (slot.Row row) (slot.Row row) woken
-at_row now awake row woken overdue again rises =
-    let s = file_from awake row in
-    record {
-      sound = rises;
-      file =
-          record {
-            here = refl;
-            overdue = λ sealed body. ap (λ (step : FileStep). step.turned) (row_expires (site_at awake now sealed body) awake row) ∙ sym overdue;
-            again = λ sealed body.
-                let site = site_at awake now sealed body in
-                ap (λ (step : FileStep). wake_of_file site step.state) (row_expires site awake row) ∙ row_sleeps site awake row
-                ∙ ap (λ t. let step : FileStep = record { state = s; turned = t } in step) (sym again);
-          };
-    }
-
-pub row_wakes : (now : ℕ) (awake : Awake) (s : Slot) (row : FileRow) (woken : Woken) → s ≡ slot.Row row → woken.overdue ≡ quiet → woken.again ≡ quiet
-    → IsSoundSlot awake s → WakesSlot now awake s s woken
-row_wakes now awake s row woken is overdue again =
-    subst (λ x. IsSoundSlot awake x → WakesSlot now awake x x woken) (sym is) (at_row now awake row woken overdue again)
 
 -- ---- many slots
 

@@ -7,7 +7,6 @@
 
 mod messages;
 mod osd;
-mod slot;
 mod slots;
 
 pub use osd::Osd;

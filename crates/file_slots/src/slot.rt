@@ -7,7 +7,7 @@ ghost use Rattle.kept_bodies.specs.KeptBodies.{fault_of, ReadsOnly};
 ghost use Rattle.osd_rows.specs.Turns.{quiet};
 ghost use Rattle.osd_rows.specs.FileSteps.{step_of_file};
 ghost use Rattle.osd_files.specs.Whole.{IsRowOn};
-ghost use Rattle.osd_core.specs.Slots.{id_of, view_of, IsSoundSlot, WakesSlot};
+ghost use Rattle.file_slots.specs.FileSlots.{id_of, view_of, IsSoundSlot, WakesSlot};
 
 use flease_lease::Awake;
 use kept_bodies::{Bodies, StepErr};
@@ -21,10 +21,19 @@ use xt_messages::{FileRow, HeldSet, Msg};
 use xt_protocol::Turned;
 
 /// A file at an OSD: what its records say of it, until a message concerns it.
-#[derive(Drop)]
 pub enum Slot {
     Row(FileRow),
     File(OsdFile),
+}
+
+// A derived drop is part of the code of each function that may drop a value. This one is proved once.
+impl Drop for Slot {
+    fn drop(self) {
+        match self {
+            Slot::Row(_) => {}
+            Slot::File(_) => {}
+        }
+    }
 }
 
 /// What a file begins as.

@@ -1,0 +1,69 @@
+-- the steps of a file at an OSD: a Wake while it is a row, and a message, which leaves it at its OSD
+use Rattle.std.proofs.Common.{◌≡◌, ℕ, Bool, List, Result, Ok, Err, IfOk, refl, ap, sym, subst, ◌∙◌}
+use Rattle.xt_base.specs.declared.ids.FileId.{FileId}
+use Rattle.xt_base.specs.declared.ids.Stamp.{Stamp}
+use Rattle.xt_messages.specs.declared.message.Payload.{Payload}
+use Rattle.xt_messages.specs.declared.message.Payload.TheVariants as payload
+use Rattle.xt_messages.specs.declared.record.FileRow.{FileRow}
+use Rattle.xt_protocol.specs.LeaseRows.{Awake}
+use Rattle.xt_protocol.specs.declared.Turned.{Turned}
+use Rattle.osd_rows.specs.Turns.{quiet}
+use Rattle.osd_rows.specs.FileStates.{FileState, FileStep, Site, file_from, nothing}
+use Rattle.osd_rows.specs.Overdue.{expired}
+use Rattle.osd_rows.specs.FileSteps.{wake_of_file}
+use Rattle.osd_files.specs.Views.{FileView, site_at}
+use Rattle.osd_files.specs.declared.waking.Woken.{Woken}
+use Rattle.osd_files.specs.Whole.{RowRises, IsRowOn, IsSealedBy}
+use Rattle.file_slots.specs.declared.slot.Slot.{Slot}
+use Rattle.file_slots.specs.declared.slot.Slot.TheVariants as slot
+use Rattle.file_slots.specs.FileSlots.{view_of, IsSoundSlot, WakesSlot}
+
+-- ---- a Wake
+
+-- nothing comes of a row
+row_expires : (site : Site) (awake : Awake) (row : FileRow) → expired site (file_from awake row) ≡ nothing (file_from awake row)
+unfolding expired
+row_expires site awake row = refl
+
+row_sleeps : (site : Site) (awake : Awake) (row : FileRow) → wake_of_file site (file_from awake row) ≡ nothing (file_from awake row)
+unfolding wake_of_file
+row_sleeps site awake row = refl
+
+at_row : (now : ℕ) (awake : Awake) (row : FileRow) (woken : Woken) → woken.overdue ≡ quiet → woken.again ≡ quiet → RowRises row → WakesSlot now awake (slot.Row row) (slot.Row row) woken
+at_row now awake row woken overdue again rises =
+    let s = file_from awake row in
+    record {
+      sound = rises;
+      file =
+          record {
+            here = refl;
+            overdue = λ sealed body. ap (λ (step : FileStep). step.turned) (row_expires (site_at awake now sealed body) awake row) ∙ sym overdue;
+            again = λ sealed body.
+                let site = site_at awake now sealed body in
+                ap (λ (step : FileStep). wake_of_file site step.state) (row_expires site awake row) ∙ row_sleeps site awake row
+                ∙ ap (λ t. let step : FileStep = record { state = s; turned = t } in step) (sym again);
+          };
+    }
+
+pub row_wakes : (now : ℕ) (awake : Awake) (s : Slot) (row : FileRow) (woken : Woken) → s ≡ slot.Row row → woken.overdue ≡ quiet → woken.again ≡ quiet
+    → IsSoundSlot awake s → WakesSlot now awake s s woken
+row_wakes now awake s row woken is overdue again =
+    subst (λ x. IsSoundSlot awake x → WakesSlot now awake x x woken) (sym is) (at_row now awake row woken overdue again)
+
+-- ---- a message
+
+if_ok : {A E : Type 0} (P Q : A → Type 0) (r : Result A E) → ((a : A) → P a → Q a) → IfOk r P → IfOk r Q
+if_ok P Q (Ok a) all h = all a h
+if_ok P Q (Err e) all h = h
+
+-- a test that says so of all capabilities
+says_so : (content : Payload) (sealed : Bool) → IsSealedBy (λ capability. sealed) content sealed
+says_so (payload.Ask number capability asked) sealed = refl
+says_so _ sealed = tt
+
+-- its file stays at this OSD
+pub slot_stays : {E : Type 0} (row : Site → FileState → FileStep) (content : Payload) (sealed : Bool) (now : ℕ) (body : FileId → ℕ → Stamp → List ℕ) (awake : Awake) (old : Slot) (file new : FileView)
+    (r : Result Turned E) → file ≡ view_of awake old → IfOk r (λ turned. IsRowOn row content sealed now body file new turned) → IfOk r (λ turned. IsSoundSlot awake (slot.File new))
+slot_stays row content sealed now body awake old file new r is took =
+    if_ok (λ turned. IsRowOn row content sealed now body file new turned) (λ turned. IsSoundSlot awake (slot.File new)) r
+    (λ turned did. (did (λ capability. sealed) (says_so content sealed)).here ∙ ap (λ (f : FileView). f.awake) is) took

@@ -1,0 +1,33 @@
+-- a file of an OSD: its row, until it is used, and a file from then on
+use Rattle.std.specs.Prelude.{ℕ, ◌≡◌}
+use Rattle.xt_base.specs.declared.ids.FileId.{FileId}
+use Rattle.xt_protocol.specs.LeaseRows.{Awake}
+use Rattle.osd_rows.specs.FileStates.{FileState, file_from}
+use Rattle.osd_files.specs.Views.{FileView}
+use Rattle.osd_files.specs.Whole.{RowRises, IsWoken}
+use Rattle.osd_files.specs.declared.waking.Woken.{Woken}
+use Rattle.file_slots.specs.declared.slot.Slot.{Slot}
+use Rattle.file_slots.specs.declared.slot.Slot.TheVariants as slot
+
+-- the file that a slot is of
+abbrev pub id_of : Slot → FileId
+id_of (slot.Row row) = row.file
+id_of (slot.File file) = file.state.kept.file
+
+-- the state of its file: as a file starts, while it is a row
+abbrev pub state_of : Awake → Slot → FileState
+state_of awake (slot.Row row) = file_from awake row
+state_of awake (slot.File file) = file.state
+
+abbrev pub view_of : Awake → Slot → FileView
+view_of awake s = record { awake = awake; state = state_of awake s }
+
+-- a row rises, and a file is at this OSD
+abbrev pub IsSoundSlot : Awake → Slot → Type 0
+IsSoundSlot awake (slot.Row row) = RowRises row
+IsSoundSlot awake (slot.File file) = file.awake ≡ awake
+
+-- A Wake of a slot: what a Wake gives at its file.
+pub record WakesSlot (now : ℕ) (awake : Awake) (old new : Slot) (woken : Woken) : Type 0 where
+  pub sound : IsSoundSlot awake new
+  pub file : IsWoken now (view_of awake old) (view_of awake new) woken
