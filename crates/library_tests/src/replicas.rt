@@ -39,6 +39,7 @@ fn promised_in(folded: &Folded) -> u64 {
 }
 
 /// The number of the epoch that a node finds promised which stopped so while it kept its first promise.
+#[tactic(auto, unfolding(xt_protocol::specs::Folds::fold_of, xt_protocol::specs::Folds::row_in))]
 fn promised_behind(rt: &impl Abort, alloc: Global, stop: Stop) -> u64
     requires { IsInAppend (Some stop) }
 {
