@@ -1,0 +1,59 @@
+//! Tests of what stands around the OSDs: sizes, pieces of striped files, the picking of OSDs, capabilities, the registry, the
+//! metadata server, and a client alone, which is fed with the answers of the others; and of what keeps the records of nodes: the
+//! disk, the journal on it, records as bytes, stores over journals, replicas, and hulls over lists and over disks.
+//!
+//! Each is a loop over a table of worked values, or of scenes: what happens to a client, and what comes of it. The values come from
+//! outside, so that they show that the contracts say what is meant; and the tests try what no contract can say: that the calls
+//! succeed, that bytes are those of the documents, that a stop leaves what a reader expects, and that a real file keeps its bytes.
+#![tactic(auto)]
+
+#[cfg(test)]
+mod disk;
+#[cfg(test)]
+mod disks;
+#[cfg(test)]
+mod file;
+#[cfg(test)]
+mod files;
+#[cfg(test)]
+mod hulls;
+#[cfg(test)]
+mod journal;
+#[cfg(test)]
+mod journals;
+#[cfg(test)]
+mod numbers;
+#[cfg(test)]
+mod picking;
+#[cfg(test)]
+mod records;
+#[cfg(test)]
+mod registry;
+#[cfg(test)]
+mod replicas;
+#[cfg(test)]
+mod replicated;
+#[cfg(test)]
+mod requests;
+#[cfg(test)]
+mod scenes;
+#[cfg(test)]
+mod sealing;
+#[cfg(test)]
+mod servers;
+#[cfg(test)]
+mod serving;
+#[cfg(test)]
+mod sizes;
+#[cfg(test)]
+mod stores;
+#[cfg(test)]
+mod striped;
+#[cfg(test)]
+mod stripes;
+#[cfg(test)]
+mod wakes;
+
+/// What is told where a test stops that can't go on.
+#[cfg(test)]
+const OTHERWISE: &str = "a call answers otherwise";
