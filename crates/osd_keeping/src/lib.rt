@@ -1,0 +1,29 @@
+//! An OSD that keeps its records, with no world around it: what it gives in any step is within the limits, and it goes on so.
+//!
+//! Each record of a step is in its place behind those that it runs on, the messages are within their limits, and behind the step the
+//! OSD runs on the records with that one. So it does from its start on. A node that serves an OSD, and keeps each record before it
+//! sends the messages of the step, can be refused for want of room alone. Definitions and theorems alone; nothing runs here.
+#![tactic(auto)]
+
+ghost use Rattle.std.specs.Prelude.{◌<◌, ◌^◌, ◌++◌, ◌∷◌, [], ℕ, List};
+ghost use Rattle.xt_base.specs.TimeSettings.{AreTimes};
+ghost use Rattle.xt_messages.specs.declared.event.Event.{Event};
+ghost use Rattle.xt_messages.specs.declared.record.Record.{Record};
+ghost use Rattle.xt_messages.specs.declared.record.Record.TheVariants as kept;
+ghost use Rattle.xt_protocol.specs.Folds.{fold_of};
+ghost use Rattle.xt_protocol.specs.LeaseRows.{Silent};
+ghost use Rattle.osd_rows.specs.OsdSteps.{OsdState, osd_from, step_of_osd};
+ghost use Rattle.cluster_runs.specs.NodeSteps.{outside_of};
+ghost use Rattle.cluster_fits.specs.Fits.{FitsContent};
+ghost use Rattle.cluster_fits.proofs.Kept.{KeptIs};
+ghost use Rattle.osd_keeping.specs.Keeping.{RunsOn, StepsOn};
+
+/// A step of an OSD on the records that it runs on, at any reading of its clock, on any event within the limits.
+pub fn steps_are_kept()
+    ensures { (records : List Record) (s : OsdState) (reading : ℕ) (happens : Event) → KeptIs records → RunsOn records s → reading < 2 ^ 62 → FitsContent happens → StepsOn records (step_of_osd (outside_of records) s reading happens) }
+{}
+
+/// An OSD that starts from what its records say, and keeps the record of that start.
+pub fn starts_run_on_their_records()
+    ensures { (records : List Record) (silent : Silent) → KeptIs records → silent.node.0 < 2 ^ 32 → silent.boot.0 < 2 ^ 62 → AreTimes silent.times.lease silent.times.drift → silent.start < 2 ^ 62 → KeptIs (records ++ kept.Boot silent.boot ∷ []) × RunsOn (records ++ kept.Boot silent.boot ∷ []) (osd_from silent (fold_of records).files) }
+{}
