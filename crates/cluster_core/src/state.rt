@@ -10,7 +10,7 @@ mod rules;
 mod running;
 
 use crate::lines::{left_of, push_copy};
-use own_messages::OwnMessages;
+use world_tables::OwnMessages;
 use std::alloc::Global;
 use std::marker::Model;
 use step_endings::Stepper;

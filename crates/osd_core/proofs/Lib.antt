@@ -2,3 +2,4 @@ pub mod Standing
 pub mod Starting
 pub mod Waking
 pub mod Stepping
+mod Steps

@@ -17,10 +17,10 @@ use Rattle.version_lists.specs.Rising.{rises}
 use Rattle.version_lists.proofs.Puts.{Orders, IsPlace, put, far, set_there, insert_there, found_at, none_same}
 use Rattle.osd_rows.specs.FileStates.{FileState, file_from}
 use Rattle.osd_rows.specs.OsdSteps.{file_at, with_file}
-use Rattle.file_slots.specs.declared.slot.Slot.{Slot}
-use Rattle.file_slots.specs.declared.slot.Slot.TheVariants as slot
+use Rattle.osd_core.specs.declared.slot.Slot.{Slot}
+use Rattle.osd_core.specs.declared.slot.Slot.TheVariants as slot
 use Rattle.osd_files.specs.Whole.{RowRises}
-use Rattle.file_slots.specs.FileSlots.{id_of, state_of, IsSoundSlot}
+use Rattle.osd_core.specs.FileSlots.{id_of, state_of, IsSoundSlot}
 use Rattle.osd_core.specs.Slots.{states_of, slots_rise, AreSound, IsSlotPlace, IsMade}
 
 -- ---- the order of files, and of slots by their files

@@ -21,8 +21,8 @@ use Rattle.osd_invariants.proofs.Kept.{step_follows}
 use Rattle.osd_files.specs.Views.{site_at}
 use Rattle.osd_files.specs.declared.waking.Woken.{Woken}
 use Rattle.osd_files.specs.Whole.{IsRowOn, IsSealedBy}
-use Rattle.file_slots.specs.declared.slot.Slot.{Slot}
-use Rattle.file_slots.specs.FileSlots.{id_of, state_of, view_of, IsSoundSlot}
+use Rattle.osd_core.specs.declared.slot.Slot.{Slot}
+use Rattle.osd_core.specs.FileSlots.{id_of, state_of, view_of, IsSoundSlot}
 use Rattle.osd_core.specs.Slots.{awake_of, states_of, AreSound, AreSlots, IsMade, WakesSlots, StepsFiles}
 use Rattle.osd_core.proofs.Standing.{state_of-file, sound-set}
 use Rattle.osd_core.proofs.Waking.{kept_file}

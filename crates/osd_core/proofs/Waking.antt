@@ -20,8 +20,8 @@ use Rattle.osd_rows.specs.OsdSteps.{FilesStep, each_file}
 use Rattle.osd_invariants.proofs.Kept.{expired_follows, wake_follows}
 use Rattle.osd_files.specs.Views.{site_at}
 use Rattle.osd_files.specs.declared.waking.Woken.{Woken}
-use Rattle.file_slots.specs.declared.slot.Slot.{Slot}
-use Rattle.file_slots.specs.FileSlots.{id_of, state_of, IsSoundSlot, WakesSlot}
+use Rattle.osd_core.specs.declared.slot.Slot.{Slot}
+use Rattle.osd_core.specs.FileSlots.{id_of, state_of, IsSoundSlot, WakesSlot}
 use Rattle.osd_core.specs.Slots.{states_of, AreSound, WakesSlots}
 use Rattle.osd_core.proofs.Standing.{state_of-file, sound_at}
 

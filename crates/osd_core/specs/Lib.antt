@@ -2,3 +2,4 @@ pub mod Events
 pub mod Keys
 pub mod Slots
 pub mod Views
+pub mod FileSlots

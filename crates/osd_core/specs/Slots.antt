@@ -19,9 +19,9 @@ use Rattle.osd_rows.specs.OsdSteps.{FilesStep, file_at, with_file, each_file}
 use Rattle.osd_files.specs.Views.{site_at}
 use Rattle.osd_files.specs.Whole.{RowRises}
 use Rattle.osd_files.specs.declared.waking.Woken.{Woken}
-use Rattle.file_slots.specs.declared.slot.Slot.{Slot}
-use Rattle.file_slots.specs.declared.slot.Slot.TheVariants as slot
-use Rattle.file_slots.specs.FileSlots.{id_of, state_of, IsSoundSlot, WakesSlot}
+use Rattle.osd_core.specs.declared.slot.Slot.{Slot}
+use Rattle.osd_core.specs.declared.slot.Slot.TheVariants as slot
+use Rattle.osd_core.specs.FileSlots.{id_of, state_of, IsSoundSlot, WakesSlot}
 
 -- an OSD, once its silence is over
 abbrev pub awake_of : Silent → Awake

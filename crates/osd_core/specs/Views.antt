@@ -3,7 +3,7 @@ use Rattle.std.specs.Prelude.{ℕ, ◌≡◌, ◌<◌, ◌^◌, Option, List, If
 use Rattle.xt_base.specs.declared.ids.NodeId.{NodeId}
 use Rattle.xt_protocol.specs.LeaseRows.{Silent}
 use Rattle.osd_rows.specs.OsdSteps.{OsdState}
-use Rattle.file_slots.specs.declared.slot.Slot.{Slot}
+use Rattle.osd_core.specs.declared.slot.Slot.{Slot}
 use Rattle.osd_core.specs.Keys.{FitsKey}
 use Rattle.osd_core.specs.Slots.{awake_of, AreSlots}
 

@@ -7,6 +7,7 @@
 
 mod messages;
 mod osd;
+mod slot;
 mod slots;
 
 pub use osd::Osd;

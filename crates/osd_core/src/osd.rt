@@ -8,8 +8,8 @@ ghost use Rattle.osd_core.specs.Keys.{FitsKey, sealed_by, stops_by, outside_of};
 ghost use Rattle.osd_core.specs.Slots.{AreRows, AreSlots, StepsFiles};
 
 use crate::messages::{is_sealed, stops};
+use crate::slot::Slot;
 use crate::slots::{slots_from, take, wake};
-use file_slots::Slot;
 use flease_lease::{Awake, Silent};
 use kept_bodies::{Bodies, StepErr};
 use std::alloc::Global;

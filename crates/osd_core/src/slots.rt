@@ -13,7 +13,7 @@ ghost use Rattle.osd_files.specs.Whole.{IsSealedBy};
 ghost use Rattle.osd_core.specs.Slots.{slots_rise, slots_from, AreSound, AreSlots, IsSlotPlace, IsMade, WakesMore, WakesSlots, WakesBehind, StepsFiles};
 
 use crate::messages::file_concerned;
-use file_slots::{Slot, new_row, no_news};
+use crate::slot::{Slot, new_row, no_news};
 use flease_lease::Awake;
 use kept_bodies::{Bodies, StepErr};
 use osd_files::Woken;

@@ -13,7 +13,7 @@ use crate::ending::{Ending, ending_of, front, halt_of};
 use crate::entries::{entries_of, entries_to_cut, tell};
 use crate::limits::limit;
 use disk_model::Stop;
-use own_messages::OwnMessages;
+use world_tables::OwnMessages;
 use std::alloc::Global;
 use std::mem::replace;
 use time_line::Entry;

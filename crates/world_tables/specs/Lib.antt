@@ -2,3 +2,4 @@ pub mod Counts
 pub mod Limits
 pub mod Places
 pub mod Within64
+pub mod Own

@@ -1,4 +1,4 @@
-//! The tables of a world of nodes: the messages that were ever sent, and the declared files.
+//! The tables of a world of nodes: the messages that were ever sent, those of the stepping node to itself, and the declared files.
 //!
 //! Contracts see each of them as the list that the definitions of a run speak of. Beside the messages stand the bytes of
 //! their frames, which are counted without making them, and the place of the first one that is pending; beside the files a map
@@ -7,7 +7,9 @@
 
 mod files;
 mod lengths;
+mod own;
 mod sent;
 
 pub use files::DeclaredFiles;
+pub use own::OwnMessages;
 pub use sent::SentMessages;

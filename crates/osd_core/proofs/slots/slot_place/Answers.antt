@@ -1,6 +1,6 @@
 use Rattle.std.proofs.Common.{rules}
 use Rattle.std.proofs.lemmas.List.Sorted.{answers_always}
-use Rattle.file_slots.specs.FileSlots.{id_of}
+use Rattle.osd_core.specs.FileSlots.{id_of}
 use Rattle.osd_core.proofs.Standing.{searched}
 use Rattle.osd_core.proofs.slots.slot_place.Goals as goal
 

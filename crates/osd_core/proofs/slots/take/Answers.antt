@@ -1,6 +1,6 @@
 use Rattle.std.proofs.Common.{subst, sym, ◌∙◌}
 use Rattle.xt_protocol.specs.SeenBodies.{body_by}
-use Rattle.file_slots.specs.FileSlots.{IsSoundSlot}
+use Rattle.osd_core.specs.FileSlots.{IsSoundSlot}
 use Rattle.osd_core.proofs.Standing.{sound_at}
 use Rattle.osd_core.proofs.Stepping.{slots_took}
 use Rattle.osd_core.proofs.slots.take.Goals as goal

@@ -1,7 +1,7 @@
 use Rattle.std.proofs.Common.{arith, subst, sym}
 use Rattle.xt_protocol.specs.LeaseRows.{Awake}
-use Rattle.file_slots.specs.declared.slot.Slot.{Slot}
-use Rattle.file_slots.specs.FileSlots.{IsSoundSlot, WakesSlot}
+use Rattle.osd_core.specs.declared.slot.Slot.{Slot}
+use Rattle.osd_core.specs.FileSlots.{IsSoundSlot, WakesSlot}
 use Rattle.osd_core.proofs.Waking.{none_so_far, more_so_far, all_so_far}
 use Rattle.osd_core.proofs.slots.wake_all.Goals as goal
 

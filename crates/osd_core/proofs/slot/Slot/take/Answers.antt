@@ -1,7 +1,7 @@
 use Rattle.xt_protocol.specs.SeenBodies.{body_by}
 use Rattle.osd_rows.specs.FileSteps.{step_of_file}
-use Rattle.file_slots.proofs.Steps.{slot_stays}
-use Rattle.file_slots.proofs.slot.Slot.take.Goals as goal
+use Rattle.osd_core.proofs.Steps.{slot_stays}
+use Rattle.osd_core.proofs.slot.Slot.take.Goals as goal
 
 pub returns-clause-sound : goal.returns-clause-sound
 returns-clause-sound g c =

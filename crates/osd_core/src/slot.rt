@@ -7,7 +7,7 @@ ghost use Rattle.kept_bodies.specs.KeptBodies.{fault_of, ReadsOnly};
 ghost use Rattle.osd_rows.specs.Turns.{quiet};
 ghost use Rattle.osd_rows.specs.FileSteps.{step_of_file};
 ghost use Rattle.osd_files.specs.Whole.{IsRowOn};
-ghost use Rattle.file_slots.specs.FileSlots.{id_of, view_of, IsSoundSlot, WakesSlot};
+ghost use Rattle.osd_core.specs.FileSlots.{id_of, view_of, IsSoundSlot, WakesSlot};
 
 use flease_lease::Awake;
 use kept_bodies::{Bodies, StepErr};

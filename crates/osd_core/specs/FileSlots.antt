@@ -6,8 +6,8 @@ use Rattle.osd_rows.specs.FileStates.{FileState, file_from}
 use Rattle.osd_files.specs.Views.{FileView}
 use Rattle.osd_files.specs.Whole.{RowRises, IsWoken}
 use Rattle.osd_files.specs.declared.waking.Woken.{Woken}
-use Rattle.file_slots.specs.declared.slot.Slot.{Slot}
-use Rattle.file_slots.specs.declared.slot.Slot.TheVariants as slot
+use Rattle.osd_core.specs.declared.slot.Slot.{Slot}
+use Rattle.osd_core.specs.declared.slot.Slot.TheVariants as slot
 
 -- the file that a slot is of
 abbrev pub id_of : Slot → FileId

@@ -1,5 +1,5 @@
-use Rattle.file_slots.proofs.Steps.{row_wakes}
-use Rattle.file_slots.proofs.slot.Slot.wake.Goals as goal
+use Rattle.osd_core.proofs.Steps.{row_wakes}
+use Rattle.osd_core.proofs.slot.Slot.wake.Goals as goal
 
 pub returns-in-Row : goal.returns-in-Row
 returns-in-Row c =

@@ -14,9 +14,9 @@ use Rattle.osd_rows.specs.FileSteps.{wake_of_file}
 use Rattle.osd_files.specs.Views.{FileView, site_at}
 use Rattle.osd_files.specs.declared.waking.Woken.{Woken}
 use Rattle.osd_files.specs.Whole.{RowRises, IsRowOn, IsSealedBy}
-use Rattle.file_slots.specs.declared.slot.Slot.{Slot}
-use Rattle.file_slots.specs.declared.slot.Slot.TheVariants as slot
-use Rattle.file_slots.specs.FileSlots.{view_of, IsSoundSlot, WakesSlot}
+use Rattle.osd_core.specs.declared.slot.Slot.{Slot}
+use Rattle.osd_core.specs.declared.slot.Slot.TheVariants as slot
+use Rattle.osd_core.specs.FileSlots.{view_of, IsSoundSlot, WakesSlot}
 
 -- ---- a Wake
 

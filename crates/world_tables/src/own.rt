@@ -1,12 +1,7 @@
-//! The messages of a node to itself that wait: they are handled first in first out, before anything else, and are lost with the
-//! node.
-//!
-//! Contracts see the list of them, the next one first, and each call changes it as its definition tells.
-#![tactic(auto)]
-
+//! The messages of a node to itself that wait: they are handled first in first out, before anything else, and are lost with it.
 ghost use Rattle.std.specs.Prelude.{◌≡◌, ◌++◌, [], OnOk};
 ghost use Rattle.cluster_runs.specs.NodeSteps.{to_itself};
-ghost use Rattle.own_messages.specs.Own.{IsNext};
+ghost use Rattle.world_tables.specs.Own.{IsNext};
 
 use std::alloc::Global;
 use std::collections::VecDeque;
