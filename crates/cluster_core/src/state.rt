@@ -10,14 +10,13 @@ mod rules;
 mod running;
 
 use crate::lines::{left_of, push_copy};
-use world_tables::OwnMessages;
 use std::alloc::Global;
 use std::marker::Model;
 use step_endings::Stepper;
 use time_line::{Entry, Line};
 use world_hull::Hull;
 use world_nodes::Nodes;
-use world_tables::{DeclaredFiles, SentMessages};
+use world_tables::{DeclaredFiles, OwnMessages, SentMessages};
 use xt_base::OutOfMemory;
 
 /// A world of nodes over a hull, and the line at work.
