@@ -1,10 +1,7 @@
 //! What the tests of journals share.
 
-use crate::OTHERWISE;
-use disk_model::{Disk, MemoryDisk, Stop};
+use disk_model::Disk;
 use std::alloc::Global;
-use std::process::Abort;
-use xt_base::{CallList, Octets};
 use xt_journal::{AppendErr, Journal, LoadErr};
 
 /// A journal with one record, of a node's first start.
@@ -24,27 +21,6 @@ pub const LIMIT: u64 = 1 << 30;
 pub struct Loaded<D: Disk> {
     pub journal: Journal<D>,
     pub count: usize,
-}
-
-/// The calls of these numbers.
-fn calls(rt: &impl Abort, alloc: Global, numbers: &[u64]) -> CallList {
-    let mut calls = CallList::new(alloc);
-    for number in numbers {
-        calls.push(*number).expect(rt, OTHERWISE);
-    }
-    calls
-}
-
-/// A disk with these bytes, of whose calls those of these numbers fail.
-pub fn disk(
-    rt: &impl Abort,
-    alloc: Global,
-    bytes: &[u8],
-    failing: &[u64],
-    stop: Option<Stop>,
-) -> MemoryDisk {
-    let bytes = Octets::of(alloc, bytes).expect(rt, OTHERWISE);
-    MemoryDisk::new(alloc, bytes, calls(rt, alloc, failing), stop)
 }
 
 /// The journal on a disk and its payloads. The tests take from the call only what it answers.

@@ -1,24 +1,16 @@
 //! Tests of what stands around the OSDs: sizes, pieces of striped files, the picking of OSDs, capabilities, the registry, the
-//! metadata server, and a client alone, which is fed with the answers of the others; and of what keeps the records of nodes: the
-//! disk, the journal on it, records as bytes, stores over journals, replicas, and hulls over lists and over disks.
+//! metadata server, and a client alone, which is fed with the answers of the others; and of what keeps the records of nodes: records
+//! as bytes, and a journal in a real file.
 //!
 //! Each is a loop over a table of worked values, or of scenes: what happens to a client, and what comes of it. The values come from
 //! outside, so that they show that the contracts say what is meant; and the tests try what no contract can say: that the calls
-//! succeed, that bytes are those of the documents, that a stop leaves what a reader expects, and that a real file keeps its bytes.
+//! succeed, that bytes are those of the documents, and that a real file keeps its bytes.
 #![tactic(auto)]
 
-#[cfg(test)]
-mod disk;
-#[cfg(test)]
-mod disks;
 #[cfg(test)]
 mod file;
 #[cfg(test)]
 mod files;
-#[cfg(test)]
-mod hulls;
-#[cfg(test)]
-mod journal;
 #[cfg(test)]
 mod journals;
 #[cfg(test)]
@@ -29,8 +21,6 @@ mod picking;
 mod records;
 #[cfg(test)]
 mod registry;
-#[cfg(test)]
-mod replicas;
 #[cfg(test)]
 mod replicated;
 #[cfg(test)]
@@ -45,8 +35,6 @@ mod servers;
 mod serving;
 #[cfg(test)]
 mod sizes;
-#[cfg(test)]
-mod stores;
 #[cfg(test)]
 mod striped;
 #[cfg(test)]
