@@ -1,4 +1,4 @@
-//! What the tests of journals share.
+//! What the test of a file takes of a journal.
 
 use disk_model::Disk;
 use std::alloc::Global;
@@ -16,20 +16,16 @@ pub const START: [u8; 9] = [1, 0, 0, 0, 0, 0, 0, 0, 1];
 /// More bytes than any journal here has.
 pub const LIMIT: u64 = 1 << 30;
 
-/// A journal, and how many payloads stood in it.
+/// A journal that was loaded.
 #[derive(Drop)]
 pub struct Loaded<D: Disk> {
     pub journal: Journal<D>,
-    pub count: usize,
 }
 
-/// The journal on a disk and its payloads. The tests take from the call only what it answers.
+/// The journal on a disk. The tests take from the call only what it answers.
 pub fn load<D: Disk>(alloc: Global, disk: D, limit: u64) -> Result<Loaded<D>, LoadErr<D>> {
     match Journal::load(alloc, disk, limit) {
-        Ok((journal, payloads)) => Ok(Loaded {
-            journal,
-            count: payloads.len(),
-        }),
+        Ok((journal, _)) => Ok(Loaded { journal }),
         Err(error) => Err(error),
     }
 }

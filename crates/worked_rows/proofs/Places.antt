@@ -1,8 +1,9 @@
 -- Which payloads are records in their places.
-use Rattle.std.proofs.Common.{◌≡◌, ◌<◌, ◌^◌, ◌&&◌, ltb, ℕ, zero, suc, Bool, true, false, List, [], ◌∷◌, ◌++◌, length, Ok, Err, inl, inr, refl, ap, sym, ◌∙◌, arith, rules, subst}
+use Rattle.std.proofs.Common.{◌≡◌, ◌<◌, ◌^◌, ◌&&◌, ltb, ℕ, zero, suc, Bool, true, List, [], ◌∷◌, ◌++◌, length, Ok, Err}
+use Rattle.std.proofs.Common.{inl, inr, refl, ap, sym, ◌∙◌, arith, subst}
 use Rattle.std.proofs.lemmas.Bool.{and_parts, ltb-true}
 use Rattle.std.specs.Prelude.{Contains}
-use Rattle.std.specs.List.{All, AllByRecursion}
+use Rattle.std.specs.List.{AllByRecursion}
 use Rattle.std.proofs.lemmas.List.Elements.{All-from_recursion}
 use Rattle.xt_base.specs.FieldLimits.{AreBytes, FitsBytes}
 use Rattle.xt_messages.specs.Limits.{FitsRecord, FitsHead, FitsFile, FitsUpdate, is_at_most}
@@ -17,36 +18,39 @@ use Rattle.xt_fields.specs.BasicFields.{byte_at, count_at, long_at}
 use Rattle.xt_wire.specs.IdFields.{boot_at}
 use Rattle.replica_records.proofs.RecordLaws.{recorded_again}
 use Rattle.object_store.specs.Texts.{texts_of, AreRecords, IsFirstBad}
-use Rattle.worked_rows.specs.Records.{file, promise, boot, update, stage, abc, epoch, first_write, version, one_version, head, long, AreBad, bad}
+use Rattle.worked_rows.proofs.Readings.{◌▷◌}
+use Rattle.worked_rows.specs.Records.{file, promise, boot, update, stage, abc, epoch, first_write, version, head, long, AreBad, bad}
 
--- behind records in their places: bytes that are no record
-pub no_record : (before : List Record) (payload : List ℕ) (rest : List (List ℕ)) → AreRecords before → recorded payload ≡ Err error.BadRecord
-    → IsFirstBad (texts_of before ++ payload ∷ rest) (length before)
-no_record before payload rest are none = record {
-  before = before;
-  are = are;
-  payload = payload;
-  rest = rest;
-  split = refl;
-  place = refl;
-  bad = λ rec fits is placed. let both : Err error.BadRecord ≡ Ok rec = sym none ∙ ap recorded is ∙ recorded_again rec fits in cc;
-}
+module _ (before : List Record) where
+  -- behind records in their places: bytes that are no record
+  no_record : (payload : List ℕ) (rest : List (List ℕ)) → AreRecords before → recorded payload ≡ Err error.BadRecord
+      → IsFirstBad (texts_of before ++ payload ∷ rest) (length before)
+  no_record payload rest are none = record {
+    before = before;
+    are = are;
+    payload = payload;
+    rest = rest;
+    split = refl;
+    place = refl;
+    bad = λ rec fits is placed.
+        let both : Err error.BadRecord ≡ Ok rec = sym none ∙ ap recorded is ∙ recorded_again rec fits in cc;
+  }
 
--- a record that isn't in its place
-pub out_of_place : (before : List Record) (rec : Record) (rest : List (List ℕ)) → AreRecords before → FitsRecord rec → (IsInPlace (fold_of before) rec → ⊥)
-    → IsFirstBad (texts_of before ++ record_text rec ∷ rest) (length before)
-out_of_place before rec rest are fits isnt = record {
-  before = before;
-  are = are;
-  payload = record_text rec;
-  rest = rest;
-  split = refl;
-  place = refl;
-  bad = λ other others is placed.
-      let both : Ok rec ≡ Ok other = sym (recorded_again rec fits) ∙ ap recorded is ∙ recorded_again other others in
-      let same : other ≡ rec = cc in
-      isnt (subst (IsInPlace (fold_of before)) same placed);
-}
+  -- a record that isn't in its place
+  out_of_place : (rec : Record) (rest : List (List ℕ)) → AreRecords before → FitsRecord rec
+      → (IsInPlace (fold_of before) rec → ⊥) → IsFirstBad (texts_of before ++ record_text rec ∷ rest) (length before)
+  out_of_place rec rest are fits isnt = record {
+    before = before;
+    are = are;
+    payload = record_text rec;
+    rest = rest;
+    split = refl;
+    place = refl;
+    bad = λ other others is placed.
+        let both : Ok rec ≡ Ok other = sym (recorded_again rec fits) ∙ ap recorded is ∙ recorded_again other others in
+        let same : other ≡ rec = cc in
+        isnt (subst (IsInPlace (fold_of before)) same placed);
+  }
 
 abbrev are_bytes : List ℕ → Bool
 are_bytes [] = true
@@ -98,7 +102,8 @@ head_fits = (
 )
 
 -- the head after the write, whatever number was promised
-write_fits : (number : ℕ) → number < 2 ^ 62 → is_at_most (epoch 0 0) (epoch number 0) ≡ true → FitsHead (head_after (record new_head { promised = epoch number 0 }) first_write)
+write_fits : (number : ℕ) → number < 2 ^ 62 → is_at_most (epoch 0 0) (epoch number 0) ≡ true
+    → FitsHead (head_after (record new_head { promised = epoch number 0 }) first_write)
 write_fits number below most = record {
   promise = omega arith;
   place = omega arith;
@@ -167,25 +172,15 @@ unfolding recorded record_at record_arms byte_at boot_record_at boot_at count_at
 too_long = refl
 
 pub are_bad : AreBad bad
-are_bad = (
-  no_record [] (9 ∷ []) (texts_of (promise 1 ∷ [])) (placed [] tt tt) none,
-  (
-    no_record (promise 1 ∷ []) (9 ∷ []) [] (one_promise 1 (omega arith) refl) none,
-    (
-      no_record (promise 1 ∷ []) (1 ∷ long 1 ++ 0 ∷ []) [] (one_promise 1 (omega arith) refl) too_long,
-      (
-        out_of_place (promise 2 ∷ []) (promise 1) [] (one_promise 2 (omega arith) refl) (promise_fits 1 (omega arith)) lower,
-        (
-          out_of_place (promise 2 ∷ []) (promise 1) ((9 ∷ []) ∷ []) (one_promise 2 (omega arith) refl) (promise_fits 1 (omega arith)) lower,
-          (
-            out_of_place (update ∷ []) update [] one_update update_fits repeated,
-            (
-              out_of_place [] head [] (placed [] tt tt) head_fits unheld,
-              (out_of_place (stage abc ∷ promise 2 ∷ update ∷ []) update (texts_of (head ∷ [])) of_each update_fits repeated_later, tt),
-            ),
-          ),
-        ),
-      ),
-    ),
-  ),
-)
+are_bad =
+    let one = one_promise 1 (omega arith) refl in
+    let two = one_promise 2 (omega arith) refl in
+    no_record [] (9 ∷ []) (texts_of (promise 1 ∷ [])) (placed [] tt tt) none
+    ▷ no_record (promise 1 ∷ []) (9 ∷ []) [] one none
+    ▷ no_record (promise 1 ∷ []) (1 ∷ long 1 ++ 0 ∷ []) [] one too_long
+    ▷ out_of_place (promise 2 ∷ []) (promise 1) [] two (promise_fits 1 (omega arith)) lower
+    ▷ out_of_place (promise 2 ∷ []) (promise 1) ((9 ∷ []) ∷ []) two (promise_fits 1 (omega arith)) lower
+    ▷ out_of_place (update ∷ []) update [] one_update update_fits repeated
+    ▷ out_of_place [] head [] (placed [] tt tt) head_fits unheld
+    ▷ out_of_place (stage abc ∷ promise 2 ∷ update ∷ []) update (texts_of (head ∷ [])) of_each update_fits repeated_later
+    ▷ tt

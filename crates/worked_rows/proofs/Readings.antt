@@ -1,11 +1,16 @@
 -- What bytes are read as, by the payloads in them.
-use Rattle.std.proofs.Common.{◌≡◌, ◌≢◌, ◌<◌, ◌+◌, ◌^◌, ℕ, inl, inr, Bool, true, false, ◌&&◌, eqb, ltb, leb, List, [], ◌∷◌, ◌++◌, length, refl, ap, sym, ◌∙◌, subst}
-use Rattle.std.specs.List.{All}
+use Rattle.std.proofs.Common.{◌≡◌, ◌<◌, ◌+◌, ◌^◌, ℕ, inr, Bool, true, ◌&&◌, eqb, ltb, leb, false, List, [], ◌∷◌, ◌++◌}
+use Rattle.std.proofs.Common.{length, refl, ap, sym, subst}
+use Rattle.std.specs.List.{All, AllByRecursion}
 use Rattle.std.proofs.lemmas.Bool.{and_parts, eqb-false, ltb-true, leb-true}
 use Rattle.std.proofs.lemmas.List.Elements.{All-from_recursion}
-use Rattle.std.specs.List.{AllByRecursion}
 use Rattle.xt_journal.specs.Format.{header, open_gate, records, end_of, IsPayload, IsJournal, StandsFor}
 use Rattle.xt_journal.specs.Reading.{ReadsAs, Stands, Damaged, IsCutOff, payloads_of, placed_from}
+
+-- this, and what follows
+infixr 5 ◌▷◌
+pub ◌▷◌ : {A B : Type 0} → A → B → A × B
+a ▷ b = (a, b)
 
 -- whether each is a payload
 abbrev pub are_payloads : List (List ℕ) → Bool
@@ -26,16 +31,25 @@ again : (gate : ℕ) (payloads : List (List ℕ)) → payloads_of (placed_from g
 again gate [] = refl
 again gate (p ∷ ps) = ap (λ qs. p ∷ qs) (again (gate + (5 + length p)) ps)
 
--- these payloads, and a gate that isn't open
-pub stand : {bytes : List ℕ} (payloads : List (List ℕ)) (gate : ℕ) (rest : List ℕ) → are_payloads payloads ≡ true → eqb gate open_gate ≡ false
-    → bytes ≡ header ++ (records payloads ++ gate ∷ rest) → ReadsAs bytes (Stands (placed_from 12 payloads))
-stand {bytes} payloads gate rest is shut are =
-    let same = sym (again 12 payloads) in
-    let journal : IsJournal bytes payloads = record { fit = fit payloads is; gate = gate; rest = rest; shut = eqb-false gate open_gate shut; are = are } in
-    (subst (StandsFor bytes) same (inr journal), ap (placed_from 12) same)
+module _ {bytes : List ℕ} (payloads : List (List ℕ)) where
+  -- these payloads, and a gate that isn't open
+  pub stand : (gate : ℕ) (rest : List ℕ) → are_payloads payloads ≡ true → eqb gate open_gate ≡ false
+      → bytes ≡ header ++ (records payloads ++ gate ∷ rest) → ReadsAs bytes (Stands (placed_from 12 payloads))
+  stand gate rest is shut are =
+      let same = sym (again 12 payloads) in
+      let journal : IsJournal bytes payloads =
+      record { fit = fit payloads is; gate = gate; rest = rest; shut = eqb-false gate open_gate shut; are = are } in
+      (subst (StandsFor bytes) same (inr journal), ap (placed_from 12) same)
 
--- these payloads, and an open gate that no record follows
-pub cut : {bytes : List ℕ} (payloads : List (List ℕ)) (rest : List ℕ) → are_payloads payloads ≡ true → ltb 13 (length bytes) ≡ true
-    → bytes ≡ header ++ (records payloads ++ open_gate ∷ rest) → IsCutOff rest → ReadsAs bytes (Damaged (end_of payloads))
-cut payloads rest is long are cut_off =
-    record { long = ltb-true _ _ long; payloads = payloads; fit = fit payloads is; rest = rest; are = are; cut_off = cut_off; is_place = refl }
+  -- these payloads, and an open gate that no record follows
+  pub cut : (rest : List ℕ) → are_payloads payloads ≡ true → ltb 13 (length bytes) ≡ true
+      → bytes ≡ header ++ (records payloads ++ open_gate ∷ rest) → IsCutOff rest → ReadsAs bytes (Damaged (end_of payloads))
+  cut rest is long are cut_off = record {
+    long = ltb-true _ _ long;
+    payloads = payloads;
+    fit = fit payloads is;
+    rest = rest;
+    are = are;
+    cut_off = cut_off;
+    is_place = refl;
+  }

@@ -1,4 +1,4 @@
--- Records of a node: which payloads are a store's, which bodies it keeps, and what is found behind an append that stopped.
+-- Records of a node: which payloads are a store's, which bodies it keeps, and what it finds behind a stopped append.
 use Rattle.std.specs.Prelude.{ℕ, Option, None, Some, List, [], ◌∷◌, ◌++◌, map, replicate}
 use Rattle.std.specs.List.{flat_map}
 use Rattle.disk_model.specs.declared.plan.Stop.{Stop}

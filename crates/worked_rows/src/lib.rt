@@ -1,7 +1,7 @@
 //! Worked values of the definitions, computed.
 //!
-//! Contracts say that code answers what definitions do, for all values. Here stands that the definitions give what was worked out by
-//! hand: so the code gives it too, to every caller.
+//! Contracts say that code answers what definitions do, for all values. Here stands that the definitions give what was
+//! worked out by hand: so the code gives it too, to every caller.
 #![tactic(auto)]
 
 ghost use Rattle.std.specs.Prelude.{◌≡◌, [], ◌∷◌, map, None, Some};
@@ -44,7 +44,7 @@ pub fn journals_are_read()
     ensures damaged { AreRead damaged }
 {}
 
-/// What stands behind an append that stopped: its record exactly where the gate was being opened and the byte is an open gate's.
+/// What stands behind an append that stopped: its record where the gate was being opened and the byte opens it.
 pub fn a_stopped_append_is_kept_by_its_gate()
     ensures { map left_by stops ≡ left_wanted }
 {}
