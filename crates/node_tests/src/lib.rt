@@ -20,6 +20,8 @@ mod picking;
 #[cfg(test)]
 mod records;
 #[cfg(test)]
+mod refusals;
+#[cfg(test)]
 mod registry;
 #[cfg(test)]
 mod replicated;
