@@ -1,44 +1,28 @@
-//! Tests of what stands around the OSDs: sizes, pieces of striped files, the picking of OSDs, capabilities, the registry, the
-//! metadata server, and a client alone, which is fed with the answers of the others; and of what keeps the records of nodes: records
-//! as bytes, and a journal in a real file.
+//! Tests of what no contract and no theorem can say: that calls succeed where there is memory, of what no run of the program comes to
+//! yet (the two servers, a client of them, pieces of striped files, journals and records that are refused, a hull in memory); that a
+//! real file keeps its bytes, a real reader is a source and a real writer a sink; and that tags are the published ones.
 //!
-//! Each is a loop over a table of worked values, or of scenes: what happens to a client, and what comes of it. The values come from
-//! outside, so that they show that the contracts say what is meant; and the tests try what no contract can say: that the calls
-//! succeed, that bytes are those of the documents, and that a real file keeps its bytes.
+//! Worked values of definitions stand in `worked_rows`, as theorems.
 #![tactic(auto)]
 
 #[cfg(test)]
-mod file;
+mod calls;
 #[cfg(test)]
-mod files;
+mod file;
 #[cfg(test)]
 mod journals;
 #[cfg(test)]
-mod numbers;
-#[cfg(test)]
-mod picking;
-#[cfg(test)]
-mod records;
+mod links;
 #[cfg(test)]
 mod refusals;
 #[cfg(test)]
 mod registry;
 #[cfg(test)]
-mod replicated;
-#[cfg(test)]
 mod requests;
-#[cfg(test)]
-mod scenes;
 #[cfg(test)]
 mod sealing;
 #[cfg(test)]
-mod servers;
-#[cfg(test)]
 mod serving;
-#[cfg(test)]
-mod sizes;
-#[cfg(test)]
-mod striped;
 #[cfg(test)]
 mod stripes;
 #[cfg(test)]

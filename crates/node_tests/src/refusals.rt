@@ -46,10 +46,7 @@ fn is_full(alloc: Global, disk: MemoryDisk, limit: u64) -> bool {
     let Some(loaded) = load(alloc, disk, limit).ok() else {
         return false;
     };
-    matches!(
-        append(alloc, loaded.journal),
-        Err(AppendErr::Full { .. })
-    )
+    matches!(append(alloc, loaded.journal), Err(AppendErr::Full { .. }))
 }
 
 #[test]

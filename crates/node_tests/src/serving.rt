@@ -38,8 +38,6 @@ pub enum Ask {
     Forge(u64, u64),
     /// Rows of these OSDs from this node.
     Rows(u32, &'static [u32]),
-    /// What this client asks under this number.
-    Under(u32, u64, &'static Ask),
 }
 
 /// What comes of it.
@@ -65,14 +63,15 @@ pub const ASIDE: Kept = None;
 /// It is recorded, without nodes.
 pub const KEPT: Kept = Some(&[]);
 
-/// A clock, who asks and what, what is told, and what is recorded. Where nothing else is said, client 10 asks under the number of
-/// the row's place, from 0 on.
+/// A clock, who asks and what, what is told, and what is recorded. The client asks under the number of the row's place, from 0 on.
 pub type Row = (u32, Asker, Ask, Told, Kept);
 
-/// A request of a client, under a number.
+/// The client.
+const CLIENT: NodeId = NodeId(10);
+
+/// A request of the client, under a number.
 #[derive(Clone, Copy)]
 struct Asked<'a> {
-    client: u32,
     number: u64,
     asker: Asker,
     ask: &'a Ask,
@@ -80,19 +79,10 @@ struct Asked<'a> {
 
 /// What is asked in the row at a place.
 fn asked_at(place: usize, row: &Row) -> Asked<'_> {
-    match &row.2 {
-        Ask::Under(client, number, ask) => Asked {
-            client: *client,
-            number: *number,
-            asker: row.1,
-            ask,
-        },
-        ask => Asked {
-            client: 10,
-            number: place as u64,
-            asker: row.1,
-            ask,
-        },
+    Asked {
+        number: place as u64,
+        asker: row.1,
+        ask: &row.2,
     }
 }
 
@@ -256,7 +246,7 @@ fn payload(rt: &impl Abort, alloc: Global, asked: &Asked, granted: &Option<Capab
 fn sender(asked: &Asked) -> NodeId {
     match asked.ask {
         Ask::Rows(from, _) => NodeId(*from),
-        _ => NodeId(asked.client),
+        _ => CLIENT,
     }
 }
 
@@ -265,7 +255,7 @@ fn answer<'a>(turned: &'a Turned, asked: &Asked) -> Option<&'a MetaAnswer> {
     if let [msg] = turned.outs.as_slice()
         && let Payload::MetaReply { number, answer } = &msg.payload
         && *number == asked.number
-        && msg.to == NodeId(asked.client)
+        && msg.to == CLIENT
         && msg.from == MRC_NODE
     {
         return Some(answer);
@@ -391,7 +381,7 @@ fn keeps(turned: &Turned, asked: &Asked, kept: Kept) -> bool {
                 Some(members) => members.as_slice(),
                 None => &[],
             };
-            *from == NodeId(asked.client) && *number == asked.number && kept == Some(nodes)
+            *from == CLIENT && *number == asked.number && kept == Some(nodes)
         }
         Some(_) => false,
         None => kept.is_none(),

@@ -19,7 +19,7 @@ use Rattle.xt_wire.specs.IdFields.{boot_at}
 use Rattle.replica_records.proofs.RecordLaws.{recorded_again}
 use Rattle.object_store.specs.Texts.{texts_of, AreRecords, IsFirstBad}
 use Rattle.worked_rows.proofs.Readings.{◌▷◌}
-use Rattle.worked_rows.specs.Records.{file, promise, boot, update, stage, abc, epoch, first_write, version, head, long, AreBad, bad}
+use Rattle.worked_rows.specs.StoredRecords.{file, promise, boot, update, stage, abc, epoch, first_write, version, head, long, AreBad, bad}
 
 module _ (before : List Record) where
   -- behind records in their places: bytes that are no record

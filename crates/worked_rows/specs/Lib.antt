@@ -1,3 +1,17 @@
 pub mod Disks
 pub mod Journals
+pub mod StoredRecords
+pub mod LeaseLife
+pub mod Promises
+pub mod PartRows
+pub mod ClientScenes
+pub mod ReplicatedScenes
+pub mod StripedScenes
+pub mod ServerScenes
+pub mod Placing
+pub mod Ranges
+pub mod Fields
+pub mod Frames
+pub mod Texts
 pub mod Records
+pub mod Served

@@ -1,147 +1,137 @@
--- Records of a node: which payloads are a store's, which bodies it keeps, and what it finds behind a stopped append.
-use Rattle.std.specs.Prelude.{ℕ, Option, None, Some, List, [], ◌∷◌, ◌++◌, map, replicate}
+-- records and their bytes, and bytes that are no record
+use Rattle.std.specs.Prelude.{ℕ, List, [], ◌∷◌, ◌++◌, replicate, codes, Option, Some, None}
 use Rattle.std.specs.List.{flat_map}
-use Rattle.disk_model.specs.declared.plan.Stop.{Stop}
 use Rattle.xt_base.specs.declared.TheConstants.{NO_OBJECT}
 use Rattle.xt_base.specs.declared.ids.NodeId.{NodeId}
 use Rattle.xt_base.specs.declared.ids.FileId.{FileId}
 use Rattle.xt_base.specs.declared.ids.Epoch.{Epoch}
 use Rattle.xt_base.specs.declared.ids.Stamp.{Stamp}
-use Rattle.xt_base.specs.declared.ids.OpId.{OpId}
-use Rattle.xt_messages.specs.declared.file.ObjectVersion.{ObjectVersion}
-use Rattle.xt_messages.specs.declared.file.FileHead.{FileHead}
-use Rattle.xt_messages.specs.declared.file.Update.{Update}
+use Rattle.xt_messages.specs.declared.file.Kind.TheVariants as kind
+use Rattle.xt_messages.specs.declared.meta.MetaReq.TheVariants as meta
+use Rattle.xt_messages.specs.declared.registry.RegistryReq.TheVariants as registry
+use Rattle.xt_messages.specs.declared.record.Logged.TheVariants as logged
 use Rattle.xt_messages.specs.declared.record.Record.{Record}
 use Rattle.xt_messages.specs.declared.record.Record.TheVariants as kept
-use Rattle.xt_protocol.specs.Folds.{body_kept, fold_of}
-use Rattle.object_store.specs.Texts.{texts_of, AreRecords, IsFirstBad}
-use Rattle.world_hull.specs.declared.hull.Kept.{Kept}
-use Rattle.world_hull.specs.declared.hull.Kept.TheVariants.{StoppedKept, StoppedLost}
-use Rattle.world_hull.specs.Appends.{kept_by, records_after}
+use Rattle.xt_messages.specs.declared.record.Folded.{Folded}
+use Rattle.xt_fields.specs.BasicFields.{list_at}
+use Rattle.xt_wire.specs.IdFields.{boot_at, stamp_at, op_id_at, mark_at}
+use Rattle.xt_wire.specs.FileFields.{kind_arms, kind_at, version_at, stripe_at, members_at, location_at, slot_bytes, slot_at, update_at, versions_at, sessions_at, head_at}
+use Rattle.xt_wire.specs.MetaFields.{unlink_at, meta_req_arms, meta_req_at}
+use Rattle.xt_wire.specs.RegistryFields.{get_row_at, registry_req_arms, registry_req_at}
+use Rattle.xt_protocol.specs.Folds.{folded_after, nothing_kept, row_in, with_row, fold_of, body_kept}
+use Rattle.replica_records.specs.RecordFields.{nodes_arms, nodes_at, meta_logged_at, registry_logged_at, logged_arms, logged_at, boot_record_at, promise_record_at, update_record_at, stage_record_at, head_record_at, view_record_at, meta_record_at, record_arms, record_at, recorded}
+use Rattle.worked_rows.specs.Fields.{fronts_of}
+use Rattle.worked_rows.specs.Frames.{frames}
 
-abbrev pub file : FileId
-file = record { volume = replicate 16 0; number = 1 }
+-- opens what reads, writes and folds records
+unfoldable pub records : Unit {0}
+unfolding
+    frames list_at boot_at stamp_at op_id_at mark_at kind_arms kind_at version_at stripe_at members_at location_at slot_bytes slot_at update_at
+    versions_at sessions_at head_at unlink_at meta_req_arms meta_req_at get_row_at registry_req_arms registry_req_at row_in with_row fold_of body_kept
+    nodes_arms nodes_at meta_logged_at registry_logged_at logged_arms logged_at boot_record_at promise_record_at update_record_at
+    stage_record_at head_record_at view_record_at meta_record_at record_arms record_at recorded
+records = tt
+
+abbrev node : ℕ → NodeId
+node number = record { 0 = number }
+
+-- this file of the nil volume
+abbrev pub file : ℕ → FileId
+file number = record { volume = replicate 16 0; number = number }
 
 abbrev pub epoch : ℕ → ℕ → Epoch
-epoch number node = record { number = number; node = record { 0 = node } }
+epoch number owner = record { number = number; node = node owner }
 
 abbrev pub stamp : ℕ → ℕ → ℕ → Stamp
-stamp number node count = record { epoch = epoch number node; count = count }
+stamp number owner count = record { epoch = epoch number owner; count = count }
 
-abbrev pub operation : ℕ → OpId
-operation number = record { client = record { 0 = 10 }; number = number }
+abbrev pub start : Record
+start = kept.Boot (record { 0 = 1 })
 
-abbrev pub version : ℕ → ℕ → ObjectVersion
-version object count = record { object = object; version = stamp 1 1 count }
+abbrev pub promise : Record
+promise = kept.Promise (file 3) (epoch 5 2)
 
-abbrev pub boot : ℕ → Record
-boot number = kept.Boot (record { 0 = number })
+-- the promise of a lower epoch
+abbrev pub lower : Record
+lower = kept.Promise (file 3) (epoch 4 2)
 
-abbrev pub promise : ℕ → Record
-promise number = kept.Promise file (epoch number 0)
+-- so many zeros
+abbrev pub zeros : ℕ → List ℕ
+zeros count = replicate count 0
 
--- `abc` into object 0 as the first write, of no primary
-abbrev pub abc : List ℕ
-abc = 97 ∷ 98 ∷ 99 ∷ []
-
-abbrev pub first_write : Update
-first_write =
-    record {
-      stamp = stamp 0 0 1;
-      id = operation 1;
-      mark = record { epoch = 0; size = 3 };
-      drop_from = NO_OBJECT;
-      object = 0;
-      body = abc;
-    }
-
-abbrev pub update : Record
-update = kept.Update file first_write
-
-abbrev pub stage : List ℕ → Record
-stage bytes = kept.Stage file 0 (stamp 1 1 1) bytes
-
--- with that version alone
-abbrev pub one_version : FileHead
-one_version =
-    record {
-      promised = epoch 2 1;
-      stamp = stamp 2 1 1;
-      last = operation 1;
-      mark = record { epoch = 0; size = 3 };
-      versions = version 0 1 ∷ [];
-      sessions = record { client = record { 0 = 10 }; number = 1; count = 1 } ∷ [];
-    }
-
-abbrev pub two_versions : FileHead
-two_versions =
-    record {
-      promised = epoch 2 2;
-      stamp = stamp 1 1 3;
-      last = operation 3;
-      mark = record { epoch = 0; size = 0x20001 };
-      versions = version 0 2 ∷ version 1 1 ∷ [];
-      sessions = [];
-    }
-
-abbrev pub head : Record
-head = kept.Head file one_version
-
--- The bytes of both: kind and file; promise; stamp; operation; mark; versions; sessions.
-abbrev pub word : ℕ → List ℕ
-word n = 0 ∷ 0 ∷ 0 ∷ n ∷ []
-
-abbrev pub long : ℕ → List ℕ
-long n = 0 ∷ 0 ∷ 0 ∷ 0 ∷ 0 ∷ 0 ∷ 0 ∷ n ∷ []
-
-abbrev pub head_texts : List (List ℕ)
-head_texts =
-    (5 ∷ long 0 ++ long 0 ++ long 1 ++ long 2 ++ word 1 ++ long 2 ++ word 1 ++ long 1 ++ word 10 ++ long 1 ++ long 0 ++ long 3
-    ++ word 1 ++ word 0 ++ long 1 ++ word 1 ++ long 1 ++ word 1 ++ word 10 ++ long 1 ++ long 1)
-    ∷ (5 ∷ long 0 ++ long 0 ++ long 1 ++ long 2 ++ word 2 ++ long 1 ++ word 1 ++ long 3 ++ word 10 ++ long 3 ++ long 0
-    ++ (0 ∷ 0 ∷ 0 ∷ 0 ∷ 0 ∷ 2 ∷ 0 ∷ 1 ∷ []) ++ word 2 ++ word 0 ++ long 1 ++ word 1 ++ long 2 ++ word 1 ++ long 1 ++ word 1 ++ long 1 ++ word 0)
+-- one of each kind, with file 3, and its bytes; the last kind without a node and with one
+abbrev pub spellings : List (Record × List ℕ)
+spellings =
+    (start, 1 ∷ zeros 7 ++ 1 ∷ [])
+    ∷ (promise, 2 ∷ zeros 23 ++ 3 ∷ zeros 7 ++ 5 ∷ zeros 3 ++ 2 ∷ [])
+    -- count 1 in that epoch, of client 4's operation 9, size 2 in truncate epoch 6, nothing dropped, object 7 gets 2 bytes
+    ∷ (
+      kept.Update (file 3)
+          (record {
+            stamp = stamp 5 2 1;
+            id = record { client = node 4; number = 9 };
+            mark = record { epoch = 6; size = 2 };
+            drop_from = NO_OBJECT;
+            object = 7;
+            body = codes "hi";
+          }),
+      3 ∷ zeros 23 ++ 3 ∷ zeros 7 ++ 5 ∷ zeros 3 ++ 2 ∷ zeros 7 ++ 1 ∷ zeros 3 ++ 4 ∷ zeros 7 ++ 9 ∷ zeros 7 ++ 6 ∷ zeros 7
+          ++ 2 ∷ 0xff ∷ 0xff ∷ 0xff ∷ 0xff ∷ zeros 3 ++ 7 ∷ zeros 3 ++ 2 ∷ codes "hi",
+    )
+    ∷ (
+      kept.Stage (file 3) 7 (stamp 5 2 1) (codes "h"),
+      4 ∷ zeros 23 ++ 3 ∷ zeros 3 ++ 7 ∷ zeros 7 ++ 5 ∷ zeros 3 ++ 2 ∷ zeros 7 ++ 1 ∷ zeros 3 ++ 1 ∷ codes "h",
+    )
+    -- that epoch promised, no write, no version and no session
+    ∷ (
+      kept.Head (file 3)
+          (record {
+            promised = epoch 5 2;
+            stamp = stamp 0 0 0;
+            last = record { client = node 0; number = 0 };
+            mark = record { epoch = 0; size = 0 };
+            versions = [];
+            sessions = [];
+          }),
+      5 ∷ zeros 23 ++ 3 ∷ zeros 7 ++ 5 ∷ zeros 3 ++ 2 ∷ zeros 56,
+    )
+    ∷ (
+      kept.View (file 3) (record { version = 1; kind = kind.Replicated; stripe = 1024; members = node 2 ∷ [] }),
+      6 ∷ zeros 23 ++ 3 ∷ zeros 3 ++ 1 ∷ 1 ∷ 0 ∷ 0 ∷ 4 ∷ 0 ∷ 1 ∷ zeros 3 ++ 2 ∷ [],
+    )
+    -- of node 4, number 9, at 8, to the registry: the row of node 2
+    ∷ (
+      kept.Meta (node 4) 9 8 None (logged.Registry (registry.Get (node 2))),
+      7 ∷ zeros 3 ++ 4 ∷ zeros 7 ++ 9 ∷ zeros 7 ++ 8 ∷ 0 ∷ 0x16 ∷ 2 ∷ zeros 3 ++ 2 ∷ [],
+    )
+    -- to the metadata server for user 1 in group 3
+    ∷ (
+      kept.Meta (node 4) 9 8 (Some (node 2 ∷ [])) (logged.Meta 1 3 (meta.Unlink (codes "/a"))),
+      7 ∷ zeros 3 ++ 4 ∷ zeros 7 ++ 9 ∷ zeros 7 ++ 8 ∷ 1 ∷ zeros 3 ++ 2 ∷ 0x14 ∷ zeros 3 ++ 1 ∷ zeros 3 ++ 3 ∷ 4 ∷ 0 ∷ 2 ∷ codes "/a",
+    )
     ∷ []
 
--- Payloads, and the index of the first one that is no record in its place: it is none; an epoch below the promised one, a count
--- that comes again, a version that isn't held.
-abbrev pub AreBad : List (List (List ℕ) × ℕ) → Type 0
-AreBad [] = Unit {0}
-AreBad (row ∷ rows) = IsFirstBad row.0 row.1 × AreBad rows
+abbrev pub fronts : List (List ℕ)
+fronts = flat_map (λ row. fronts_of row.1) spellings
 
-abbrev pub bad : List (List (List ℕ) × ℕ)
-bad =
-    ((9 ∷ []) ∷ texts_of (promise 1 ∷ []), 0)
-    ∷ (texts_of (promise 1 ∷ []) ++ (9 ∷ []) ∷ [], 1)
-    ∷ (texts_of (promise 1 ∷ []) ++ (1 ∷ long 1 ++ 0 ∷ []) ∷ [], 1)
-    ∷ (texts_of (promise 2 ∷ promise 1 ∷ []), 1)
-    ∷ (texts_of (promise 2 ∷ promise 1 ∷ []) ++ (9 ∷ []) ∷ [], 1)
-    ∷ (texts_of (update ∷ update ∷ []), 1)
-    ∷ (texts_of (head ∷ []), 0)
-    ∷ (texts_of (stage abc ∷ promise 2 ∷ update ∷ update ∷ head ∷ []), 3)
+-- nothing; no kind; a kind too many; a byte too many; a boot of 2^62; a request of another kind
+abbrev pub others : List (List ℕ)
+others =
+    [] ∷ (0 ∷ zeros 7 ++ 1 ∷ []) ∷ (8 ∷ zeros 7 ++ 1 ∷ []) ∷ (1 ∷ zeros 7 ++ 1 ∷ 0 ∷ []) ∷ (1 ∷ 0x40 ∷ zeros 7)
+    ∷ (7 ∷ zeros 3 ++ 4 ∷ zeros 7 ++ 9 ∷ zeros 7 ++ 8 ∷ 0 ∷ 0x15 ∷ 2 ∷ zeros 3 ++ 2 ∷ [])
     ∷ []
 
--- the body of object 0 in that version
-abbrev pub body : List Record → Option (List ℕ)
-body records = body_kept records file 0 (stamp 1 1 1)
+-- what is known once the epoch 5 is promised
+abbrev pub promised : Folded
+promised = folded_after nothing_kept promise
 
--- Each call of an append, with three bytes.
-abbrev pub each_stop : List Stop
-each_stop = flat_map (λ call. map (λ fill. record { call = call; fill = fill }) (0 ∷ 0x37 ∷ 0xa5 ∷ [])) (1 ∷ 2 ∷ 3 ∷ 4 ∷ [])
+-- a body of one byte as object 4 of file 1, in the version of this count
+abbrev pub put : ℕ → ℕ → Record
+put count byte = kept.Stage (file 1) 4 (stamp 0 0 count) (byte ∷ [])
 
--- The record is kept where its gate was being opened and the byte is an open gate's.
-abbrev pub by_stop : {A : Type 0} → A → A → List A
-by_stop lost kept = replicate 8 lost ++ kept ∷ lost ∷ lost ∷ kept ∷ []
+-- bodies that are put, and what is found of an object and a count then
+abbrev pub puts : List Record
+puts = put 1 10 ∷ put 1 11 ∷ put 2 12 ∷ []
 
--- the records of a node that stopped in an append
-abbrev pub stopped : List Record → Record → Stop → List Record
-stopped before rec stop = records_after (λ n. before) (record { 0 = 7 }) rec (kept_by (Some stop)) 7
-
--- the last of three starts, the second of which stopped: behind that one, and behind the third
-abbrev pub boots_found : Stop → ℕ × ℕ
-boots_found stop =
-    let two = stopped (boot 1 ∷ []) (boot 2) stop in
-    ((fold_of two).boot.0, (fold_of (two ++ boot 3 ∷ [])).boot.0)
-
--- the epoch that a node finds promised which stopped in its first promise
-abbrev pub promised_found : Stop → List Epoch
-promised_found stop = map (λ row. row.head.promised) (fold_of (stopped [] (kept.Promise file (epoch 2 3)) stop)).files
+abbrev pub found : List (ℕ × ℕ × Option (List ℕ))
+found = (4, 1, Some (11 ∷ [])) ∷ (4, 2, Some (12 ∷ [])) ∷ (5, 1, None) ∷ (4, 3, None) ∷ []

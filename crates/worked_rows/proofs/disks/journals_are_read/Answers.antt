@@ -1,7 +1,7 @@
 use Rattle.std.proofs.Common.{[], ◌∷◌, drop, inl, inr, refl, arith}
 use Rattle.worked_rows.specs.Journals.{two_starts, changed, half_a_start, start_and_more, without, both}
 use Rattle.worked_rows.proofs.Readings.{◌▷◌, stand, cut}
-use Rattle.worked_rows.proofs.journals_are_read.Goals as goal
+use Rattle.worked_rows.proofs.disks.journals_are_read.Goals as goal
 
 pub returns-clause-standing : goal.returns-clause-standing
 returns-clause-standing c =

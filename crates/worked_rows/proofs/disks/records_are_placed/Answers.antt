@@ -1,5 +1,5 @@
 use Rattle.worked_rows.proofs.Places
-use Rattle.worked_rows.proofs.records_are_placed.Goals as goal
+use Rattle.worked_rows.proofs.disks.records_are_placed.Goals as goal
 
 pub returns-clause-promises : goal.returns-clause-promises
 returns-clause-promises c = Places.two_promises
