@@ -1,6 +1,6 @@
 //! Tests of what no contract and no theorem can say: that calls succeed where there is memory, of what no run of the program comes to
-//! yet (the two servers, a client of them, pieces of striped files, journals and records that are refused, a hull in memory); that a
-//! real file keeps its bytes, a real reader is a source and a real writer a sink; and that tags are the published ones.
+//! yet (the two servers, a client of them, pieces of striped files, journals and records that are refused, a hull in memory); and that
+//! a real file keeps its bytes, a real reader is a source and a real writer a sink.
 //!
 //! Worked values of definitions stand in `worked_rows`, as theorems.
 #![tactic(auto)]
@@ -16,17 +16,9 @@ mod links;
 #[cfg(test)]
 mod refusals;
 #[cfg(test)]
-mod registry;
-#[cfg(test)]
-mod requests;
-#[cfg(test)]
-mod sealing;
-#[cfg(test)]
-mod serving;
+mod services;
 #[cfg(test)]
 mod stripes;
-#[cfg(test)]
-mod wakes;
 
 /// What is told where a test stops that can't go on.
 #[cfg(test)]

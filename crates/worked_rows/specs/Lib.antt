@@ -15,3 +15,6 @@ pub mod Frames
 pub mod Texts
 pub mod Records
 pub mod Served
+pub mod Sealing
+pub mod Requests
+pub mod Registry

@@ -11,4 +11,5 @@ pub mod disks;
 pub mod leases;
 pub mod parts;
 pub mod placing;
+pub mod sealing;
 pub mod servers;
