@@ -1,4 +1,4 @@
-//! What the test of a file takes of a journal.
+//! What tests take of a journal.
 
 use disk_model::Disk;
 use std::alloc::Global;
