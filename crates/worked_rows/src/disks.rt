@@ -1,3 +1,4 @@
+//! The disk, the journal on it, and what is kept of records.
 ghost use Rattle.std.specs.Prelude.{◌≡◌, [], ◌∷◌, map, None, Some};
 ghost use Rattle.disk_model.specs.Changes.{Sync};
 ghost use Rattle.disk_model.specs.Disk.{IsFilled};
