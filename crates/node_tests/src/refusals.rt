@@ -3,7 +3,7 @@
 
 use crate::OTHERWISE;
 use crate::journals::{LIMIT, ONE, append, load};
-use disk_model::MemoryDisk;
+use disk_model::{Disk, MemoryDisk};
 use object_store::{Store, StoreErr};
 use std::alloc::Global;
 use std::process::Abort;
@@ -20,7 +20,7 @@ fn disk(rt: &impl Abort, alloc: Global, bytes: &[u8]) -> MemoryDisk {
 }
 
 /// Whether the journal of a disk isn't loaded, for another reason than want of memory.
-fn is_refused(alloc: Global, disk: MemoryDisk) -> bool {
+fn is_refused<D: Disk>(alloc: Global, disk: D) -> bool {
     match load(alloc, disk, LIMIT) {
         Ok(_) | Err(LoadErr::OutOfMemory { .. }) => false,
         Err(_) => true,
@@ -42,7 +42,7 @@ fn journals_are_refused(rt: HostRuntime) {
 }
 
 /// Whether a journal is full for one more record under this limit.
-fn is_full(alloc: Global, disk: MemoryDisk, limit: u64) -> bool {
+fn is_full<D: Disk>(alloc: Global, disk: D, limit: u64) -> bool {
     let Some(loaded) = load(alloc, disk, limit).ok() else {
         return false;
     };
@@ -55,7 +55,7 @@ fn a_journal_is_full(rt: HostRuntime) {
 }
 
 /// Whether the payload of a journal is told to be no record.
-fn is_bad(alloc: Global, disk: MemoryDisk) -> bool {
+fn is_bad<D: Disk>(alloc: Global, disk: D) -> bool {
     match Journal::load(alloc, disk, LIMIT) {
         Ok((journal, payloads)) => matches!(
             Store::load(alloc, journal, payloads.as_slice()),
