@@ -55,6 +55,11 @@ fn a_source_in_memory_gives_what_is_left(rt: HostRuntime) {
     }
 }
 
+/// Whether so many bytes of a piece are taken, and so many faults there were then.
+fn takes<K: Sink>(sink: &mut K, piece: &[u8], count: Option<usize>, faults: u64) -> bool {
+    sink.put(piece).ok() == count && sink.faults() == faults
+}
+
 /// The piece, how many of its bytes are taken, what is held then, and how many faults there were.
 static PUTS: [(&[u8], Option<usize>, &[u8], u64); 6] = [
     (b"abcd", Some(4), b"abcd", 0),
@@ -70,8 +75,8 @@ fn a_sink_in_memory_takes_what_fits(rt: HostRuntime) {
     let fails = calls(&rt, rt.alloc(), &[6, 2]);
     let mut sink = MemorySink::new(rt.alloc(), 6, fails).expect(&rt, OTHERWISE);
     for (piece, taken, held, faults) in &PUTS {
-        assert!(rt; sink.put(piece).ok() == *taken);
-        assert!(rt; sink.as_slice() == *held && sink.faults() == *faults);
+        assert!(rt; takes(&mut sink, piece, *taken, *faults));
+        assert!(rt; sink.as_slice() == *held);
     }
 }
 
@@ -160,9 +165,8 @@ fn a_writer_is_a_sink(rt: HostRuntime) {
     let mut bytes = Vec::new(rt.alloc());
     let mut sink = StdoutSink::new(&mut bytes);
     for piece in &PIECES {
-        assert!(rt; sink.put(piece) == Ok(piece.len()));
+        assert!(rt; takes(&mut sink, piece, Some(piece.len()), 0));
     }
-    assert!(rt; sink.faults() == 0);
     assert!(rt; bytes.as_slice() == b"abc".as_slice());
 }
 
@@ -170,6 +174,6 @@ fn a_writer_is_a_sink(rt: HostRuntime) {
 fn a_writer_that_halts_is_a_sink(rt: HostRuntime) {
     let mut sink = StdoutSink::new(Halting { calls: 0 });
     for (piece, count, faults) in &HALTED {
-        assert!(rt; sink.put(piece).ok() == *count && sink.faults() == *faults);
+        assert!(rt; takes(&mut sink, piece, *count, *faults));
     }
 }
