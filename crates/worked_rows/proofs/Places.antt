@@ -6,7 +6,7 @@ use Rattle.std.specs.Prelude.{Contains}
 use Rattle.std.specs.List.{AllByRecursion}
 use Rattle.std.proofs.lemmas.List.Elements.{All-from_recursion}
 use Rattle.xt_base.specs.FieldLimits.{AreBytes, FitsBytes}
-use Rattle.xt_messages.specs.Limits.{FitsRecord, FitsHead, FitsFile, FitsUpdate, is_at_most}
+use Rattle.xt_messages.specs.Limits.{FitsRecord, FitsHead, FitsFile, is_at_most}
 use Rattle.xt_messages.specs.declared.record.Record.{Record}
 use Rattle.xt_protocol.specs.Folds.{fold_of, row_in, with_row, IsInPlace, AreInPlace, nothing_kept}
 use Rattle.xt_protocol.specs.Stamps.{with_held}
@@ -19,7 +19,8 @@ use Rattle.xt_wire.specs.IdFields.{boot_at}
 use Rattle.replica_records.proofs.RecordLaws.{recorded_again}
 use Rattle.object_store.specs.Texts.{texts_of, AreRecords, IsFirstBad}
 use Rattle.worked_rows.proofs.Readings.{◌▷◌}
-use Rattle.worked_rows.specs.StoredRecords.{file, promise, boot, update, stage, abc, epoch, first_write, version, head, long, AreBad, bad}
+use Rattle.worked_rows.specs.StoredRecords.{file, promise, boot, update, stage, abc, first_write, version, head, long, AreBad, bad}
+use Rattle.worked_rows.specs.Values.{epoch}
 
 module _ (before : List Record) where
   -- behind records in their places: bytes that are no record

@@ -2,7 +2,6 @@
 use Rattle.std.specs.Prelude.{ℕ, not, ◌≡◌, ◌==◌, if◌then◌else◌, Option, Some, None, List, [], ◌∷◌, length, map, scan, replicate, codes}
 use Rattle.xt_base.specs.declared.TheConstants.{COUNTS}
 use Rattle.xt_base.specs.declared.ids.NodeId.{NodeId}
-use Rattle.xt_base.specs.declared.ids.FileId.{FileId}
 use Rattle.xt_base.specs.declared.ids.SizeMark.{SizeMark}
 use Rattle.xt_messages.specs.declared.file.Kind.TheVariants as kind
 use Rattle.xt_messages.specs.declared.file.Kind.{Kind}
@@ -33,14 +32,12 @@ use Rattle.client_core.specs.declared.requests.CallResult.TheVariants as result
 use Rattle.client_core.specs.Holding.{held_of, holds}
 use Rattle.client_core.specs.Requests.{is_ready}
 use Rattle.client_core.specs.Rows.{WholeClient, called, called_again, stepped, result_in, is_busy, may_repeat}
-use Rattle.worked_rows.specs.LeaseLife.{node, members, times}
+use Rattle.worked_rows.specs.LeaseLife.{members, times}
+use Rattle.worked_rows.specs.Values.{file, node}
 
 -- the last number of a call
 abbrev pub last_number : ℕ
 last_number = 4611686018427387903
-
-abbrev pub file : ℕ → FileId
-file number = record { volume = replicate 16 0; number = number }
 
 -- the file 2 is striped over the members in objects of 1024 bytes, the others are replicated
 abbrev pub kind_of : ℕ → Kind

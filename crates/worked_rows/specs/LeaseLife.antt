@@ -9,9 +9,7 @@ use Rattle.xt_base.specs.TimeSettings.{TimeSettings}
 use Rattle.xt_messages.specs.declared.message.Payload.TheVariants as payload
 use Rattle.xt_protocol.specs.Register.{Round, no_ballot}
 use Rattle.xt_protocol.specs.LeaseRows.{Silent, Awake, Proposer, new_proposer, can_ask, round_starts, round_over, Held, renewal_starts, LeaseState, free, asking, writing, held, lease_expired, on_answer}
-
-abbrev pub node : ℕ → NodeId
-node number = record { 0 = number }
+use Rattle.worked_rows.specs.Values.{node}
 
 abbrev pub first_boot : Boot
 first_boot = record { 0 = 1 }

@@ -1,3 +1,4 @@
+pub mod Values
 pub mod Disks
 pub mod Journals
 pub mod StoredRecords

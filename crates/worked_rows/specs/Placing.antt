@@ -4,7 +4,7 @@ use Rattle.xt_base.specs.declared.ids.NodeId.{NodeId}
 use Rattle.xt_base.specs.declared.ids.SizeMark.{SizeMark}
 use Rattle.truncate_epochs.specs.SizeMarks.{merged}
 use Rattle.replica_lists.specs.Picking.{picked}
-use Rattle.worked_rows.specs.LeaseLife.{node}
+use Rattle.worked_rows.specs.Values.{node}
 use Rattle.worked_rows.specs.ClientScenes.{size_at}
 
 -- a file's number, how many OSDs it wants, and the ids that it gets of 7, 3, 9 and 5

@@ -5,7 +5,8 @@ use Rattle.xt_base.specs.declared.ids.Boot.{Boot}
 use Rattle.xt_base.specs.declared.ids.Lease.{Lease}
 use Rattle.xt_base.specs.declared.ids.Ballot.{Ballot}
 use Rattle.xt_protocol.specs.Register.{Acceptor, new_acceptor, Round, new_round, lease_of, on_promise, takes_promise, on_acceptance, on_read, on_write, Promised, Took, ignored, counted, write_to, alive, Read, ReadAnswer, promise, read_refused, Write, WriteAnswer, accepted, write_refused, other_boot, AcceptanceTaken}
-use Rattle.worked_rows.specs.LeaseLife.{node, first_boot, times}
+use Rattle.worked_rows.specs.LeaseLife.{first_boot, times}
+use Rattle.worked_rows.specs.Values.{node}
 
 abbrev pub second_boot : Boot
 second_boot = record { 0 = 2 }

@@ -2,10 +2,6 @@
 use Rattle.std.specs.Prelude.{ℕ, List, [], ◌∷◌, ◌++◌, replicate, codes, Option, Some, None}
 use Rattle.std.specs.List.{flat_map}
 use Rattle.xt_base.specs.declared.TheConstants.{NO_OBJECT}
-use Rattle.xt_base.specs.declared.ids.NodeId.{NodeId}
-use Rattle.xt_base.specs.declared.ids.FileId.{FileId}
-use Rattle.xt_base.specs.declared.ids.Epoch.{Epoch}
-use Rattle.xt_base.specs.declared.ids.Stamp.{Stamp}
 use Rattle.xt_messages.specs.declared.file.Kind.TheVariants as kind
 use Rattle.xt_messages.specs.declared.meta.MetaReq.TheVariants as meta
 use Rattle.xt_messages.specs.declared.registry.RegistryReq.TheVariants as registry
@@ -22,6 +18,7 @@ use Rattle.xt_protocol.specs.Folds.{folded_after, nothing_kept, row_in, with_row
 use Rattle.replica_records.specs.RecordFields.{nodes_arms, nodes_at, meta_logged_at, registry_logged_at, logged_arms, logged_at, boot_record_at, promise_record_at, update_record_at, stage_record_at, head_record_at, view_record_at, meta_record_at, record_arms, record_at, recorded}
 use Rattle.worked_rows.specs.Fields.{fronts_of}
 use Rattle.worked_rows.specs.Frames.{frames}
+use Rattle.worked_rows.specs.Values.{epoch, file, node, stamp}
 
 -- opens what reads, writes and folds records
 unfoldable pub records : Unit {0}
@@ -31,19 +28,6 @@ unfolding
     nodes_arms nodes_at meta_logged_at registry_logged_at logged_arms logged_at boot_record_at promise_record_at update_record_at
     stage_record_at head_record_at view_record_at meta_record_at record_arms record_at recorded
 records = tt
-
-abbrev node : ℕ → NodeId
-node number = record { 0 = number }
-
--- this file of the nil volume
-abbrev pub file : ℕ → FileId
-file number = record { volume = replicate 16 0; number = number }
-
-abbrev pub epoch : ℕ → ℕ → Epoch
-epoch number owner = record { number = number; node = node owner }
-
-abbrev pub stamp : ℕ → ℕ → ℕ → Stamp
-stamp number owner count = record { epoch = epoch number owner; count = count }
 
 abbrev pub start : Record
 start = kept.Boot (record { 0 = 1 })

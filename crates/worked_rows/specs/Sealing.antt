@@ -2,7 +2,6 @@
 use Rattle.std.specs.Prelude.{ℕ, Bool, true, false, bit_xor, List, [], ◌∷◌, replicate, codes, Option, Some, None}
 use Rattle.std.specs.Int.{bytes_high_first}
 use Rattle.sha2.specs.Sha256.{first_words, schedule, rounds, compress, hash_after, digest_bytes, sha256}
-use Rattle.xt_base.specs.declared.ids.FileId.{FileId}
 use Rattle.xt_messages.specs.declared.file.Kind.TheVariants as kind
 use Rattle.xt_messages.specs.declared.file.Capability.{Capability}
 use Rattle.xt_messages.specs.declared.reply.Denial.{Denial}
@@ -12,6 +11,7 @@ use Rattle.xt_fields.specs.BasicFields.{word_bytes, long_bytes}
 use Rattle.capabilities.specs.Tags.{hmac_of, sealed}
 use Rattle.capabilities.specs.Denials.{denial_of}
 use Rattle.capabilities.specs.Stops.{is_stop}
+use Rattle.worked_rows.specs.Values.{file}
 
 -- opens what makes a tag
 unfoldable pub tags : Unit {0}
@@ -39,10 +39,6 @@ published = (
 
 abbrev key : List ℕ
 key = replicate 32 0
-
--- this file of the nil volume
-abbrev file : ℕ → FileId
-file number = record { volume = replicate 16 0; number = number }
 
 -- a capability of file 7 up to the clock 5000, without a tag
 abbrev capability : ℕ → Capability

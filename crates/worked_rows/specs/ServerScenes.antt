@@ -15,7 +15,7 @@ use Rattle.xt_messages.specs.declared.registry.RegistryAnswer.TheVariants as tol
 use Rattle.xt_messages.specs.declared.message.Payload.TheVariants as payload
 use Rattle.xt_messages.specs.declared.event.Call.{Call}
 use Rattle.xt_messages.specs.declared.event.Call.TheVariants as call
-use Rattle.worked_rows.specs.LeaseLife.{node}
+use Rattle.worked_rows.specs.Values.{node}
 use Rattle.worked_rows.specs.ClientScenes.{Row, last_number, write, ok, no_lease, makes, makes_again, gets, shows, wakes, hears, replies, nothing, begins, asks, reports, done, repeats, answers, lists, held_at, not_held, by, capability, size_at, Happens}
 
 -- Calls and answers.

@@ -1,12 +1,10 @@
 -- Records of a node: which payloads are a store's, which bodies it keeps, and what it finds behind a stopped append.
-use Rattle.std.specs.Prelude.{ℕ, Option, None, Some, List, [], ◌∷◌, ◌++◌, map, replicate}
+use Rattle.std.specs.Prelude.{ℕ, Option, Some, List, [], ◌∷◌, ◌++◌, map, replicate}
 use Rattle.std.specs.List.{flat_map}
 use Rattle.disk_model.specs.declared.plan.Stop.{Stop}
 use Rattle.xt_base.specs.declared.TheConstants.{NO_OBJECT}
-use Rattle.xt_base.specs.declared.ids.NodeId.{NodeId}
 use Rattle.xt_base.specs.declared.ids.FileId.{FileId}
 use Rattle.xt_base.specs.declared.ids.Epoch.{Epoch}
-use Rattle.xt_base.specs.declared.ids.Stamp.{Stamp}
 use Rattle.xt_base.specs.declared.ids.OpId.{OpId}
 use Rattle.xt_messages.specs.declared.file.ObjectVersion.{ObjectVersion}
 use Rattle.xt_messages.specs.declared.file.FileHead.{FileHead}
@@ -14,19 +12,13 @@ use Rattle.xt_messages.specs.declared.file.Update.{Update}
 use Rattle.xt_messages.specs.declared.record.Record.{Record}
 use Rattle.xt_messages.specs.declared.record.Record.TheVariants as kept
 use Rattle.xt_protocol.specs.Folds.{body_kept, fold_of}
-use Rattle.object_store.specs.Texts.{texts_of, AreRecords, IsFirstBad}
-use Rattle.world_hull.specs.declared.hull.Kept.{Kept}
-use Rattle.world_hull.specs.declared.hull.Kept.TheVariants.{StoppedKept, StoppedLost}
+use Rattle.object_store.specs.Texts.{texts_of, IsFirstBad}
 use Rattle.world_hull.specs.Appends.{kept_by, records_after}
+use Rattle.worked_rows.specs.Values as values
+use Rattle.worked_rows.specs.Values.{epoch, stamp}
 
 abbrev pub file : FileId
-file = record { volume = replicate 16 0; number = 1 }
-
-abbrev pub epoch : ℕ → ℕ → Epoch
-epoch number node = record { number = number; node = record { 0 = node } }
-
-abbrev pub stamp : ℕ → ℕ → ℕ → Stamp
-stamp number node count = record { epoch = epoch number node; count = count }
+file = values.file 1
 
 abbrev pub operation : ℕ → OpId
 operation number = record { client = record { 0 = 10 }; number = number }

@@ -4,7 +4,7 @@ use Rattle.xt_messages.specs.declared.reply.Reply.TheVariants as reply
 use Rattle.xt_messages.specs.declared.reply.Denial.TheVariants as denial
 use Rattle.xt_messages.specs.declared.reply.Retry.TheVariants as retry
 use Rattle.xt_messages.specs.declared.status.AskRefusal.TheVariants as refusal
-use Rattle.worked_rows.specs.LeaseLife.{node}
+use Rattle.worked_rows.specs.Values.{node}
 use Rattle.worked_rows.specs.PartRows.{abc}
 use Rattle.worked_rows.specs.ClientScenes.{Row, read, write, truncate, ok, no_lease, no_majority, elsewhere, makes, makes_again, gets, wakes, replies, nothing, begins, asks, done, repeats, refuses, no_call, by}
 

@@ -1,7 +1,6 @@
 -- lines of traces, and a last line, that schedules seldom come to
 use Rattle.std.specs.Prelude.{ℕ, List, [], ◌∷◌, codes}
 use Rattle.std.specs.Fmt.{digits}
-use Rattle.xt_base.specs.declared.ids.NodeId.{NodeId}
 use Rattle.xt_messages.specs.declared.reply.Retry.TheVariants as retry
 use Rattle.xt_messages.specs.declared.status.AskRefusal.TheVariants as ask
 use Rattle.xt_messages.specs.declared.event.Outcome.TheVariants as outcome
@@ -10,14 +9,12 @@ use Rattle.time_line.specs.declared.entry.Entry.TheVariants as entry
 use Rattle.schedule_text.specs.OutcomeText.{ask_refusal_words, retry_text, outcome_words}
 use Rattle.schedule_text.specs.EntryText.{entry_words, entry_text}
 use Rattle.schedule_text.specs.StatusText.{status_words, last_line}
+use Rattle.worked_rows.specs.Values.{node}
 
 -- opens what prints entries and last lines
 unfoldable pub texts : Unit {0}
 unfolding digits ask_refusal_words retry_text outcome_words entry_words entry_text status_words last_line
 texts = tt
-
-abbrev node : ℕ → NodeId
-node number = record { 0 = number }
 
 -- entries, and their lines; the four members of the third gave each something else
 abbrev pub entries : List (Entry × List ℕ)

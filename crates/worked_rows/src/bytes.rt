@@ -15,7 +15,8 @@ ghost use Rattle.worked_rows.specs.Fields as fields;
 ghost use Rattle.worked_rows.specs.Frames.{changed, gather, length_of, rows};
 ghost use Rattle.worked_rows.specs.Frames as frames;
 ghost use Rattle.worked_rows.specs.Texts.{entries};
-ghost use Rattle.worked_rows.specs.Records.{file, found, fronts, lower, others, promise, promised, puts, spellings, stamp, start};
+ghost use Rattle.worked_rows.specs.Records.{found, fronts, lower, others, promise, promised, puts, spellings, start};
+ghost use Rattle.worked_rows.specs.Values.{file, stamp};
 
 /// One field of each kind is written and read again, and fields are refused for the first reason.
 #[tactic(auto, unfolding(crate::specs::Fields::fields))]

@@ -9,7 +9,8 @@ ghost use Rattle.world_hull.specs.declared.hull.Kept.TheVariants.{Done, StoppedK
 ghost use Rattle.world_hull.specs.Appends.{kept_by};
 ghost use Rattle.worked_rows.specs.Disks.{plans, failed, failed_wanted, four_after, one_byte, three_bytes, unsynced, half_synced};
 ghost use Rattle.worked_rows.specs.Journals.{AreRead, both, damaged, foreign, left_by, left_wanted, no_start, one_start, standing, stops, two_starts, without};
-ghost use Rattle.worked_rows.specs.StoredRecords.{AreBad, abc, bad, body, boot, boots_found, by_stop, each_stop, epoch, file, head, head_texts, one_version, promise, promised_found, stage, stopped, two_versions, update};
+ghost use Rattle.worked_rows.specs.StoredRecords.{AreBad, abc, bad, body, boot, boots_found, by_stop, each_stop, file, head, head_texts, one_version, promise, promised_found, stage, stopped, two_versions, update};
+ghost use Rattle.worked_rows.specs.Values.{epoch};
 
 /// Which calls of a disk fail, by their numbers and by the call in which it stops.
 pub fn calls_fail_as_planned()

@@ -2,6 +2,7 @@
 ghost use Rattle.std.specs.Prelude.{◌≡◌, true, Some, None, Ok, Err, [], ◌∷◌, map, fold};
 ghost use Rattle.xt_protocol.specs.LeaseRows.{awake_at, turn_at, lapsed_at, renewal_starts, start_of, held};
 ghost use Rattle.xt_protocol.specs.Register.{new_acceptor, write_refused};
+ghost use Rattle.worked_rows.specs.Values.{node};
 ghost use Rattle.worked_rows.specs.LeaseLife as lease;
 ghost use Rattle.worked_rows.specs.Promises as promises;
 
@@ -21,7 +22,7 @@ pub fn a_lease_lives()
 pub fn a_holder_acts()
     ensures wins { lease.seen_after lease.start lease.first_round ≡ map lease.wanted lease.first_round }
     ensures holder { fold lease.after lease.start lease.first_round ≡ held lease.holder }
-    ensures turn { turn_at lease.holder 5899 ≡ Some (record { node = lease.node 1; moment = 5899 }) }
+    ensures turn { turn_at lease.holder 5899 ≡ Some (record { node = node 1; moment = 5899 }) }
     ensures no_turn { turn_at lease.holder 5900 ≡ None }
     ensures stays { lapsed_at lease.holder 5899 ≡ Ok lease.holder }
     ensures lapses { lapsed_at lease.holder 5900 ≡ Err (lease.proposer 1) }
@@ -42,7 +43,7 @@ pub fn a_promise_is_forgotten()
     ensures before { promises.came_after promises.start promises.before ≡ map promises.wanted promises.before }
     ensures behind { promises.came_after promises.third_anew promises.behind ≡ map promises.wanted promises.behind }
     ensures leases { promises.lease_nodes (fold promises.after promises.third_anew promises.behind)
-        ≡ Some (lease.node 1) ∷ Some (lease.node 2) ∷ None ∷ Some (lease.node 2) ∷ Some (lease.node 1) ∷ [] }
+        ≡ Some (node 1) ∷ Some (node 2) ∷ None ∷ Some (node 2) ∷ Some (node 1) ∷ [] }
 {}
 
 /// A Write before any promise is shown the least ballot.
