@@ -13,7 +13,7 @@ use Rattle.cluster_runs.specs.Rules.{called_file}
 use Rattle.cluster_runs.specs.NodeSteps.{Room, Cause, Doing, end_of_step}
 use Rattle.cluster_runs.specs.Lines.{calls, core_calls, location_of, operation_of}
 use Rattle.world_hull.specs.declared.errors.WorldErr.{WorldErr}
-use Rattle.node_cores.specs.Turns.{call_step}
+use Rattle.node_hosts.specs.Turns.{call_step}
 use Rattle.cluster_fits.specs.Fits.{FitsRunning, FitsTurned, FitsCalling}
 use Rattle.world_nodes.specs.Nodes.{NodesView, IsAt, IsPlace, NodeCalls}
 use Rattle.step_endings.specs.Steps.{Working, IsStepped}

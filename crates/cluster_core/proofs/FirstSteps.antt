@@ -23,8 +23,8 @@ use Rattle.xt_messages.specs.declared.status.Rule.{Rule}
 use Rattle.cluster_runs.specs.Rules.{refusal, no_osd, no_node, runs_already, runs_not, goes_back, drifts}
 use Rattle.cluster_runs.specs.NodeSteps.{Room, Cause, came_to, Doing, halted}
 use Rattle.cluster_runs.specs.Lines.{does, tells, declares, runs, first_boot, changed, stops, crashes, cuts, reads_clock, aims, ticked, first_step}
-use Rattle.node_cores.specs.declared.running.Moment.{Moment}
-use Rattle.node_cores.specs.Turns.{moment_of}
+use Rattle.node_hosts.specs.declared.running.Moment.{Moment}
+use Rattle.node_hosts.specs.Turns.{moment_of}
 use Rattle.world_nodes.specs.Nodes.{NodesView, IsAt, IsPlace, ChangesUp}
 use Rattle.step_endings.specs.Steps.{Working, WentOn, IsUntold, Tells, limit_of, cause_of}
 use Rattle.world_hull.specs.declared.errors.WorldErr.{WorldErr}

@@ -1,6 +1,5 @@
 ghost use Rattle.std.specs.Prelude.{◌≡◌, ◌+◌, ◌<◌, ◌≤◌, ◌++◌, ◌∷◌, [], false, true, length, take, OnOk, OnErr};
 ghost use Rattle.cluster_runs.specs.World.{start_world};
-ghost use Rattle.step_endings.specs.Steps.{limit_of};
 ghost use Rattle.cluster_core.specs.Standing.{resting, begun_with};
 
 mod declaring;
@@ -10,6 +9,7 @@ mod rules;
 mod running;
 
 use crate::lines::{left_of, push_copy};
+use node_hosts::NodeCore;
 use std::alloc::Global;
 use std::marker::Model;
 use step_endings::Stepper;
@@ -21,10 +21,10 @@ use xt_base::OutOfMemory;
 
 /// A world of nodes over a hull, and the line at work.
 #[derive(Drop)]
-pub struct State<H: Hull> {
+pub struct State<C: NodeCore, H: Hull> {
     alloc: Global,
     /// What the steps of nodes change.
-    stepper: Stepper<H>,
+    stepper: Stepper<C, H>,
     files: DeclaredFiles,
     lines: Vec<Line>,
     /// How many of the lines are shown: the last one isn't before it is done.
@@ -34,7 +34,7 @@ pub struct State<H: Hull> {
     ended: bool,
 }
 
-impl<H: Hull> Model for State<H> {
+impl<C: NodeCore, H: Hull> Model for State<C, H> {
     ghost use Rattle.std.specs.Prelude.{◌≤◌, length, take, drop};
     ghost use Rattle.step_endings.specs.Steps.{Working};
 
@@ -60,9 +60,9 @@ impl<H: Hull> Model for State<H> {
     ghost invariant = { λ s. s.shown ≤ length s.lines.items };
 }
 
-impl<H: Hull> State<H> {
+impl<C: NodeCore, H: Hull> State<C, H> {
     /// The world before the first line, over a hull that keeps no record.
-    pub fn new(alloc: Global, hull: H) -> State<H>
+    pub fn new(alloc: Global, hull: H) -> State<C, H>
         requires { H.kept hull ≡ λ _. [] }
         ensures { result ≡ resting start_world }
     {

@@ -5,6 +5,7 @@ ghost use Rattle.cluster_core.specs.Standing.{IsApplied};
 
 use crate::state::State;
 use cluster_fits::steps_fit;
+use node_hosts::NodeCore;
 use std::alloc::Global;
 use std::marker::Model;
 use time_line::{Entry, Line};
@@ -12,11 +13,11 @@ use world_hull::{Hull, WorldErr};
 
 /// A world of nodes over a hull. It is the run of its lines for as long as none ended early.
 #[derive(Drop)]
-pub struct World<H: Hull> {
-    state: State<H>,
+pub struct World<C: NodeCore, H: Hull> {
+    state: State<C, H>,
 }
 
-impl<H: Hull> Model for World<H> {
+impl<C: NodeCore, H: Hull> Model for World<C, H> {
     ghost use Rattle.cluster_core.specs.Standing.{Standing, IsRunSoFar};
 
     ghost Value = { Standing };
@@ -26,9 +27,9 @@ impl<H: Hull> Model for World<H> {
     ghost invariant = { λ w. IsRunSoFar H.overflow (record { world = w.state.doing.world; ended = w.state.ended }) };
 }
 
-impl<H: Hull> World<H> {
+impl<C: NodeCore, H: Hull> World<C, H> {
     /// The world before the first line, over a hull that keeps no record.
-    pub fn new(alloc: Global, hull: H) -> World<H>
+    pub fn new(alloc: Global, hull: H) -> World<C, H>
         requires { H.kept hull ≡ λ _. [] }
         ensures { result ≡ record { world = start_world; ended = false } }
     {

@@ -5,7 +5,7 @@ use Rattle.xt_messages.specs.declared.record.Record.{Record}
 use Rattle.xt_base.specs.declared.TheConstants.{COUNTS}
 use Rattle.cluster_runs.specs.World.{Node}
 use Rattle.cluster_runs.specs.Lines.{reads_clock}
-use Rattle.node_cores.specs.Hosts.{HostView, node_of}
+use Rattle.node_hosts.specs.Hosts.{HostView, node_of}
 
 -- the nodes, with the records that are kept for them
 abbrev pub nodes_of : (ℕ → List Record) → List HostView → List Node

@@ -5,7 +5,7 @@ ghost use Rattle.cluster_runs.specs.Rules.{are_apart, least_where, lesser, readi
 ghost use Rattle.node_clocks.specs.Hosts.{nodes_of};
 ghost use Rattle.node_clocks.specs.Clocks.{reading_of, test_of};
 
-use node_cores::Host;
+use node_hosts::{Host, NodeCore};
 use xt_base::{COUNTS, NodeId};
 
 /// A running node, and what its clock reads.
@@ -65,7 +65,7 @@ fn lesser(a: Option<Reading>, b: Option<Reading>) -> Option<Reading>
 }
 
 /// The clock of a node, where it runs and the test holds of it.
-fn reading_where(host: &Host, test: &ClockTest) -> Option<Reading>
+fn reading_where<C: NodeCore>(host: &Host<C>, test: &ClockTest) -> Option<Reading>
     ensures { reading_of result ≡ reading_where (test_of test.now) host.now.id host.now.up }
 {
     let node = host.id();
@@ -79,7 +79,7 @@ fn reading_where(host: &Host, test: &ClockTest) -> Option<Reading>
 
 /// The clock of the least running node of which the test holds.
 #[tactic(auto, unfolding(cluster_runs::specs::Rules::least_where))]
-pub fn least_where(hosts: &[Host], test: &ClockTest) -> Option<Reading>
+pub fn least_where<C: NodeCore>(hosts: &[Host<C>], test: &ClockTest) -> Option<Reading>
     ensures { (kept : ℕ → List Record) → reading_of result ≡ least_where (test_of test.now) (nodes_of kept hosts.now) }
 {
     let (first, rest) = hosts.split_first()?;

@@ -1,13 +1,13 @@
 //! What sets the clocks of nodes.
 ghost use Rattle.std.specs.Prelude.{◌≡◌, ◌<◌, length, map};
 ghost use Rattle.std.specs.List.{AllByRecursion};
-ghost use Rattle.node_cores.specs.Hosts.{host_ticked};
+ghost use Rattle.node_hosts.specs.Hosts.{host_ticked};
 ghost use Rattle.node_clocks.specs.Hosts.{MayTick, SetsClock};
 
-use node_cores::Host;
+use node_hosts::{Host, NodeCore};
 
 /// The clock of the node at a place is set.
-pub fn set_clock(hosts: &mut Vec<Host>, place: usize, clock: u64)
+pub fn set_clock<C: NodeCore>(hosts: &mut Vec<Host<C>>, place: usize, clock: u64)
     requires { place < length hosts.old.items }
     ensures { SetsClock hosts.old.items place clock hosts.new.items }
 {
@@ -15,7 +15,7 @@ pub fn set_clock(hosts: &mut Vec<Host>, place: usize, clock: u64)
 }
 
 /// Every running clock advances.
-pub fn tick(hosts: &mut [Host], count: u64)
+pub fn tick<C: NodeCore>(hosts: &mut [Host<C>], count: u64)
     requires { AllByRecursion (MayTick count) hosts.old }
     ensures { hosts.new ≡ map (host_ticked count) hosts.old }
 {

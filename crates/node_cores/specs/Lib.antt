@@ -1,3 +1,1 @@
-pub mod Hosts
 pub mod Cores
-pub mod Turns

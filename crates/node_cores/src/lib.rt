@@ -1,16 +1,9 @@
-//! A node of a world of replicated files, as code: an OSD or a client, with its clock and what is planned for it.
+//! The core of a running node of a world of replicated files, as code: an OSD or a client.
 //!
-//! `Host::handle` equals `core_step` of `cluster_runs` on an event, and `Host::call` the step of a client's call. Both take the
-//! node's bodies at most, and nothing that appends or sends: what comes of a step is in their hands who hold the world.
-//! `HullBodies` gives a step the bodies that a hull keeps for its node. Behind want of memory a node isn't to be used again.
+//! `Core` is a `NodeCore` of `node_hosts`: its step on an event equals `core_step` of `cluster_runs`, and a client's call its step
+//! there. An OSD of a world has no key, since every capability of a schedule is the world's own.
 #![tactic(auto)]
 
-mod bodies;
-mod calls;
-mod host;
-mod running;
+mod roles;
 
-pub use bodies::HullBodies;
-pub use calls::{called_file, declared_capability, declared_file, operation_of};
-pub use host::Host;
-pub use running::Moment;
+pub use roles::Core;

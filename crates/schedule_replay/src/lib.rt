@@ -8,5 +8,4 @@
 mod replaying;
 mod step;
 
-pub use disk_hull::DiskHull;
 pub use replaying::replay;

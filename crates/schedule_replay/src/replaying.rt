@@ -3,14 +3,13 @@ ghost use Rattle.xt_base.specs.Faults.{Rose};
 ghost use Rattle.cluster_runs.specs.World.{start_world};
 ghost use Rattle.cluster_runs.specs.NodeSteps.{Room};
 ghost use Rattle.cluster_core.specs.Standing.{Standing};
-ghost use Rattle.node_disks.specs.Room.{journal_overflow};
 ghost use Rattle.schedule_lines.specs.Causes.{HasCause};
 ghost use Rattle.schedule_replay.specs.Replay.{IsReplay, Completes};
 ghost use Rattle.schedule_replay.specs.Steps.{IsEnd};
 
 use crate::step::replay_line;
 use cluster_core::World;
-use disk_hull::DiskHull;
+use node_hosts::NodeCore;
 use node_links::{Sink, Source};
 use schedule_lines::{finish, take_byte};
 use std::alloc::Global;
@@ -47,18 +46,24 @@ fn past_last<S: Source, K: Sink>(alloc: Global, src: &mut S, out: &mut K) -> Sta
 }
 
 /// Replays the schedule that the source gives, over a world that begins, and puts its trace.
-fn replay_over<H: Hull, S: Source, K: Sink>(
+pub fn replay<C: NodeCore, H: Hull, S: Source, K: Sink>(
     alloc: Global,
-    world: &mut World<H>,
+    world: &mut World<C, H>,
     src: &mut S,
     out: &mut K,
 ) -> Status
     requires start { world.old.world ≡ start_world }
     requires going { world.old.ended ≡ false }
+    // The trace is that of a run of the lines that were taken, over journals that have the hull's room, and it is safe.
     ensures replay { IsReplay H.overflow (S.left src.old) (S.left src.new) (K.held out.old)
         (K.held out.new) result }
+    // A fault ends the replay and is told, where its object's count rose; with any other status no count did.
     ensures cause { HasCause (S.fault_count src.old) (S.fault_count src.new) (K.fault_count out.old)
         (K.fault_count out.new) result }
+    // A good schedule is done whole, where neither the source nor the sink fails, unless memory runs out.
+    ensures complete { (Rose (S.fault_count src.old) (S.fault_count src.new) → ⊥) →
+        (Rose (K.fault_count out.old) (K.fault_count out.new) → ⊥) →
+        Completes H.overflow (S.left src.old) (K.held out.old) (K.held out.new) result }
 {
     let mut raw = Vec::new(alloc);
     for _line in 0..LINES {
@@ -68,21 +73,4 @@ fn replay_over<H: Hull, S: Source, K: Sink>(
         }
     }
     past_last(alloc, src, out)
-}
-
-/// Replays the schedule that the source gives, and puts its trace.
-pub fn replay<S: Source, K: Sink>(alloc: Global, src: &mut S, out: &mut K) -> Status
-    // The trace is that of a run of the lines that were taken, over journals of the limited length, and it is safe.
-    ensures replay { IsReplay journal_overflow (S.left src.old) (S.left src.new) (K.held out.old)
-        (K.held out.new) result }
-    // A fault ends the replay and is told, where its object's count rose; with any other status no count did.
-    ensures cause { HasCause (S.fault_count src.old) (S.fault_count src.new) (K.fault_count out.old)
-        (K.fault_count out.new) result }
-    // A good schedule is done whole, where neither the source nor the sink fails, unless memory runs out.
-    ensures complete { (Rose (S.fault_count src.old) (S.fault_count src.new) → ⊥) →
-        (Rose (K.fault_count out.old) (K.fault_count out.new) → ⊥) →
-        Completes journal_overflow (S.left src.old) (K.held out.old) (K.held out.new) result }
-{
-    let mut world = World::new(alloc, DiskHull::new(alloc));
-    replay_over(alloc, &mut world, src, out)
 }

@@ -5,6 +5,7 @@ ghost use Rattle.cluster_core.specs.Standing.{IsApplied};
 ghost use Rattle.schedule_replay.specs.Steps.{IsScheduleRun, IsStep, CausesStep, Grown, status_for};
 
 use cluster_core::World;
+use node_hosts::NodeCore;
 use node_links::{Sink, Source};
 use schedule_lines::{NextLine, finish, next_line, put_entries};
 use std::alloc::Global;
@@ -25,7 +26,7 @@ fn status_of(number: u64, error: WorldErr) -> Status
 }
 
 /// Applies a line to a world that is the run of its lines. Its entries stand behind those that were there, and the trace is safe.
-fn apply<H: Hull>(world: &mut World<H>, line: Line) -> Result<(), WorldErr>
+fn apply<C: NodeCore, H: Hull>(world: &mut World<C, H>, line: Line) -> Result<(), WorldErr>
     requires going { world.old.ended ≡ false }
     requires run { IsScheduleRun H.overflow world.old.world }
     requires formed { IsLine (length world.old.world.lines == 0) line }
@@ -38,9 +39,9 @@ fn apply<H: Hull>(world: &mut World<H>, line: Line) -> Result<(), WorldErr>
 
 /// Does the next line: reads it, applies it, and puts what it adds to the trace. A status comes where the replay ends.
 /// `raw` is room for the bytes of the line.
-pub fn replay_line<H: Hull, S: Source, K: Sink>(
+pub fn replay_line<C: NodeCore, H: Hull, S: Source, K: Sink>(
     alloc: Global,
-    world: &mut World<H>,
+    world: &mut World<C, H>,
     src: &mut S,
     out: &mut K,
     raw: &mut Vec<u8>,

@@ -8,8 +8,8 @@ use Rattle.xt_protocol.specs.declared.Turned.{Turned}
 use Rattle.cluster_runs.specs.World.{Node, Running}
 use Rattle.cluster_runs.specs.NodeSteps.{Room, Cause, Doing, end_of_step, appends, sends, loses_own, stopped_in_append, cut_in_sending, after_turn, to_itself}
 use Rattle.world_hull.specs.declared.errors.WorldErr.{WorldErr}
-use Rattle.node_cores.specs.declared.running.Moment.{Moment}
-use Rattle.node_cores.specs.Turns.{moment_of}
+use Rattle.node_hosts.specs.declared.running.Moment.{Moment}
+use Rattle.node_hosts.specs.Turns.{moment_of}
 use Rattle.step_endings.specs.declared.ending.Ending.{Ending}
 use Rattle.step_endings.specs.declared.ending.Ending.TheVariants as ending
 use Rattle.world_nodes.specs.Nodes.{IsAt}

@@ -27,7 +27,7 @@ pub record Around : Type 0 where
   pub ended : Bool
 
 -- the line at work, with what its steps change
-abbrev pub working : {H : Type 0} → Around → Stepper H → Working
+abbrev pub working : {C H : Type 0} → Around → Stepper C H → Working
 working around s =
     record {
       doing = record {

@@ -3,7 +3,7 @@ ghost use Rattle.std.specs.Prelude.{◌≡◌, Some, take};
 ghost use Rattle.step_endings.specs.Endings.{ending_of, halt_of};
 
 use disk_model::Stop;
-use node_cores::Moment;
+use node_hosts::Moment;
 use time_line::Halt;
 use world_hull::Kept;
 use xt_base::OptionalBox;

@@ -13,6 +13,7 @@ use crate::ending::{Ending, ending_of, front, halt_of};
 use crate::entries::{entries_of, entries_to_cut, tell};
 use crate::limits::limit;
 use disk_model::Stop;
+use node_hosts::NodeCore;
 use std::alloc::Global;
 use std::mem::replace;
 use time_line::Entry;
@@ -25,8 +26,8 @@ use xt_protocol::Turned;
 
 /// What the steps of nodes change in a world: its nodes, the messages and the trace.
 #[derive(Drop)]
-pub struct Stepper<H: Hull> {
-    pub nodes: Nodes<H>,
+pub struct Stepper<C: NodeCore, H: Hull> {
+    pub nodes: Nodes<C, H>,
     pub sent: SentMessages,
     /// The messages of the stepping node to itself that it hasn't handled, the first one next.
     pub own: OwnMessages,
@@ -34,9 +35,9 @@ pub struct Stepper<H: Hull> {
 }
 
 /// Carries and numbers a message of a node, where it is to another declared node.
-fn send_one<H: Hull>(
+fn send_one<C: NodeCore, H: Hull>(
     alloc: Global,
-    nodes: &mut Nodes<H>,
+    nodes: &mut Nodes<C, H>,
     sent: &mut SentMessages,
     node: NodeId,
     message: &Msg,
@@ -54,9 +55,9 @@ fn send_one<H: Hull>(
 }
 
 /// Carries and numbers the messages of a node to other declared nodes.
-fn send<H: Hull>(
+fn send<C: NodeCore, H: Hull>(
     alloc: Global,
-    nodes: &mut Nodes<H>,
+    nodes: &mut Nodes<C, H>,
     sent: &mut SentMessages,
     node: NodeId,
     outs: &[Msg],
@@ -82,7 +83,7 @@ fn test_limits(sent: &SentMessages) -> Result<(), WorldErr>
     }
 }
 
-impl<H: Hull> Stepper<H> {
+impl<C: NodeCore, H: Hull> Stepper<C, H> {
     /// The node at a place stops: its messages to itself are lost.
     pub fn halt(&mut self, place: usize)
         requires { place < length self.old.nodes.nodes }

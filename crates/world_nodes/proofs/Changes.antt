@@ -25,8 +25,8 @@ use Rattle.cluster_runs.specs.Lines.{runs, osd_starting}
 use Rattle.cluster_runs.specs.Steps.{Step}
 use Rattle.cluster_runs.specs.World.{Node, Running, Core, osd, node_in, with_node}
 use Rattle.cluster_runs.specs.NodeSteps.{core_step}
-use Rattle.node_cores.specs.Hosts.{HostView, node_of}
-use Rattle.node_cores.specs.Turns.{Took, Handles, Calls, call_step}
+use Rattle.node_hosts.specs.Hosts.{HostView, node_of}
+use Rattle.node_hosts.specs.Turns.{Took, Handles, Calls, call_step}
 use Rattle.node_clocks.specs.Hosts.{nodes_of}
 use Rattle.world_nodes.specs.Nodes.{NodesView, has_host, AreHosts, IsAt, IsPlace, Changes, NodeTook, NodeHandles, NodeCalls, kept_when}
 use Rattle.world_nodes.proofs.Hosts.{AreOthers, same_kept, at_place, changed, still, times_at, pushed, declared_is}

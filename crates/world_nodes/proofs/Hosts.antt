@@ -10,7 +10,7 @@ use Rattle.xt_base.specs.TimeSettings.{TimeSettings}
 use Rattle.xt_base.specs.declared.ids.NodeId.{NodeId}
 use Rattle.xt_messages.specs.declared.record.Record.{Record}
 use Rattle.cluster_runs.specs.World.{Node, node_in, with_node}
-use Rattle.node_cores.specs.Hosts.{HostView, node_of}
+use Rattle.node_hosts.specs.Hosts.{HostView, node_of}
 use Rattle.node_clocks.specs.Hosts.{nodes_of}
 use Rattle.world_nodes.specs.Nodes.{has_host, AreDistinct, AreHosts, IsAt, IsPlace, IsHostPlace}
 

@@ -12,7 +12,7 @@ use Rattle.xt_base.specs.declared.TheConstants.{COUNTS}
 use Rattle.cluster_runs.specs.World.{Node, Running}
 use Rattle.cluster_runs.specs.Rules.{Reading, lesser, reading_where, least_where, end_named, clock_ends}
 use Rattle.cluster_runs.specs.Lines.{ticked}
-use Rattle.node_cores.specs.Hosts.{HostView, node_of, host_ticked}
+use Rattle.node_hosts.specs.Hosts.{HostView, node_of, host_ticked}
 use Rattle.node_clocks.specs.Hosts.{nodes_of, MayTick}
 use Rattle.world_nodes.specs.Nodes.{NodesView, has_host, AreDistinct, AreHosts}
 

@@ -1,6 +1,6 @@
 -- the declared nodes over a hull
-use Rattle.std.specs.Prelude.{ℕ, Bool, true, false, ◌≡◌, ◌<◌, ◌==◌, if◌then◌else◌, Option, Some, None, List, [], ◌∷◌, ◌++◌, ◌+◌, map, length, slice_get, slice_set, slice_index_or}
-use Rattle.std.specs.Option.{option_map, IfSome}
+use Rattle.std.specs.Prelude.{ℕ, Bool, true, false, ◌≡◌, ◌<◌, ◌==◌, if◌then◌else◌, Option, Some, None, List, [], ◌∷◌, ◌++◌, ◌+◌, length, slice_get, slice_set, slice_index_or}
+use Rattle.std.specs.Option.{option_map}
 use Rattle.std.specs.List.{AllByRecursion}
 use Rattle.xt_base.specs.TimeSettings.{TimeSettings}
 use Rattle.xt_base.specs.declared.ids.NodeId.{NodeId}
@@ -16,9 +16,8 @@ use Rattle.cluster_runs.specs.World.{World, Node, Running, Core, client, node_in
 use Rattle.cluster_runs.specs.NodeSteps.{core_step}
 use Rattle.world_hull.specs.declared.hull.Kept.{Kept}
 use Rattle.world_hull.specs.declared.hull.Kept.TheVariants as ending
-use Rattle.xt_base.specs.declared.TheConstants.{COUNTS}
-use Rattle.node_cores.specs.Hosts.{HostView, node_of}
-use Rattle.node_cores.specs.Turns.{IsOsd, call_step}
+use Rattle.node_hosts.specs.Hosts.{HostView}
+use Rattle.node_hosts.specs.Turns.{IsOsd, call_step}
 
 -- the times of a world, and its nodes with the records that the hull keeps for them
 pub record NodesView : Type 0 where

@@ -1,14 +1,14 @@
 ghost use Rattle.std.specs.Prelude.{◌≡◌, ◌<◌, [], Some, None, is_some, length};
 ghost use Rattle.std.specs.Option.{option_map};
 ghost use Rattle.cluster_runs.specs.World.{Node, node_in};
-ghost use Rattle.node_cores.specs.Turns.{moment_of};
+ghost use Rattle.node_hosts.specs.Turns.{moment_of};
 ghost use Rattle.world_nodes.specs.Nodes.{NodesView, IsAt, IsPlace, IsHostPlace};
 
 mod changes;
 mod records;
 mod rules;
 
-use node_cores::{Host, Moment};
+use node_hosts::{Host, Moment, NodeCore};
 use std::alloc::Global;
 use std::marker::Model;
 use world_hull::Hull;
@@ -16,13 +16,13 @@ use xt_base::{NodeId, Times};
 
 /// The declared nodes over a hull, which keeps their records. Contracts see the times and the nodes of a world.
 #[derive(Drop)]
-pub struct Nodes<H: Hull> {
+pub struct Nodes<C: NodeCore, H: Hull> {
     times: Times,
-    hosts: Vec<Host>,
+    hosts: Vec<Host<C>>,
     hull: H,
 }
 
-impl<H: Hull> Model for Nodes<H> {
+impl<C: NodeCore, H: Hull> Model for Nodes<C, H> {
     ghost use Rattle.node_clocks.specs.Hosts.{nodes_of};
     ghost use Rattle.world_nodes.specs.Nodes.{NodesView, AreHosts};
 
@@ -33,9 +33,9 @@ impl<H: Hull> Model for Nodes<H> {
     ghost invariant = { λ n. AreHosts (H.kept n.hull) n.times n.hosts.items };
 }
 
-impl<H: Hull> Nodes<H> {
+impl<C: NodeCore, H: Hull> Nodes<C, H> {
     /// No node is declared, over a hull that keeps no record.
-    pub fn new(alloc: Global, hull: H) -> Nodes<H>
+    pub fn new(alloc: Global, hull: H) -> Nodes<C, H>
         requires { H.kept hull ≡ λ _. [] }
         ensures { result ≡ record { times = record { lease = 14000; drift = 1000 }; nodes = [] } }
     {
@@ -95,7 +95,7 @@ impl<H: Hull> Nodes<H> {
 }
 
 /// Where the first of these nodes that has this id stands.
-fn place_of(hosts: &[Host], id: NodeId) -> Option<usize>
+fn place_of<C: NodeCore>(hosts: &[Host<C>], id: NodeId) -> Option<usize>
     ensures { IsHostPlace hosts.now id result }
 {
     for (place, host) in hosts.iter().enumerate() {

@@ -7,6 +7,9 @@ ghost use Rattle.schedule_lines.specs.Putting.{IsFinished};
 ghost use Rattle.schedule_replay.specs.Replay.{IsReplay, Completes};
 ghost use Rattle.xtfs_job.specs.Job.{replay_words};
 
+use cluster_core::World;
+use disk_hull::DiskHull;
+use node_cores::Core;
 use node_links::{Sink, Source};
 use schedule_lines::finish;
 use schedule_replay::replay;
@@ -56,7 +59,8 @@ pub fn run<S: Source, K: Sink>(alloc: Global, words: &Words, src: &mut S, out: &
         Completes journal_overflow (S.left src.old) (K.held out.old) (K.held out.new) result }
 {
     if is_replay(words.as_slice()) {
-        replay(alloc, src, out)
+        let mut world: World<Core, DiskHull> = World::new(alloc, DiskHull::new(alloc));
+        replay(alloc, &mut world, src, out)
     } else {
         finish(alloc, out, Status::Usage)
     }

@@ -7,13 +7,14 @@ ghost use Rattle.step_endings.specs.Steps.{IsStepped};
 
 use crate::state::State;
 use cluster_runs::NODES;
+use node_hosts::NodeCore;
 use step_endings::{limit, tell};
 use time_line::{Entry, Line};
 use world_hull::{Hull, WorldErr};
 use xt_base::{Boot, NodeId, Times};
 use xt_messages::{Limited, Location};
 
-impl<H: Hull> State<H> {
+impl<C: NodeCore, H: Hull> State<C, H> {
     /// Sets the lease length and the drift.
     pub fn set_times(&mut self, lease: u64, drift: u64) -> Result<(), WorldErr>
         requires times { AreTimes lease drift }

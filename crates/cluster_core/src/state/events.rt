@@ -2,18 +2,18 @@
 ghost use Rattle.std.specs.Prelude.{◌<◌, ◌≤◌, Some, None};
 ghost use Rattle.cluster_runs.specs.World.{node_in};
 ghost use Rattle.cluster_runs.specs.Rules.{called_file};
-ghost use Rattle.cluster_runs.specs.NodeSteps.{end_of_step, event_comes};
+ghost use Rattle.cluster_runs.specs.NodeSteps.{event_comes};
 ghost use Rattle.cluster_runs.specs.Lines.{delivers, calls};
 ghost use Rattle.cluster_fits.specs.Fits.{FitsComing, FitsCalling, FitsDelivery};
 ghost use Rattle.step_endings.specs.Steps.{IsStepped};
 
 use crate::state::State;
-use node_cores::{called_file, operation_of};
+use node_hosts::{NodeCore, called_file, operation_of};
 use world_hull::{Hull, WorldErr};
 use xt_base::{Copies, NodeId};
 use xt_messages::{Call, Event, Msg};
 
-impl<H: Hull> State<H> {
+impl<C: NodeCore, H: Hull> State<C, H> {
     /// An event comes to the node of this id. At one that doesn't run nothing comes of it.
     pub fn event_comes(&mut self, id: NodeId, ev: &Event) -> Result<(), WorldErr>
         requires { FitsComing self.old.doing.world id ev.now }

@@ -14,6 +14,7 @@ ghost use Rattle.step_endings.specs.Steps.{WentOn, IsStepped};
 
 use crate::state::State;
 use disk_model::Stop;
+use node_hosts::NodeCore;
 use std::alloc::Global;
 use step_endings::{limit, tell};
 use time_line::{Entry, Halt, Line};
@@ -22,7 +23,7 @@ use world_nodes::Nodes;
 use xt_base::{Boot, COUNTS, NodeId};
 use xt_messages::{Limited, Record};
 
-impl<H: Hull> State<H> {
+impl<C: NodeCore, H: Hull> State<C, H> {
     /// An OSD starts from what its records say, with the start behind its last one, and keeps that first.
     pub fn start(&mut self, node: NodeId, clock: u64) -> Result<(), WorldErr>
         requires clock { clock < 2 ^ 62 }
@@ -116,9 +117,9 @@ impl<H: Hull> State<H> {
 }
 
 /// Keeps the start of the OSD at a place.
-fn keep_boot<H: Hull>(
+fn keep_boot<C: NodeCore, H: Hull>(
     alloc: Global,
-    nodes: &mut Nodes<H>,
+    nodes: &mut Nodes<C, H>,
     place: usize,
     boot: Boot,
 ) -> Result<Kept, WorldErr>

@@ -2,11 +2,11 @@
 ghost use Rattle.std.specs.Prelude.{◌≡◌, ◌*◌, ◌<◌, Some, None, length};
 ghost use Rattle.std.specs.Option.{option_or};
 ghost use Rattle.cluster_runs.specs.World.{file_in};
-ghost use Rattle.cluster_runs.specs.Rules.{refusal, file_twice, first_stranger, no_file, no_called_file, called_file, no_member, no_message, drifts_inside, clock_ends};
+ghost use Rattle.cluster_runs.specs.Rules.{refusal, file_twice, first_stranger, no_file, no_called_file, called_file, no_member, no_message, drifts_inside};
 
 use crate::state::State;
 use cluster_runs::NODES;
-use node_cores::called_file;
+use node_hosts::{NodeCore, called_file};
 use time_line::Line;
 use world_hull::Hull;
 use world_tables::{DeclaredFiles, SentMessages};
@@ -53,7 +53,7 @@ fn no_message(sent: &SentMessages, number: u128) -> Option<Rule>
     }
 }
 
-impl<H: Hull> State<H> {
+impl<C: NodeCore, H: Hull> State<C, H> {
     /// A file that is declared already, or not of declared OSDs.
     fn file_rule(&self, number: u64, location: &Location) -> Option<Rule>
         ensures { result ≡ option_or (file_twice self.now.doing.world.files number) (first_stranger self.now.doing.world.nodes location.now.members) }

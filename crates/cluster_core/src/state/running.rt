@@ -1,5 +1,5 @@
 //! The steps of a line.
-ghost use Rattle.std.specs.Prelude.{◌≡◌, ◌+◌, ◌*◌, ◌<◌, [], false, true, Some, None, length, take};
+ghost use Rattle.std.specs.Prelude.{◌≡◌, ◌+◌, ◌*◌, ◌<◌, [], false, true, Some, None, length};
 ghost use Rattle.cluster_runs.specs.Rules.{refusal};
 ghost use Rattle.cluster_runs.specs.Lines.{first_step, next_step, goes_on, begins, settles, OWN};
 ghost use Rattle.cluster_fits.specs.Fits.{FitsWorld};
@@ -8,6 +8,7 @@ ghost use Rattle.cluster_core.specs.Standing.{begun_with, IsTurned, HasTurned, H
 
 use crate::lines::events_of;
 use crate::state::State;
+use node_hosts::NodeCore;
 use time_line::Line;
 use world_hull::{Hull, WorldErr};
 use xt_messages::Event;
@@ -15,7 +16,7 @@ use xt_messages::Event;
 /// How many messages of a node to itself a file may have behind one event.
 const OWN: u128 = 16_532;
 
-impl<H: Hull> State<H> {
+impl<C: NodeCore, H: Hull> State<C, H> {
     /// The first step of a line that breaks no rule. Settling is nothing but its deliveries.
     fn open(&mut self, line: &Line) -> Result<(), WorldErr>
         requires legal { refusal self.old.doing.world line.now ≡ None }

@@ -5,21 +5,21 @@ ghost use Rattle.cluster_runs.specs.declared.Role.TheVariants as role;
 ghost use Rattle.cluster_runs.specs.Clients.{new_client};
 ghost use Rattle.cluster_runs.specs.Rules.{clock_ends};
 ghost use Rattle.cluster_runs.specs.Lines.{runs, first_boot, crashes, cuts, reads_clock, aims, ticked};
-ghost use Rattle.node_cores.specs.Turns.{Handles};
+ghost use Rattle.node_hosts.specs.Turns.{Handles};
 ghost use Rattle.cluster_fits.specs.Fits.{FitsContent};
 ghost use Rattle.world_nodes.specs.Nodes.{IsAt, Changes, ChangesUp, NodeHandles, NodeCalls};
 
 use crate::nodes::Nodes;
 use disk_model::Stop;
 use node_clocks::{set_clock, tick};
-use node_cores::{Host, HullBodies};
+use node_hosts::{Host, HullBodies, NodeCore};
 use std::alloc::Global;
 use world_hull::Hull;
 use xt_base::{NodeId, OutOfMemory};
 use xt_messages::{Call, Event, Location, Op};
 use xt_protocol::Turned;
 
-impl<H: Hull> Nodes<H> {
+impl<C: NodeCore, H: Hull> Nodes<C, H> {
     /// Declares an OSD of an id of its own, which doesn't run.
     pub fn declare_osd(&mut self, id: NodeId) -> Result<(), OutOfMemory>
         requires { node_in self.old.nodes id.0 ≡ None }
@@ -120,7 +120,11 @@ impl<H: Hull> Nodes<H> {
 }
 
 /// An event comes to a node, whose bodies are those that the hull keeps for it. None where it doesn't run.
-fn handle<H: Hull>(host: &mut Host, hull: &H, ev: &Event) -> Result<Option<Turned>, OutOfMemory>
+fn handle<C: NodeCore, H: Hull>(
+    host: &mut Host<C>,
+    hull: &H,
+    ev: &Event,
+) -> Result<Option<Turned>, OutOfMemory>
     requires running { IfSome host.old.up (λ running. running.clock < 2 ^ 62) }
     requires fits { FitsContent ev.now }
     ensures handled { IfOk result (λ turned. Handles (H.kept hull.now host.old.id.0) ev.now host.old host.new turned) }

@@ -2,7 +2,7 @@
 ghost use Rattle.std.specs.Prelude.{◌≡◌, ◌<◌, ◌^◌, Some, None, IfOk, IfErr, OnOk, length};
 ghost use Rattle.xt_messages.specs.Limits.{FitsMessage, FitsRecord};
 ghost use Rattle.xt_protocol.specs.Folds.{fold_of, IsInPlace};
-ghost use Rattle.osd_core.specs.Slots.{AreRows};
+ghost use Rattle.node_hosts.specs.Cores.{IsSaid};
 ghost use Rattle.cluster_runs.specs.World.{Node, osd, with_node};
 ghost use Rattle.cluster_runs.specs.NodeSteps.{one_more, overflow_of};
 ghost use Rattle.cluster_runs.specs.Lines.{runs, osd_starting};
@@ -13,13 +13,14 @@ ghost use Rattle.world_nodes.specs.Nodes.{IsAt, Changes, kept_when};
 
 use crate::nodes::Nodes;
 use disk_model::Stop;
+use node_hosts::NodeCore;
 use replica_records::fold;
 use std::alloc::{AllocError, Global};
 use world_hull::{Hull, Kept, WorldErr};
 use xt_base::{Boot, OptionalBox, OutOfMemory};
 use xt_messages::{Folded, Msg, Record};
 
-impl<H: Hull> Nodes<H> {
+impl<C: NodeCore, H: Hull> Nodes<C, H> {
     /// What the records of the node at a place say.
     pub fn said(&mut self, alloc: Global, place: usize) -> Result<Folded, OutOfMemory>
         requires { place < length self.old.nodes }
@@ -44,7 +45,7 @@ impl<H: Hull> Nodes<H> {
     ) -> Result<(), OutOfMemory>
         requires inside { place < length self.old.nodes }
         requires clock { clock < 2 ^ 62 }
-        requires rows { AreRows folded.files }
+        requires records { IsSaid folded }
         ensures { OnOk result ((node : Node) → IsAt self.old.nodes place node → folded ≡ fold_of node.kept → self.new ≡ record self.old { nodes = with_node self.old.nodes (record node { up = Some (runs boot clock (osd (osd_starting self.old.times node boot clock))) }) }) }
     {
         self.hosts[place].start(alloc, folded, boot, clock)

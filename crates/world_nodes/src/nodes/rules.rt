@@ -7,11 +7,12 @@ ghost use Rattle.world_nodes.specs.Nodes.{bare};
 
 use crate::nodes::Nodes;
 use node_clocks::{ClockTest, least_where};
+use node_hosts::NodeCore;
 use world_hull::Hull;
 use xt_base::NodeId;
 use xt_messages::Rule;
 
-impl<H: Hull> Nodes<H> {
+impl<C: NodeCore, H: Hull> Nodes<C, H> {
     /// There is no such OSD.
     pub fn no_osd(&self, id: NodeId) -> Option<Rule>
         ensures { result ≡ no_osd self.now.nodes id }

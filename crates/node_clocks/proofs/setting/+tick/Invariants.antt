@@ -2,4 +2,4 @@ use Rattle.std.proofs.Common.{length}
 use Rattle.node_clocks.proofs.setting.+tick.Given as goal
 
 abbrev pub decreases-tick : goal.decreases-tick
-decreases-tick l = length l.hosts.now
+decreases-tick g l = length l.hosts.now

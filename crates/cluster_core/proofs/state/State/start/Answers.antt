@@ -1,9 +1,7 @@
 use Rattle.std.proofs.Common.{take, ◌≡◌, ◌++◌, ◌∷◌, [], Some, refl, ap, sym, ◌∙◌, subst, List}
 use Rattle.std.proofs.lemmas.Result.{err_from_is_err_and}
 use Rattle.xt_messages.specs.declared.status.Limited.TheVariants as limited
-use Rattle.xt_messages.specs.declared.record.Folded.{Folded}
 use Rattle.world_hull.specs.declared.hull.Kept.{Kept}
-use Rattle.osd_core.specs.Slots.{AreRows}
 use Rattle.time_line.specs.declared.line.Line.TheVariants as line
 use Rattle.cluster_runs.specs.World.{osd, node_in, with_node}
 use Rattle.cluster_runs.specs.Lines.{first_step, runs, osd_starting}
@@ -12,7 +10,6 @@ use Rattle.time_line.specs.declared.entry.Entry.TheVariants as entry
 use Rattle.cluster_runs.specs.NodeSteps.{Doing}
 use Rattle.world_nodes.specs.Nodes.{NodesView, IsAt}
 use Rattle.step_endings.specs.Steps.{Working, Tells, cause_of}
-use Rattle.cluster_core.proofs.Rows.{rows_are}
 use Rattle.cluster_core.proofs.FirstSteps.{from_view, stayed, limit_said, found_at}
 use Rattle.cluster_core.proofs.Starting.{start_nowhere, behind_is, start_passed, start_full, started_at, start_done}
 use Rattle.cluster_core.proofs.state.State.start.Goals as goal
@@ -33,12 +30,13 @@ returns-in_default-next_boot g c = (
   },
 )
 
-pub start-requires-clause-rows : goal.start-requires-clause-rows
-start-requires-clause-rows g c =
-    subst (λ (f : Folded). AreRows f.files) (sym (c.in_ok-folded.ensures.said c.in-Some.ensures.0 c.in-Some.ensures.1))
-    (rows_are c.in-Some.ensures.0.kept
-    (c.requires.kept c.in-Some.ensures.0
-    (sym (ap (λ (x : Working). node_in x.doing.world.nodes c.args.node.0) c.self.view_is) ∙ found_at c.self.inside.stepper.nodes.nodes c.args.node c.in-Some.place c.in-Some.ensures.0 c.in-Some.ensures.1 c.in-Some.ensures.2)))
+pub start-requires-clause-records : goal.start-requires-clause-records
+start-requires-clause-records g c = (
+  c.in-Some.ensures.0.kept,
+  c.requires.kept c.in-Some.ensures.0
+      (sym (ap (λ (x : Working). node_in x.doing.world.nodes c.args.node.0) c.self.view_is) ∙ found_at c.self.inside.stepper.nodes.nodes c.args.node c.in-Some.place c.in-Some.ensures.0 c.in-Some.ensures.1 c.in-Some.ensures.2),
+  c.in_ok-folded.ensures.said c.in-Some.ensures.0 c.in-Some.ensures.1,
+)
 
 pub returns-in_err-keep_boot : goal.returns-in_err-keep_boot
 returns-in_err-keep_boot g c =

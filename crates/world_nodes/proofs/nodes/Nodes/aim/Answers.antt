@@ -1,6 +1,6 @@
 use Rattle.std.proofs.Common.{ap}
 use Rattle.std.specs.Option.{option_map}
-use Rattle.node_cores.specs.Hosts.{node_of}
+use Rattle.node_hosts.specs.Hosts.{node_of}
 use Rattle.cluster_runs.specs.World.{Node}
 use Rattle.cluster_runs.specs.Lines.{aims}
 use Rattle.world_nodes.proofs.Hosts.{same_kept}

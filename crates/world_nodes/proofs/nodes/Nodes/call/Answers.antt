@@ -1,4 +1,4 @@
-use Rattle.node_cores.specs.Turns.{Calls}
+use Rattle.node_hosts.specs.Turns.{Calls}
 use Rattle.world_nodes.proofs.Hosts.{same_kept}
 use Rattle.world_nodes.proofs.Changes.{again, stands, node_called, called_same, same_but_up, if_or_err, map_if}
 use Rattle.world_nodes.proofs.nodes.Nodes.call.Goals as goal

@@ -5,7 +5,7 @@ use Rattle.cluster_runs.specs.Clients.{new_client}
 use Rattle.cluster_runs.specs.Lines.{runs, first_boot}
 use Rattle.cluster_runs.specs.declared.Role.TheVariants as role
 use Rattle.cluster_runs.specs.World.{node_in}
-use Rattle.node_cores.specs.Hosts.{HostView, node_of}
+use Rattle.node_hosts.specs.Hosts.{HostView, node_of}
 use Rattle.world_nodes.proofs.Changes.{declared_last}
 use Rattle.world_nodes.proofs.nodes.Nodes.declare_client.Goals as goal
 

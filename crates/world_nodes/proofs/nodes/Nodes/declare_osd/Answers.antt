@@ -1,7 +1,7 @@
 use Rattle.std.proofs.Common.{[], None, ap, sym, ◌∙◌}
 use Rattle.cluster_runs.specs.declared.Role.TheVariants as role
 use Rattle.cluster_runs.specs.World.{node_in}
-use Rattle.node_cores.specs.Hosts.{HostView, node_of}
+use Rattle.node_hosts.specs.Hosts.{HostView, node_of}
 use Rattle.world_nodes.proofs.Changes.{declared_last}
 use Rattle.world_nodes.proofs.nodes.Nodes.declare_osd.Goals as goal
 

@@ -1,4 +1,4 @@
-use Rattle.node_cores.specs.Turns.{Handles}
+use Rattle.node_hosts.specs.Turns.{Handles}
 use Rattle.world_nodes.proofs.Hosts.{same_kept}
 use Rattle.world_nodes.proofs.Changes.{again, stands, node_handled, handled_same, same_but_up, if_or_err, map_if}
 use Rattle.world_nodes.proofs.nodes.Nodes.handle.Goals as goal

@@ -1,4 +1,4 @@
-use Rattle.node_cores.specs.Hosts.{node_of}
+use Rattle.node_hosts.specs.Hosts.{node_of}
 use Rattle.world_nodes.proofs.Changes.{stands}
 use Rattle.world_nodes.proofs.nodes.Nodes.moment.Goals as goal
 

@@ -1,7 +1,7 @@
 use Rattle.std.proofs.Common.{ap}
 use Rattle.std.specs.Option.{option_map}
 use Rattle.cluster_runs.specs.Lines.{cuts}
-use Rattle.node_cores.specs.Hosts.{node_of}
+use Rattle.node_hosts.specs.Hosts.{node_of}
 use Rattle.cluster_runs.specs.World.{Node}
 use Rattle.world_nodes.proofs.Hosts.{same_kept}
 use Rattle.world_nodes.proofs.Changes.{again, changes, same_but_up}

@@ -2,7 +2,7 @@ use Rattle.std.proofs.Common.{List, sym, subst, refl}
 use Rattle.std.specs.Option.{option_map}
 use Rattle.cluster_runs.specs.Lines.{reads_clock}
 use Rattle.cluster_runs.specs.World.{Node}
-use Rattle.node_cores.specs.Hosts.{HostView, node_of}
+use Rattle.node_hosts.specs.Hosts.{HostView}
 use Rattle.node_clocks.specs.Hosts.{nodes_of, clock_set}
 use Rattle.world_nodes.specs.Nodes.{AreHosts, Changes}
 use Rattle.world_nodes.proofs.Hosts.{same_kept}

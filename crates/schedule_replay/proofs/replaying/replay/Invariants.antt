@@ -1,6 +1,6 @@
 use Rattle.std.proofs.Common.{◌≡◌, false, length}
 use Rattle.schedule_replay.proofs.Whole.{IsSoFar}
-use Rattle.schedule_replay.proofs.replaying.replay_over.Given as goal
+use Rattle.schedule_replay.proofs.replaying.replay.Given as goal
 
 -- the lines so far were done, taken and shown, one each time, and nothing failed
 abbrev pub invariant-loop-line : goal.invariant-loop-line

@@ -1,5 +1,7 @@
 -- what comes of a node that an event or a call comes to
 use Rattle.std.specs.Prelude.{ℕ, Bool, false, is_some, ◌≡◌, Option, Some, None, List}
+use Rattle.xt_base.specs.TimeSettings.{TimeSettings}
+use Rattle.xt_base.specs.declared.ids.NodeId.{NodeId}
 use Rattle.xt_messages.specs.declared.file.Location.{Location}
 use Rattle.xt_messages.specs.declared.file.Op.{Op}
 use Rattle.xt_messages.specs.declared.event.Call.{Call}
@@ -12,10 +14,8 @@ use Rattle.cluster_runs.specs.declared.ClientState.{ClientState}
 use Rattle.cluster_runs.specs.World.{Running, Core, osd, client}
 use Rattle.cluster_runs.specs.NodeSteps.{core_step, client_steps}
 use Rattle.cluster_runs.specs.Lines.{declared_capability, declared_file, epoch_of, uses}
-use Rattle.node_cores.specs.declared.running.Core as code
-use Rattle.node_cores.specs.declared.running.Moment.{Moment}
-use Rattle.node_cores.specs.Cores.{core_of, IsOf}
-use Rattle.node_cores.specs.Hosts.{HostView, node_of}
+use Rattle.node_hosts.specs.declared.running.Moment.{Moment}
+use Rattle.node_hosts.specs.Hosts.{HostView, node_of}
 
 -- the step of a client's call on a declared file, at its clock
 abbrev pub call_step : HostView → ℕ → ClientState → Call → ℕ → Location → Op → Step Core
@@ -26,10 +26,10 @@ call_step host clock state c number location asked =
     (declared_capability number location (epoch_of state (declared_file number) c)) c asked)
 
 -- A core took this step at every node that it may be of.
-abbrev pub IsCoreStep : (HostView → Step Core) → code.Core → code.Core → Turned → Type 0
-IsCoreStep step old new turned =
-    (host : HostView) → IsOf host.id host.times old
-    → (step host ≡ record { state = core_of new; turned = turned }) × IsOf host.id host.times new
+abbrev pub IsCoreStep : {C : Type 0} → (C → Core) → (NodeId → TimeSettings → C → Type 0) → (HostView → Step Core) → C → C → Turned → Type 0
+IsCoreStep state is_of step old new turned =
+    (host : HostView) → is_of host.id host.times old
+    → (step host ≡ record { state = state new; turned = turned }) × is_of host.id host.times new
 
 -- no client runs there
 abbrev pub IsOsd : Core → Type 0
@@ -42,11 +42,11 @@ is_calling (osd state) = false
 is_calling (client state) = is_some state.running
 
 -- a client's call, if it is one
-abbrev pub IsCoreCall : ℕ → Call → ℕ → Location → Op → code.Core → code.Core → Option Turned → Type 0
-IsCoreCall clock c number location asked old new None = IsOsd (core_of old) × (new ≡ old)
-IsCoreCall clock c number location asked old new (Some turned) =
-    (state : ClientState) × (core_of old ≡ client state)
-    × IsCoreStep (λ host. call_step host clock state c number location asked) old new turned
+abbrev pub IsCoreCall : {C : Type 0} → (C → Core) → (NodeId → TimeSettings → C → Type 0) → ℕ → Call → ℕ → Location → Op → C → C → Option Turned → Type 0
+IsCoreCall state is_of clock c number location asked old new None = IsOsd (state old) × (new ≡ old)
+IsCoreCall state is_of clock c number location asked old new (Some turned) =
+    (its : ClientState) × (state old ≡ client its)
+    × IsCoreStep state is_of (λ host. call_step host clock its c number location asked) old new turned
 
 -- A running node took this step, which left it this core.
 abbrev pub Took : HostView → Running → Step Core → HostView → Turned → Type 0

@@ -5,17 +5,16 @@ ghost use Rattle.cluster_runs.specs.Rules.{has_call};
 ghost use Rattle.cluster_runs.specs.Clients.{new_client};
 ghost use Rattle.cluster_runs.specs.Lines.{runs, first_boot, crashes, cuts, reads_clock, aims};
 ghost use Rattle.osd_rows.specs.OsdSteps.{osd_from};
-ghost use Rattle.osd_core.specs.Slots.{AreRows};
-ghost use Rattle.osd_core.specs.Events.{FitsEvent};
-ghost use Rattle.node_cores.specs.Hosts.{host_ticked, node_of};
-ghost use Rattle.node_cores.specs.Turns.{Handles, Calls, moment_of};
+ghost use Rattle.cluster_fits.specs.Fits.{FitsContent};
+ghost use Rattle.node_hosts.specs.Cores.{IsSaid};
+ghost use Rattle.node_hosts.specs.Hosts.{host_ticked, node_of};
+ghost use Rattle.node_hosts.specs.Turns.{Handles, Calls, moment_of};
 
-use crate::running::{Core, Moment, Running};
+use crate::node_core::NodeCore;
+use crate::running::{Moment, Running};
 use cluster_runs::Role;
 use disk_model::Stop;
 use kept_bodies::Bodies;
-use osd_core::Osd;
-use replica_client::ReplicaClient;
 use std::alloc::Global;
 use std::marker::Model;
 use xt_base::{Boot, NodeId, OutOfMemory, Times};
@@ -23,15 +22,15 @@ use xt_messages::{Call, Event, Folded, Location, Op};
 use xt_protocol::Turned;
 
 /// A declared node without its records. Contracts see its id, its role, its times and how it runs.
-pub struct Host {
+pub struct Host<C: NodeCore> {
     id: NodeId,
     role: Role,
     times: Times,
-    up: Option<Running>,
+    up: Option<Running<C>>,
 }
 
 // A derived drop is part of the code of each function that may drop a value. This one is proved once.
-impl Drop for Host {
+impl<C: NodeCore> Drop for Host<C> {
     fn drop(self) {
         let Host {
             id: _,
@@ -42,20 +41,20 @@ impl Drop for Host {
     }
 }
 
-impl Model for Host {
-    ghost use Rattle.node_cores.specs.Hosts.{HostView};
+impl<C: NodeCore> Model for Host<C> {
+    ghost use Rattle.node_hosts.specs.Hosts.{HostView};
 
     ghost Value = { HostView };
 
-    ghost use Rattle.node_cores.specs.Cores.{up_of, IsUpOf};
+    ghost use Rattle.node_hosts.specs.Cores.{up_of, IsUpOf};
 
-    ghost view = { λ host. record { id = host.id; role = host.role; times = host.times; up = up_of host.up } };
+    ghost view = { λ host. record { id = host.id; role = host.role; times = host.times; up = up_of C.state host.up } };
 
-    ghost invariant = { λ host. IsUpOf host.id host.times host.up };
+    ghost invariant = { λ host. IsUpOf C.is_of host.id host.times host.up };
 }
 
 /// A running node with no plan to stop it.
-fn fresh(boot: Boot, clock: u64, core: Core) -> Running
+fn fresh<C: NodeCore>(boot: Boot, clock: u64, core: C) -> Running<C>
     ensures { result ≡ record { boot = boot; clock = clock; crash = None; cut = None; core = core } }
 {
     Running {
@@ -67,9 +66,9 @@ fn fresh(boot: Boot, clock: u64, core: Core) -> Running
     }
 }
 
-impl Host {
+impl<C: NodeCore> Host<C> {
     /// A new OSD, which doesn't run.
-    pub fn osd(id: NodeId, times: Times) -> Host
+    pub fn osd(id: NodeId, times: Times) -> Host<C>
         ensures { result ≡ record { id = id; role = Role.Osd; times = times; up = None } }
     {
         Host {
@@ -81,11 +80,11 @@ impl Host {
     }
 
     /// A new client, which runs for good.
-    pub fn client(alloc: Global, id: NodeId, times: Times, clock: u64) -> Host
+    pub fn client(alloc: Global, id: NodeId, times: Times, clock: u64) -> Host<C>
         requires { clock < 2 ^ 62 }
         ensures { result ≡ record { id = id; role = Role.Client; times = times; up = Some (runs first_boot clock (client (new_client clock))) } }
     {
-        let core = Core::Client(ReplicaClient::new(alloc, id, times, 1, clock));
+        let core = C::client(alloc, id, times, clock);
         Host {
             id,
             role: Role::Client,
@@ -143,12 +142,12 @@ impl Host {
         clock: u64,
     ) -> Result<(), OutOfMemory>
         requires clock { clock < 2 ^ 62 }
-        requires rows { AreRows folded.files }
+        requires records { IsSaid folded }
         ensures ok { OnOk result (self.new ≡ record self.old { up = Some (runs boot clock (osd (osd_from (record { node = self.old.id; boot = boot; times = self.old.times; start = clock }) folded.files))) }) }
         ensures err { OnErr result (self.new ≡ self.old) }
     {
-        let state = Osd::start(alloc, self.id, self.times, None, folded, boot, clock)?;
-        drop(self.up.replace(fresh(boot, clock, Core::Osd(state))));
+        let core = C::osd(alloc, self.id, self.times, folded, boot, clock)?;
+        drop(self.up.replace(fresh(boot, clock, core)));
         Ok(())
     }
 
@@ -220,7 +219,7 @@ impl Host {
         ev: &Event,
     ) -> Result<Option<Turned>, OutOfMemory>
         requires clock { IfSome self.old.up (λ running. running.clock < 2 ^ 62) }
-        requires fits { FitsEvent ev.now }
+        requires fits { FitsContent ev.now }
         ensures handled { IfOk result (λ turned. Handles (B.records bodies.old) ev.now self.old self.new turned) }
         ensures err { OnErr result (self.new ≡ record self.old { up = None }) }
     {
