@@ -265,20 +265,6 @@ impl Held {
         self.end
     }
 
-    /// The clock at the start of the running renewal, if one runs.
-    pub fn renewing(&self) -> Option<u64>
-        ensures { result ≡ protocol.start_of self.now.renewal }
-    {
-        self.renewal.map(|round| round.began())
-    }
-
-    /// Ends the renewal.
-    pub fn end_renewal(&mut self)
-        ensures { self.new ≡ protocol.without_renewal self.old }
-    {
-        self.renewal = None;
-    }
-
     /// Ends the lease and its renewal.
     pub fn give_up(self) -> Free
         ensures { result ≡ self.proposer }

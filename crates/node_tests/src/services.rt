@@ -1,21 +1,30 @@
+ghost use Rattle.mrc_core.specs.Picking.{WantsSome};
+
 use crate::OTHERWISE;
 use dir_core::Dir;
 use mrc_core::Mrc;
 use std::alloc::Global;
 use std::process::Abort;
 use std::test::*;
-use xt_base::{DIR_NODE, MRC_NODE, Name, NodeId};
-use xt_messages::{Event, MetaReq, Msg, Payload, RegistryReq};
+use xt_base::{DIR_NODE, MRC_NODE, Name, NodeId, Seq};
+use xt_messages::{Event, Kind, MetaReq, Msg, Payload, RegistryAnswer, RegistryReq, RegistryRow};
 
 /// The key of both services.
 const KEY: [u8; 32] = [0; 32];
+
+/// How many requests a life has.
+const LIFE: u64 = 9;
+
+fn name(rt: &impl Abort, alloc: Global, text: &str) -> Name {
+    Name::of(alloc, text).expect(rt, OTHERWISE)
+}
 
 /// Node 1 is registered anew, under the version that it has.
 fn register(rt: &impl Abort, alloc: Global, dir: &mut Dir, number: u64) {
     let request = RegistryReq::Set {
         node: NodeId(1),
         kind: 1,
-        address: Name::of(alloc, "a").expect(rt, OTHERWISE),
+        address: name(rt, alloc, "a"),
         expected: number,
     };
     let event = Event::Deliver(Msg {
@@ -27,12 +36,75 @@ fn register(rt: &impl Abort, alloc: Global, dir: &mut Dir, number: u64) {
     drop(dir.step(alloc, &event).expect(rt, OTHERWISE));
 }
 
-/// A volume is made, once, and its server wakes.
-fn make(rt: &impl Abort, alloc: Global, mrc: &mut Mrc, number: u64) {
-    let request = MetaReq::Mkdir {
-        path: Name::of(alloc, "/v").expect(rt, OTHERWISE),
-        mode: 0o755,
+/// The MRC wakes, and is told of one OSD.
+fn tell(rt: &impl Abort, alloc: Global, mrc: &mut Mrc) {
+    let row = RegistryRow {
+        node: NodeId(1),
+        kind: 1,
+        address: name(rt, alloc, "a"),
+        version: 1,
     };
+    let mut rows = Seq::new(alloc);
+    rows.push(row).expect(rt, OTHERWISE);
+    let answer = RegistryAnswer::Rows { rows };
+    let event = Event::Deliver(Msg {
+        from: DIR_NODE,
+        to: MRC_NODE,
+        list: 1,
+        payload: Payload::RegistryReply { number: 1, answer },
+    });
+    drop(mrc.step(0, &Event::Wake).expect(rt, OTHERWISE));
+    drop(mrc.step(0, &event).expect(rt, OTHERWISE));
+}
+
+/// The requests of a life, by number: a volume and a file are made, and all is asked of them until both are gone.
+fn request(rt: &impl Abort, alloc: Global, number: u64) -> MetaReq
+    ensures { WantsSome result }
+{
+    match number {
+        1 => MetaReq::Mkdir {
+            path: name(rt, alloc, "/v"),
+            mode: 0o755,
+        },
+        2 => MetaReq::Create {
+            path: name(rt, alloc, "/v/a"),
+            mode: 0o644,
+            kind: Kind::Replicated,
+            n: 1,
+            stripe: 1024,
+        },
+        3 => MetaReq::Grant {
+            path: name(rt, alloc, "/v/a"),
+            want: 2,
+        },
+        4 => MetaReq::Stat {
+            path: name(rt, alloc, "/v/a"),
+        },
+        5 => MetaReq::Chmod {
+            path: name(rt, alloc, "/v/a"),
+            mode: 0o600,
+        },
+        6 => MetaReq::Rename {
+            from: name(rt, alloc, "/v/a"),
+            to: name(rt, alloc, "/v/b"),
+        },
+        7 => MetaReq::List {
+            path: name(rt, alloc, "/v"),
+            after: name(rt, alloc, ""),
+        },
+        8 => MetaReq::Unlink {
+            path: name(rt, alloc, "/v/b"),
+        },
+        _ => MetaReq::Rmdir {
+            path: name(rt, alloc, "/v"),
+        },
+    }
+}
+
+/// The MRC handles a request.
+fn ask(rt: &impl Abort, mrc: &mut Mrc, number: u64, request: MetaReq)
+    requires { WantsSome request }
+{
     let event = Event::Deliver(Msg {
         from: NodeId(10),
         to: MRC_NODE,
@@ -45,16 +117,19 @@ fn make(rt: &impl Abort, alloc: Global, mrc: &mut Mrc, number: u64) {
         },
     });
     drop(mrc.step(0, &event).expect(rt, OTHERWISE));
-    drop(mrc.step(0, &Event::Wake).expect(rt, OTHERWISE));
 }
 
 /// Services start, and handle what comes to them, where memory is there.
 #[test]
 fn services_handle_requests(rt: HostRuntime) {
     let mut dir = Dir::start(rt.alloc(), &KEY, &[]).expect(&rt, OTHERWISE);
-    let mut mrc = Mrc::start(rt.alloc(), &KEY, &[], 0).expect(&rt, OTHERWISE);
     for number in 0..3 {
         register(&rt, rt.alloc(), &mut dir, number);
-        make(&rt, rt.alloc(), &mut mrc, number);
+    }
+    let mut mrc = Mrc::start(rt.alloc(), &KEY, &[], 0).expect(&rt, OTHERWISE);
+    tell(&rt, rt.alloc(), &mut mrc);
+    for number in 1..=LIFE {
+        let request = request(&rt, rt.alloc(), number);
+        ask(&rt, &mut mrc, number, request);
     }
 }

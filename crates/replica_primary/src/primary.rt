@@ -1,4 +1,4 @@
-ghost use Rattle.std.specs.Prelude.{◌≡◌, List, None, Some, MatchOption, IfOk, IfNone, OnErr};
+ghost use Rattle.std.specs.Prelude.{◌≡◌, List, None, Some, IfOk, IfNone, OnErr};
 ghost use Rattle.osd_rows.specs.Primaries as rows;
 ghost use Rattle.osd_rows.specs.PrimaryRows.{epoch_drawn, hears};
 ghost use Rattle.osd_rows.specs.Serving.{reads, wakes, writes};
@@ -10,7 +10,6 @@ ghost use Rattle.version_lists.specs.Rising.{HeadRises};
 ghost use Rattle.replica_primary.specs.Written.{ground};
 ghost use Rattle.replica_primary.specs.Phases.{phase_in, phase_of};
 ghost use Rattle.std.specs.Option.{option_map};
-ghost use Rattle.replica_primary.specs.PrimaryViews.{chosen_by, rests_by};
 
 use crate::drawing::epoch_drawn;
 use crate::hearing::hears;
@@ -20,8 +19,7 @@ use crate::waking::wakes;
 use flease_lease::Turn;
 use kept_bodies::{Bodies, StepErr};
 use osd_decisions::{reads_under, statuses_counted};
-use osd_peers::peer_in;
-use osd_rows::{Peer, PeerState, Place, PrimaryState, Progress, Tenure};
+use osd_rows::{Peer, Place, PrimaryState, Progress};
 use std::alloc::Global;
 use std::marker::Model;
 use xt_base::{FileId, Members, NodeId, OpId, OutOfMemory};
@@ -60,16 +58,6 @@ impl Model for Primary {
     ghost invariant = { λ p. FitsStripe p.place.stripe × CommittedUnder p.state.tenure };
 }
 
-/// The head that this node has reported, where it is a peer.
-fn reported_by(peers: &[Peer], node: NodeId) -> Option<&FileHead>
-    ensures { MatchOption result (rows.reported (rows.peer_in peers.now node) ≡ None) (λ head. rows.reported (rows.peer_in peers.now node) ≡ Some head.now) }
-{
-    match peer_in(peers, node) {
-        Some(PeerState::Reported { head }) => Some(head),
-        _ => None,
-    }
-}
-
 impl Primary {
     /// An idle primary, of a file with objects of `stripe` bytes, that has learnt no epoch.
     pub fn new(alloc: Global, file: FileId, node: NodeId, stripe: u32) -> Primary
@@ -91,46 +79,6 @@ impl Primary {
         ensures { self.new ≡ record self.old { state = rows.idle self.old.state } }
     {
         put(&mut self.state.tenure, None);
-    }
-
-    /// The head that was chosen, none where its bodies aren't fetched and it isn't installed.
-    pub fn chosen(&self) -> Option<&FileHead>
-        ensures { MatchOption result (chosen_by self.now.state.tenure ≡ None) (λ head. chosen_by self.now.state.tenure ≡ Some head.now) }
-    {
-        match &self.state.tenure {
-            Some(
-                Tenure {
-                    progress: Progress::Fetching { chosen, .. }
-                    | Progress::Installing { chosen, .. },
-                    ..
-                },
-            ) => Some(chosen),
-            _ => None,
-        }
-    }
-
-    /// The head on which the primary rests: the committed one while it is active, and the own one that is counted while it
-    /// gathers.
-    pub fn rests_on(&self) -> Option<&FileHead>
-        ensures { MatchOption result (rests_by self.now.place self.now.state.tenure ≡ None) (λ head. rests_by self.now.place self.now.state.tenure ≡ Some head.now) }
-    {
-        let node = self.place.node;
-        match &self.state.tenure {
-            Some(
-                Tenure {
-                    progress: Progress::Active { committed, .. },
-                    ..
-                },
-            ) => Some(committed),
-            Some(
-                Tenure {
-                    peers,
-                    progress: Progress::Gathering,
-                    ..
-                },
-            ) => reported_by(peers.as_slice(), node),
-            _ => None,
-        }
     }
 
     /// Begins a tenure in this turn, under an epoch above the own promise and all that were learnt.

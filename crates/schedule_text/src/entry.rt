@@ -215,15 +215,6 @@ fn push_entry(out: &mut Vec<u8>, entry: &Entry) -> Result<(), OutOfMemory>
     }
 }
 
-/// The one spelling of an entry, without a line feed.
-pub fn print_entry(alloc: Global, entry: &Entry) -> Result<Octets, OutOfMemory>
-    ensures { IfOk result (λ text. text ≡ entry_text entry.now) }
-{
-    let mut out = Vec::new(alloc);
-    push_entry(&mut out, entry)?;
-    Ok(Octets::from(out))
-}
-
 /// Appends an entry and a line feed.
 fn push_entry_line(out: &mut Vec<u8>, entry: &Entry) -> Result<(), OutOfMemory>
     ensures { OnOk result (out.new.items ≡ out.old.items ++ (entry_text entry.now ++ 10 ∷ [])) }

@@ -17,6 +17,6 @@ mod spelling;
 mod status;
 mod words;
 
-pub use entry::{one_entry_a_spelling, one_trace_a_spelling, print_entries, print_entry};
-pub use line::{LineErr, one_line_a_spelling, print_line, read_line};
+pub use entry::{one_entry_a_spelling, one_trace_a_spelling, print_entries};
+pub use line::{LineErr, one_line_a_spelling, read_line};
 pub use status::print_status;

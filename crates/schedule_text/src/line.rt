@@ -13,7 +13,7 @@ use crate::spelling::{
 };
 use std::alloc::Global;
 use time_line::Line;
-use xt_base::{NodeId, Octets, OutOfMemory};
+use xt_base::{NodeId, OutOfMemory};
 use xt_messages::Call;
 
 /// Why a line isn't read.
@@ -104,15 +104,6 @@ fn push_line(out: &mut Vec<u8>, line: &Line) -> Result<(), OutOfMemory>
         Line::Drop { number } => push_named(out, b"drop", *number),
         Line::Settle { count } => push_named(out, b"settle", *count),
     }
-}
-
-/// The one spelling of a line, without a line feed.
-pub fn print_line(alloc: Global, line: &Line) -> Result<Octets, OutOfMemory>
-    ensures { IfOk result (λ text. text ≡ line_text line.now) }
-{
-    let mut out = Vec::new(alloc);
-    push_line(&mut out, line)?;
-    Ok(Octets::from(out))
 }
 
 /// Whether the line is in the language and these bytes spell it.

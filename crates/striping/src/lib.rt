@@ -2,7 +2,7 @@
 //!
 //! Byte `x` of a file lies in object `x / stripe` at place `x % stripe`, and object `o` on the OSD of number `o % width` of the
 //! file's list, from 0. The pieces of a range cover it once and in order, one of each object that it meets; their bytes, joined,
-//! are the bytes of the range.
+//! are the bytes of the range. It falls into pieces in no other way.
 #![tactic(auto)]
 
 ghost use Rattle.std.specs.Prelude.{◌≡◌, ◌≤◌, ◌<◌, ◌+◌, ◌-◌, ◌*◌, ◌/◌, ◌%◌, ◌^◌, ℕ, List, map, IfOk};
@@ -90,4 +90,10 @@ pub fn pieces_are_the_range()
     ensures placed { (stripe width from end byte : ℕ) (piece : Piece) →
         IsPieceFrom stripe width from end piece → from ≤ byte → byte < from + piece.len →
         (byte / stripe ≡ piece.object) × (byte % stripe ≡ piece.at + (byte - from)) }
+{}
+
+/// A range falls into pieces in one way alone.
+pub fn a_range_has_one_cover()
+    ensures { (stripe width from end : ℕ) (one other : List Piece) →
+        Covers stripe width from end one → Covers stripe width from end other → one ≡ other }
 {}

@@ -1,49 +1,9 @@
--- a range of a striped file falls into pieces in one way alone
-use Rattle.std.proofs.Common.{◌≡◌, ◌∙◌, ℕ, ◌+◌, ◌*◌, ◌%◌, ◌<◌, ◌≤◌, List, [], ◌∷◌, ◌⊎◌, refl, sym, ap, subst, arith, ⊎_elim, eq-or-lt_of_le, le_antisymm}
-use Rattle.std.proofs.lemmas.Nat.{same_from_place}
+-- ranges, and pieces into which they fall
+use Rattle.std.proofs.Common.{◌≡◌, ℕ, ◌+◌, ◌*◌, ◌%◌, ◌<◌, ◌≤◌, List, ◌⊎◌, sym, subst, arith, ⊎_elim}
 use Rattle.striping.specs.declared.Piece.{Piece}
 use Rattle.striping.specs.Cover.{IsPieceFrom, Covers}
-use Rattle.worked_rows.specs.Ranges.{Range, FallsSo, piece}
-
--- a piece is no longer than another one with which the same range begins
-no_longer : (stripe width from end : ℕ) (p q : Piece) → IsPieceFrom stripe width from end p
-    → IsPieceFrom stripe width from end q → p.at ≡ q.at → p.len ≤ q.len
-no_longer stripe width from end p q a b same =
-    let within = a.within in
-    let inside = a.inside in
-    ⊎_elim (λ (ends : from + q.len ≡ end). omega arith)
-    (λ (less : from + q.len < end). let whole = b.whole less in omega arith)
-    (eq-or-lt_of_le b.within)
-
-same_piece : (stripe width from end : ℕ) (p q : Piece) → IsPieceFrom stripe width from end p
-    → IsPieceFrom stripe width from end q → p ≡ q
-same_piece stripe width from end p q a b =
-    let first : p.at < stripe = let some = a.some in let inside = a.inside in omega arith in
-    let other : q.at < stripe = let some = b.some in let inside = b.inside in omega arith in
-    let place : (p.object ≡ q.object) × (p.at ≡ q.at) =
-    same_from_place p.object p.at q.object q.at stripe first other (a.begins ∙ sym b.begins) in
-    let len : p.len ≡ q.len =
-    le_antisymm (no_longer stripe width from end p q a b place.1)
-    (no_longer stripe width from end q p b a (sym place.1)) in
-    let owner : p.owner ≡ q.owner = a.owned ∙ ap (λ object. object % width) place.0 ∙ sym b.owned in
-    ap (λ object. piece object p.at p.len p.owner) place.0
-    ∙ ap (λ at. piece q.object at p.len p.owner) place.1
-    ∙ ap (λ n. piece q.object q.at n p.owner) len
-    ∙ ap (piece q.object q.at q.len) owner
-
-same_pieces : (stripe width from end : ℕ) (ps qs : List Piece) → Covers stripe width from end ps
-    → Covers stripe width from end qs → ps ≡ qs
-same_pieces stripe width from end [] [] a b = refl
-same_pieces stripe width from end [] (q ∷ qs) a b =
-    absurd (let some = b.0.some in let within = b.0.within in omega arith)
-same_pieces stripe width from end (p ∷ ps) [] a b =
-    absurd (let some = a.0.some in let within = a.0.within in omega arith)
-same_pieces stripe width from end (p ∷ ps) (q ∷ qs) a b =
-    let same : p ≡ q = same_piece stripe width from end p q a.0 b.0 in
-    ap (λ first. first ∷ ps) same
-    ∙ ap (λ later. q ∷ later)
-    (same_pieces stripe width (from + q.len) end ps qs
-    (subst (λ (first : Piece). Covers stripe width (from + first.len) end ps) same a.1) b.1)
+use Rattle.striping.proofs.OneCover.{same_pieces}
+use Rattle.worked_rows.specs.Ranges.{Range, FallsSo}
 
 pub falls : (r : Range) → Covers r.stripe r.width r.offset (r.offset + r.len) r.pieces → FallsSo r
 falls r covers pieces = (
