@@ -7,7 +7,9 @@ use std::alloc::Global;
 use std::process::Abort;
 use std::test::*;
 use xt_base::{DIR_NODE, MRC_NODE, Name, NodeId, Seq};
-use xt_messages::{Event, Kind, MetaReq, Msg, Payload, RegistryAnswer, RegistryReq, RegistryRow};
+use xt_messages::{
+    Event, Kind, MetaAnswer, MetaReq, Msg, Payload, RegistryAnswer, RegistryReq, RegistryRow,
+};
 
 /// The key of both services.
 const KEY: [u8; 32] = [0; 32];
@@ -101,7 +103,18 @@ fn request(rt: &impl Abort, alloc: Global, number: u64) -> MetaReq
     }
 }
 
-/// The MRC handles a request.
+/// Whether these are one answer of the MRC, and no refusal.
+fn is_done(outs: &[Msg]) -> bool {
+    let [reply] = outs else {
+        return false;
+    };
+    match &reply.payload {
+        Payload::MetaReply { answer, .. } => !matches!(answer, MetaAnswer::Refused { .. }),
+        _ => false,
+    }
+}
+
+/// The MRC handles a request, and doesn't refuse it.
 fn ask(rt: &impl Abort, mrc: &mut Mrc, number: u64, request: MetaReq)
     requires { WantsSome request }
 {
@@ -116,7 +129,11 @@ fn ask(rt: &impl Abort, mrc: &mut Mrc, number: u64, request: MetaReq)
             request,
         },
     });
-    drop(mrc.step(0, &event).expect(rt, OTHERWISE));
+    let turned = mrc.step(0, &event).expect(rt, OTHERWISE);
+    drop(event);
+    let done = is_done(turned.outs.as_slice());
+    drop(turned);
+    assert!(rt; done, "request {number}");
 }
 
 /// Services start, and handle what comes to them, where memory is there.
