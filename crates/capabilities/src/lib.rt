@@ -28,7 +28,7 @@ const INNER_PAD: u8 = 0x36;
 const OUTER_PAD: u8 = 0x5C;
 
 /// Why a capability doesn't serve a use.
-#[derive(Clone, Copy, PartialEq, Eq)]
+#[derive(Clone, Copy)]
 pub enum CapErr {
     OutOfMemory,
     Denied { rule: Denial },

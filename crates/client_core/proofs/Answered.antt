@@ -32,7 +32,7 @@ use Rattle.client_core.specs.Holding.{Held, mark_with}
 use Rattle.client_core.specs.Requests.{next_asked, bytes_shown}
 use Rattle.client_core.specs.Waiting.{asks_or_ends, reply_comes, reply_to, reply_heard}
 use Rattle.client_core.specs.Rows.{WholeClient, clock_of, result_of, result_in, stage_after, replicas_step, goes_on, goes_on_with}
-use Rattle.xt_protocol.specs.declared.Turned.{Turned}
+use Rattle.xt_protocol.specs.declared.turned.Turned.{Turned}
 use Rattle.client_core.specs.Views.{ClientView, Does}
 use Rattle.client_core.specs.Answered.{waits_last, ok_ends, ok_ends_made, says_ok, is_answered_by, is_answered, is_done}
 

@@ -24,8 +24,8 @@ use Rattle.xt_messages.specs.declared.message.Msg.{Msg}
 use Rattle.xt_messages.specs.declared.message.Payload.{Payload}
 use Rattle.xt_messages.specs.declared.message.Payload.TheVariants as payload
 use Rattle.xt_protocol.specs.Objects.{readable}
-use Rattle.xt_protocol.specs.declared.Turned.{Turned}
-use Rattle.osd_rows.specs.Turns.{message}
+use Rattle.xt_protocol.specs.declared.turned.Turned.{Turned}
+use Rattle.xt_protocol.specs.Turns.{message}
 use Rattle.cluster_runs.specs.Clients.{first_member}
 use Rattle.cluster_runs.specs.Rules.{called_file}
 use Rattle.client_core.specs.declared.holding.HeldFile.{HeldFile}

@@ -11,10 +11,9 @@ use crate::progress::{Learnt, Next};
 use crate::requests::{CallResult, MadeCall, Request, Stage};
 use replica_client::{ReplicaClient, gives};
 use std::alloc::Global;
-use step_outputs::{one, sends};
 use xt_base::{Copies, NodeId, OutOfMemory, Seq, SizeMark};
 use xt_messages::{Call, Event, Mark, Marks, Msgs, Outcome, Payload, Reply};
-use xt_protocol::Turned;
+use xt_protocol::{Turned, one, sends};
 
 /// The mark of an Ok that comes; any other event tells of no byte.
 pub fn mark_told(ev: &Event) -> SizeMark

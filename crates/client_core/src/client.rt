@@ -18,13 +18,12 @@ use crate::waiting::handle;
 use replica_client::ReplicaClient;
 use std::alloc::Global;
 use std::marker::Model;
-use step_outputs::quiet;
 use xt_base::{COUNTS, FileId, NodeId, OutOfMemory, SizeMark, Times};
 use xt_messages::{Call, Capability, Event, Outcome};
-use xt_protocol::Turned;
+use xt_protocol::{Turned, quiet};
 
 /// Why a call isn't made.
-#[derive(Clone, Copy, PartialEq, Eq)]
+#[derive(Clone, Copy)]
 pub enum CallErr {
     /// A call runs.
     Busy,

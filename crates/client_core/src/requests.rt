@@ -7,13 +7,12 @@ use crate::holding::HeldFiles;
 use crate::striped::first_of;
 use replica_client::{begins, gives};
 use std::alloc::Global;
-use step_outputs::{message, one};
 use xt_base::{Copies, DIR_NODE, MRC_NODE, NodeId, Octets, OutOfMemory, SizeMark};
 use xt_messages::{
     Answers, AskRefusal, Call, Capability, Kind, MetaAnswer, MetaReq, Msgs, Op, Payload,
     RegistryAnswer, RegistryReq,
 };
-use xt_protocol::Turned;
+use xt_protocol::{Turned, message, one};
 
 /// What a call asks.
 #[derive(Drop)]

@@ -2,7 +2,7 @@
 ghost use Rattle.std.specs.Prelude.{◌≡◌, IfOk};
 ghost use Rattle.client_core.specs.Requests as spec;
 
-use kept_bodies::readable;
+use object_versions::readable;
 use replica_client::first_member;
 use std::alloc::Global;
 use xt_base::{Members, NodeId, Octets, OutOfMemory};

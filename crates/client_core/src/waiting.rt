@@ -7,11 +7,11 @@ use crate::progress::{Learnt, Next, Progress, ends, waits_on};
 use crate::requests::{CallResult, MadeCall, Request};
 use crate::striped::{bytes_shown, next_asked, was_asked};
 use std::alloc::Global;
-use step_outputs::one;
 use xt_base::{Copies, NodeId, Octets, OutOfMemory, SizeMark};
 use xt_messages::{
     Answered, AskRefusal, Capability, Event, MetaAnswer, Op, Payload, RegistryAnswer, Reply, Retry,
 };
+use xt_protocol::one;
 
 /// The node that is asked doesn't do it, and nobody else may.
 fn give_up(alloc: Global, target: NodeId, how: Retry) -> Result<Progress, OutOfMemory>

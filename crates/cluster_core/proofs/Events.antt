@@ -9,7 +9,7 @@ use Rattle.cluster_runs.specs.declared.Sent.{Sent}
 use Rattle.cluster_runs.specs.Lines.{no_longer_pending, delivers}
 use Rattle.world_tables.specs.Limits.{IsSentAs}
 use Rattle.cluster_fits.specs.Fits.{FitsRunning, FitsTurned, FitsComing, FitsDelivery}
-use Rattle.xt_protocol.specs.declared.Turned.{Turned}
+use Rattle.xt_protocol.specs.declared.turned.Turned.{Turned}
 use Rattle.cluster_runs.specs.Steps.{Step}
 use Rattle.cluster_runs.specs.World.{Node, Running, Core, node_in, with_node}
 use Rattle.cluster_runs.specs.NodeSteps.{Room, Cause, Doing, core_step, end_of_step, event_at, event_comes}

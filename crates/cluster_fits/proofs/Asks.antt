@@ -13,20 +13,20 @@ use Rattle.xt_messages.specs.declared.record.Record.{Record}
 use Rattle.xt_messages.specs.declared.reply.Reply.{Reply}
 use Rattle.xt_messages.specs.declared.reply.Reply.TheVariants as reply
 use Rattle.xt_messages.specs.Limits.{FitsNode, FitsFile, FitsMessage, FitsReply}
-use Rattle.osd_rows.specs.declared.Asks.{Asks}
-use Rattle.osd_rows.specs.declared.IssuedAsk.{IssuedAsk}
-use Rattle.osd_rows.specs.declared.Peer.{Peer}
-use Rattle.osd_rows.specs.declared.PrimaryState.{PrimaryState}
-use Rattle.osd_rows.specs.declared.Progress.{Progress}
-use Rattle.osd_rows.specs.declared.Progress.TheVariants as progress
-use Rattle.osd_rows.specs.declared.Tenure.{Tenure}
-use Rattle.osd_rows.specs.declared.WaitingAsk.{WaitingAsk}
-use Rattle.osd_rows.specs.Turns.{quiet, the_record, reply_to}
-use Rattle.osd_rows.specs.Primaries.{Ground, Led, is_active, is_ready, is_reported, majority_among, have_in}
-use Rattle.osd_rows.specs.Serving.{reads, writes}
-use Rattle.osd_rows.specs.Asks.{Served, WAITING, no_asks, waits, stays, is_read, read_answer, newly_issued, write_done, serves, serves_waiting, serves_all, comes_back, asks_follow, tells_each, tells_untold}
+use Rattle.xt_protocol.specs.declared.states.Asks.{Asks}
+use Rattle.xt_protocol.specs.declared.states.IssuedAsk.{IssuedAsk}
+use Rattle.xt_protocol.specs.declared.states.Peer.{Peer}
+use Rattle.xt_protocol.specs.declared.states.PrimaryState.{PrimaryState}
+use Rattle.xt_protocol.specs.declared.states.Progress.{Progress}
+use Rattle.xt_protocol.specs.declared.states.Progress.TheVariants as progress
+use Rattle.xt_protocol.specs.declared.states.Tenure.{Tenure}
+use Rattle.xt_protocol.specs.declared.states.WaitingAsk.{WaitingAsk}
+use Rattle.xt_protocol.specs.Turns.{quiet, the_record, reply_to}
+use Rattle.xt_protocol.specs.Primaries.{Ground, Led, is_active, is_ready, is_reported, majority_among, have_in}
+use Rattle.xt_protocol.specs.Serving.{reads, writes}
+use Rattle.xt_protocol.specs.Asks.{Served, WAITING, no_asks, waits, stays, is_read, read_answer, newly_issued, write_done, serves, serves_waiting, serves_all, comes_back, asks_follow, tells_each, tells_untold}
 use Rattle.replica_runs.specs.Seen.{nodes_in, acked_by}
-use Rattle.version_lists.proofs.HeadLimits.{either}
+use Rattle.object_versions.proofs.HeadLimits.{either}
 use Rattle.cluster_fits.proofs.Lists.{all_append}
 use Rattle.cluster_fits.proofs.States.{AreSent, sent, ProgressIs, PrimaryIs, AskIs, AsksAre}
 use Rattle.cluster_fits.proofs.Primary.{LedRec, LedIs, GroundIs}

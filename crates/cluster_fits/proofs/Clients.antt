@@ -32,7 +32,7 @@ use Rattle.xt_messages.specs.declared.reply.Reply.TheVariants as reply
 use Rattle.xt_messages.specs.declared.reply.Retry.{Retry}
 use Rattle.xt_messages.specs.declared.reply.Retry.TheVariants as retry
 use Rattle.xt_base.specs.FieldLimits.{IsCount}
-use Rattle.xt_messages.specs.Limits.{FitsNode, FitsCapability, FitsLocation, FitsOp, FitsPayload, FitsReply}
+use Rattle.xt_messages.specs.Limits.{FitsNode, FitsCapability, FitsLocation, FitsOp, FitsPayload, FitsReply, FitsEvent}
 use Rattle.xt_protocol.specs.FileIds.{file_cmp}
 use Rattle.cluster_runs.specs.declared.ClientState.{ClientState}
 use Rattle.cluster_runs.specs.declared.KnownFile.{KnownFile}
@@ -42,8 +42,7 @@ use Rattle.cluster_runs.specs.Clients.{ClientSite, KnownFiles, unknown, known_in
 use Rattle.cluster_runs.specs.Lines.{declared_file, declared_capability, operation_of, epoch_of, uses}
 use Rattle.cluster_runs.specs.Rules.{called_file}
 use Rattle.cluster_runs.specs.Steps.{Step, stays}
-use Rattle.version_lists.proofs.HeadLimits.{either, when}
-use Rattle.cluster_fits.specs.Fits.{FitsContent}
+use Rattle.object_versions.proofs.HeadLimits.{either, when}
 use Rattle.cluster_fits.proofs.Lists.{all_filter}
 use Rattle.cluster_fits.proofs.Bytes.{are_bytes, each-zeros}
 use Rattle.cluster_fits.proofs.States.{AreSent, sent}
@@ -183,7 +182,7 @@ module _ (site : ClientSite) (who : FitsNode site.node) where
   wakes_is c None is fits = still_is c is
   wakes_is c (Some k) is fits = either ClientStepIs (nat_le k.deadline site.now) (turned_away site c k retry.Silent) (stays ClientState c) (away_is c k retry.Silent is fits) (still_is c is)
 
-  pub event_is : (c : ClientState) (happens : Event) → ClientIs c → FitsContent happens → ClientStepIs (event_comes site c happens)
+  pub event_is : (c : ClientState) (happens : Event) → ClientIs c → FitsEvent happens → ClientStepIs (event_comes site c happens)
   event_is c (event.Deliver msg) is fits = message_is c msg.from msg.payload is fits.content
   event_is c event.Wake is fits = wakes_is c c.running is is.call
   event_is c (event.Call k) is fits = still_is c is
@@ -203,7 +202,7 @@ module _ (site : ClientSite) (who : FitsNode site.node) where
 later_is : (c : ClientState) (now : ℕ) → ClientIs c → ClientIs (record c { last = now })
 later_is c now is = record { call = is.call; known = is.known }
 
-pub client_step_is : (node : NodeId) (times : TimeSettings) (c : ClientState) (reading : ℕ) (happens : Event) → FitsNode node → ClientIs c → FitsContent happens → ClientStepIs (step_of_client node times c reading happens)
+pub client_step_is : (node : NodeId) (times : TimeSettings) (c : ClientState) (reading : ℕ) (happens : Event) → FitsNode node → ClientIs c → FitsEvent happens → ClientStepIs (step_of_client node times c reading happens)
 unfolding step_of_client
 client_step_is node times c reading happens who is fits =
     event_is (record { node = node; times = times; now = max reading c.last }) who (record c { last = max reading c.last }) happens (later_is c (max reading c.last) is) fits

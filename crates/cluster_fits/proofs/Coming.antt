@@ -3,7 +3,7 @@ use Rattle.std.proofs.Common.{◌≡◌, ℕ, zero, suc, ◌-◌, Bool, true, fa
 use Rattle.std.specs.Prelude.{slice_get, ◌⊎◌}
 use Rattle.std.specs.Option.{IfSome}
 use Rattle.std.specs.List.{AllByRecursion}
-use Rattle.xt_messages.specs.Limits.{FitsMessage}
+use Rattle.xt_messages.specs.Limits.{FitsMessage, FitsEvent}
 use Rattle.xt_base.specs.declared.ids.NodeId.{NodeId}
 use Rattle.xt_messages.specs.declared.message.Msg.{Msg}
 use Rattle.xt_messages.specs.declared.event.Call.{Call}
@@ -18,7 +18,7 @@ use Rattle.cluster_runs.specs.Rules.{if_so, busy, has_call}
 use Rattle.time_line.specs.Bounds.{FitsCall}
 use Rattle.world_runs.specs.View.{messages}
 use Rattle.world_runs.proofs.Tables.{node_in-id}
-use Rattle.cluster_fits.specs.Fits.{FitsKept, FitsRunning, FitsNode, FitsContent, FitsComing, FitsCalling, FitsDelivery, FitsWorld, Comes}
+use Rattle.cluster_fits.specs.Fits.{FitsKept, FitsRunning, FitsNode, FitsComing, FitsCalling, FitsDelivery, FitsWorld, Comes}
 
 each : {A : Type 0} (P : A → Type 0) (xs : List A) (x : A) → AllByRecursion P xs → Has x xs → P x
 each P [] x all has = absurd (has)
@@ -68,7 +68,7 @@ coming w own id happens fits comes = record {
   );
 }
   where
-    content : (happens : Event) → Comes w own id happens → FitsContent happens
+    content : (happens : Event) → Comes w own id happens → FitsEvent happens
     content (event.Deliver msg) is = elim (either_list own (messages w) msg is.1) [
       | inl h ↦ each FitsMessage own msg fits.queued h
       | inr h ↦ each FitsMessage (messages w) msg (of_sent w.sent fits.sent) h

@@ -27,31 +27,31 @@ use Rattle.xt_messages.specs.declared.reply.Denial.TheVariants as denial
 use Rattle.xt_messages.specs.declared.reply.Reply.{Reply}
 use Rattle.xt_messages.specs.declared.reply.Reply.TheVariants as reply
 use Rattle.xt_messages.specs.Limits.{FitsNode, FitsFile, FitsBoot, FitsBallot, FitsLease, FitsLocation, FitsMessage, FitsPayload, FitsReply, FitsCapability, FitsOp, FitsOpId}
-use Rattle.xt_protocol.specs.declared.Turned.{Turned}
+use Rattle.xt_protocol.specs.declared.turned.Turned.{Turned}
 use Rattle.xt_protocol.specs.Register.{Acceptor, ReadAnswer, promise, read_refused, WriteAnswer, write_refused, on_read, read_under, read_promised, read_outrun, on_write, write_under, write_accepted, write_outrun, write_other_boot, no_ballot, ballot_lt, same_ballot}
-use Rattle.xt_protocol.specs.LeaseRows.{LeaseState, Proposer, Held, free, asking, writing, held, LeaseNews, sends_write, holds, finds, ends, on_answer, can_ask, round_starts, is_renewal_due, renewal_starts, renewal_takes_under, lease_expired}
+use Rattle.xt_protocol.specs.LeaseRows.{LeaseState, running_round, Proposer, Held, free, asking, writing, held, LeaseNews, sends_write, holds, finds, ends, on_answer, can_ask, round_starts, is_renewal_due, renewal_starts, renewal_takes_under, lease_expired}
 use Rattle.xt_protocol.specs.LeaseRows as lease
-use Rattle.osd_rows.specs.declared.Acted.{Acted}
-use Rattle.osd_rows.specs.declared.IssuedAsk.{IssuedAsk}
-use Rattle.osd_rows.specs.declared.Tenure.{Tenure}
-use Rattle.osd_rows.specs.declared.WaitingAsk.{WaitingAsk}
+use Rattle.xt_protocol.specs.declared.states.Acted.{Acted}
+use Rattle.xt_protocol.specs.declared.states.IssuedAsk.{IssuedAsk}
+use Rattle.xt_protocol.specs.declared.states.Tenure.{Tenure}
+use Rattle.xt_protocol.specs.declared.states.WaitingAsk.{WaitingAsk}
 use Rattle.xt_messages.specs.declared.event.Mark.TheVariants as mark
-use Rattle.osd_rows.specs.Turns.{quiet, keeps, the_record, message, sends, shows}
-use Rattle.osd_rows.specs.Primaries.{is_active, have_in, majority_among}
-use Rattle.osd_rows.specs.PrimaryRows.{hears}
-use Rattle.osd_rows.specs.ReplicaRows.{kept_after}
-use Rattle.osd_rows.specs.Serving.{wakes}
-use Rattle.osd_rows.specs.Asks.{Served, no_asks, waits, asked_already, tells_each, tells_untold}
-use Rattle.osd_rows.specs.FileStates.{FileState, Site, FileStep, nothing, steps_to, and_then, serves_to, members_of, stripe_of, ground_of}
-use Rattle.osd_rows.specs.Overdue.{is_due, issued_due, newly_due, deadlines_under, lease_became, expired}
-use Rattle.osd_rows.specs.AskRows.{capability_refused, same_list, list_against, with_member, leaves_object, list_and_range, capability_list_range, refusal_of, waiting_ask, ask_waits, ask_served, round_for, elsewhere, ask_without_lease, ask_under, ask_rows, view_record, ask_let_in, ask_handled}
-use Rattle.osd_rows.specs.FileLeases.{answer_to_read, read_comes, answers_to_write, end_after_write, write_comes, running_round, reported_end, end_after_answer, waiting_told, led_on, lease_news, answer_comes}
-use Rattle.osd_rows.specs.FileSteps.{replica_acts, ask_comes, primary_hears, message_comes, step_of_file, renews, wakes_under_lease, wake_of_file}
+use Rattle.xt_protocol.specs.Turns.{quiet, keeps, the_record, message, sends, shows}
+use Rattle.xt_protocol.specs.Primaries.{is_active, have_in, majority_among}
+use Rattle.xt_protocol.specs.PrimaryRows.{hears}
+use Rattle.xt_protocol.specs.ReplicaRows.{kept_after}
+use Rattle.xt_protocol.specs.Serving.{wakes}
+use Rattle.xt_protocol.specs.Asks.{Served, no_asks, waits, asked_already, tells_each, tells_untold}
+use Rattle.xt_protocol.specs.FileStates.{FileState, Site, FileStep, nothing, steps_to, and_then, serves_to, members_of, stripe_of, ground_of}
+use Rattle.xt_protocol.specs.Overdue.{is_due, issued_due, newly_due, deadlines_under, lease_became, expired}
+use Rattle.xt_protocol.specs.AskRows.{capability_refused, same_list, list_against, with_member, leaves_object, list_and_range, capability_list_range, refusal_of, waiting_ask, ask_waits, ask_served, round_for, elsewhere, ask_without_lease, ask_under, ask_rows, view_record, ask_let_in, ask_handled}
+use Rattle.xt_protocol.specs.FileLeases.{answer_to_read, read_comes, answers_to_write, end_after_write, write_comes, reported_end, end_after_answer, waiting_told, led_on, lease_news, answer_comes}
+use Rattle.xt_protocol.specs.FileSteps.{replica_acts, ask_comes, primary_hears, message_comes, step_of_file, renews, wakes_under_lease, wake_of_file}
 use Rattle.osd_invariants.specs.Sound.{IsStored, ListUnder, IsSound}
 use Rattle.osd_invariants.proofs.Kept.{wake_keeps}
 use Rattle.osd_invariants.proofs.SoundSteps.{expired_so}
 use Rattle.lease_runs.proofs.LeaseSteps.{expired_keeps}
-use Rattle.version_lists.proofs.HeadLimits.{either, when}
+use Rattle.object_versions.proofs.HeadLimits.{either, when}
 use Rattle.cluster_fits.proofs.Lists.{all_append, all_filter}
 use Rattle.cluster_fits.proofs.States.{AreSent, sent, AcceptorIs, ProposerIs, LeaseIs, TargetIs, TenureIs, AskIs, AsksAre, IsInside, RowIs, FileIs, NextIs, SiteIs, StepIs}
 use Rattle.cluster_fits.proofs.Lease.{answer_is, NewsIs, starts_is, renewing_is, expires_is}

@@ -18,7 +18,7 @@ use Rattle.xt_protocol.specs.Folds.{new_row, row_in, row_after, with_row, rows_a
 use Rattle.xt_protocol.specs.SeenBodies.{body_by}
 use Rattle.xt_protocol.specs.Stamps.{is_stamp}
 use Rattle.xt_protocol.proofs.Folds.{fold_of-push, row_in-file}
-use Rattle.version_lists.proofs.HeadLimits.{either}
+use Rattle.object_versions.proofs.HeadLimits.{either}
 use Rattle.cluster_fits.specs.Fits.{FitsNext}
 use Rattle.cluster_fits.proofs.Lists.{all_append}
 use Rattle.cluster_fits.proofs.States.{RowIs, RecordIs, AreBodies}

@@ -14,7 +14,7 @@ use Rattle.xt_messages.specs.Limits.{FitsBoot, FitsBallot, FitsLease, FitsNode, 
 use Rattle.xt_protocol.specs.Register.{Seat, Round, Took, ignored, counted, write_to, alive, Promised, on_promise, report_taken, promise_counted, promise_ignored, live_report, report_after_write, bars, awaits_promise, with_promise, has_promise, majority_of, counted_pairs, awaits_acceptance, with_acceptance, on_acceptance, lease_of, same_ballot, empty_seat}
 use Rattle.xt_protocol.specs.LeaseRows.{Proposer, Held, LeaseState, free, asking, writing, held, LeaseNews, sends_write, holds, finds, ends, LeaseStep, Renewal, no_news, renewal_write, renewed, Renewing, Written, written_still, written_won, written_late, Asked, asked_still, asked_write, asked_found, asked_by, on_answer, asking_promised, asking_answered, writing_answered, writing_accepted, round_won, is_inside, round_over, outrun_learnt, step_of_asking, step_of_written, targets_of, news_of_targets, news_of_renewal, renewal_answered, renewal_promised, renewal_accepted, renewal_won, renewal_under, on_renewal, can_ask, round_starts, renewal_starts, lease_expired, has_run_out, has_turn, renewal_left, with_renewal, without_renewal}
 use Rattle.xt_protocol.specs.LeaseRows as lease
-use Rattle.version_lists.proofs.HeadLimits.{either}
+use Rattle.object_versions.proofs.HeadLimits.{either}
 use Rattle.cluster_fits.proofs.Lists.{all_map, all_weaker}
 use Rattle.cluster_fits.proofs.States.{ProposerIs, SeatIs, RoundIs, HeldIs, LeaseIs, TargetIs}
 

@@ -5,7 +5,7 @@ use Rattle.std.specs.Option.{IfSome}
 use Rattle.std.specs.List.{AllByRecursion}
 use Rattle.lease_safety.specs.State.{Has}
 use Rattle.replica_safety.specs.Lists as replica
-use Rattle.version_lists.proofs.HeadLimits.{either}
+use Rattle.object_versions.proofs.HeadLimits.{either}
 
 pub each_of : {A : Type 0} (P : A → Type 0) (xs : List A) (x : A) → AllByRecursion P xs → Has x xs → P x
 each_of P [] x all has = absurd has

@@ -10,21 +10,20 @@ use Rattle.xt_messages.specs.declared.message.Payload.{Payload}
 use Rattle.xt_messages.specs.declared.message.Payload.TheVariants as payload
 use Rattle.xt_messages.specs.declared.record.FileRow.{FileRow}
 use Rattle.xt_messages.specs.declared.record.Record.{Record}
-use Rattle.xt_messages.specs.Limits.{FitsNode, FitsBoot, FitsFile, FitsMessage, FitsPayload}
+use Rattle.xt_messages.specs.Limits.{FitsNode, FitsBoot, FitsFile, FitsMessage, FitsPayload, FitsEvent}
 use Rattle.xt_protocol.specs.FileIds.{is_file, is_before}
 use Rattle.xt_protocol.specs.Folds.{new_row, row_in, fold_of}
 use Rattle.xt_protocol.specs.LeaseRows.{Silent, Awake, is_silent}
-use Rattle.osd_rows.specs.FileStates.{FileState, Site, FileStep, file_from}
-use Rattle.osd_rows.specs.Overdue.{expired}
-use Rattle.osd_rows.specs.FileSteps.{step_of_file, wake_of_file}
-use Rattle.osd_rows.specs.OsdSteps.{OsdState, OsdStep, FilesStep, osd_from, file_at, with_file, each_file, file_concerned, message_handled, woken, event_handled, handled_awake, step_of_osd}
+use Rattle.xt_protocol.specs.FileStates.{FileState, Site, FileStep, file_from}
+use Rattle.xt_protocol.specs.Overdue.{expired}
+use Rattle.xt_protocol.specs.FileSteps.{step_of_file, wake_of_file}
+use Rattle.xt_protocol.specs.OsdSteps.{OsdState, OsdStep, FilesStep, osd_from, file_at, with_file, each_file, file_concerned, message_handled, woken, event_handled, handled_awake, step_of_osd}
 use Rattle.osd_invariants.specs.Sound.{IsSound}
 use Rattle.lease_runs.proofs.ActSteps.{woken_quiet}
 use Rattle.cluster_runs.specs.NodeSteps.{outside_of}
-use Rattle.cluster_fits.specs.Fits.{FitsContent}
 use Rattle.world_runs.specs.View.{awake_as}
 use Rattle.world_runs.specs.Worlds.{Agrees}
-use Rattle.version_lists.proofs.HeadLimits.{either}
+use Rattle.object_versions.proofs.HeadLimits.{either}
 use Rattle.cluster_fits.proofs.Lists.{all_append, all_map, all_weaker}
 use Rattle.cluster_fits.proofs.States.{AreSent, sent, RowIs, FileIs, NextIs, SiteIs, StepIs}
 use Rattle.cluster_fits.proofs.Files.{expired_is, step_is, wake_is}
@@ -159,14 +158,14 @@ module _ (records : List Record) (site : Site) (here : SiteIs site) (awake : Awa
         outs = (sent site.node (record { 0 = 900 }) _ here.who (omega arith) (omega arith, (omega arith, omega arith)), all_append FitsMessage settled.turned.outs woke.turned.outs first.told second.told);
       }
 
-  pub handled_is : (happens : Event) → FitsContent happens → FilesAre records (event_handled site awake files happens)
+  pub handled_is : (happens : Event) → FitsEvent happens → FilesAre records (event_handled site awake files happens)
   handled_is (event.Deliver msg) fits = message_is msg (file_concerned msg.payload) (concerned_is msg.payload fits.content) fits
   handled_is event.Wake fits = woken_is
   handled_is (event.Call call) fits = record { each = all; next = tt; outs = tt }
 
 -- ---- any event
 
-pub osd_step_is : (records : List Record) (s : OsdState) (reading : ℕ) (happens : Event) → KeptIs records → OsdIs s → reading < 2 ^ 62 → Agrees records s → ((file : FileId) → IsSound (file_at (awake_as s.started) s.files file)) → FitsContent happens
+pub osd_step_is : (records : List Record) (s : OsdState) (reading : ℕ) (happens : Event) → KeptIs records → OsdIs s → reading < 2 ^ 62 → Agrees records s → ((file : FileId) → IsSound (file_at (awake_as s.started) s.files file)) → FitsEvent happens
     → OsdStepIs records (step_of_osd (outside_of records) s reading happens)
 unfolding step_of_osd
 osd_step_is records s reading happens kept is read agrees sound fits =

@@ -21,25 +21,25 @@ use Rattle.xt_messages.specs.Limits.{FitsNode, FitsFile, FitsEpoch, FitsStamp, F
 use Rattle.xt_protocol.specs.Folds.{body_of}
 use Rattle.xt_protocol.specs.FileIds.{is_file}
 use Rattle.xt_protocol.specs.Stamps.{is_epoch, is_earlier, is_below, is_stamp, is_version, has_version, without_version}
-use Rattle.osd_rows.specs.declared.Place.{Place}
-use Rattle.osd_rows.specs.declared.IssuedUpdate.{IssuedUpdate}
-use Rattle.osd_rows.specs.declared.Peer.{Peer}
-use Rattle.osd_rows.specs.declared.PeerState.{PeerState}
-use Rattle.osd_rows.specs.declared.PeerState.TheVariants as peer
-use Rattle.osd_rows.specs.declared.PrimaryState.{PrimaryState}
-use Rattle.osd_rows.specs.declared.Progress.{Progress}
-use Rattle.osd_rows.specs.declared.Progress.TheVariants as progress
-use Rattle.osd_rows.specs.declared.Tenure.{Tenure}
-use Rattle.osd_rows.specs.Choice.{chosen_of, difference}
-use Rattle.osd_rows.specs.Turns.{to_each}
-use Rattle.osd_rows.specs.ReplicaRows.{stage_record}
-use Rattle.osd_rows.specs.Primaries.{Ground, Led, unknown_peer, peer_in, with_peer, nodes_of, reports_of, majority_among, statuses_counted, with_node, carries, known_of_report, known_of_own, with_known, fed_next, fed, last_sent, if_any, last_to_each, target_of, is_unknown}
-use Rattle.osd_rows.specs.PrimaryRows.{unmoved, epoch_above, epoch_drawn, peer_fed, peers_fed, installs, fetches, chooses, status_counted, with_state, peer_sent, feeds, status_told, newer_body, body_put_by, body_beyond, body_fetched, hears_object, target_in, body_staged, body_missed, hears_missing, makes_current, head_acked, committed, update_acked, acked_below, hears_ack, forgotten, peer_behind, outpromised, epoch_told, hears_peer, hears_member, hears_epoch, hears_in, hears}
+use Rattle.xt_protocol.specs.declared.states.Place.{Place}
+use Rattle.xt_protocol.specs.declared.states.IssuedUpdate.{IssuedUpdate}
+use Rattle.xt_protocol.specs.declared.states.Peer.{Peer}
+use Rattle.xt_protocol.specs.declared.states.PeerState.{PeerState}
+use Rattle.xt_protocol.specs.declared.states.PeerState.TheVariants as peer
+use Rattle.xt_protocol.specs.declared.states.PrimaryState.{PrimaryState}
+use Rattle.xt_protocol.specs.declared.states.Progress.{Progress}
+use Rattle.xt_protocol.specs.declared.states.Progress.TheVariants as progress
+use Rattle.xt_protocol.specs.declared.states.Tenure.{Tenure}
+use Rattle.xt_protocol.specs.Choice.{chosen_of, difference}
+use Rattle.xt_protocol.specs.Turns.{to_each}
+use Rattle.xt_protocol.specs.ReplicaRows.{stage_record}
+use Rattle.xt_protocol.specs.Primaries.{Ground, Led, unknown_peer, peer_in, with_peer, nodes_of, reports_of, majority_among, statuses_counted, with_node, carries, known_of_report, known_of_own, with_known, fed_next, fed, last_sent, if_any, last_to_each, target_of, is_unknown}
+use Rattle.xt_protocol.specs.PrimaryRows.{unmoved, epoch_above, epoch_drawn, peer_fed, peers_fed, installs, fetches, chooses, status_counted, with_state, peer_sent, feeds, status_told, newer_body, body_put_by, body_beyond, body_fetched, hears_object, target_in, body_staged, body_missed, hears_missing, makes_current, head_acked, committed, update_acked, acked_below, hears_ack, forgotten, peer_behind, outpromised, epoch_told, hears_peer, hears_member, hears_epoch, hears_in, hears}
 use Rattle.replica_runs.specs.Seen.{AckedFit, nodes_in}
 use Rattle.replica_runs.proofs.Choices.{chosen_is}
 use Rattle.replica_runs.proofs.Counts.{acked_fits}
 use Rattle.replica_runs.proofs.Peers.{peer_found, peer_listed, nodes_with}
-use Rattle.version_lists.proofs.HeadLimits.{either, when}
+use Rattle.object_versions.proofs.HeadLimits.{either, when}
 use Rattle.cluster_fits.proofs.Lists.{each_in, all_filter, all_flat, all_weaker, found_is}
 use Rattle.cluster_fits.proofs.States.{AreSent, sent, PeerStateIs, PeerIs, AckedIs, IssuedIs, ProgressIs, TenureIs, PrimaryIs, AreBodies}
 use Rattle.cluster_fits.proofs.Updates.{no_bytes}

@@ -21,13 +21,13 @@ use Rattle.xt_messages.specs.Limits.{FitsEpoch, FitsStamp, FitsHead, FitsUpdate,
 use Rattle.xt_protocol.specs.Folds.{body_of, row_after}
 use Rattle.xt_protocol.specs.Heads.{head_after}
 use Rattle.xt_protocol.specs.Stamps.{is_epoch, is_earlier, is_below, has_version}
-use Rattle.osd_rows.specs.declared.Acted.{Acted}
-use Rattle.osd_rows.specs.ReplicaRows.{only, refused, behind, as_promised, gathered, fetched_from, stage_record, staged, head_taken, first_missing, head_offered, headed, head_fits, next_update, update_offered, updated, kept_after}
+use Rattle.xt_protocol.specs.declared.states.Acted.{Acted}
+use Rattle.xt_protocol.specs.ReplicaRows.{only, refused, behind, as_promised, gathered, fetched_from, stage_record, staged, head_taken, first_missing, head_offered, headed, head_fits, next_update, update_offered, updated, kept_after}
 use Rattle.replica_records.specs.Sound.{HasRoomFor, FitsLists}
 use Rattle.replica_records.proofs.AfterUpdate.{follows}
 use Rattle.replica_records.proofs.Held.{is_among}
 use Rattle.replica_safety.proofs.Orders.{is_one}
-use Rattle.version_lists.proofs.HeadLimits.{either, when}
+use Rattle.object_versions.proofs.HeadLimits.{either, when}
 use Rattle.cluster_fits.proofs.States.{RowIs, RecordIs, NextIs, AreBodies}
 
 -- ---- epochs

@@ -16,20 +16,20 @@ use Rattle.xt_messages.specs.declared.message.Payload.{Payload}
 use Rattle.xt_messages.specs.declared.message.Payload.TheVariants as payload
 use Rattle.xt_base.specs.FieldLimits.{IsCount}
 use Rattle.xt_messages.specs.Limits.{FitsNode, FitsFile, FitsEpoch, FitsHead, FitsUpdate, FitsMessage, FitsPayload, FitsOp, FitsOpId, FitsReply}
-use Rattle.osd_rows.specs.declared.Place.{Place}
-use Rattle.osd_rows.specs.declared.IssuedUpdate.{IssuedUpdate}
-use Rattle.osd_rows.specs.declared.Peer.{Peer}
-use Rattle.osd_rows.specs.declared.PeerState.{PeerState}
-use Rattle.osd_rows.specs.declared.PeerState.TheVariants as peer
-use Rattle.osd_rows.specs.declared.PrimaryState.{PrimaryState}
-use Rattle.osd_rows.specs.declared.Progress.{Progress}
-use Rattle.osd_rows.specs.declared.Progress.TheVariants as progress
-use Rattle.osd_rows.specs.declared.Tenure.{Tenure}
-use Rattle.osd_rows.specs.declared.WaitingAsk.{WaitingAsk}
-use Rattle.osd_rows.specs.Writes.{Standing, repeated, older, turned_away, fresh, standing}
-use Rattle.osd_rows.specs.Primaries.{Ground, Led, is_current, if_any}
-use Rattle.osd_rows.specs.Serving.{reads_in, reads_under, reads, current_others, issues, next_update_of, issues_unless, write_stands, writes_in, writes_under, writes, gather_unknown, unacked, sent_again, to_peers, wakes_in, wakes_under, wakes}
-use Rattle.version_lists.proofs.HeadLimits.{either, when}
+use Rattle.xt_protocol.specs.declared.states.Place.{Place}
+use Rattle.xt_protocol.specs.declared.states.IssuedUpdate.{IssuedUpdate}
+use Rattle.xt_protocol.specs.declared.states.Peer.{Peer}
+use Rattle.xt_protocol.specs.declared.states.PeerState.{PeerState}
+use Rattle.xt_protocol.specs.declared.states.PeerState.TheVariants as peer
+use Rattle.xt_protocol.specs.declared.states.PrimaryState.{PrimaryState}
+use Rattle.xt_protocol.specs.declared.states.Progress.{Progress}
+use Rattle.xt_protocol.specs.declared.states.Progress.TheVariants as progress
+use Rattle.xt_protocol.specs.declared.states.Tenure.{Tenure}
+use Rattle.xt_protocol.specs.declared.states.WaitingAsk.{WaitingAsk}
+use Rattle.xt_protocol.specs.Writes.{Standing, repeated, older, turned_away, fresh, standing}
+use Rattle.xt_protocol.specs.Primaries.{Ground, Led, is_current, if_any}
+use Rattle.xt_protocol.specs.Serving.{reads_in, reads_under, reads, current_others, issues, next_update_of, issues_unless, write_stands, writes_in, writes_under, writes, gather_unknown, unacked, sent_again, to_peers, wakes_in, wakes_under, wakes}
+use Rattle.object_versions.proofs.HeadLimits.{either, when}
 use Rattle.cluster_fits.proofs.Lists.{all_filter, all_flat, all_weaker}
 use Rattle.cluster_fits.proofs.States.{AreSent, sent, PeerStateIs, PeerIs, IssuedIs, ProgressIs, TenureIs, PrimaryIs, AskIs, IsInside}
 use Rattle.cluster_fits.proofs.Updates.{no_bytes, shown_is, StandingIs, standing_is, update_is}

@@ -21,8 +21,8 @@ use Rattle.xt_messages.specs.Limits.{FitsHead, FitsStamp, FitsOpId, FitsOp, Fits
 use Rattle.xt_base.specs.Overlay.{overlay, cut_or_filled}
 use Rattle.xt_protocol.specs.Heads.{version_of, session_of}
 use Rattle.xt_protocol.specs.Objects.{present_body, readable}
-use Rattle.osd_rows.specs.Writes.{bytes_shown, Standing, repeated, older, turned_away, fresh, is_old_epoch, too_far, room_for_client, reach, judged, by_session, standing, written, objects_of, cuts_body, truncated, update_of}
-use Rattle.version_lists.proofs.HeadLimits.{either}
+use Rattle.xt_protocol.specs.Writes.{bytes_shown, Standing, repeated, older, turned_away, fresh, is_old_epoch, too_far, room_for_client, reach, judged, by_session, standing, written, objects_of, cuts_body, truncated, update_of}
+use Rattle.object_versions.proofs.HeadLimits.{either}
 use Rattle.cluster_fits.proofs.Bytes.{each_byte, are_bytes, each-take, each-drop, each-overlay, each-filled, length-filled, length-overlay}
 use Rattle.cluster_fits.proofs.States.{AreBodies, IsInside}
 

@@ -15,12 +15,12 @@ use Rattle.xt_messages.specs.declared.event.Event.TheVariants as event
 use Rattle.xt_messages.specs.declared.message.Msg.{Msg}
 use Rattle.xt_messages.specs.declared.record.Record.{Record}
 use Rattle.xt_messages.specs.declared.record.Record.TheVariants as kept
-use Rattle.xt_messages.specs.Limits.{FitsLocation, FitsMessage}
+use Rattle.xt_messages.specs.Limits.{FitsLocation, FitsMessage, FitsEvent}
 use Rattle.xt_messages.specs.Limits as limits
-use Rattle.xt_protocol.specs.declared.Turned.{Turned}
+use Rattle.xt_protocol.specs.declared.turned.Turned.{Turned}
 use Rattle.xt_protocol.specs.Folds.{fold_of}
 use Rattle.lease_safety.specs.State.{Has}
-use Rattle.osd_rows.specs.OsdSteps.{OsdState, step_of_osd}
+use Rattle.xt_protocol.specs.OsdSteps.{OsdState, step_of_osd}
 use Rattle.cluster_runs.specs.declared.ClientState.{ClientState}
 use Rattle.cluster_runs.specs.declared.DeclaredFile.{DeclaredFile}
 use Rattle.cluster_runs.specs.declared.Role.TheVariants as role
@@ -41,7 +41,7 @@ use Rattle.world_runs.proofs.LineSteps.{fits_kept}
 use Rattle.world_runs.proofs.Lists.{has_in, has_left, has_right}
 use Rattle.world_runs.proofs.Tables.{same, nobody, node_in-last, node_in-before, node_in-ticked}
 use Rattle.world_runs.proofs.Walk.{IsKept, call_step, NodeStep, of_osd, of_client, of_call, Reaches, StopsAs, NextIs, steps_into, same_messages}
-use Rattle.cluster_fits.specs.Fits.{FitsPlan, FitsRunning, FitsNode, FitsContent, FitsTurned, FitsWorld, FitsAt, Comes, DoStepsFit, call_of}
+use Rattle.cluster_fits.specs.Fits.{FitsPlan, FitsRunning, FitsNode, FitsTurned, FitsWorld, FitsAt, Comes, DoStepsFit, call_of}
 use Rattle.cluster_fits.proofs.Lists.{all_of, each_of}
 use Rattle.cluster_fits.proofs.States.{AreSent}
 use Rattle.cluster_fits.proofs.Kept.{KeptIs, NextOf, none_is, more_is, start_is, next_is}
@@ -99,14 +99,14 @@ module _ (w : World) (own : List Msg) (p : Stage w own) (node : Node) (r : Runni
   abbrev up : UpIs r
   up = up_is node r is_up here
 
-  osd_turn : (s : OsdState) (happens : Event) → r.core ≡ osd s → FitsContent happens
+  osd_turn : (s : OsdState) (happens : Event) → r.core ≡ osd s → FitsEvent happens
       → (let step = step_of_osd (outside_of node.kept) s r.clock happens in TurnIs node (osd step.osd) step.turned)
   osd_turn s happens is_osd fits =
       let core : CoreFits w.times w.files node.id node.kept r (osd s) = subst (CoreFits w.times w.files node.id node.kept r) is_osd (subst (UpFits w.times w.files node.id node.kept) is_up (p.fit.shape.nodes node.id.0 node found).up) in
       let step = osd_step_is node.kept s r.clock happens here.records (core_is r (osd s) is_osd up) up.bounds.clock core.2 (λ file. (at_fits w.files (awake_as s.started) s.files file core.0.fits).sound) fits in
       record { state = step.state; record_next = step.next; outs = step.outs }
 
-  client_event : (c : ClientState) (happens : Event) → r.core ≡ client c → FitsContent happens
+  client_event : (c : ClientState) (happens : Event) → r.core ≡ client c → FitsEvent happens
       → (let step = step_of_client node.id w.times c r.clock happens in TurnIs node (client step.state) step.turned)
   client_event c happens is_client fits =
       let step = client_step_is node.id w.times c r.clock happens here.who (core_is r (client c) is_client up) fits in
@@ -119,7 +119,7 @@ module _ (w : World) (own : List Msg) (p : Stage w own) (node : Node) (r : Runni
       client_turn node _ _ step.state step.rec step.outs
 
   -- a message that comes was sent
-  content_is : (id : NodeId) (happens : Event) → Reaches w own id happens → FitsContent happens
+  content_is : (id : NodeId) (happens : Event) → Reaches w own id happens → FitsEvent happens
   content_is id (event.Deliver msg) comes = p.is.sent msg comes.1
   content_is id event.Wake comes = tt
   content_is id (event.Call k) comes = tt
@@ -134,14 +134,14 @@ module _ (w : World) (own : List Msg) (p : Stage w own) (node : Node) (r : Runni
   turned_fits : (next : Core) (turned : Turned) → TurnIs node next turned → FitsTurned node.kept turned
   turned_fits next turned is = record { record_next = next_is node.kept turned.rec is.record_next; messages = is.outs }
 
-  event_fits : (core : Core) (happens : Event) → r.core ≡ core → FitsContent happens → FitsTurned node.kept (core_step w.times node core r.clock happens).turned
+  event_fits : (core : Core) (happens : Event) → r.core ≡ core → FitsEvent happens → FitsTurned node.kept (core_step w.times node core r.clock happens).turned
   event_fits (osd s) happens is_osd fits = turned_fits _ _ (osd_turn s happens is_osd fits)
   event_fits (client c) happens is_client fits = turned_fits _ _ (client_event c happens is_client fits)
 
   pub handled_fits : (happens : Event) → Comes w own node.id happens → FitsTurned node.kept (core_step w.times node r.core r.clock happens).turned
   handled_fits happens comes = event_fits r.core happens refl (content happens comes)
     where
-      content : (happens : Event) → Comes w own node.id happens → FitsContent happens
+      content : (happens : Event) → Comes w own node.id happens → FitsEvent happens
       content (event.Deliver msg) is = p.is.sent msg is.1
       content event.Wake is = tt
       content (event.Call k) is = tt

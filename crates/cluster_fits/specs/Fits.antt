@@ -3,7 +3,7 @@ use Rattle.std.specs.Prelude.{ℕ, ◌≡◌, ◌<◌, ◌≤◌, ◌^◌, false
 use Rattle.std.specs.Option.{IfSome}
 use Rattle.std.specs.List.{AllByRecursion}
 use Rattle.disk_model.specs.declared.plan.Stop.{Stop}
-use Rattle.xt_messages.specs.Limits.{FitsMessage, FitsRecord}
+use Rattle.xt_messages.specs.Limits.{FitsMessage, FitsEvent, FitsRecord}
 use Rattle.xt_base.specs.declared.ids.NodeId.{NodeId}
 use Rattle.xt_messages.specs.declared.file.Location.{Location}
 use Rattle.xt_messages.specs.declared.file.Op.{Op}
@@ -12,7 +12,7 @@ use Rattle.xt_messages.specs.declared.event.Call.{Call}
 use Rattle.xt_messages.specs.declared.event.Event.{Event}
 use Rattle.xt_messages.specs.declared.event.Event.TheVariants as event
 use Rattle.xt_messages.specs.declared.record.Record.{Record}
-use Rattle.xt_protocol.specs.declared.Turned.{Turned}
+use Rattle.xt_protocol.specs.declared.turned.Turned.{Turned}
 use Rattle.xt_protocol.specs.Folds.{nothing_kept, fold_of, IsInPlace, AreInPlace}
 use Rattle.time_line.specs.declared.line.Line.{Line}
 use Rattle.cluster_runs.specs.declared.Sent.{Sent}
@@ -71,15 +71,9 @@ call_of w node running c k number location asked =
     let capability = declared_capability number location (epoch_of c (declared_file number) k) in
     client_steps (call_of_client node.id w.times (uses c capability) running.clock capability k asked)
 
--- a message that comes is within its limits
-abbrev pub FitsContent : Event → Type 0
-FitsContent (event.Deliver msg) = FitsMessage msg
-FitsContent event.Wake = Unit {0}
-FitsContent (event.Call c) = Unit {0}
-
 -- an event within its limits comes to the node of this id, and what its step gives can be kept and sent
 pub record FitsComing (w : World) (id : NodeId) (happens : Event) : Type 0 where
-  pub message : FitsContent happens
+  pub message : FitsEvent happens
   pub step : (node : Node) (running : Running) → node_in w.nodes id.0 ≡ Some node → node.up ≡ Some running
       → FitsRunning running × FitsTurned node.kept (core_step w.times node running.core running.clock happens).turned
 

@@ -12,18 +12,18 @@ use Rattle.xt_messages.specs.declared.status.Rule.{Rule}
 use Rattle.time_line.specs.declared.entry.Halt.TheVariants as halt
 use Rattle.xt_protocol.specs.Stamps.{with_held}
 use Rattle.xt_protocol.specs.Folds.{body_kept, fold_of, row_in, with_row}
-use Rattle.osd_rows.specs.Choice.{chosen_of, difference}
-use Rattle.osd_rows.specs.Writes.{standing}
-use Rattle.osd_rows.specs.ReplicaRows.{gathered, fetched_from, staged, headed, updated}
-use Rattle.osd_rows.specs.Primaries.{peer_in, with_peer, fed}
-use Rattle.osd_rows.specs.PrimaryRows.{epoch_drawn, hears}
-use Rattle.osd_rows.specs.Serving.{reads, writes, wakes}
-use Rattle.osd_rows.specs.Asks.{serves_all}
-use Rattle.osd_rows.specs.Overdue.{expired}
-use Rattle.osd_rows.specs.AskRows.{refusal_of, ask_handled}
-use Rattle.osd_rows.specs.FileLeases.{read_comes, write_comes, answer_comes}
-use Rattle.osd_rows.specs.FileSteps.{step_of_file, wake_of_file}
-use Rattle.osd_rows.specs.OsdSteps.{file_at, with_file, each_file, step_of_osd}
+use Rattle.xt_protocol.specs.Choice.{chosen_of, difference}
+use Rattle.xt_protocol.specs.Writes.{standing}
+use Rattle.xt_protocol.specs.ReplicaRows.{gathered, fetched_from, staged, headed, updated}
+use Rattle.xt_protocol.specs.Primaries.{peer_in, with_peer, fed}
+use Rattle.xt_protocol.specs.PrimaryRows.{epoch_drawn, hears}
+use Rattle.xt_protocol.specs.Serving.{reads, writes, wakes}
+use Rattle.xt_protocol.specs.Asks.{serves_all}
+use Rattle.xt_protocol.specs.Overdue.{expired}
+use Rattle.xt_protocol.specs.AskRows.{refusal_of, ask_handled}
+use Rattle.xt_protocol.specs.FileLeases.{read_comes, write_comes, answer_comes}
+use Rattle.xt_protocol.specs.FileSteps.{step_of_file, wake_of_file}
+use Rattle.xt_protocol.specs.OsdSteps.{file_at, with_file, each_file, step_of_osd}
 use Rattle.time_line.specs.declared.line.Line.{Line}
 use Rattle.time_line.specs.declared.line.Line.TheVariants as line
 use Rattle.time_line.specs.declared.entry.Entry.{Entry}

@@ -11,12 +11,12 @@ use Rattle.xt_messages.specs.declared.message.Msg.{Msg}
 use Rattle.xt_messages.specs.declared.record.Record.{Record}
 use Rattle.xt_messages.specs.declared.status.Limited.{Limited}
 use Rattle.xt_messages.specs.declared.status.Limited.TheVariants as limited
-use Rattle.xt_protocol.specs.declared.Turned.{Turned}
+use Rattle.xt_protocol.specs.declared.turned.Turned.{Turned}
 use Rattle.xt_messages.specs.FrameLength.{frame_length}
 use Rattle.xt_protocol.specs.SeenBodies.{body_by}
 use Rattle.time_line.specs.declared.entry.Halt.{Halt}
 use Rattle.time_line.specs.declared.entry.Halt.TheVariants as halt
-use Rattle.osd_rows.specs.OsdSteps.{OsdStep, Outside, step_of_osd}
+use Rattle.xt_protocol.specs.OsdSteps.{OsdStep, Outside, step_of_osd}
 use Rattle.time_line.specs.declared.entry.Entry.{Entry}
 use Rattle.time_line.specs.declared.entry.Entry.TheVariants as entry
 use Rattle.cluster_runs.specs.declared.TheConstants.{MESSAGES, MESSAGE_BYTES}

@@ -17,14 +17,14 @@ pub const MESSAGES: u64 = 1_048_576;
 pub const MESSAGE_BYTES: u64 = 1_073_741_824;
 
 /// What a node is declared as.
-#[derive(Clone, Copy, PartialEq, Eq)]
+#[derive(Clone, Copy)]
 pub enum Role {
     Osd,
     Client,
 }
 
 /// A declared file.
-#[derive(Clone, Copy, PartialEq, Eq)]
+#[derive(Clone, Copy)]
 pub struct DeclaredFile {
     pub number: u64,
     pub location: Location,
@@ -38,7 +38,7 @@ pub struct Sent {
 }
 
 /// What a client knows of a file: its first target, if it was aimed or a member has answered, and its truncate epoch.
-#[derive(Clone, Copy, PartialEq, Eq)]
+#[derive(Clone, Copy)]
 pub struct KnownFile {
     pub target: Option<NodeId>,
     pub epoch: u64,

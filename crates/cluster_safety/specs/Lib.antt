@@ -1,2 +1,12 @@
 pub mod Traces
 pub mod Examples
+pub mod Seen
+pub mod Events
+pub mod May
+pub mod Tellings
+pub mod Asks
+pub mod Leaders
+pub mod Winners
+pub mod Steps
+pub mod Senders
+pub mod Runs

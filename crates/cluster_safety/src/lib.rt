@@ -6,6 +6,8 @@
 //! step of a line more: whatever is lost, repeated or comes late, and wherever a node stops, in its appends and sendings too.
 #![tactic(auto)]
 
+pub mod files;
+
 ghost use Rattle.std.specs.Prelude.{◌≡◌, ℕ, true, None, List, [], ◌∷◌, ◌++◌};
 ghost use Rattle.time_line.specs.declared.entry.Entry.{Entry};
 ghost use Rattle.time_line.specs.declared.line.Line.{Line};
@@ -19,8 +21,8 @@ ghost use Rattle.time_line.specs.TimeLine.{is_replicated, stripe_of};
 ghost use Rattle.time_line.specs.Verdicts.{apart, acting, one_order, once, shown, fresh, IsSafe, Break, IsBroken};
 ghost use Rattle.file_runs.specs.Traces.{HaveBegun};
 ghost use Rattle.world_runs.specs.Acts.{ActsHaveBegun};
-ghost use Rattle.world_files.specs.Asks.{operations_of};
-ghost use Rattle.world_files.specs.Runs.{HasOneOrder};
+ghost use Rattle.cluster_safety.specs.Asks.{operations_of};
+ghost use Rattle.cluster_safety.specs.Runs.{HasOneOrder};
 ghost use Rattle.cluster_safety.specs.Traces.{AlwaysHolds};
 ghost use Rattle.cluster_safety.specs.Examples.{caught_up, caught_up_trace};
 

@@ -6,7 +6,7 @@ use xt_base::{CallList, Failed};
 
 /// Where a disk in memory stops: in its write or sync of this number, counted from 1 at the making. Each later
 /// call fails. A crash then leaves the byte `fill` at each place that isn't synced.
-#[derive(Clone, Copy, PartialEq, Eq)]
+#[derive(Clone, Copy)]
 pub struct Stop {
     pub call: u64,
     pub fill: u8,

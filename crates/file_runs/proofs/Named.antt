@@ -7,7 +7,7 @@ use Rattle.xt_messages.specs.declared.file.Op.{Op}
 use Rattle.xt_messages.specs.declared.record.FileRow.{FileRow}
 use Rattle.xt_messages.specs.declared.record.Record.{Record}
 use Rattle.xt_protocol.specs.LeaseRows.{LeaseState}
-use Rattle.osd_rows.specs.FileStates.{FileState, Site, FileStep, file_from}
+use Rattle.xt_protocol.specs.FileStates.{FileState, Site, FileStep, file_from}
 use Rattle.lease_runs.specs.ActsView.{AreActs, MarksAre, no_marks, won, acting}
 use Rattle.lease_runs.proofs.ActSteps.{step_marks, wake_step_marks}
 use Rattle.replica_runs.proofs.Replicas.{same_file}

@@ -11,19 +11,19 @@ use Rattle.xt_messages.specs.declared.message.Payload.TheVariants as payload
 use Rattle.xt_messages.specs.declared.record.FileRow.{FileRow}
 use Rattle.xt_messages.specs.declared.record.Record.{Record}
 use Rattle.xt_messages.specs.declared.record.Record.TheVariants as kept
-use Rattle.xt_protocol.specs.declared.Turned.{Turned}
+use Rattle.xt_protocol.specs.declared.turned.Turned.{Turned}
 use Rattle.xt_protocol.specs.LeaseRows.{Awake}
 use Rattle.osd_invariants.specs.Sound.{IsHeld}
 use Rattle.osd_invariants.proofs.Kept.{expired_follows}
 use Rattle.osd_invariants.proofs.SoundSteps.{start_so, expired_so, step_so, wake_so}
 use Rattle.lease_runs.specs.ActsView.{ListAsked, RecordIs}
 use Rattle.lease_runs.proofs.ActSteps.{step_rec, wake_step_rec}
-use Rattle.osd_rows.specs.FileStates.{FileState, Site, FileStep, file_from}
-use Rattle.osd_rows.specs.FileSteps.{step_of_file}
-use Rattle.osd_rows.specs.PrimaryRows.{body_beyond}
-use Rattle.osd_rows.specs.ReplicaRows.{kept_after}
-use Rattle.osd_rows.specs.Turns.{quiet}
-use Rattle.osd_rows.specs.declared.Tenure.{Tenure}
+use Rattle.xt_protocol.specs.FileStates.{FileState, Site, FileStep, file_from}
+use Rattle.xt_protocol.specs.FileSteps.{step_of_file}
+use Rattle.xt_protocol.specs.PrimaryRows.{body_beyond}
+use Rattle.xt_protocol.specs.ReplicaRows.{kept_after}
+use Rattle.xt_protocol.specs.Turns.{quiet}
+use Rattle.xt_protocol.specs.declared.states.Tenure.{Tenure}
 use Rattle.replica_safety.specs.Epochs.{at_node}
 use Rattle.replica_safety.specs.Lists.{Has, AreDistinct}
 use Rattle.replica_safety.specs.Rules.{Start}

@@ -12,12 +12,12 @@ use Rattle.xt_messages.specs.declared.record.Record.{Record}
 use Rattle.xt_protocol.specs.Folds.{new_row}
 use Rattle.xt_protocol.specs.LeaseRows.{Awake}
 use Rattle.osd_invariants.specs.Sound.{IsHeld}
-use Rattle.osd_rows.specs.FileStates.{FileState, Site, FileStep, file_from, and_then}
-use Rattle.osd_rows.specs.FileSteps.{step_of_file, wake_of_file}
-use Rattle.osd_rows.specs.Overdue.{expired}
-use Rattle.osd_rows.specs.PrimaryRows.{body_beyond}
-use Rattle.osd_rows.specs.ReplicaRows.{kept_after}
-use Rattle.osd_rows.specs.declared.Tenure.{Tenure}
+use Rattle.xt_protocol.specs.FileStates.{FileState, Site, FileStep, file_from, and_then}
+use Rattle.xt_protocol.specs.FileSteps.{step_of_file, wake_of_file}
+use Rattle.xt_protocol.specs.Overdue.{expired}
+use Rattle.xt_protocol.specs.PrimaryRows.{body_beyond}
+use Rattle.xt_protocol.specs.ReplicaRows.{kept_after}
+use Rattle.xt_protocol.specs.declared.states.Tenure.{Tenure}
 use Rattle.replica_safety.specs.Epochs.{at_node}
 use Rattle.replica_safety.specs.Lists.{Has, AreDistinct}
 use Rattle.replica_safety.specs.Rules.{Start}

@@ -11,7 +11,7 @@ use Rattle.xt_messages.specs.declared.file.Op.TheVariants as op
 use Rattle.xt_messages.specs.declared.message.Payload.TheVariants as payload
 use Rattle.xt_protocol.specs.Folds.{new_row}
 use Rattle.xt_protocol.specs.LeaseRows.{Awake}
-use Rattle.osd_rows.specs.FileStates.{FileState, Site, file_from}
+use Rattle.xt_protocol.specs.FileStates.{FileState, Site, file_from}
 use Rattle.replica_safety.specs.Rules.{first_start}
 use Rattle.file_runs.specs.FileRuns.{Sent, FileWorld, Happening, message, wake, goes_on, Event, acts, starts, after, first_world, after_all, MayAll, BeginsFile}
 

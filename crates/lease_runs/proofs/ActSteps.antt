@@ -26,27 +26,27 @@ use Rattle.xt_protocol.specs.Heads.{head_after}
 use Rattle.xt_protocol.specs.LeaseRows.{LeaseState, LeaseNews, Proposer, Held, free, asking, writing, held, sends_write, holds, finds, ends, lease_expired, on_answer, can_ask, is_renewal_due}
 use Rattle.xt_protocol.specs.LeaseRows as lease
 use Rattle.xt_protocol.specs.Stamps.{is_epoch, is_earlier, is_below}
-use Rattle.osd_rows.specs.declared.Acted.{Acted}
-use Rattle.osd_rows.specs.declared.Place.{Place}
-use Rattle.osd_rows.specs.declared.Progress.{Progress}
-use Rattle.osd_rows.specs.declared.Progress.TheVariants as progress
-use Rattle.osd_rows.specs.declared.PrimaryState.{PrimaryState}
-use Rattle.osd_rows.specs.declared.Tenure.{Tenure}
-use Rattle.osd_rows.specs.declared.WaitingAsk.{WaitingAsk}
-use Rattle.osd_rows.specs.Turns.{keeps, quiet, the_record}
-use Rattle.osd_rows.specs.ReplicaRows.{gathered, staged, headed, updated, as_promised, head_taken, head_offered, update_offered, first_missing, head_fits, stage_record, kept_after}
+use Rattle.xt_protocol.specs.declared.states.Acted.{Acted}
+use Rattle.xt_protocol.specs.declared.states.Place.{Place}
+use Rattle.xt_protocol.specs.declared.states.Progress.{Progress}
+use Rattle.xt_protocol.specs.declared.states.Progress.TheVariants as progress
+use Rattle.xt_protocol.specs.declared.states.PrimaryState.{PrimaryState}
+use Rattle.xt_protocol.specs.declared.states.Tenure.{Tenure}
+use Rattle.xt_protocol.specs.declared.states.WaitingAsk.{WaitingAsk}
+use Rattle.xt_protocol.specs.Turns.{keeps, quiet, the_record}
+use Rattle.xt_protocol.specs.ReplicaRows.{gathered, staged, headed, updated, as_promised, head_taken, head_offered, update_offered, first_missing, head_fits, stage_record, kept_after}
 use Rattle.xt_base.specs.declared.TheConstants.{COUNTS}
 use Rattle.lease_runs.specs.LeaseWorld.{LeaseRow}
-use Rattle.osd_rows.specs.Primaries.{Led, is_active}
-use Rattle.osd_rows.specs.PrimaryRows.{epoch_drawn, epoch_above, hears}
-use Rattle.osd_rows.specs.Serving.{wakes, wakes_in, wakes_under}
-use Rattle.osd_rows.specs.Asks.{asked_already, waits}
-use Rattle.osd_rows.specs.FileStates.{FileState, Site, FileStep, and_then, steps_to, ground_of, members_of}
-use Rattle.osd_rows.specs.Overdue.{expired, lease_became, deadlines_under}
-use Rattle.osd_rows.specs.AskRows.{ask_handled, ask_let_in, ask_rows, ask_under, ask_without_lease, refusal_of, elsewhere, view_record, waiting_ask}
-use Rattle.osd_rows.specs.OsdSteps.{each_file, woken}
-use Rattle.osd_rows.specs.FileLeases.{read_comes, write_comes, answer_comes, end_after_answer, lease_news, led_on, waiting_told}
-use Rattle.osd_rows.specs.FileSteps.{step_of_file, message_comes, ask_comes, primary_hears, renews, wakes_under_lease, wake_of_file}
+use Rattle.xt_protocol.specs.Primaries.{Led, is_active}
+use Rattle.xt_protocol.specs.PrimaryRows.{epoch_drawn, epoch_above, hears}
+use Rattle.xt_protocol.specs.Serving.{wakes, wakes_in, wakes_under}
+use Rattle.xt_protocol.specs.Asks.{asked_already, waits}
+use Rattle.xt_protocol.specs.FileStates.{FileState, Site, FileStep, and_then, steps_to, ground_of, members_of}
+use Rattle.xt_protocol.specs.Overdue.{expired, lease_became, deadlines_under}
+use Rattle.xt_protocol.specs.AskRows.{ask_handled, ask_let_in, ask_rows, ask_under, ask_without_lease, refusal_of, elsewhere, view_record, waiting_ask}
+use Rattle.xt_protocol.specs.OsdSteps.{each_file, woken}
+use Rattle.xt_protocol.specs.FileLeases.{read_comes, write_comes, answer_comes, end_after_answer, lease_news, led_on, waiting_told}
+use Rattle.xt_protocol.specs.FileSteps.{step_of_file, message_comes, ask_comes, primary_hears, renews, wakes_under_lease, wake_of_file}
 use Rattle.osd_invariants.proofs.Kept.{wake_keeps, wake_follows, expired_quiet}
 use Rattle.lease_runs.specs.LeaseView.{settled_row}
 use Rattle.lease_runs.specs.OsdView.{wake_step}

@@ -7,16 +7,16 @@ use Rattle.xt_base.specs.declared.ids.FileId.{FileId}
 use Rattle.xt_base.specs.declared.ids.Epoch.{Epoch}
 use Rattle.xt_messages.specs.declared.message.Msg.{Msg}
 use Rattle.xt_messages.specs.declared.reply.Reply.{Reply}
-use Rattle.xt_protocol.specs.declared.Turned.{Turned}
-use Rattle.osd_rows.specs.declared.Place.{Place}
-use Rattle.osd_rows.specs.declared.WaitingAsk.{WaitingAsk}
-use Rattle.osd_rows.specs.declared.IssuedAsk.{IssuedAsk}
-use Rattle.osd_rows.specs.declared.Peer.{Peer}
-use Rattle.osd_rows.specs.declared.PeerState.{PeerState}
-use Rattle.osd_rows.specs.declared.PeerState.TheVariants as peer
-use Rattle.osd_rows.specs.Turns.{joined, reply_to}
-use Rattle.osd_rows.specs.Primaries.{if_any, last_sent, last_to_each}
-use Rattle.osd_rows.specs.Asks.{tells_each, tells_untold}
+use Rattle.xt_protocol.specs.declared.turned.Turned.{Turned}
+use Rattle.xt_protocol.specs.declared.states.Place.{Place}
+use Rattle.xt_protocol.specs.declared.states.WaitingAsk.{WaitingAsk}
+use Rattle.xt_protocol.specs.declared.states.IssuedAsk.{IssuedAsk}
+use Rattle.xt_protocol.specs.declared.states.Peer.{Peer}
+use Rattle.xt_protocol.specs.declared.states.PeerState.{PeerState}
+use Rattle.xt_protocol.specs.declared.states.PeerState.TheVariants as peer
+use Rattle.xt_protocol.specs.Turns.{joined, reply_to}
+use Rattle.xt_protocol.specs.Primaries.{if_any, last_sent, last_to_each}
+use Rattle.xt_protocol.specs.Asks.{tells_each, tells_untold}
 use Rattle.lease_runs.specs.LeaseView.{is_lease_or_ask, leases_and_asks, held_end, held_ends, IsBare}
 
 -- a message that isn't about a lease, before others

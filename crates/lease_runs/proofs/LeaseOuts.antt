@@ -10,8 +10,8 @@ use Rattle.xt_protocol.proofs.Folds.{file-itself}
 use Rattle.xt_protocol.specs.LeaseRows.{LeaseState}
 use Rattle.lease_runs.specs.LeaseWorld.{LeaseSetting, LeaseRow, RowStep, lease_file}
 use Rattle.lease_runs.proofs.Outs.{AreOf, handles_of, asks_of}
-use Rattle.osd_rows.specs.FileStates.{FileState, Site, FileStep}
-use Rattle.osd_rows.specs.FileSteps.{step_of_file}
+use Rattle.xt_protocol.specs.FileStates.{FileState, Site, FileStep}
+use Rattle.xt_protocol.specs.FileSteps.{step_of_file}
 use Rattle.lease_runs.specs.LeaseView.{is_ask, lease_setting, leases_and_asks, lease_outs, is_about, ShowsRow, Follows, handles, asks, stays, Wakes, renewing, resting, settled_row}
 use Rattle.lease_runs.specs.OsdView.{wake_step}
 use Rattle.lease_runs.specs.OutsView.{SendsOfFile}

@@ -30,21 +30,21 @@ use Rattle.xt_protocol.specs.Register.{Write, WriteAnswer, accepted, write_refus
 use Rattle.xt_protocol.specs.LeaseRows.{LeaseState, LeaseNews, Proposer, Held, free, asking, writing, held, sends_write, holds, finds, ends, lease_expired, on_answer, can_ask, is_renewal_due, round_starts}
 use Rattle.xt_protocol.specs.LeaseRows as lease
 use Rattle.lease_runs.specs.LeaseWorld.{LeaseRow, RowStep, row_handles, read_answer, write_answer, news_end, news_outs}
-use Rattle.osd_rows.specs.declared.WaitingAsk.{WaitingAsk}
-use Rattle.osd_rows.specs.declared.Acted.{Acted}
-use Rattle.osd_rows.specs.declared.Tenure.{Tenure}
+use Rattle.xt_protocol.specs.declared.states.WaitingAsk.{WaitingAsk}
+use Rattle.xt_protocol.specs.declared.states.Acted.{Acted}
+use Rattle.xt_protocol.specs.declared.states.Tenure.{Tenure}
 use Rattle.xt_protocol.specs.Stamps.{is_epoch, is_earlier, is_below, has_version}
-use Rattle.osd_rows.specs.Turns.{keeps, message, quiet}
-use Rattle.osd_rows.specs.ReplicaRows.{kept_after, gathered, staged, headed, updated, as_promised, head_taken, first_missing, fetched_from, head_fits}
-use Rattle.osd_rows.specs.Primaries.{is_active, if_any, idle, have_in, majority_among}
-use Rattle.osd_rows.specs.PrimaryRows.{hears}
-use Rattle.osd_rows.specs.Serving.{wakes}
-use Rattle.osd_rows.specs.Asks.{tells_each, tells_untold, asked_already, waits}
-use Rattle.osd_rows.specs.FileStates.{FileState, Site, FileStep, and_then, steps_to, ground_of, members_of}
-use Rattle.osd_rows.specs.Overdue.{expired, lease_became, deadlines_under, newly_due, is_due, no_lease_for_all}
-use Rattle.osd_rows.specs.AskRows.{ask_handled, ask_let_in, ask_rows, ask_under, ask_without_lease, round_for, refusal_of, elsewhere, view_record, waiting_ask}
-use Rattle.osd_rows.specs.FileLeases.{answer_to_read, read_comes, write_comes, answer_comes, answers_to_write, end_after_answer, lease_news, led_on, waiting_told}
-use Rattle.osd_rows.specs.FileSteps.{step_of_file, message_comes, ask_comes, primary_hears, renews, wakes_under_lease, wake_of_file}
+use Rattle.xt_protocol.specs.Turns.{keeps, message, quiet}
+use Rattle.xt_protocol.specs.ReplicaRows.{kept_after, gathered, staged, headed, updated, as_promised, head_taken, first_missing, fetched_from, head_fits}
+use Rattle.xt_protocol.specs.Primaries.{is_active, if_any, idle, have_in, majority_among}
+use Rattle.xt_protocol.specs.PrimaryRows.{hears}
+use Rattle.xt_protocol.specs.Serving.{wakes}
+use Rattle.xt_protocol.specs.Asks.{tells_each, tells_untold, asked_already, waits}
+use Rattle.xt_protocol.specs.FileStates.{FileState, Site, FileStep, and_then, steps_to, ground_of, members_of}
+use Rattle.xt_protocol.specs.Overdue.{expired, lease_became, deadlines_under, newly_due, is_due, no_lease_for_all}
+use Rattle.xt_protocol.specs.AskRows.{ask_handled, ask_let_in, ask_rows, ask_under, ask_without_lease, round_for, refusal_of, elsewhere, view_record, waiting_ask}
+use Rattle.xt_protocol.specs.FileLeases.{answer_to_read, read_comes, write_comes, answer_comes, answers_to_write, end_after_answer, lease_news, led_on, waiting_told}
+use Rattle.xt_protocol.specs.FileSteps.{step_of_file, message_comes, ask_comes, primary_hears, renews, wakes_under_lease, wake_of_file}
 use Rattle.lease_runs.specs.LeaseView.{lease_row_of, is_ask, lease_setting, is_lease_or_ask, leases_and_asks, held_end, held_ends, IsBare, ShowsRow, stays_so, Follows, handles, asks, stays, Wakes, renewing, resting, settled_row}
 use Rattle.osd_invariants.specs.Sound.{IsStored}
 use Rattle.osd_invariants.proofs.Kept.{wake_keeps}

@@ -14,11 +14,11 @@ use Rattle.xt_protocol.specs.FileIds.{is_file, is_before}
 use Rattle.xt_protocol.specs.LeaseRows.{Awake, awake_at, LeaseState, free, asking, writing, held}
 use Rattle.lease_runs.specs.LeaseWorld.{LeaseSetting, LeaseRow, row_asks}
 use Rattle.xt_protocol.proofs.Folds.{file-equal, file-itself, file-back, file-along}
-use Rattle.osd_rows.specs.ReplicaRows.{kept_after}
-use Rattle.osd_rows.specs.FileStates.{FileState, Site, FileStep}
-use Rattle.osd_rows.specs.Overdue.{expired}
-use Rattle.osd_rows.specs.FileSteps.{step_of_file, wake_of_file}
-use Rattle.osd_rows.specs.OsdSteps.{Outside, OsdState, OsdStep, step_of_osd, file_at, with_file, each_file, file_concerned, handled_awake, message_handled, woken}
+use Rattle.xt_protocol.specs.ReplicaRows.{kept_after}
+use Rattle.xt_protocol.specs.FileStates.{FileState, Site, FileStep}
+use Rattle.xt_protocol.specs.Overdue.{expired}
+use Rattle.xt_protocol.specs.FileSteps.{step_of_file, wake_of_file}
+use Rattle.xt_protocol.specs.OsdSteps.{Outside, OsdState, OsdStep, step_of_osd, file_at, with_file, each_file, file_concerned, handled_awake, message_handled, woken}
 use Rattle.lease_runs.specs.LeaseView.{lease_row_of, lease_setting, listed, is_lease_or_ask, leases_and_asks, held_end, held_ends, Follows, Wakes, renewing, resting, settled_row}
 use Rattle.lease_runs.specs.OsdView.{site_of, file_after, ShowsMessage, ShowsWake, wake_step}
 use Rattle.lease_runs.proofs.LeaseSteps.{expired_shows, expired_keeps, step_follows, wake_wakes, wake_after}

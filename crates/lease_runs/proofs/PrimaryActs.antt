@@ -14,31 +14,31 @@ use Rattle.xt_messages.specs.declared.reply.Reply.{Reply}
 use Rattle.xt_messages.specs.declared.reply.Reply.TheVariants as reply
 use Rattle.xt_messages.specs.declared.message.Payload.{Payload}
 use Rattle.xt_messages.specs.declared.message.Payload.TheVariants as payload
-use Rattle.xt_protocol.specs.declared.Turned.{Turned}
+use Rattle.xt_protocol.specs.declared.turned.Turned.{Turned}
 use Rattle.xt_base.specs.declared.TheConstants.{COUNTS}
-use Rattle.osd_rows.specs.declared.Place.{Place}
-use Rattle.osd_rows.specs.declared.WaitingAsk.{WaitingAsk}
-use Rattle.osd_rows.specs.declared.IssuedUpdate.{IssuedUpdate}
-use Rattle.osd_rows.specs.declared.Asks.{Asks}
-use Rattle.osd_rows.specs.declared.PeerState.{PeerState}
-use Rattle.osd_rows.specs.declared.PeerState.TheVariants as peer
-use Rattle.osd_rows.specs.declared.Progress.{Progress}
-use Rattle.osd_rows.specs.declared.Progress.TheVariants as progress
-use Rattle.osd_rows.specs.declared.PrimaryState.{PrimaryState}
-use Rattle.osd_rows.specs.declared.Tenure.{Tenure}
-use Rattle.osd_rows.specs.Turns.{joined}
+use Rattle.xt_protocol.specs.declared.states.Place.{Place}
+use Rattle.xt_protocol.specs.declared.states.WaitingAsk.{WaitingAsk}
+use Rattle.xt_protocol.specs.declared.states.IssuedUpdate.{IssuedUpdate}
+use Rattle.xt_protocol.specs.declared.states.Asks.{Asks}
+use Rattle.xt_protocol.specs.declared.states.PeerState.{PeerState}
+use Rattle.xt_protocol.specs.declared.states.PeerState.TheVariants as peer
+use Rattle.xt_protocol.specs.declared.states.Progress.{Progress}
+use Rattle.xt_protocol.specs.declared.states.Progress.TheVariants as progress
+use Rattle.xt_protocol.specs.declared.states.PrimaryState.{PrimaryState}
+use Rattle.xt_protocol.specs.declared.states.Tenure.{Tenure}
+use Rattle.xt_protocol.specs.Turns.{joined}
 use Rattle.xt_protocol.specs.Stamps.{is_epoch, is_earlier, is_below, is_version, has_version}
-use Rattle.osd_rows.specs.Writes.{Standing, repeated, older, turned_away, fresh}
-use Rattle.osd_rows.specs.Primaries.{Ground, Led, carries, is_unknown, is_ready, known_of_report, majority_among, nodes_of, peer_in, reports_of, statuses_counted, target_of, with_node}
-use Rattle.osd_rows.specs.PrimaryRows.{epoch_drawn, epoch_above, installs, fetches, head_chosen, chooses, status_counted, feeds, status_told, with_state, hears_status, body_fetched, body_beyond, hears_object, body_staged, body_missed, hears_missing, target_in, head_acked, update_acked, acked_below, hears_ack, makes_current, outpromised, hears_peer, hears_member, hears_epoch, hears_in, epoch_told, hears}
-use Rattle.osd_rows.specs.ReplicaRows.{stage_record}
+use Rattle.xt_protocol.specs.Writes.{Standing, repeated, older, turned_away, fresh}
+use Rattle.xt_protocol.specs.Primaries.{Ground, Led, carries, is_unknown, is_ready, known_of_report, majority_among, nodes_of, peer_in, reports_of, statuses_counted, target_of, with_node}
+use Rattle.xt_protocol.specs.PrimaryRows.{epoch_drawn, epoch_above, installs, fetches, head_chosen, chooses, status_counted, feeds, status_told, with_state, hears_status, body_fetched, body_beyond, hears_object, body_staged, body_missed, hears_missing, target_in, head_acked, update_acked, acked_below, hears_ack, makes_current, outpromised, hears_peer, hears_member, hears_epoch, hears_in, epoch_told, hears}
+use Rattle.xt_protocol.specs.ReplicaRows.{stage_record}
 use Rattle.xt_protocol.specs.Folds.{body_of}
-use Rattle.osd_rows.specs.Serving.{issues, issues_unless, write_stands, writes_in, writes_under, writes, next_update_of, reads}
-use Rattle.osd_rows.specs.Asks.{Served, asks_follow, is_read, read_answer, serves, serves_all, serves_waiting, stays, write_done}
+use Rattle.xt_protocol.specs.Serving.{issues, issues_unless, write_stands, writes_in, writes_under, writes, next_update_of, reads}
+use Rattle.xt_protocol.specs.Asks.{Served, asks_follow, is_read, read_answer, serves, serves_all, serves_waiting, stays, write_done}
 use Rattle.xt_messages.specs.declared.event.Mark.{Mark}
 use Rattle.xt_messages.specs.declared.record.Record.{Record}
 use Rattle.xt_messages.specs.declared.record.Record.TheVariants as kept
-use Rattle.osd_rows.specs.Turns.{the_record}
+use Rattle.xt_protocol.specs.Turns.{the_record}
 use Rattle.lease_runs.specs.ActsView.{AreActs, RecordIs}
 
 -- a record of the file, that stores no list

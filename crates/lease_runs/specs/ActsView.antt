@@ -11,8 +11,8 @@ use Rattle.xt_messages.specs.declared.record.Record.{Record}
 use Rattle.xt_messages.specs.declared.record.Record.TheVariants as kept
 use Rattle.xt_protocol.specs.LeaseRows.{LeaseState, free, asking, writing, held}
 use Rattle.osd_invariants.specs.Sound.{IsHeld}
-use Rattle.osd_rows.specs.FileStates.{FileState, Site}
-use Rattle.osd_rows.specs.FileSteps.{step_of_file}
+use Rattle.xt_protocol.specs.FileStates.{FileState, Site}
+use Rattle.xt_protocol.specs.FileSteps.{step_of_file}
 use Rattle.lease_runs.specs.LeaseView.{settled_row}
 use Rattle.lease_runs.specs.OsdView.{wake_step}
 

@@ -10,12 +10,12 @@ use Rattle.xt_messages.specs.declared.event.Mark.{Mark}
 use Rattle.xt_messages.specs.declared.event.Mark.TheVariants as mark
 use Rattle.xt_protocol.specs.FileIds.{is_file}
 use Rattle.xt_protocol.specs.LeaseRows.{LeaseState}
-use Rattle.xt_protocol.specs.declared.Turned.{Turned}
+use Rattle.xt_protocol.specs.declared.turned.Turned.{Turned}
 use Rattle.lease_runs.specs.LeaseWorld.{LeaseSetting, LeaseRow, RowStep, row_handles, row_asks, expired_row, lease_file}
 use Rattle.osd_invariants.specs.Sound.{IsHeld, IsStored}
-use Rattle.osd_rows.specs.FileStates.{FileState, Site, FileStep, members_of}
-use Rattle.osd_rows.specs.Overdue.{expired}
-use Rattle.osd_rows.specs.FileSteps.{step_of_file, wake_of_file}
+use Rattle.xt_protocol.specs.FileStates.{FileState, Site, FileStep, members_of}
+use Rattle.xt_protocol.specs.Overdue.{expired}
+use Rattle.xt_protocol.specs.FileSteps.{step_of_file, wake_of_file}
 
 -- the lease of a file, of all that a node has of the file
 abbrev pub lease_row_of : FileState → LeaseRow

@@ -5,10 +5,10 @@ use Rattle.xt_messages.specs.declared.message.Msg.{Msg}
 use Rattle.xt_messages.specs.declared.event.Event.TheVariants as event
 use Rattle.xt_protocol.specs.FileIds.{is_file}
 use Rattle.xt_protocol.specs.LeaseRows.{Awake, awake_at}
-use Rattle.osd_rows.specs.FileStates.{FileState, Site, FileStep, and_then}
-use Rattle.osd_rows.specs.Overdue.{expired}
-use Rattle.osd_rows.specs.FileSteps.{wake_of_file}
-use Rattle.osd_rows.specs.OsdSteps.{Outside, OsdState, OsdStep, step_of_osd, file_at, file_concerned}
+use Rattle.xt_protocol.specs.FileStates.{FileState, Site, FileStep, and_then}
+use Rattle.xt_protocol.specs.Overdue.{expired}
+use Rattle.xt_protocol.specs.FileSteps.{wake_of_file}
+use Rattle.xt_protocol.specs.OsdSteps.{Outside, OsdState, OsdStep, step_of_osd, file_at, file_concerned}
 use Rattle.lease_runs.specs.LeaseView.{Follows, Wakes, leases_and_asks, held_ends, settled_row}
 
 -- the node at the moment of a step

@@ -4,8 +4,8 @@ use Rattle.xt_base.specs.declared.ids.NodeId.{NodeId}
 use Rattle.xt_base.specs.declared.ids.FileId.{FileId}
 use Rattle.xt_messages.specs.declared.message.Payload.{Payload}
 use Rattle.xt_protocol.specs.FileIds.{is_file}
-use Rattle.osd_rows.specs.FileStates.{FileState, Site, FileStep}
-use Rattle.osd_rows.specs.FileSteps.{step_of_file}
+use Rattle.xt_protocol.specs.FileStates.{FileState, Site, FileStep}
+use Rattle.xt_protocol.specs.FileSteps.{step_of_file}
 use Rattle.lease_runs.specs.LeaseView.{leases_and_asks, lease_outs}
 use Rattle.lease_runs.specs.OsdView.{wake_step}
 

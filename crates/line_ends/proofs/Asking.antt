@@ -13,35 +13,34 @@ use Rattle.xt_messages.specs.declared.file.Op.{Op}
 use Rattle.xt_messages.specs.declared.message.Payload.{Payload}
 use Rattle.xt_messages.specs.declared.message.Payload.TheVariants as payload
 use Rattle.xt_messages.specs.declared.reply.Reply.{Reply}
-use Rattle.xt_protocol.specs.LeaseRows.{LeaseState, Proposer, free, asking, writing, held, can_ask, round_starts}
+use Rattle.xt_protocol.specs.LeaseRows.{LeaseState, running_round, Proposer, free, asking, writing, held, can_ask, round_starts}
 use Rattle.xt_protocol.specs.Register.{empty_seat}
-use Rattle.osd_rows.specs.declared.Asks.{Asks}
-use Rattle.osd_rows.specs.declared.IssuedAsk.{IssuedAsk}
-use Rattle.osd_rows.specs.declared.IssuedUpdate.{IssuedUpdate}
-use Rattle.osd_rows.specs.declared.Progress.{Progress}
-use Rattle.osd_rows.specs.declared.Progress.TheVariants as progress
-use Rattle.osd_rows.specs.declared.Tenure.{Tenure}
-use Rattle.osd_rows.specs.declared.WaitingAsk.{WaitingAsk}
-use Rattle.osd_rows.specs.Turns.{quiet, keeps}
-use Rattle.osd_rows.specs.ReplicaRows.{kept_after}
-use Rattle.osd_rows.specs.Primaries.{is_active, is_ready, issued_by, issued_in}
-use Rattle.osd_rows.specs.Serving.{writes}
-use Rattle.osd_rows.specs.Asks.{Served, WAITING, asked_already, is_read, serves, waits, write_done}
-use Rattle.osd_rows.specs.FileStates.{FileState, Site, FileStep, nothing, steps_to, and_then, members_of, ground_of}
-use Rattle.osd_rows.specs.FileLeases.{running_round}
-use Rattle.osd_rows.specs.AskRows.{turned_off, refusal_of, waiting_ask, ask_waits, ask_served, reads_of, round_for, elsewhere, ask_without_lease, ask_under, ask_rows, view_record, ask_let_in, ask_handled}
-use Rattle.osd_rows.specs.FileSteps.{ask_comes}
-use Rattle.osd_rows.specs.OsdSteps.{file_concerned}
+use Rattle.xt_protocol.specs.declared.states.Asks.{Asks}
+use Rattle.xt_protocol.specs.declared.states.IssuedAsk.{IssuedAsk}
+use Rattle.xt_protocol.specs.declared.states.IssuedUpdate.{IssuedUpdate}
+use Rattle.xt_protocol.specs.declared.states.Progress.{Progress}
+use Rattle.xt_protocol.specs.declared.states.Progress.TheVariants as progress
+use Rattle.xt_protocol.specs.declared.states.Tenure.{Tenure}
+use Rattle.xt_protocol.specs.declared.states.WaitingAsk.{WaitingAsk}
+use Rattle.xt_protocol.specs.Turns.{quiet, keeps}
+use Rattle.xt_protocol.specs.ReplicaRows.{kept_after}
+use Rattle.xt_protocol.specs.Primaries.{is_active, is_ready, issued_by, issued_in}
+use Rattle.xt_protocol.specs.Serving.{writes}
+use Rattle.xt_protocol.specs.Asks.{Served, WAITING, asked_already, is_read, serves, waits, write_done}
+use Rattle.xt_protocol.specs.FileStates.{FileState, Site, FileStep, nothing, steps_to, and_then, members_of, ground_of}
+use Rattle.xt_protocol.specs.AskRows.{turned_off, refusal_of, waiting_ask, ask_waits, ask_served, reads_of, round_for, elsewhere, ask_without_lease, ask_under, ask_rows, view_record, ask_let_in, ask_handled}
+use Rattle.xt_protocol.specs.FileSteps.{ask_comes}
+use Rattle.xt_protocol.specs.OsdSteps.{file_concerned}
 use Rattle.osd_invariants.specs.Sound.{AreOne, IsHeld, IsSound}
 use Rattle.cluster_runs.specs.NodeSteps.{to_itself}
 use Rattle.xt_messages.specs.declared.file.FileHead.{FileHead}
 use Rattle.xt_messages.specs.declared.record.FileRow.{FileRow}
 use Rattle.xt_messages.specs.declared.record.Record.{Record}
-use Rattle.osd_rows.specs.declared.PrimaryState.{PrimaryState}
-use Rattle.osd_rows.specs.Primaries.{Ground, Led, is_ready_in}
-use Rattle.osd_rows.specs.Turns.{joined}
-use Rattle.osd_rows.specs.Serving.{reads}
-use Rattle.osd_rows.specs.Asks.{newly_issued, read_answer}
+use Rattle.xt_protocol.specs.declared.states.PrimaryState.{PrimaryState}
+use Rattle.xt_protocol.specs.Primaries.{Ground, Led, is_ready_in}
+use Rattle.xt_protocol.specs.Turns.{joined}
+use Rattle.xt_protocol.specs.Serving.{reads}
+use Rattle.xt_protocol.specs.Asks.{newly_issued, read_answer}
 use Rattle.xt_protocol.specs.Register.{Round}
 use Rattle.line_ends.proofs.Leases.{IsLeaseOf}
 use Rattle.line_ends.proofs.Weights.{asks_left}

@@ -13,13 +13,13 @@ use Rattle.xt_messages.specs.declared.message.Payload.TheVariants as payload
 use Rattle.xt_protocol.specs.Stamps.{is_version, has_version, without_version, with_held}
 use Rattle.xt_protocol.proofs.Stamps.{version-equal, version-itself, has_version-with_held}
 use Rattle.lease_safety.specs.State.{Has}
-use Rattle.osd_rows.specs.declared.IssuedUpdate.{IssuedUpdate}
-use Rattle.osd_rows.specs.declared.PeerState.{PeerState}
-use Rattle.osd_rows.specs.declared.PeerState.TheVariants as peer
-use Rattle.osd_rows.specs.Primaries.{fed, fed_next, with_known, last_sent}
+use Rattle.xt_protocol.specs.declared.states.IssuedUpdate.{IssuedUpdate}
+use Rattle.xt_protocol.specs.declared.states.PeerState.{PeerState}
+use Rattle.xt_protocol.specs.declared.states.PeerState.TheVariants as peer
+use Rattle.xt_protocol.specs.Primaries.{fed, fed_next, with_known, last_sent}
 use Rattle.xt_messages.specs.declared.record.FileRow.{FileRow}
 use Rattle.xt_protocol.specs.Stamps.{is_earlier}
-use Rattle.osd_rows.specs.OsdSteps.{file_concerned}
+use Rattle.xt_protocol.specs.OsdSteps.{file_concerned}
 use Rattle.line_ends.proofs.Standing.{IsLacking, Stands}
 use Rattle.line_ends.proofs.Weights.{is_lacked, bodies_to, are_named, unless, rank}
 use Rattle.line_ends.proofs.Tests.{false_true, not_both}

@@ -11,15 +11,15 @@ use Rattle.xt_messages.specs.declared.record.FileRow.{FileRow}
 use Rattle.xt_base.specs.declared.TheConstants.{OBJECTS}
 use Rattle.xt_protocol.specs.Folds.{body_of}
 use Rattle.xt_protocol.specs.LeaseRows.{LeaseState, free, asking, writing, held}
-use Rattle.osd_rows.specs.declared.Asks.{Asks}
-use Rattle.osd_rows.specs.declared.PeerState.{PeerState}
-use Rattle.osd_rows.specs.declared.PeerState.TheVariants as peer
-use Rattle.osd_rows.specs.declared.Progress.{Progress}
-use Rattle.osd_rows.specs.declared.Progress.TheVariants as progress
-use Rattle.osd_rows.specs.declared.Tenure.{Tenure}
-use Rattle.osd_rows.specs.Primaries.{peer_in}
-use Rattle.osd_rows.specs.PrimaryRows.{target_in}
-use Rattle.osd_rows.specs.FileStates.{FileState}
+use Rattle.xt_protocol.specs.declared.states.Asks.{Asks}
+use Rattle.xt_protocol.specs.declared.states.PeerState.{PeerState}
+use Rattle.xt_protocol.specs.declared.states.PeerState.TheVariants as peer
+use Rattle.xt_protocol.specs.declared.states.Progress.{Progress}
+use Rattle.xt_protocol.specs.declared.states.Progress.TheVariants as progress
+use Rattle.xt_protocol.specs.declared.states.Tenure.{Tenure}
+use Rattle.xt_protocol.specs.Primaries.{peer_in}
+use Rattle.xt_protocol.specs.PrimaryRows.{target_in}
+use Rattle.xt_protocol.specs.FileStates.{FileState}
 use Rattle.xt_protocol.specs.Stamps.{is_earlier, is_epoch}
 use Rattle.cluster_runs.specs.Lines.{OWN}
 use Rattle.line_ends.proofs.Weights.{Stand, are_named, asks_left, bodies_left, bodies_to, epoch_left, is_lacked, is_wanted, rank, settles, stand_of, tenure_left, unless}

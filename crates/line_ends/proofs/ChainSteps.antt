@@ -10,10 +10,10 @@ use Rattle.xt_messages.specs.declared.record.FileRow.{FileRow}
 use Rattle.xt_protocol.specs.FileIds.{is_file}
 use Rattle.xt_protocol.proofs.Folds.{file-itself}
 use Rattle.lease_safety.specs.State.{Has}
-use Rattle.osd_rows.specs.Turns.{message}
-use Rattle.osd_rows.specs.FileStates.{FileState, FileStep}
-use Rattle.osd_rows.specs.FileSteps.{step_of_file}
-use Rattle.osd_rows.specs.OsdSteps.{Outside, OsdState, file_at, with_file, file_concerned, message_handled}
+use Rattle.xt_protocol.specs.Turns.{message}
+use Rattle.xt_protocol.specs.FileStates.{FileState, FileStep}
+use Rattle.xt_protocol.specs.FileSteps.{step_of_file}
+use Rattle.xt_protocol.specs.OsdSteps.{Outside, OsdState, file_at, with_file, file_concerned, message_handled}
 use Rattle.lease_runs.specs.LeaseView.{is_about}
 use Rattle.lease_runs.specs.OsdView.{site_of}
 use Rattle.lease_runs.proofs.OsdLeases.{at_file, step_keeps}

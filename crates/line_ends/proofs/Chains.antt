@@ -11,8 +11,8 @@ use Rattle.xt_protocol.specs.FileIds.{is_file, is_before}
 use Rattle.xt_protocol.specs.Folds.{new_row}
 use Rattle.xt_protocol.specs.LeaseRows.{Awake}
 use Rattle.xt_protocol.proofs.Folds.{file-equal, file-itself}
-use Rattle.osd_rows.specs.FileStates.{FileState, file_from}
-use Rattle.osd_rows.specs.OsdSteps.{file_at, with_file, file_concerned}
+use Rattle.xt_protocol.specs.FileStates.{FileState, file_from}
+use Rattle.xt_protocol.specs.OsdSteps.{file_at, with_file, file_concerned}
 use Rattle.lease_runs.specs.LeaseView.{is_about}
 use Rattle.lease_runs.proofs.OsdLeases.{file_at-with_file}
 use Rattle.world_runs.specs.Worlds.{AreBehind, Rises, files_of}

@@ -9,13 +9,13 @@ use Rattle.xt_messages.specs.declared.event.Event.TheVariants as event
 use Rattle.xt_messages.specs.declared.message.Msg.{Msg}
 use Rattle.xt_messages.specs.declared.message.Payload.{Payload}
 use Rattle.xt_messages.specs.declared.record.Record.TheVariants as kept
-use Rattle.xt_protocol.specs.declared.Turned.{Turned}
+use Rattle.xt_protocol.specs.declared.turned.Turned.{Turned}
 use Rattle.xt_protocol.specs.LeaseRows.{is_silent}
 use Rattle.lease_safety.specs.State.{Has}
 use Rattle.lease_runs.proofs.Tests.{same_node}
 use Rattle.lease_runs.specs.LeaseView.{is_ask}
-use Rattle.osd_rows.specs.FileStates.{FileState}
-use Rattle.osd_rows.specs.OsdSteps.{OsdState, OsdStep, step_of_osd}
+use Rattle.xt_protocol.specs.FileStates.{FileState}
+use Rattle.xt_protocol.specs.OsdSteps.{OsdState, OsdStep, step_of_osd}
 use Rattle.cluster_runs.specs.declared.TheConstants.{NODES}
 use Rattle.cluster_runs.specs.declared.ClientState.{ClientState}
 use Rattle.cluster_runs.specs.declared.DeclaredFile.{DeclaredFile}
@@ -37,7 +37,7 @@ use Rattle.std.proofs.Common.{◌*◌, length}
 use Rattle.std.specs.Prelude.{Result, Ok, Err, nat_lt, slice_get, slice_set, ◌-◌, zero, suc}
 use Rattle.xt_messages.specs.declared.file.Op.{Op}
 use Rattle.xt_messages.specs.declared.event.Call.{Call}
-use Rattle.osd_rows.specs.Turns.{message}
+use Rattle.xt_protocol.specs.Turns.{message}
 use Rattle.cluster_runs.specs.Lines.{OWN, no_longer_pending, delivers}
 use Rattle.cluster_runs.specs.NodeSteps.{Room, Cause, Overflow, came_to, has_no_room, Doing, end_of_step, event_at, event_comes, core_step, osd_steps, client_steps}
 use Rattle.xt_messages.specs.declared.status.Limited.TheVariants as limited

@@ -32,30 +32,30 @@ use Rattle.xt_protocol.specs.Register.{ReadAnswer, promise, read_refused, WriteA
 use Rattle.xt_protocol.specs.LeaseRows.{LeaseState, Proposer, Held, free, asking, writing, held, LeaseNews, sends_write, holds, finds, ends, on_answer, can_ask, round_starts, is_renewal_due, lease_expired}
 use Rattle.xt_protocol.specs.LeaseRows as lease
 use Rattle.xt_protocol.specs.Stamps.{is_epoch, is_earlier, is_below, has_version}
-use Rattle.osd_rows.specs.declared.Acted.{Acted}
-use Rattle.osd_rows.specs.declared.Asks.{Asks}
-use Rattle.osd_rows.specs.declared.IssuedAsk.{IssuedAsk}
-use Rattle.osd_rows.specs.declared.IssuedUpdate.{IssuedUpdate}
-use Rattle.osd_rows.specs.declared.PeerState.{PeerState}
-use Rattle.osd_rows.specs.declared.PeerState.TheVariants as peer
-use Rattle.osd_rows.specs.declared.Place.{Place}
-use Rattle.osd_rows.specs.declared.PrimaryState.{PrimaryState}
-use Rattle.osd_rows.specs.declared.Progress.{Progress}
-use Rattle.osd_rows.specs.declared.Progress.TheVariants as progress
-use Rattle.osd_rows.specs.declared.Tenure.{Tenure}
-use Rattle.osd_rows.specs.declared.WaitingAsk.{WaitingAsk}
-use Rattle.osd_rows.specs.Turns.{quiet, joined, the_record, keeps, message, reply_to}
-use Rattle.osd_rows.specs.Writes.{Standing, repeated, older, turned_away, fresh, standing}
-use Rattle.osd_rows.specs.Primaries.{Ground, Led, if_any, is_active, is_ready, have_in, majority_among}
-use Rattle.osd_rows.specs.PrimaryRows.{hears, hears_in}
-use Rattle.osd_rows.specs.ReplicaRows.{kept_after, gathered, fetched_from, staged, stage_record, headed, head_offered, head_taken, first_missing, updated, update_offered, head_fits, as_promised}
-use Rattle.osd_rows.specs.Serving.{current_others, issues, next_update_of, reads, write_stands, writes_in, writes_under, writes, gather_unknown, sent_again, wakes_in, wakes_under, wakes}
-use Rattle.osd_rows.specs.Asks.{Served, asks_behind, asks_follow, is_read, no_asks, read_answer, serves, serves_all, serves_waiting, stays, tells_each, tells_untold, waits, write_done, asked_already}
-use Rattle.osd_rows.specs.FileStates.{FileState, Site, FileStep, steps_to, and_then, members_of, ground_of}
-use Rattle.osd_rows.specs.Overdue.{is_due, newly_due, deadlines_under, lease_became, expired}
-use Rattle.osd_rows.specs.FileLeases.{read_comes, write_comes, answer_comes, answer_to_read, answers_to_write, end_after_answer, lease_news, led_on, waiting_told}
-use Rattle.osd_rows.specs.AskRows.{ask_handled, ask_let_in, ask_rows, ask_under, ask_without_lease, elsewhere, refusal_of, view_record, waiting_ask}
-use Rattle.osd_rows.specs.FileSteps.{replica_acts, ask_comes, primary_hears, message_comes, renews, step_of_file, wakes_under_lease, wake_of_file}
+use Rattle.xt_protocol.specs.declared.states.Acted.{Acted}
+use Rattle.xt_protocol.specs.declared.states.Asks.{Asks}
+use Rattle.xt_protocol.specs.declared.states.IssuedAsk.{IssuedAsk}
+use Rattle.xt_protocol.specs.declared.states.IssuedUpdate.{IssuedUpdate}
+use Rattle.xt_protocol.specs.declared.states.PeerState.{PeerState}
+use Rattle.xt_protocol.specs.declared.states.PeerState.TheVariants as peer
+use Rattle.xt_protocol.specs.declared.states.Place.{Place}
+use Rattle.xt_protocol.specs.declared.states.PrimaryState.{PrimaryState}
+use Rattle.xt_protocol.specs.declared.states.Progress.{Progress}
+use Rattle.xt_protocol.specs.declared.states.Progress.TheVariants as progress
+use Rattle.xt_protocol.specs.declared.states.Tenure.{Tenure}
+use Rattle.xt_protocol.specs.declared.states.WaitingAsk.{WaitingAsk}
+use Rattle.xt_protocol.specs.Turns.{quiet, joined, the_record, keeps, message, reply_to}
+use Rattle.xt_protocol.specs.Writes.{Standing, repeated, older, turned_away, fresh, standing}
+use Rattle.xt_protocol.specs.Primaries.{Ground, Led, if_any, is_active, is_ready, have_in, majority_among}
+use Rattle.xt_protocol.specs.PrimaryRows.{hears, hears_in}
+use Rattle.xt_protocol.specs.ReplicaRows.{kept_after, gathered, fetched_from, staged, stage_record, headed, head_offered, head_taken, first_missing, updated, update_offered, head_fits, as_promised}
+use Rattle.xt_protocol.specs.Serving.{current_others, issues, next_update_of, reads, write_stands, writes_in, writes_under, writes, gather_unknown, sent_again, wakes_in, wakes_under, wakes}
+use Rattle.xt_protocol.specs.Asks.{Served, asks_behind, asks_follow, is_read, no_asks, read_answer, serves, serves_all, serves_waiting, stays, tells_each, tells_untold, waits, write_done, asked_already}
+use Rattle.xt_protocol.specs.FileStates.{FileState, Site, FileStep, steps_to, and_then, members_of, ground_of}
+use Rattle.xt_protocol.specs.Overdue.{is_due, newly_due, deadlines_under, lease_became, expired}
+use Rattle.xt_protocol.specs.FileLeases.{read_comes, write_comes, answer_comes, answer_to_read, answers_to_write, end_after_answer, lease_news, led_on, waiting_told}
+use Rattle.xt_protocol.specs.AskRows.{ask_handled, ask_let_in, ask_rows, ask_under, ask_without_lease, elsewhere, refusal_of, view_record, waiting_ask}
+use Rattle.xt_protocol.specs.FileSteps.{replica_acts, ask_comes, primary_hears, message_comes, renews, step_of_file, wakes_under_lease, wake_of_file}
 use Rattle.osd_invariants.proofs.Kept.{wake_keeps}
 use Rattle.line_ends.proofs.Sizes.{IsSmall, ContentSmall, AreSmall, StateSmall, TenureSmall, KeepsSmall, LedSmall, both_small, each_small, peers_outs, drawn_small, hears_small}
 

@@ -10,9 +10,9 @@ use Rattle.xt_messages.specs.declared.record.FileRow.{FileRow}
 use Rattle.xt_messages.specs.declared.file.Capability.{Capability}
 use Rattle.xt_messages.specs.declared.file.Op.{Op}
 use Rattle.lease_runs.specs.LeaseView.{is_ask}
-use Rattle.osd_rows.specs.FileStates.{FileState, Site, FileStep, and_then, members_of}
-use Rattle.osd_rows.specs.FileSteps.{message_comes, step_of_file, wake_of_file}
-use Rattle.osd_rows.specs.Overdue.{expired}
+use Rattle.xt_protocol.specs.FileStates.{FileState, Site, FileStep, and_then, members_of}
+use Rattle.xt_protocol.specs.FileSteps.{message_comes, step_of_file, wake_of_file}
+use Rattle.xt_protocol.specs.Overdue.{expired}
 use Rattle.osd_invariants.specs.Sound.{IsSound}
 use Rattle.osd_invariants.proofs.SoundSteps.{expired_so}
 use Rattle.world_runs.proofs.FileIds.{FileIs}

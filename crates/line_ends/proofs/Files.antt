@@ -10,21 +10,20 @@ use Rattle.xt_messages.specs.declared.message.Payload.TheVariants as payload
 use Rattle.xt_messages.specs.declared.record.FileRow.{FileRow}
 use Rattle.xt_messages.specs.declared.reply.Reply.{Reply}
 use Rattle.xt_messages.specs.declared.reply.Reply.TheVariants as reply
-use Rattle.xt_protocol.specs.LeaseRows.{LeaseState, free, asking, writing, held, Held, lease_expired, has_run_out, round_over, has_turn, renewal_left}
+use Rattle.xt_protocol.specs.LeaseRows.{LeaseState, running_round, free, asking, writing, held, Held, lease_expired, has_run_out, round_over, has_turn, renewal_left}
 use Rattle.xt_protocol.specs.Register.{Round}
 use Rattle.lease_safety.specs.State.{Has}
-use Rattle.osd_rows.specs.declared.Asks.{Asks}
-use Rattle.osd_rows.specs.declared.IssuedAsk.{IssuedAsk}
-use Rattle.osd_rows.specs.declared.Tenure.{Tenure}
-use Rattle.osd_rows.specs.declared.WaitingAsk.{WaitingAsk}
-use Rattle.osd_rows.specs.Turns.{reply_to}
-use Rattle.osd_rows.specs.Primaries.{have_in, majority_among, issued_by, issued_in}
-use Rattle.osd_rows.specs.Asks.{no_asks, tells_each, tells_untold, WAITING}
-use Rattle.osd_rows.specs.FileStates.{FileState, Site, FileStep, nothing}
-use Rattle.osd_rows.specs.FileLeases.{running_round}
-use Rattle.osd_rows.specs.Overdue.{is_due, issued_due, newly_due, no_lease_for_all, lease_lapses, deadlines_come, deadlines_under, lease_became, expired}
+use Rattle.xt_protocol.specs.declared.states.Asks.{Asks}
+use Rattle.xt_protocol.specs.declared.states.IssuedAsk.{IssuedAsk}
+use Rattle.xt_protocol.specs.declared.states.Tenure.{Tenure}
+use Rattle.xt_protocol.specs.declared.states.WaitingAsk.{WaitingAsk}
+use Rattle.xt_protocol.specs.Turns.{reply_to}
+use Rattle.xt_protocol.specs.Primaries.{have_in, majority_among, issued_by, issued_in}
+use Rattle.xt_protocol.specs.Asks.{no_asks, tells_each, tells_untold, WAITING}
+use Rattle.xt_protocol.specs.FileStates.{FileState, Site, FileStep, nothing}
+use Rattle.xt_protocol.specs.Overdue.{is_due, issued_due, newly_due, no_lease_for_all, lease_lapses, deadlines_come, deadlines_under, lease_became, expired}
 use Rattle.osd_invariants.specs.Sound.{IsHeld, AreOne}
-use Rattle.osd_rows.specs.declared.IssuedUpdate.{IssuedUpdate}
+use Rattle.xt_protocol.specs.declared.states.IssuedUpdate.{IssuedUpdate}
 use Rattle.cluster_runs.specs.NodeSteps.{to_itself}
 use Rattle.world_runs.proofs.Lists.{has_filter}
 use Rattle.world_runs.proofs.FileIds.{FileIs, IssuedAskIs, expired_is}

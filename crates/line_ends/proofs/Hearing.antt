@@ -20,17 +20,17 @@ use Rattle.xt_protocol.specs.Folds.{body_of}
 use Rattle.xt_protocol.specs.Stamps.{is_epoch, is_earlier, is_below, is_version, has_version, without_version}
 use Rattle.lease_runs.proofs.Tests.{same_node}
 use Rattle.replica_safety.proofs.Orders.{before_up_to, same_is}
-use Rattle.osd_rows.specs.declared.Place.{Place}
-use Rattle.osd_rows.specs.declared.IssuedUpdate.{IssuedUpdate}
-use Rattle.osd_rows.specs.declared.PeerState.{PeerState}
-use Rattle.osd_rows.specs.declared.PeerState.TheVariants as peer
-use Rattle.osd_rows.specs.declared.Progress.{Progress}
-use Rattle.osd_rows.specs.declared.Progress.TheVariants as progress
-use Rattle.osd_rows.specs.declared.Tenure.{Tenure}
-use Rattle.osd_rows.specs.Turns.{message, sends}
-use Rattle.osd_rows.specs.ReplicaRows.{kept_after, stage_record}
-use Rattle.osd_rows.specs.Primaries.{Led, carries, is_unknown, issued_in, is_ready_in, nodes_of, peer_in, target_of, with_known, with_node}
-use Rattle.osd_rows.specs.PrimaryRows.{goes_on, unmoved, status_told, hears_status, with_state, body_beyond, hears_object, body_staged, body_missed, hears_missing, target_in, activated, head_acked, committed, update_acked, acked_below, hears_ack, makes_current, forgotten, peer_behind, outpromised, epoch_told, hears_peer, hears_member, hears_epoch}
+use Rattle.xt_protocol.specs.declared.states.Place.{Place}
+use Rattle.xt_protocol.specs.declared.states.IssuedUpdate.{IssuedUpdate}
+use Rattle.xt_protocol.specs.declared.states.PeerState.{PeerState}
+use Rattle.xt_protocol.specs.declared.states.PeerState.TheVariants as peer
+use Rattle.xt_protocol.specs.declared.states.Progress.{Progress}
+use Rattle.xt_protocol.specs.declared.states.Progress.TheVariants as progress
+use Rattle.xt_protocol.specs.declared.states.Tenure.{Tenure}
+use Rattle.xt_protocol.specs.Turns.{message, sends}
+use Rattle.xt_protocol.specs.ReplicaRows.{kept_after, stage_record}
+use Rattle.xt_protocol.specs.Primaries.{Led, carries, is_unknown, issued_in, is_ready_in, nodes_of, peer_in, target_of, with_known, with_node}
+use Rattle.xt_protocol.specs.PrimaryRows.{goes_on, unmoved, status_told, hears_status, with_state, body_beyond, hears_object, body_staged, body_missed, hears_missing, target_in, activated, head_acked, committed, update_acked, acked_below, hears_ack, makes_current, forgotten, peer_behind, outpromised, epoch_told, hears_peer, hears_member, hears_epoch}
 use Rattle.osd_invariants.proofs.Leads.{put_nodes}
 use Rattle.world_runs.proofs.PrimaryIds.{ProgressIs}
 use Rattle.line_ends.proofs.Weights.{Stand, stand_of, rank, epoch_left, bodies_left, bodies_to, is_wanted, are_named, unless, settles}

@@ -19,7 +19,7 @@ use Rattle.xt_messages.specs.declared.record.Record.{Record}
 use Rattle.xt_messages.specs.declared.record.Folded.{Folded}
 use Rattle.xt_messages.specs.declared.message.Payload.TheVariants as payload
 use Rattle.xt_messages.specs.declared.record.Record.TheVariants as kept
-use Rattle.xt_protocol.specs.declared.Turned.{Turned}
+use Rattle.xt_protocol.specs.declared.turned.Turned.{Turned}
 use Rattle.xt_protocol.specs.FileIds.{is_file}
 use Rattle.xt_protocol.specs.Folds.{fold_of, row_in}
 use Rattle.xt_protocol.specs.LeaseRows.{Awake, Silent, is_silent}
@@ -27,8 +27,8 @@ use Rattle.xt_protocol.proofs.Folds.{fold_of-push, fold_of-nothing, file-itself}
 use Rattle.lease_safety.specs.State.{Has}
 use Rattle.lease_runs.proofs.Tests.{same_node}
 use Rattle.lease_runs.specs.LeaseView.{is_ask}
-use Rattle.osd_rows.specs.FileStates.{FileState, file_from}
-use Rattle.osd_rows.specs.OsdSteps.{OsdState, file_at, step_of_osd}
+use Rattle.xt_protocol.specs.FileStates.{FileState, file_from}
+use Rattle.xt_protocol.specs.OsdSteps.{OsdState, file_at, step_of_osd}
 use Rattle.cluster_runs.specs.declared.ClientState.{ClientState}
 use Rattle.cluster_runs.specs.declared.DeclaredFile.{DeclaredFile}
 use Rattle.cluster_runs.specs.declared.Sent.{Sent}

@@ -13,10 +13,9 @@ use Rattle.xt_messages.specs.declared.message.Msg.{Msg}
 use Rattle.xt_messages.specs.declared.message.Payload.{Payload}
 use Rattle.xt_messages.specs.declared.message.Payload.TheVariants as payload
 use Rattle.xt_protocol.specs.Register.{Round, Seat, Took, ignored, counted, write_to, alive, Promised, on_promise, report_taken, promise_counted, with_promise, awaits_promise, with_acceptance, awaits_acceptance, counted_pairs, pair_of, on_acceptance, bars, majority_of, has_promise, same_ballot, lease_of}
-use Rattle.xt_protocol.specs.LeaseRows.{LeaseState, free, asking, writing, held, Held, Proposer, LeaseNews, LeaseStep, sends_write, holds, finds, ends, on_answer, asking_answered, asking_promised, asked_by, Asked, asked_still, asked_write, asked_found, step_of_asking, writing_answered, writing_accepted, Written, written_still, written_won, written_late, round_won, step_of_written, news_of_targets, on_renewal, renewal_under, renewal_answered, renewal_promised, renewal_accepted, renewal_won, renewal_outrun, Renewing, Renewal, no_news, renewal_write, renewed, news_of_renewal, round_starts, is_inside}
+use Rattle.xt_protocol.specs.LeaseRows.{LeaseState, running_round, free, asking, writing, held, Held, Proposer, LeaseNews, LeaseStep, sends_write, holds, finds, ends, on_answer, asking_answered, asking_promised, asked_by, Asked, asked_still, asked_write, asked_found, step_of_asking, writing_answered, writing_accepted, Written, written_still, written_won, written_late, round_won, step_of_written, news_of_targets, on_renewal, renewal_under, renewal_answered, renewal_promised, renewal_accepted, renewal_won, renewal_outrun, Renewing, Renewal, no_news, renewal_write, renewed, news_of_renewal, round_starts, is_inside}
 use Rattle.xt_protocol.specs.LeaseRows as lease
-use Rattle.osd_rows.specs.FileLeases.{running_round}
-use Rattle.osd_rows.specs.Turns.{message}
+use Rattle.xt_protocol.specs.Turns.{message}
 use Rattle.cluster_runs.specs.NodeSteps.{to_itself}
 use Rattle.osd_invariants.specs.Sound.{IsHeld}
 use Rattle.lease_runs.proofs.Tests.{same_node}

@@ -15,21 +15,21 @@ use Rattle.xt_messages.specs.declared.reply.Reply.{Reply}
 use Rattle.xt_messages.specs.declared.reply.Reply.TheVariants as reply
 use Rattle.xt_messages.specs.declared.event.Mark.TheVariants as mark
 use Rattle.xt_protocol.specs.Register.{ReadAnswer, promise, read_refused, WriteAnswer, accepted, write_refused, other_boot, on_read, on_write}
-use Rattle.xt_protocol.specs.LeaseRows.{LeaseState, free, asking, writing, held, LeaseNews, LeaseStep, sends_write, holds, finds, ends, on_answer}
+use Rattle.xt_protocol.specs.LeaseRows.{LeaseState, running_round, free, asking, writing, held, LeaseNews, LeaseStep, sends_write, holds, finds, ends, on_answer}
 use Rattle.xt_protocol.specs.LeaseRows as lease
 use Rattle.lease_runs.specs.LeaseView.{is_ask}
-use Rattle.osd_rows.specs.declared.Acted.{Acted}
-use Rattle.osd_rows.specs.declared.Asks.{Asks}
-use Rattle.osd_rows.specs.declared.Place.{Place}
-use Rattle.osd_rows.specs.declared.Tenure.{Tenure}
-use Rattle.osd_rows.specs.Turns.{sends, shows, message}
-use Rattle.osd_rows.specs.ReplicaRows.{kept_after, gathered, fetched_from, staged, headed, updated}
-use Rattle.osd_rows.specs.Primaries.{Led, if_any, is_ready, issued_by, nodes_of}
-use Rattle.osd_rows.specs.PrimaryRows.{epoch_drawn, epoch_told, hears, hears_in}
-use Rattle.osd_rows.specs.Asks.{Served, asks_follow, asks_behind, WAITING}
-use Rattle.osd_rows.specs.FileStates.{FileState, Site, FileStep, nothing, steps_to, and_then, serves_to, members_of, ground_of}
-use Rattle.osd_rows.specs.FileLeases.{read_comes, write_comes, answer_comes, answer_to_read, answers_to_write, end_after_answer, lease_news, waiting_told, led_on, running_round}
-use Rattle.osd_rows.specs.FileSteps.{replica_acts, primary_hears, message_comes}
+use Rattle.xt_protocol.specs.declared.states.Acted.{Acted}
+use Rattle.xt_protocol.specs.declared.states.Asks.{Asks}
+use Rattle.xt_protocol.specs.declared.states.Place.{Place}
+use Rattle.xt_protocol.specs.declared.states.Tenure.{Tenure}
+use Rattle.xt_protocol.specs.Turns.{sends, shows, message}
+use Rattle.xt_protocol.specs.ReplicaRows.{kept_after, gathered, fetched_from, staged, headed, updated}
+use Rattle.xt_protocol.specs.Primaries.{Led, if_any, is_ready, issued_by, nodes_of}
+use Rattle.xt_protocol.specs.PrimaryRows.{epoch_drawn, epoch_told, hears, hears_in}
+use Rattle.xt_protocol.specs.Asks.{Served, asks_follow, asks_behind, WAITING}
+use Rattle.xt_protocol.specs.FileStates.{FileState, Site, FileStep, nothing, steps_to, and_then, serves_to, members_of, ground_of}
+use Rattle.xt_protocol.specs.FileLeases.{read_comes, write_comes, answer_comes, answer_to_read, answers_to_write, end_after_answer, lease_news, waiting_told, led_on}
+use Rattle.xt_protocol.specs.FileSteps.{replica_acts, primary_hears, message_comes}
 use Rattle.osd_invariants.specs.Sound.{AreOne, IsHeld, IsSound, PeersAre}
 use Rattle.cluster_runs.specs.NodeSteps.{to_itself}
 use Rattle.world_runs.proofs.PrimaryIds.{TenureIs}

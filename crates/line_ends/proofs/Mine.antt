@@ -7,11 +7,11 @@ use Rattle.xt_base.specs.MemberList.{has_node, are_distinct}
 use Rattle.xt_base.specs.declared.ids.NodeId.{NodeId}
 use Rattle.xt_messages.specs.declared.message.Msg.{Msg}
 use Rattle.xt_messages.specs.declared.message.Payload.{Payload}
-use Rattle.osd_rows.specs.declared.Peer.{Peer}
-use Rattle.osd_rows.specs.declared.PeerState.{PeerState}
-use Rattle.osd_rows.specs.declared.PeerState.TheVariants as peer
-use Rattle.osd_rows.specs.Turns.{message, to_each}
-use Rattle.osd_rows.specs.Primaries.{if_any, peer_in, with_peer, nodes_of, unknown_peer}
+use Rattle.xt_protocol.specs.declared.states.Peer.{Peer}
+use Rattle.xt_protocol.specs.declared.states.PeerState.{PeerState}
+use Rattle.xt_protocol.specs.declared.states.PeerState.TheVariants as peer
+use Rattle.xt_protocol.specs.Turns.{message, to_each}
+use Rattle.xt_protocol.specs.Primaries.{if_any, peer_in, with_peer, nodes_of, unknown_peer}
 use Rattle.cluster_runs.specs.NodeSteps.{to_itself}
 use Rattle.lease_runs.proofs.Tests.{same_node}
 use Rattle.std.proofs.Common.{arith, append-nil}

@@ -5,9 +5,9 @@ use Rattle.xt_base.specs.declared.ids.Epoch.{Epoch}
 use Rattle.xt_messages.specs.declared.file.FileHead.{FileHead}
 use Rattle.xt_protocol.specs.Stamps.{is_epoch, is_earlier}
 use Rattle.replica_safety.proofs.Orders.{is_one, not_after, not_before_self, same_self, up_to_before, up_to_trans}
-use Rattle.osd_rows.specs.declared.Progress.{Progress}
-use Rattle.osd_rows.specs.declared.Progress.TheVariants as progress
-use Rattle.osd_rows.specs.declared.Tenure.{Tenure}
+use Rattle.xt_protocol.specs.declared.states.Progress.{Progress}
+use Rattle.xt_protocol.specs.declared.states.Progress.TheVariants as progress
+use Rattle.xt_protocol.specs.declared.states.Tenure.{Tenure}
 use Rattle.line_ends.proofs.Standing.{HeadStands, IfTenure, IsOfEpoch, IsPast, ProgressStands, TenureStands}
 use Rattle.line_ends.proofs.Tests.{not_both}
 

@@ -13,11 +13,11 @@ use Rattle.xt_protocol.specs.LeaseRows.{Awake}
 use Rattle.xt_protocol.proofs.Folds.{file-equal, file-itself}
 use Rattle.lease_safety.specs.State.{Has}
 use Rattle.lease_runs.specs.LeaseView.{is_ask}
-use Rattle.osd_rows.specs.Turns.{quiet}
-use Rattle.osd_rows.specs.FileStates.{FileState, Site, FileStep}
-use Rattle.osd_rows.specs.FileSteps.{step_of_file, wake_of_file}
-use Rattle.osd_rows.specs.Overdue.{expired}
-use Rattle.osd_rows.specs.OsdSteps.{Outside, OsdState, OsdStep, file_at, with_file, each_file, file_concerned, message_handled, asks_dir, woken, handled_awake}
+use Rattle.xt_protocol.specs.Turns.{quiet}
+use Rattle.xt_protocol.specs.FileStates.{FileState, Site, FileStep}
+use Rattle.xt_protocol.specs.FileSteps.{step_of_file, wake_of_file}
+use Rattle.xt_protocol.specs.Overdue.{expired}
+use Rattle.xt_protocol.specs.OsdSteps.{Outside, OsdState, OsdStep, file_at, with_file, each_file, file_concerned, message_handled, asks_dir, woken, handled_awake}
 use Rattle.lease_runs.specs.OsdView.{site_of, wake_step}
 use Rattle.lease_runs.proofs.OsdLeases.{file_at-with_file, at_file, step_keeps, put_here}
 use Rattle.cluster_runs.specs.declared.DeclaredFile.{DeclaredFile}

@@ -21,11 +21,11 @@ use Rattle.xt_protocol.specs.Stamps.{is_version, has_version, with_held}
 use Rattle.xt_protocol.proofs.Stamps.{has_version-with_held}
 use Rattle.lease_safety.specs.State.{Has}
 use Rattle.lease_runs.specs.LeaseView.{is_ask}
-use Rattle.osd_rows.specs.ReplicaRows.{kept_after}
-use Rattle.osd_rows.specs.FileStates.{FileState, Site, FileStep, file_from, members_of}
-use Rattle.osd_rows.specs.FileSteps.{step_of_file, wake_of_file}
-use Rattle.osd_rows.specs.Overdue.{expired}
-use Rattle.osd_rows.specs.OsdSteps.{file_at, file_concerned}
+use Rattle.xt_protocol.specs.ReplicaRows.{kept_after}
+use Rattle.xt_protocol.specs.FileStates.{FileState, Site, FileStep, file_from, members_of}
+use Rattle.xt_protocol.specs.FileSteps.{step_of_file, wake_of_file}
+use Rattle.xt_protocol.specs.Overdue.{expired}
+use Rattle.xt_protocol.specs.OsdSteps.{file_at, file_concerned}
 use Rattle.osd_invariants.specs.Sound.{IsSound}
 use Rattle.osd_invariants.proofs.Kept.{expired_quiet, step_follows, wake_follows}
 use Rattle.lease_runs.specs.OsdView.{wake_step}

@@ -19,16 +19,16 @@ use Rattle.xt_protocol.specs.Heads.{head_after}
 use Rattle.xt_protocol.specs.Stamps.{is_epoch, is_earlier, is_below, has_version, with_held}
 use Rattle.xt_protocol.proofs.Stamps.{version-itself, has_version-with_held}
 use Rattle.lease_safety.specs.State.{Has}
-use Rattle.osd_rows.specs.declared.IssuedUpdate.{IssuedUpdate}
+use Rattle.xt_protocol.specs.declared.states.IssuedUpdate.{IssuedUpdate}
 use Rattle.replica_safety.proofs.Orders.{is_one, not_after, not_before_self, same_is, same_self, up_to_trans}
-use Rattle.osd_rows.specs.declared.Acted.{Acted}
-use Rattle.osd_rows.specs.declared.PeerState.{PeerState}
-use Rattle.osd_rows.specs.declared.PeerState.TheVariants as peer
-use Rattle.osd_rows.specs.declared.Tenure.{Tenure}
-use Rattle.osd_rows.specs.OsdSteps.{file_concerned}
-use Rattle.osd_rows.specs.Primaries.{peer_in}
-use Rattle.osd_rows.specs.PrimaryRows.{target_in}
-use Rattle.osd_rows.specs.ReplicaRows.{kept_after, unanswered, only, after_record, refused, behind, as_promised, gathered, staged, stage_record, head_taken, first_missing, head_offered, headed, head_fits, next_update, update_offered, updated}
+use Rattle.xt_protocol.specs.declared.states.Acted.{Acted}
+use Rattle.xt_protocol.specs.declared.states.PeerState.{PeerState}
+use Rattle.xt_protocol.specs.declared.states.PeerState.TheVariants as peer
+use Rattle.xt_protocol.specs.declared.states.Tenure.{Tenure}
+use Rattle.xt_protocol.specs.OsdSteps.{file_concerned}
+use Rattle.xt_protocol.specs.Primaries.{peer_in}
+use Rattle.xt_protocol.specs.PrimaryRows.{target_in}
+use Rattle.xt_protocol.specs.ReplicaRows.{kept_after, unanswered, only, after_record, refused, behind, as_promised, gathered, staged, stage_record, head_taken, first_missing, head_offered, headed, head_fits, next_update, update_offered, updated}
 use Rattle.line_ends.proofs.Weights.{are_named, bodies_left, epoch_left, is_wanted, rank, settles, stand_of, unless}
 use Rattle.line_ends.proofs.Standing.{IfAbout, HeadStands, IfMessage, Stands}
 use Rattle.line_ends.proofs.Tests.{false_true, fewer_below, not_both, of_its_epoch}

@@ -8,13 +8,13 @@ use Rattle.xt_base.specs.TimeSettings.{TimeSettings}
 use Rattle.xt_messages.specs.declared.event.Event.{Event}
 use Rattle.xt_messages.specs.declared.event.Event.TheVariants as event
 use Rattle.xt_messages.specs.declared.message.Msg.{Msg}
-use Rattle.xt_protocol.specs.declared.Turned.{Turned}
+use Rattle.xt_protocol.specs.declared.turned.Turned.{Turned}
 use Rattle.xt_protocol.specs.LeaseRows.{is_silent}
 use Rattle.time_line.specs.declared.entry.Halt.TheVariants as halt
 use Rattle.lease_safety.specs.State.{Has}
 use Rattle.lease_runs.proofs.Tests.{same_node}
 use Rattle.lease_runs.specs.LeaseView.{is_ask}
-use Rattle.osd_rows.specs.OsdSteps.{OsdState, OsdStep, file_concerned, step_of_osd}
+use Rattle.xt_protocol.specs.OsdSteps.{OsdState, OsdStep, file_concerned, step_of_osd}
 use Rattle.cluster_runs.specs.declared.TheConstants.{MESSAGES, MESSAGE_BYTES}
 use Rattle.cluster_runs.specs.declared.ClientState.{ClientState}
 use Rattle.cluster_runs.specs.Clients.{step_of_client}
@@ -27,7 +27,7 @@ use Rattle.world_runs.proofs.Lists.{has_in, has_filter}
 use Rattle.world_runs.proofs.Tables.{same, node_in-new}
 use Rattle.std.proofs.Common.{length}
 use Rattle.std.specs.Prelude.{Result, Ok, Err, nat_lt}
-use Rattle.osd_rows.specs.OsdSteps.{Outside, event_handled, handled_awake}
+use Rattle.xt_protocol.specs.OsdSteps.{Outside, event_handled, handled_awake}
 use Rattle.lease_runs.specs.OsdView.{site_of}
 use Rattle.cluster_runs.specs.Steps.{Step, stays}
 use Rattle.cluster_runs.specs.NodeSteps.{Room, Cause, Overflow, came_to, has_no_room, Doing, appends, within_limits, overflow_of, end_of_step, event_at, event_comes, core_step, osd_steps, client_steps, loses_own, cut_in_sending, frame_bytes}

@@ -19,21 +19,21 @@ use Rattle.xt_messages.specs.declared.record.Record.{Record}
 use Rattle.xt_messages.specs.declared.reply.Reply.{Reply}
 use Rattle.xt_messages.specs.declared.reply.Reply.TheVariants as reply
 use Rattle.lease_safety.specs.State.{Has}
-use Rattle.osd_rows.specs.declared.Place.{Place}
-use Rattle.osd_rows.specs.declared.Asks.{Asks}
-use Rattle.osd_rows.specs.declared.IssuedAsk.{IssuedAsk}
-use Rattle.osd_rows.specs.declared.IssuedUpdate.{IssuedUpdate}
-use Rattle.osd_rows.specs.declared.Peer.{Peer}
-use Rattle.osd_rows.specs.declared.PrimaryState.{PrimaryState}
-use Rattle.osd_rows.specs.declared.Progress.{Progress}
-use Rattle.osd_rows.specs.declared.Progress.TheVariants as progress
-use Rattle.osd_rows.specs.declared.Tenure.{Tenure}
-use Rattle.osd_rows.specs.declared.WaitingAsk.{WaitingAsk}
-use Rattle.osd_rows.specs.Turns.{quiet, joined, the_record, message, to_each}
-use Rattle.osd_rows.specs.Writes.{Standing, repeated, older, turned_away, fresh, standing, update_of}
-use Rattle.osd_rows.specs.Primaries.{Ground, Led, is_current, issued_by, issued_in, nodes_of}
-use Rattle.osd_rows.specs.Serving.{current_others, issues, next_update_of, reads, write_stands, writes_in, writes_under, writes}
-use Rattle.osd_rows.specs.Asks.{Served, is_read, newly_issued, no_asks, read_answer, serves, serves_all, serves_waiting, stays, write_done}
+use Rattle.xt_protocol.specs.declared.states.Place.{Place}
+use Rattle.xt_protocol.specs.declared.states.Asks.{Asks}
+use Rattle.xt_protocol.specs.declared.states.IssuedAsk.{IssuedAsk}
+use Rattle.xt_protocol.specs.declared.states.IssuedUpdate.{IssuedUpdate}
+use Rattle.xt_protocol.specs.declared.states.Peer.{Peer}
+use Rattle.xt_protocol.specs.declared.states.PrimaryState.{PrimaryState}
+use Rattle.xt_protocol.specs.declared.states.Progress.{Progress}
+use Rattle.xt_protocol.specs.declared.states.Progress.TheVariants as progress
+use Rattle.xt_protocol.specs.declared.states.Tenure.{Tenure}
+use Rattle.xt_protocol.specs.declared.states.WaitingAsk.{WaitingAsk}
+use Rattle.xt_protocol.specs.Turns.{quiet, joined, the_record, message, to_each}
+use Rattle.xt_protocol.specs.Writes.{Standing, repeated, older, turned_away, fresh, standing, update_of}
+use Rattle.xt_protocol.specs.Primaries.{Ground, Led, is_current, issued_by, issued_in, nodes_of}
+use Rattle.xt_protocol.specs.Serving.{current_others, issues, next_update_of, reads, write_stands, writes_in, writes_under, writes}
+use Rattle.xt_protocol.specs.Asks.{Served, is_read, newly_issued, no_asks, read_answer, serves, serves_all, serves_waiting, stays, write_done}
 use Rattle.cluster_runs.specs.NodeSteps.{to_itself}
 use Rattle.line_ends.proofs.Weights.{asks_left}
 use Rattle.line_ends.proofs.Standing.{IsPast, IsNext, TenureStands, ProgressStands}

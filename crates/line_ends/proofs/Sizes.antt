@@ -18,19 +18,19 @@ use Rattle.xt_base.specs.declared.TheConstants.{OBJECTS, COUNTS}
 use Rattle.xt_protocol.specs.Folds.{body_of}
 use Rattle.xt_protocol.specs.Stamps.{is_epoch, is_earlier, is_below, is_version, has_version}
 use Rattle.lease_safety.specs.State.{Has}
-use Rattle.osd_rows.specs.declared.Place.{Place}
-use Rattle.osd_rows.specs.declared.IssuedUpdate.{IssuedUpdate}
-use Rattle.osd_rows.specs.declared.Peer.{Peer}
-use Rattle.osd_rows.specs.declared.PeerState.{PeerState}
-use Rattle.osd_rows.specs.declared.PeerState.TheVariants as peer
-use Rattle.osd_rows.specs.declared.Progress.{Progress}
-use Rattle.osd_rows.specs.declared.Progress.TheVariants as progress
-use Rattle.osd_rows.specs.declared.Tenure.{Tenure}
-use Rattle.osd_rows.specs.Turns.{message}
-use Rattle.osd_rows.specs.ReplicaRows.{kept_after, stage_record}
-use Rattle.osd_rows.specs.Choice.{chosen_of, is_better, difference}
-use Rattle.osd_rows.specs.Primaries.{Ground, Led, carries, fed, fed_next, if_any, is_unknown, known_of_own, known_of_report, last_sent, majority_among, nodes_of, peer_in, report_of, reports_of, statuses_counted, target_of, unknown_peer, with_known, with_node, with_peer}
-use Rattle.osd_rows.specs.PrimaryRows.{after_keeping, epoch_above, epoch_drawn, peer_fed, peers_fed, installs, fetches, head_chosen, chooses, status_counted, with_state, feeds, status_told, body_beyond, hears_object, target_in, body_staged, body_missed, hears_missing, committed, acked_below, hears_ack, makes_current, forgotten, peer_behind, epoch_told, hears_peer, hears_member, hears_epoch, hears_in, unmoved}
+use Rattle.xt_protocol.specs.declared.states.Place.{Place}
+use Rattle.xt_protocol.specs.declared.states.IssuedUpdate.{IssuedUpdate}
+use Rattle.xt_protocol.specs.declared.states.Peer.{Peer}
+use Rattle.xt_protocol.specs.declared.states.PeerState.{PeerState}
+use Rattle.xt_protocol.specs.declared.states.PeerState.TheVariants as peer
+use Rattle.xt_protocol.specs.declared.states.Progress.{Progress}
+use Rattle.xt_protocol.specs.declared.states.Progress.TheVariants as progress
+use Rattle.xt_protocol.specs.declared.states.Tenure.{Tenure}
+use Rattle.xt_protocol.specs.Turns.{message}
+use Rattle.xt_protocol.specs.ReplicaRows.{kept_after, stage_record}
+use Rattle.xt_protocol.specs.Choice.{chosen_of, is_better, difference}
+use Rattle.xt_protocol.specs.Primaries.{Ground, Led, carries, fed, fed_next, if_any, is_unknown, known_of_own, known_of_report, last_sent, majority_among, nodes_of, peer_in, report_of, reports_of, statuses_counted, target_of, unknown_peer, with_known, with_node, with_peer}
+use Rattle.xt_protocol.specs.PrimaryRows.{after_keeping, epoch_above, epoch_drawn, peer_fed, peers_fed, installs, fetches, head_chosen, chooses, status_counted, with_state, feeds, status_told, body_beyond, hears_object, target_in, body_staged, body_missed, hears_missing, committed, acked_below, hears_ack, makes_current, forgotten, peer_behind, epoch_told, hears_peer, hears_member, hears_epoch, hears_in, unmoved}
 
 -- ---- what is small
 

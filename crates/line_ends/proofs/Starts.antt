@@ -14,9 +14,9 @@ use Rattle.xt_protocol.specs.FileIds.{is_file}
 use Rattle.xt_protocol.specs.LeaseRows.{Awake}
 use Rattle.xt_protocol.proofs.Folds.{file-equal, file-itself}
 use Rattle.lease_safety.specs.State.{Has}
-use Rattle.osd_rows.specs.FileStates.{FileState, Site, FileStep}
-use Rattle.osd_rows.specs.FileSteps.{step_of_file}
-use Rattle.osd_rows.specs.OsdSteps.{Outside, OsdState, FilesStep, file_at, with_file, file_concerned, message_handled, event_handled}
+use Rattle.xt_protocol.specs.FileStates.{FileState, Site, FileStep}
+use Rattle.xt_protocol.specs.FileSteps.{step_of_file}
+use Rattle.xt_protocol.specs.OsdSteps.{Outside, OsdState, FilesStep, file_at, with_file, file_concerned, message_handled, event_handled}
 use Rattle.lease_runs.specs.OsdView.{site_of}
 use Rattle.lease_runs.proofs.OsdLeases.{file_at-with_file, at_file}
 use Rattle.cluster_runs.specs.declared.DeclaredFile.{DeclaredFile}
@@ -42,9 +42,9 @@ use Rattle.xt_protocol.specs.LeaseRows.{LeaseState, free, asking, writing, held}
 use Rattle.osd_invariants.specs.Sound.{IsStored}
 use Rattle.lease_runs.specs.ActsView.{IsBusy}
 use Rattle.lease_runs.specs.OsdView.{wake_step}
-use Rattle.osd_rows.specs.FileSteps.{wake_of_file}
-use Rattle.osd_rows.specs.Overdue.{expired}
-use Rattle.osd_rows.specs.OsdSteps.{asks_dir, each_file, woken}
+use Rattle.xt_protocol.specs.FileSteps.{wake_of_file}
+use Rattle.xt_protocol.specs.Overdue.{expired}
+use Rattle.xt_protocol.specs.OsdSteps.{asks_dir, each_file, woken}
 use Rattle.cluster_runs.specs.Lines.{OWN, declared_file}
 use Rattle.world_runs.specs.Worlds.{Listed}
 use Rattle.line_ends.proofs.Rows.{one_if}

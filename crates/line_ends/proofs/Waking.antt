@@ -9,24 +9,23 @@ use Rattle.xt_messages.specs.declared.message.Msg.{Msg}
 use Rattle.xt_messages.specs.declared.message.Payload.{Payload}
 use Rattle.xt_messages.specs.declared.message.Payload.TheVariants as payload
 use Rattle.xt_messages.specs.declared.record.FileRow.{FileRow}
-use Rattle.xt_protocol.specs.LeaseRows.{LeaseState, free, asking, writing, held, Held, is_renewal_due, renewal_starts, round_starts}
-use Rattle.osd_rows.specs.declared.IssuedUpdate.{IssuedUpdate}
-use Rattle.osd_rows.specs.declared.PeerState.{PeerState}
-use Rattle.osd_rows.specs.declared.PeerState.TheVariants as peer
-use Rattle.osd_rows.specs.declared.Place.{Place}
-use Rattle.osd_rows.specs.declared.Progress.{Progress}
-use Rattle.osd_rows.specs.declared.Progress.TheVariants as progress
-use Rattle.osd_rows.specs.declared.Tenure.{Tenure}
-use Rattle.osd_rows.specs.declared.PrimaryState.{PrimaryState}
-use Rattle.osd_rows.specs.declared.Asks.{Asks}
-use Rattle.osd_rows.specs.ReplicaRows.{kept_after}
-use Rattle.osd_rows.specs.Primaries.{nodes_of, peer_in}
-use Rattle.osd_rows.specs.Serving.{gather_unknown, unacked, sent_again, wakes_in, wakes_under, wakes}
-use Rattle.osd_rows.specs.Asks.{WAITING}
-use Rattle.osd_rows.specs.FileStates.{FileState, Site, FileStep, nothing, steps_to, members_of, ground_of}
-use Rattle.osd_rows.specs.FileLeases.{running_round}
-use Rattle.osd_rows.specs.AskRows.{reads_of}
-use Rattle.osd_rows.specs.FileSteps.{renews, wakes_under_lease, wake_of_file}
+use Rattle.xt_protocol.specs.LeaseRows.{LeaseState, running_round, free, asking, writing, held, Held, is_renewal_due, renewal_starts, round_starts}
+use Rattle.xt_protocol.specs.declared.states.IssuedUpdate.{IssuedUpdate}
+use Rattle.xt_protocol.specs.declared.states.PeerState.{PeerState}
+use Rattle.xt_protocol.specs.declared.states.PeerState.TheVariants as peer
+use Rattle.xt_protocol.specs.declared.states.Place.{Place}
+use Rattle.xt_protocol.specs.declared.states.Progress.{Progress}
+use Rattle.xt_protocol.specs.declared.states.Progress.TheVariants as progress
+use Rattle.xt_protocol.specs.declared.states.Tenure.{Tenure}
+use Rattle.xt_protocol.specs.declared.states.PrimaryState.{PrimaryState}
+use Rattle.xt_protocol.specs.declared.states.Asks.{Asks}
+use Rattle.xt_protocol.specs.ReplicaRows.{kept_after}
+use Rattle.xt_protocol.specs.Primaries.{nodes_of, peer_in}
+use Rattle.xt_protocol.specs.Serving.{gather_unknown, unacked, sent_again, wakes_in, wakes_under, wakes}
+use Rattle.xt_protocol.specs.Asks.{WAITING}
+use Rattle.xt_protocol.specs.FileStates.{FileState, Site, FileStep, nothing, steps_to, members_of, ground_of}
+use Rattle.xt_protocol.specs.AskRows.{reads_of}
+use Rattle.xt_protocol.specs.FileSteps.{renews, wakes_under_lease, wake_of_file}
 use Rattle.osd_invariants.specs.Sound.{IsHeld, IsSound, PeersAre}
 use Rattle.osd_invariants.proofs.Kept.{wake_keeps}
 use Rattle.cluster_runs.specs.NodeSteps.{to_itself}

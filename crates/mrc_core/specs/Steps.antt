@@ -14,9 +14,9 @@ use Rattle.xt_messages.specs.declared.event.Event.TheVariants as event
 use Rattle.xt_messages.specs.declared.record.Logged.TheVariants as logged
 use Rattle.xt_messages.specs.declared.record.Record.{Record}
 use Rattle.xt_messages.specs.declared.record.Record.TheVariants as kept
-use Rattle.xt_protocol.specs.declared.Turned.{Turned}
-use Rattle.osd_rows.specs.Turns.{quiet, sends, message}
-use Rattle.osd_rows.specs.OsdSteps.{asks_dir}
+use Rattle.xt_protocol.specs.declared.turned.Turned.{Turned}
+use Rattle.xt_protocol.specs.Turns.{quiet, sends, message}
+use Rattle.xt_protocol.specs.OsdSteps.{asks_dir}
 use Rattle.kept_answers.specs.declared.Kept.{Kept}
 use Rattle.kept_answers.specs.declared.Standing.{Standing}
 use Rattle.kept_answers.specs.declared.Standing.TheVariants as standing

@@ -1,6 +1,6 @@
 ghost use Rattle.std.specs.Prelude.{◌≡◌, ◌≤◌, ◌<◌, ◌^◌, [], length, IfOk, OnOk, OnErr, Ok, All};
 ghost use Rattle.capabilities.specs.Stops.{is_stop};
-ghost use Rattle.osd_rows.specs.OsdSteps.{asks_dir};
+ghost use Rattle.xt_protocol.specs.OsdSteps.{asks_dir};
 ghost use Rattle.mrc_core.specs.Laws.{files_made};
 ghost use Rattle.mrc_core.specs.Steps as steps;
 ghost use Rattle.mrc_core.specs.Steps.{catalogue_of};
@@ -14,11 +14,10 @@ use crate::serving::requested;
 use capabilities::is_stop;
 use std::alloc::Global;
 use std::marker::Model;
-use step_outputs::{message, quiet, sends_one};
 use volume_rows::Asker;
 use xt_base::{DIR_NODE, FileId, MRC_NODE, NodeId, Octets, OutOfMemory};
 use xt_messages::{Event, Msg, Payload, Record, RegistryAnswer, RegistryReq};
-use xt_protocol::Turned;
+use xt_protocol::{Turned, message, quiet, sends_one};
 
 /// The kind of a row of the registry that is an OSD's.
 const OSD: u8 = 1;

@@ -14,10 +14,9 @@ use crate::plan::Plan;
 use crate::settling::{Settled, Settling};
 use kept_answers::Standing;
 use std::alloc::Global;
-use step_outputs::{message, quiet, sends_one};
 use xt_base::{Copies, MRC_NODE, Members, NodeId, OptionalBox, OutOfMemory, Seq};
 use xt_messages::{Logged, Marks, MetaAnswer, Msg, Msgs, Payload, Record};
-use xt_protocol::Turned;
+use xt_protocol::{Turned, message, quiet, sends_one};
 
 /// An answer to a client.
 fn reply_to(client: NodeId, number: u64, answer: MetaAnswer) -> Msg

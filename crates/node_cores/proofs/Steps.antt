@@ -1,15 +1,12 @@
 -- the steps of an OSD without a key
 use Rattle.std.proofs.Common.{◌≡◌, ℕ, List, Option, ap, sym, ◌∙◌}
 use Rattle.xt_messages.specs.declared.event.Event.{Event}
-use Rattle.xt_messages.specs.declared.event.Event.TheVariants as event
 use Rattle.xt_messages.specs.declared.record.Record.{Record}
-use Rattle.xt_protocol.specs.declared.Turned.{Turned}
-use Rattle.osd_rows.specs.OsdSteps.{step_of_osd}
-use Rattle.osd_core.specs.Events.{FitsEvent}
+use Rattle.xt_protocol.specs.declared.turned.Turned.{Turned}
+use Rattle.xt_protocol.specs.OsdSteps.{step_of_osd}
 use Rattle.osd_core.specs.Views.{OsdView}
 use Rattle.osd_core.specs.Keys.{outside_of}
 use Rattle.cluster_runs.specs.NodeSteps.{core_step, osd_steps}
-use Rattle.cluster_fits.specs.Fits.{FitsContent}
 use Rattle.node_hosts.specs.Hosts.{HostView, node_of}
 use Rattle.node_hosts.specs.Turns.{IsCoreStep}
 use Rattle.node_cores.specs.declared.roles.Core.TheVariants as core
@@ -23,9 +20,3 @@ osd_took kept old new clock happens turned is same = λ host own. (
   ap osd_steps (ap (λ (key : Option (List ℕ)). step_of_osd (outside_of key kept) old.state clock happens) (sym own) ∙ is),
   same ∙ own,
 )
-
--- an event within its limits is one that an OSD handles
-pub event_fits : (happens : Event) → FitsContent happens → FitsEvent happens
-event_fits (event.Deliver msg) fits = fits
-event_fits event.Wake fits = fits
-event_fits (event.Call call) fits = fits

@@ -3,8 +3,8 @@ ghost use Rattle.cluster_runs.specs.Lines.{epoch_of, declared_file};
 ghost use Rattle.node_hosts.specs.Turns.{IsCoreStep, call_step};
 ghost use Rattle.node_cores.specs.Cores.{core_of, IsOf};
 
-use kept_bodies::Bodies;
 use node_hosts::{NodeCore, declared_capability, declared_file};
+use object_versions::Bodies;
 use osd_core::Osd;
 use replica_client::ReplicaClient;
 use std::alloc::{AllocError, Global};

@@ -5,7 +5,7 @@ use Rattle.xt_base.specs.declared.ids.NodeId.{NodeId}
 use Rattle.xt_messages.specs.declared.file.Location.{Location}
 use Rattle.xt_messages.specs.declared.file.Op.{Op}
 use Rattle.xt_messages.specs.declared.event.Call.{Call}
-use Rattle.xt_protocol.specs.declared.Turned.{Turned}
+use Rattle.xt_protocol.specs.declared.turned.Turned.{Turned}
 use Rattle.cluster_runs.specs.Steps.{Step}
 use Rattle.cluster_runs.specs.World.{Core}
 use Rattle.cluster_runs.specs.declared.Role.{Role}

@@ -1,4 +1,4 @@
-use kept_bodies::{Bodies, BodyErr};
+use object_versions::{Bodies, BodyErr};
 use std::alloc::Global;
 use world_hull::Hull;
 use xt_base::{FileId, NodeId, Octets, Stamp};

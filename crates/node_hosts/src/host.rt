@@ -4,8 +4,8 @@ ghost use Rattle.cluster_runs.specs.World.{client, is_client, is_osd, osd};
 ghost use Rattle.cluster_runs.specs.Rules.{has_call};
 ghost use Rattle.cluster_runs.specs.Clients.{new_client};
 ghost use Rattle.cluster_runs.specs.Lines.{runs, first_boot, crashes, cuts, reads_clock, aims};
-ghost use Rattle.osd_rows.specs.OsdSteps.{osd_from};
-ghost use Rattle.cluster_fits.specs.Fits.{FitsContent};
+ghost use Rattle.xt_protocol.specs.OsdSteps.{osd_from};
+ghost use Rattle.xt_messages.specs.Limits.{FitsEvent};
 ghost use Rattle.node_hosts.specs.Cores.{IsSaid};
 ghost use Rattle.node_hosts.specs.Hosts.{host_ticked, node_of};
 ghost use Rattle.node_hosts.specs.Turns.{Handles, Calls, moment_of};
@@ -14,7 +14,7 @@ use crate::node_core::NodeCore;
 use crate::running::{Moment, Running};
 use cluster_runs::Role;
 use disk_model::Stop;
-use kept_bodies::Bodies;
+use object_versions::Bodies;
 use std::alloc::Global;
 use std::marker::Model;
 use xt_base::{Boot, NodeId, OutOfMemory, Times};
@@ -219,7 +219,7 @@ impl<C: NodeCore> Host<C> {
         ev: &Event,
     ) -> Result<Option<Turned>, OutOfMemory>
         requires clock { IfSome self.old.up (λ running. running.clock < 2 ^ 62) }
-        requires fits { FitsContent ev.now }
+        requires fits { FitsEvent ev.now }
         ensures handled { IfOk result (λ turned. Handles (B.records bodies.old) ev.now self.old self.new turned) }
         ensures err { OnErr result (self.new ≡ record self.old { up = None }) }
     {

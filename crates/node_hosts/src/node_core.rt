@@ -1,17 +1,17 @@
 ghost use Rattle.std.specs.Prelude.{◌≡◌, ◌<◌, ◌^◌, IfOk, OnOk};
 ghost use Rattle.xt_base.specs.TimeSettings.{TimeSettings};
 ghost use Rattle.xt_base.specs.declared.ids.NodeId.{NodeId};
-ghost use Rattle.osd_rows.specs.OsdSteps.{osd_from};
+ghost use Rattle.xt_protocol.specs.OsdSteps.{osd_from};
 ghost use Rattle.cluster_runs.specs.World.{Core, client, osd};
 ghost use Rattle.cluster_runs.specs.Clients.{new_client};
 ghost use Rattle.cluster_runs.specs.NodeSteps.{core_step};
 ghost use Rattle.cluster_runs.specs.Lines.{aims_at};
-ghost use Rattle.cluster_fits.specs.Fits.{FitsContent};
+ghost use Rattle.xt_messages.specs.Limits.{FitsEvent};
 ghost use Rattle.node_hosts.specs.Hosts.{node_of};
 ghost use Rattle.node_hosts.specs.Cores.{IsCoreChanged, IsSaid};
 ghost use Rattle.node_hosts.specs.Turns.{IsCoreStep, IsCoreCall, is_calling};
 
-use kept_bodies::Bodies;
+use object_versions::Bodies;
 use std::alloc::Global;
 use xt_base::{Boot, NodeId, OutOfMemory, Times};
 use xt_messages::{Call, Event, Folded, Location, Op};
@@ -53,7 +53,7 @@ pub trait NodeCore: Drop {
         ev: &Event,
     ) -> Result<Turned, OutOfMemory>
         requires clock { clock < 2 ^ 62 }
-        requires fits { FitsContent ev.now }
+        requires fits { FitsEvent ev.now }
         ensures { IfOk result (λ turned. IsCoreStep state is_of (λ host. core_step host.times (node_of (B.records bodies.old) host) (state self.old) clock ev.now) self.old self.new turned) };
 
     /// A client makes a call on a declared file; an OSD makes none.

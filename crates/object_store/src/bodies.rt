@@ -7,8 +7,8 @@ use xt_base::{FileId, Octets, Stamp};
 impl<D: Disk> Store<D> {
     ghost use Rattle.std.specs.Prelude.{◌≡◌, ◌↔◌, List, Some, None, Err, IfOk};
     ghost use Rattle.xt_protocol.specs.Folds.{body_kept};
-    ghost use Rattle.kept_bodies.specs.declared.errors.BodyErr.TheVariants.{NoSuchVersion};
-    ghost use Rattle.kept_bodies.specs.KeptBodies.{fault_in};
+    ghost use Rattle.object_versions.specs.declared.errors.BodyErr.TheVariants.{NoSuchVersion};
+    ghost use Rattle.object_versions.specs.KeptBodies.{fault_in};
     ghost use Rattle.object_store.specs.Access.{records_of};
 
     /// The body that was put last as this version of this object of the file. All bodies are in memory, so this never

@@ -15,7 +15,7 @@ use xt_journal::Placed;
 use xt_messages::Record;
 
 /// Why payloads aren't read as records.
-#[derive(Clone, Copy, PartialEq, Eq)]
+#[derive(Clone, Copy)]
 pub enum Trouble {
     /// The payload at this index isn't a record in its place, and those before it are.
     BadRecord(usize),

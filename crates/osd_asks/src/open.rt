@@ -1,16 +1,15 @@
 ghost use Rattle.std.specs.Prelude.{◌≡◌, ◌++◌, ◌∷◌, ◌<◌, ◌^◌, [], false, not, filter, length, is_some, Some, None, IfOk, OnOk, OnErr};
-ghost use Rattle.osd_rows.specs.Asks as rows;
-ghost use Rattle.osd_rows.specs.Turns as turns;
-ghost use Rattle.osd_rows.specs.Overdue as overdue;
+ghost use Rattle.xt_protocol.specs.Asks as rows;
+ghost use Rattle.xt_protocol.specs.Turns as turns;
+ghost use Rattle.xt_protocol.specs.Overdue as overdue;
 ghost use Rattle.std.specs.List.{list_any};
 
-use osd_rows::{IssuedAsk, WaitingAsk};
 use std::alloc::{AllocError, Global};
 use std::marker::Model;
 use std::mem;
-use step_outputs::reply_to;
 use xt_base::{Copies, FileId, NodeId, OpId, OutOfMemory, Seq};
 use xt_messages::{Msgs, Reply};
+use xt_protocol::{IssuedAsk, WaitingAsk, reply_to};
 
 /// How many asks of a file may wait.
 const WAITING: usize = 64;
@@ -23,7 +22,7 @@ pub struct OpenAsks {
 }
 
 impl Model for OpenAsks {
-    ghost use Rattle.osd_rows.specs.declared.Asks.{Asks};
+    ghost use Rattle.xt_protocol.specs.declared.states.Asks.{Asks};
 
     ghost Value = { Asks };
 

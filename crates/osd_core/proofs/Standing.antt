@@ -13,10 +13,10 @@ use Rattle.xt_protocol.specs.FileIds.{is_file, is_before, file_cmp}
 use Rattle.xt_protocol.specs.Folds.{new_row}
 use Rattle.xt_protocol.specs.LeaseRows.{Awake}
 use Rattle.xt_protocol.proofs.Folds.{file-equal, file-symmetric, is_file-file_cmp, file_cmp_total}
-use Rattle.version_lists.specs.Rising.{rises}
-use Rattle.version_lists.proofs.Puts.{Orders, IsPlace, put, far, set_there, insert_there, found_at, none_same}
-use Rattle.osd_rows.specs.FileStates.{FileState, file_from}
-use Rattle.osd_rows.specs.OsdSteps.{file_at, with_file}
+use Rattle.object_versions.specs.Rising.{rises}
+use Rattle.object_versions.proofs.Puts.{Orders, IsPlace, put, far, set_there, insert_there, found_at, none_same}
+use Rattle.xt_protocol.specs.FileStates.{FileState, file_from}
+use Rattle.xt_protocol.specs.OsdSteps.{file_at, with_file}
 use Rattle.osd_core.specs.declared.slot.Slot.{Slot}
 use Rattle.osd_core.specs.declared.slot.Slot.TheVariants as slot
 use Rattle.osd_files.specs.Whole.{RowRises}

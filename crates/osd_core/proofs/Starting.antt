@@ -6,7 +6,7 @@ use Rattle.xt_messages.specs.declared.record.FileRow.{FileRow}
 use Rattle.xt_protocol.specs.FileIds.{is_before}
 use Rattle.xt_protocol.specs.LeaseRows.{Awake}
 use Rattle.replica_records.specs.RowPlaces.{FilesRise}
-use Rattle.osd_rows.specs.FileStates.{file_from}
+use Rattle.xt_protocol.specs.FileStates.{file_from}
 use Rattle.osd_files.specs.Whole.{RowRises}
 use Rattle.osd_core.specs.Slots.{states_of, slots_rise, AreSound, AreSlots, AreRows, slots_from}
 

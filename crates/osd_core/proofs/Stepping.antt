@@ -9,14 +9,14 @@ use Rattle.xt_messages.specs.declared.message.Payload.{Payload}
 use Rattle.xt_messages.specs.declared.event.Event.{Event}
 use Rattle.xt_messages.specs.declared.record.FileRow.{FileRow}
 use Rattle.xt_protocol.specs.LeaseRows.{Silent, Awake, awake_at, is_silent}
-use Rattle.xt_protocol.specs.declared.Turned.{Turned}
-use Rattle.version_lists.specs.Rising.{rises}
+use Rattle.xt_protocol.specs.declared.turned.Turned.{Turned}
+use Rattle.object_versions.specs.Rising.{rises}
 use Rattle.xt_protocol.specs.FileIds.{is_before}
-use Rattle.osd_rows.specs.Turns.{quiet, joined, sends}
-use Rattle.osd_rows.specs.FileStates.{FileState, FileStep, Site}
-use Rattle.osd_rows.specs.Overdue.{expired}
-use Rattle.osd_rows.specs.FileSteps.{step_of_file, wake_of_file}
-use Rattle.osd_rows.specs.OsdSteps.{Outside, OsdState, OsdStep, FilesStep, file_at, with_file, each_file, asks_dir, file_concerned, message_handled, woken, event_handled, handled_awake, step_of_osd}
+use Rattle.xt_protocol.specs.Turns.{quiet, joined, sends}
+use Rattle.xt_protocol.specs.FileStates.{FileState, FileStep, Site}
+use Rattle.xt_protocol.specs.Overdue.{expired}
+use Rattle.xt_protocol.specs.FileSteps.{step_of_file, wake_of_file}
+use Rattle.xt_protocol.specs.OsdSteps.{Outside, OsdState, OsdStep, FilesStep, file_at, with_file, each_file, asks_dir, file_concerned, message_handled, woken, event_handled, handled_awake, step_of_osd}
 use Rattle.osd_invariants.proofs.Kept.{step_follows}
 use Rattle.osd_files.specs.Views.{site_at}
 use Rattle.osd_files.specs.declared.waking.Woken.{Woken}

@@ -9,14 +9,14 @@ use Rattle.xt_messages.specs.declared.event.Mark.{Mark}
 use Rattle.xt_messages.specs.declared.record.Record.{Record}
 use Rattle.xt_messages.specs.declared.record.FileRow.{FileRow}
 use Rattle.xt_protocol.specs.LeaseRows.{Awake}
-use Rattle.xt_protocol.specs.declared.Turned.{Turned}
+use Rattle.xt_protocol.specs.declared.turned.Turned.{Turned}
 use Rattle.xt_protocol.proofs.Folds.{row_after-file}
-use Rattle.osd_rows.specs.Turns.{quiet, joined, the_record}
-use Rattle.osd_rows.specs.ReplicaRows.{kept_after}
-use Rattle.osd_rows.specs.FileStates.{FileState, FileStep}
-use Rattle.osd_rows.specs.Overdue.{expired}
-use Rattle.osd_rows.specs.FileSteps.{wake_of_file}
-use Rattle.osd_rows.specs.OsdSteps.{FilesStep, each_file}
+use Rattle.xt_protocol.specs.Turns.{quiet, joined, the_record}
+use Rattle.xt_protocol.specs.ReplicaRows.{kept_after}
+use Rattle.xt_protocol.specs.FileStates.{FileState, FileStep}
+use Rattle.xt_protocol.specs.Overdue.{expired}
+use Rattle.xt_protocol.specs.FileSteps.{wake_of_file}
+use Rattle.xt_protocol.specs.OsdSteps.{FilesStep, each_file}
 use Rattle.osd_invariants.proofs.Kept.{expired_follows, wake_follows}
 use Rattle.osd_files.specs.Views.{site_at}
 use Rattle.osd_files.specs.declared.waking.Woken.{Woken}

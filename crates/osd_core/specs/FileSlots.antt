@@ -2,7 +2,7 @@
 use Rattle.std.specs.Prelude.{ℕ, ◌≡◌}
 use Rattle.xt_base.specs.declared.ids.FileId.{FileId}
 use Rattle.xt_protocol.specs.LeaseRows.{Awake}
-use Rattle.osd_rows.specs.FileStates.{FileState, file_from}
+use Rattle.xt_protocol.specs.FileStates.{FileState, file_from}
 use Rattle.osd_files.specs.Views.{FileView}
 use Rattle.osd_files.specs.Whole.{RowRises, IsWoken}
 use Rattle.osd_files.specs.declared.waking.Woken.{Woken}

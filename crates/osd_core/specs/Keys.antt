@@ -6,7 +6,7 @@ use Rattle.xt_messages.specs.declared.record.Record.{Record}
 use Rattle.xt_protocol.specs.SeenBodies.{body_by}
 use Rattle.capabilities.specs.Tags.{is_sealed}
 use Rattle.capabilities.specs.Stops.{is_stop}
-use Rattle.osd_rows.specs.OsdSteps.{Outside}
+use Rattle.xt_protocol.specs.OsdSteps.{Outside}
 
 -- a key has 1 to 64 bytes
 pub record FitsKey (key : List ℕ) : Type 0 where

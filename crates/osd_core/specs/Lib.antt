@@ -1,4 +1,3 @@
-pub mod Events
 pub mod Keys
 pub mod Slots
 pub mod Views

@@ -8,14 +8,14 @@ use Rattle.xt_messages.specs.declared.record.FileRow.{FileRow}
 use Rattle.xt_protocol.specs.FileIds.{is_before}
 use Rattle.xt_protocol.specs.Folds.{new_row}
 use Rattle.xt_protocol.specs.LeaseRows.{Silent, Awake}
-use Rattle.xt_protocol.specs.declared.Turned.{Turned}
-use Rattle.version_lists.specs.Rising.{rises}
+use Rattle.xt_protocol.specs.declared.turned.Turned.{Turned}
+use Rattle.object_versions.specs.Rising.{rises}
 use Rattle.replica_records.specs.RowPlaces.{FilesRise}
-use Rattle.osd_rows.specs.FileStates.{FileState, file_from}
-use Rattle.osd_rows.specs.Overdue.{expired}
-use Rattle.osd_rows.specs.FileSteps.{wake_of_file}
-use Rattle.osd_rows.specs.Turns.{joined}
-use Rattle.osd_rows.specs.OsdSteps.{FilesStep, file_at, with_file, each_file}
+use Rattle.xt_protocol.specs.FileStates.{FileState, file_from}
+use Rattle.xt_protocol.specs.Overdue.{expired}
+use Rattle.xt_protocol.specs.FileSteps.{wake_of_file}
+use Rattle.xt_protocol.specs.Turns.{joined}
+use Rattle.xt_protocol.specs.OsdSteps.{FilesStep, file_at, with_file, each_file}
 use Rattle.osd_files.specs.Views.{site_at}
 use Rattle.osd_files.specs.Whole.{RowRises}
 use Rattle.osd_files.specs.declared.waking.Woken.{Woken}

@@ -2,7 +2,7 @@
 use Rattle.std.specs.Prelude.{ℕ, ◌≡◌, ◌<◌, ◌^◌, Option, List, IfSome}
 use Rattle.xt_base.specs.declared.ids.NodeId.{NodeId}
 use Rattle.xt_protocol.specs.LeaseRows.{Silent}
-use Rattle.osd_rows.specs.OsdSteps.{OsdState}
+use Rattle.xt_protocol.specs.OsdSteps.{OsdState}
 use Rattle.osd_core.specs.declared.slot.Slot.{Slot}
 use Rattle.osd_core.specs.Keys.{FitsKey}
 use Rattle.osd_core.specs.Slots.{awake_of, AreSlots}

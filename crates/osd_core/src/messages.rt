@@ -1,5 +1,5 @@
 ghost use Rattle.std.specs.Prelude.{◌≡◌, IfOk, IfSome};
-ghost use Rattle.osd_rows.specs.OsdSteps.{file_concerned};
+ghost use Rattle.xt_protocol.specs.OsdSteps.{file_concerned};
 ghost use Rattle.osd_files.specs.Whole.{IsSealedBy};
 ghost use Rattle.osd_core.specs.Keys.{FitsKey, sealed_by, stops_by};
 

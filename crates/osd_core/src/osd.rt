@@ -1,23 +1,22 @@
 ghost use Rattle.std.specs.Prelude.{◌≡◌, ◌<◌, ◌^◌, Ok, IfOk, IfSome};
 ghost use Rattle.xt_protocol.specs.SeenBodies.{body_by};
-ghost use Rattle.kept_bodies.specs.KeptBodies.{fault_of, ReadsOnly};
-ghost use Rattle.osd_rows.specs.OsdSteps.{event_handled, osd_from, step_of_osd};
+ghost use Rattle.object_versions.specs.KeptBodies.{fault_of, ReadsOnly};
+ghost use Rattle.xt_protocol.specs.OsdSteps.{event_handled, osd_from, step_of_osd};
 ghost use Rattle.osd_files.specs.Views.{site_at};
-ghost use Rattle.osd_core.specs.Events.{FitsEvent};
+ghost use Rattle.xt_messages.specs.Limits.{FitsEvent};
 ghost use Rattle.osd_core.specs.Keys.{FitsKey, sealed_by, stops_by, outside_of};
 ghost use Rattle.osd_core.specs.Slots.{AreRows, AreSlots, StepsFiles};
 
 use crate::messages::{is_sealed, stops};
 use crate::slot::Slot;
 use crate::slots::{slots_from, take, wake};
-use flease_lease::{Awake, Silent};
-use kept_bodies::{Bodies, StepErr};
+use flease::{Awake, Silent};
+use object_versions::{Bodies, StepErr};
 use std::alloc::Global;
 use std::marker::Model;
-use step_outputs::quiet;
 use xt_base::{Boot, NodeId, Octets, OutOfMemory, Times};
 use xt_messages::{Event, Folded, Msg};
-use xt_protocol::Turned;
+use xt_protocol::{Turned, quiet};
 
 /// An OSD of replicated files. Contracts see its key and its state.
 pub struct Osd {

@@ -3,22 +3,21 @@ ghost use Rattle.xt_messages.specs.Limits.{FitsPayload};
 ghost use Rattle.xt_protocol.specs.Folds.{new_row};
 ghost use Rattle.xt_protocol.specs.LeaseRows.{Awake};
 ghost use Rattle.xt_protocol.specs.SeenBodies.{body_by};
-ghost use Rattle.kept_bodies.specs.KeptBodies.{fault_of, ReadsOnly};
-ghost use Rattle.osd_rows.specs.Turns.{quiet};
-ghost use Rattle.osd_rows.specs.FileSteps.{step_of_file};
+ghost use Rattle.object_versions.specs.KeptBodies.{fault_of, ReadsOnly};
+ghost use Rattle.xt_protocol.specs.Turns.{quiet};
+ghost use Rattle.xt_protocol.specs.FileSteps.{step_of_file};
 ghost use Rattle.osd_files.specs.Whole.{IsRowOn};
 ghost use Rattle.osd_core.specs.FileSlots.{id_of, view_of, IsSoundSlot, WakesSlot};
 
-use flease_lease::Awake;
-use kept_bodies::{Bodies, StepErr};
+use flease::Awake;
+use object_versions::{Bodies, StepErr};
 use osd_files::{OsdFile, Woken};
 use replica_records::new_head;
 use std::alloc::Global;
 use std::mem;
-use step_outputs::quiet;
 use xt_base::{FileId, OutOfMemory};
 use xt_messages::{FileRow, HeldSet, Msg};
-use xt_protocol::Turned;
+use xt_protocol::{Turned, quiet};
 
 /// A file at an OSD: what its records say of it, until a message concerns it.
 pub enum Slot {

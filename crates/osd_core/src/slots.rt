@@ -5,23 +5,22 @@ ghost use Rattle.xt_base.specs.declared.ids.Stamp.{Stamp};
 ghost use Rattle.xt_messages.specs.declared.file.Capability.{Capability};
 ghost use Rattle.xt_protocol.specs.LeaseRows.{Awake};
 ghost use Rattle.xt_protocol.specs.SeenBodies.{body_by};
-ghost use Rattle.kept_bodies.specs.KeptBodies.{fault_of, ReadsOnly};
-ghost use Rattle.osd_rows.specs.Turns.{joined, quiet};
-ghost use Rattle.osd_rows.specs.OsdSteps.{asks_dir, file_concerned, message_handled, woken};
+ghost use Rattle.object_versions.specs.KeptBodies.{fault_of, ReadsOnly};
+ghost use Rattle.xt_protocol.specs.Turns.{joined, quiet};
+ghost use Rattle.xt_protocol.specs.OsdSteps.{asks_dir, file_concerned, message_handled, woken};
 ghost use Rattle.osd_files.specs.Views.{site_at};
 ghost use Rattle.osd_files.specs.Whole.{IsSealedBy};
 ghost use Rattle.osd_core.specs.Slots.{slots_rise, slots_from, AreSound, AreSlots, IsSlotPlace, IsMade, WakesMore, WakesSlots, WakesBehind, StepsFiles};
 
 use crate::messages::file_concerned;
 use crate::slot::{Slot, new_row, no_news};
-use flease_lease::Awake;
-use kept_bodies::{Bodies, StepErr};
+use flease::Awake;
+use object_versions::{Bodies, StepErr};
 use osd_files::Woken;
 use std::alloc::Global;
-use step_outputs::{extend, message, quiet, sends_one};
 use xt_base::{DIR_NODE, FileId, NodeId, OutOfMemory};
 use xt_messages::{FileTable, Msg, Payload, RegistryReq};
-use xt_protocol::Turned;
+use xt_protocol::{Turned, extend, message, quiet, sends_one};
 
 /// The kind of an OSD in the registry.
 const OSD: u8 = 1;

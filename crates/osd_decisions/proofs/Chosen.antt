@@ -6,7 +6,7 @@ use Rattle.std.proofs.lemmas.List.{get_or_default}
 use Rattle.std.proofs.lemmas.List.MinMax.{best_of_keeps, best_of_takes}
 use Rattle.xt_base.specs.declared.ids.NodeId.{NodeId}
 use Rattle.xt_messages.specs.declared.file.FileHead.{FileHead}
-use Rattle.osd_rows.specs.Choice.{is_better, chosen_of}
+use Rattle.xt_protocol.specs.Choice.{is_better, chosen_of}
 use Rattle.osd_decisions.specs.Reports.{best_report}
 
 abbrev pub Report : Type 0

@@ -1,9 +1,9 @@
 -- what always holds of a primary's committed head
 use Rattle.std.specs.Prelude.{Option, Some, None}
-use Rattle.osd_rows.specs.declared.Progress.{Progress}
-use Rattle.osd_rows.specs.declared.Progress.TheVariants as progress
-use Rattle.osd_rows.specs.declared.Tenure.{Tenure}
-use Rattle.version_lists.specs.Rising.{HeadRises}
+use Rattle.xt_protocol.specs.declared.states.Progress.{Progress}
+use Rattle.xt_protocol.specs.declared.states.Progress.TheVariants as progress
+use Rattle.xt_protocol.specs.declared.states.Tenure.{Tenure}
+use Rattle.object_versions.specs.Rising.{HeadRises}
 
 -- its versions and sessions rise
 abbrev pub CommittedRises : Progress → Type 0

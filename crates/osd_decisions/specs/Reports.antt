@@ -2,7 +2,7 @@
 use Rattle.std.specs.Prelude.{Option, Some, None, List, [], ◌∷◌}
 use Rattle.xt_base.specs.declared.ids.NodeId.{NodeId}
 use Rattle.xt_messages.specs.declared.file.FileHead.{FileHead}
-use Rattle.osd_rows.specs.Choice.{chosen_of}
+use Rattle.xt_protocol.specs.Choice.{chosen_of}
 
 -- none where there is none
 abbrev pub best_report : NodeId → List (NodeId × FileHead) → Option (NodeId × FileHead)

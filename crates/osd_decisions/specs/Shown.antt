@@ -1,5 +1,5 @@
 -- how a write stands, as the code tells it
-use Rattle.osd_rows.specs.Writes as rows
+use Rattle.xt_protocol.specs.Writes as rows
 use Rattle.osd_decisions.specs.declared.judging.Standing.{Standing}
 use Rattle.osd_decisions.specs.declared.judging.Standing.TheVariants as standing
 

@@ -2,12 +2,12 @@
 //! equal ones the own node's, and then the least node's. Versions that rise are searched by halves, others one by one.
 ghost use Rattle.std.specs.Prelude.{◌≡◌, ◌<◌, IfOk, IsTrue, length, slice_get};
 ghost use Rattle.xt_protocol.specs.Stamps.{has_version};
-ghost use Rattle.osd_rows.specs.Choice.{is_better, difference};
-ghost use Rattle.version_lists.specs.Rising.{held_rise};
+ghost use Rattle.xt_protocol.specs.Choice.{is_better, difference};
+ghost use Rattle.object_versions.specs.Rising.{held_rise};
 ghost use Rattle.osd_decisions.specs.Reports.{best_report};
 
+use object_versions::{has_version, held_rise, is_below, is_held, is_stamp};
 use std::alloc::Global;
-use version_lists::{has_version, held_rise, is_below, is_held, is_stamp};
 use xt_base::{NodeId, OutOfMemory, Seq};
 use xt_messages::{FileHead, ObjectVersion, Versions};
 
@@ -48,7 +48,7 @@ fn is_known(known: &[ObjectVersion], rises: bool, version: ObjectVersion) -> boo
 }
 
 /// The versions that are wanted and not known, in the order of those wanted.
-#[tactic(auto, unfolding(osd_rows::specs::Choice::difference))]
+#[tactic(auto, unfolding(xt_protocol::specs::Choice::difference))]
 pub fn difference(alloc: Global, have: &Versions, want: &Versions) -> Result<Versions, OutOfMemory>
     ensures { IfOk result (λ missing. missing ≡ difference have.now want.now) }
 {

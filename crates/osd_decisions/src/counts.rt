@@ -1,9 +1,9 @@
 ghost use Rattle.std.specs.Prelude.{◌≡◌, ◌≤◌, length, nat_le, ◌&&◌};
 ghost use Rattle.xt_base.specs.MemberList.{has_node};
-ghost use Rattle.osd_rows.specs.Primaries as rows;
+ghost use Rattle.xt_protocol.specs.Primaries as rows;
 
-use osd_rows::{Peer, PeerState};
 use xt_base::{NodeId, has_node};
+use xt_protocol::{Peer, PeerState};
 
 /// Whether so many are more than half of the members.
 pub fn is_majority(peers: &[Peer], count: usize) -> bool

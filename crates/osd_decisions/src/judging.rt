@@ -1,9 +1,9 @@
 ghost use Rattle.std.specs.Prelude.{◌≡◌, ◌<◌, ◌≤◌, ◌^◌, Some, None};
-ghost use Rattle.osd_rows.specs.Writes as rows;
+ghost use Rattle.xt_protocol.specs.Writes as rows;
 ghost use Rattle.osd_decisions.specs.Shown.{shown_standing};
-ghost use Rattle.version_lists.specs.Rising.{HeadRises};
+ghost use Rattle.object_versions.specs.Rising.{HeadRises};
 
-use version_lists::session_of;
+use object_versions::session_of;
 use xt_base::{CLIENTS, OpId, SizeMark};
 use xt_messages::{FileHead, Op, Reply, Session};
 
@@ -87,7 +87,7 @@ fn judged(
 
 /// How a write stands to a head, in a file of `objects` objects of `stripe` bytes at most: repeated, older, old epoch, too far,
 /// clients full, or fresh.
-#[tactic(auto, unfolding(osd_rows::specs::Writes::standing))]
+#[tactic(auto, unfolding(xt_protocol::specs::Writes::standing))]
 pub fn standing_of(
     objects: u64,
     stripe: u32,

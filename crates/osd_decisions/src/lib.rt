@@ -1,7 +1,7 @@
 //! What an OSD decides of a file, before anything changes: which asks it refuses, how a write stands to the file, what a read shows, the
 //! update that a write makes, what a majority is, and what a new primary chooses and fetches.
 //!
-//! Each call equals its definition in `osd_rows` (`AskRows`, `Writes`, `Serving`, `Primaries`, `Choice`), over heads whose versions and
+//! Each call equals its definition in `xt_protocol` (`AskRows`, `Writes`, `Serving`, `Primaries`, `Choice`), over heads whose versions and
 //! sessions rise, which are searched by halves. Bodies are read through `Bodies`.
 #![tactic(auto)]
 

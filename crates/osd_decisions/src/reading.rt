@@ -3,18 +3,17 @@ ghost use Rattle.xt_messages.specs.declared.file.FileHead.{FileHead};
 ghost use Rattle.xt_messages.specs.declared.file.ObjectVersion.{ObjectVersion};
 ghost use Rattle.xt_protocol.specs.Objects as plain;
 ghost use Rattle.xt_protocol.specs.SeenBodies.{body_by};
-ghost use Rattle.osd_rows.specs.Serving.{reads_under};
-ghost use Rattle.osd_rows.specs.Writes as rows;
-ghost use Rattle.kept_bodies.specs.KeptBodies.{fault_of, ReadsOnly};
-ghost use Rattle.version_lists.specs.Rising.{HeadRises};
+ghost use Rattle.xt_protocol.specs.Serving.{reads_under};
+ghost use Rattle.xt_protocol.specs.Writes as rows;
+ghost use Rattle.object_versions.specs.KeptBodies.{fault_of, ReadsOnly};
+ghost use Rattle.object_versions.specs.Rising.{HeadRises};
 ghost use Rattle.osd_decisions.specs.Committed.{CommittedUnder};
 
-use kept_bodies::{Bodies, StepErr, behind, cut_or_filled, readable, seen};
-use osd_rows::{Place, Progress, Tenure};
+use object_versions::{Bodies, StepErr, behind, cut_or_filled, readable, seen, version_of};
 use std::alloc::Global;
-use version_lists::version_of;
 use xt_base::{FileId, Octets, Stamp};
 use xt_messages::{FileHead, Op, Reply};
+use xt_protocol::{Place, Progress, Tenure};
 
 /// The body of an object in its present version: empty where it has none.
 pub fn present_body<B: Bodies>(

@@ -1,7 +1,7 @@
 ghost use Rattle.std.specs.Prelude.{◌≡◌, ◌<◌, ◌+◌, ◌^◌, Some, None, length};
-ghost use Rattle.osd_rows.specs.FileStates.{Site};
-ghost use Rattle.osd_rows.specs.AskRows as rows;
-ghost use Rattle.osd_rows.specs.Asks as asks;
+ghost use Rattle.xt_protocol.specs.FileStates.{Site};
+ghost use Rattle.xt_protocol.specs.AskRows as rows;
+ghost use Rattle.xt_protocol.specs.Asks as asks;
 
 use xt_base::NodeId;
 use xt_messages::{Capability, Denial, Kind, Location, Op, Reply};
@@ -75,7 +75,7 @@ fn leaves_object(stripe: u32, op: &Op) -> bool
 
 /// What an ask is told that is refused before any row, by the first test that fails: its capability, where `sealed` says
 /// whether its tag is the key's; its list, against the stored one; whether this node is in it; its range.
-#[tactic(auto, unfolding(osd_rows::specs::AskRows::refusal_of))]
+#[tactic(auto, unfolding(xt_protocol::specs::AskRows::refusal_of))]
 pub fn refusal_of(
     node: NodeId,
     now: u64,

@@ -1,14 +1,13 @@
 ghost use Rattle.std.specs.Prelude.{◌≡◌, ◌<◌, ◌≤◌, ◌^◌, ◌+◌, ◌*◌, length, take, [], IsTrue, if◌then◌else◌, IfOk};
 ghost use Rattle.xt_messages.specs.Limits.{FitsOp};
 ghost use Rattle.xt_protocol.specs.SeenBodies.{body_by};
-ghost use Rattle.osd_rows.specs.Writes as rows;
-ghost use Rattle.kept_bodies.specs.KeptBodies.{fault_of, ReadsOnly};
-ghost use Rattle.version_lists.specs.Rising.{HeadRises};
+ghost use Rattle.xt_protocol.specs.Writes as rows;
+ghost use Rattle.object_versions.specs.KeptBodies.{fault_of, ReadsOnly};
+ghost use Rattle.object_versions.specs.Rising.{HeadRises};
 
 use crate::reading::present_body;
-use kept_bodies::{Bodies, StepErr, overlay};
+use object_versions::{Bodies, StepErr, overlay, version_of};
 use std::alloc::Global;
-use version_lists::version_of;
 use xt_base::{FileId, NO_OBJECT, Octets, OpId, OutOfMemory, SizeMark, Stamp};
 use xt_messages::{FileHead, Op, Update};
 

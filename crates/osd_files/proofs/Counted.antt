@@ -11,17 +11,17 @@ use Rattle.xt_messages.specs.declared.file.Update.{Update}
 use Rattle.xt_messages.specs.declared.record.Record.{Record}
 use Rattle.xt_base.specs.declared.TheConstants.{OBJECTS, COUNTS}
 use Rattle.xt_protocol.specs.Heads.{new_head}
-use Rattle.xt_protocol.specs.declared.Turned.{Turned}
-use Rattle.osd_rows.specs.declared.IssuedUpdate.{IssuedUpdate}
-use Rattle.osd_rows.specs.declared.Place.{Place}
-use Rattle.osd_rows.specs.declared.Progress.{Progress}
-use Rattle.osd_rows.specs.declared.Progress.TheVariants as progress
-use Rattle.osd_rows.specs.declared.Tenure.{Tenure}
-use Rattle.osd_rows.specs.declared.PrimaryState.{PrimaryState}
-use Rattle.osd_rows.specs.Primaries.{Ground, Led, nodes_of, unknown_peer}
-use Rattle.osd_rows.specs.PrimaryRows.{epoch_drawn, epoch_above}
-use Rattle.osd_rows.specs.Serving.{issues, issues_unless, next_update_of, write_stands, writes, writes_in, writes_under}
-use Rattle.osd_rows.specs.Writes.{Standing, repeated, older, turned_away, fresh, standing}
+use Rattle.xt_protocol.specs.declared.turned.Turned.{Turned}
+use Rattle.xt_protocol.specs.declared.states.IssuedUpdate.{IssuedUpdate}
+use Rattle.xt_protocol.specs.declared.states.Place.{Place}
+use Rattle.xt_protocol.specs.declared.states.Progress.{Progress}
+use Rattle.xt_protocol.specs.declared.states.Progress.TheVariants as progress
+use Rattle.xt_protocol.specs.declared.states.Tenure.{Tenure}
+use Rattle.xt_protocol.specs.declared.states.PrimaryState.{PrimaryState}
+use Rattle.xt_protocol.specs.Primaries.{Ground, Led, nodes_of, unknown_peer}
+use Rattle.xt_protocol.specs.PrimaryRows.{epoch_drawn, epoch_above}
+use Rattle.xt_protocol.specs.Serving.{issues, issues_unless, next_update_of, write_stands, writes, writes_in, writes_under}
+use Rattle.xt_protocol.specs.Writes.{Standing, repeated, older, turned_away, fresh, standing}
 use Rattle.replica_primary.specs.Written.{ground}
 use Rattle.replica_primary.specs.PrimaryViews.{PrimaryView}
 use Rattle.osd_files.specs.Counts.{IsCounted}

@@ -7,9 +7,9 @@ use Rattle.xt_messages.specs.declared.file.FileHead.{FileHead}
 use Rattle.xt_messages.specs.declared.record.FileRow.{FileRow}
 use Rattle.xt_base.specs.declared.TheConstants.{COUNTS}
 use Rattle.xt_messages.specs.Limits.{FitsEpoch, is_at_most}
-use Rattle.xt_protocol.specs.declared.Turned.{Turned}
-use Rattle.osd_rows.specs.declared.Place.{Place}
-use Rattle.osd_rows.specs.PrimaryRows.{epoch_drawn, epoch_above}
+use Rattle.xt_protocol.specs.declared.turned.Turned.{Turned}
+use Rattle.xt_protocol.specs.declared.states.Place.{Place}
+use Rattle.xt_protocol.specs.PrimaryRows.{epoch_drawn, epoch_above}
 use Rattle.replica_state.specs.Kept.{IsNotable}
 use Rattle.osd_files.proofs.Rows.{lt_true}
 

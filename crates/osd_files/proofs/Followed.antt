@@ -9,19 +9,19 @@ use Rattle.xt_messages.specs.declared.file.ObjectVersion.{ObjectVersion}
 use Rattle.xt_messages.specs.declared.message.Payload.{Payload}
 use Rattle.xt_messages.specs.declared.record.FileRow.{FileRow}
 use Rattle.xt_messages.specs.declared.record.Record.{Record}
-use Rattle.xt_protocol.specs.declared.Turned.{Turned}
+use Rattle.xt_protocol.specs.declared.turned.Turned.{Turned}
 use Rattle.xt_protocol.specs.LeaseRows.{Awake, LeaseState, Held, free, asking, writing, held, has_turn}
 use Rattle.xt_protocol.specs.SeenBodies.{body_by}
-use Rattle.file_lease.specs.Moves.{turn_of, IsSettled}
-use Rattle.osd_rows.specs.declared.PrimaryState.{PrimaryState}
-use Rattle.osd_rows.specs.FileLeases.{leads_to}
-use Rattle.osd_rows.specs.FileStates.{FileState, Site, FileStep, ground_of, serves_to, stripe_of, nothing}
-use Rattle.osd_rows.specs.FileSteps.{primary_hears}
-use Rattle.osd_rows.specs.Asks.{Served, asks_follow}
-use Rattle.osd_rows.specs.Primaries.{Ground, Led, is_ready}
-use Rattle.osd_rows.specs.PrimaryRows.{hears}
-use Rattle.osd_rows.specs.ReplicaRows.{kept_after}
-use Rattle.osd_rows.specs.Turns.{joined, the_record}
+use Rattle.flease.specs.Moves.{turn_of, IsSettled}
+use Rattle.xt_protocol.specs.declared.states.PrimaryState.{PrimaryState}
+use Rattle.xt_protocol.specs.FileLeases.{leads_to}
+use Rattle.xt_protocol.specs.FileStates.{FileState, Site, FileStep, ground_of, serves_to, stripe_of, nothing}
+use Rattle.xt_protocol.specs.FileSteps.{primary_hears}
+use Rattle.xt_protocol.specs.Asks.{Served, asks_follow}
+use Rattle.xt_protocol.specs.Primaries.{Ground, Led, is_ready}
+use Rattle.xt_protocol.specs.PrimaryRows.{hears}
+use Rattle.xt_protocol.specs.ReplicaRows.{kept_after}
+use Rattle.xt_protocol.specs.Turns.{joined, the_record}
 use Rattle.replica_primary.specs.Written.{ground}
 use Rattle.osd_files.specs.Leads.{LeadView}
 use Rattle.osd_files.specs.Rows.{IsStep}

@@ -4,11 +4,11 @@ use Rattle.xt_base.specs.declared.ids.OpId.{OpId}
 use Rattle.xt_messages.specs.declared.file.Location.{Location}
 use Rattle.xt_messages.specs.declared.file.Capability.{Capability}
 use Rattle.xt_messages.specs.declared.file.Op.{Op}
-use Rattle.xt_protocol.specs.declared.Turned.{Turned}
-use Rattle.osd_rows.specs.declared.WaitingAsk.{WaitingAsk}
-use Rattle.osd_rows.specs.FileStates.{FileState, Site, steps_to, and_then}
-use Rattle.osd_rows.specs.Turns.{keeps}
-use Rattle.osd_rows.specs.AskRows.{ask_rows, ask_let_in, view_record, waiting_ask, ask_handled, refusal_of}
+use Rattle.xt_protocol.specs.declared.turned.Turned.{Turned}
+use Rattle.xt_protocol.specs.declared.states.WaitingAsk.{WaitingAsk}
+use Rattle.xt_protocol.specs.FileStates.{FileState, Site, steps_to, and_then}
+use Rattle.xt_protocol.specs.Turns.{keeps}
+use Rattle.xt_protocol.specs.AskRows.{ask_rows, ask_let_in, view_record, waiting_ask, ask_handled, refusal_of}
 use Rattle.xt_messages.specs.declared.reply.Reply.{Reply}
 use Rattle.osd_files.specs.Asking.{first_list, list_after}
 use Rattle.osd_files.proofs.Rows.{behind_it}

@@ -9,9 +9,9 @@ use Rattle.xt_base.specs.declared.ids.Lease.{Lease}
 use Rattle.xt_messages.specs.declared.file.Location.{Location}
 use Rattle.xt_messages.specs.declared.message.Payload.{Payload}
 use Rattle.xt_messages.specs.declared.message.Payload.TheVariants as payload
-use Rattle.flease_register.specs.Answers.{shown_read, shown_write}
-use Rattle.file_lease.specs.Shown.{shown_news}
-use Rattle.file_lease.specs.Moves.{turn_of}
+use Rattle.flease.specs.Answers.{shown_read, shown_write}
+use Rattle.flease.specs.Shown.{shown_news}
+use Rattle.flease.specs.Moves.{turn_of}
 use Rattle.osd_invariants.specs.Sound.{IsStored, ListUnder}
 use Rattle.xt_protocol.specs.Register as register
 use Rattle.xt_protocol.specs.Register.{Round, Took, ignored, counted, write_to, alive, on_promise, same_ballot, lease_of, on_acceptance}

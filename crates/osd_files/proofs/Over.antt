@@ -4,15 +4,15 @@ use Rattle.xt_base.specs.declared.ids.FileId.{FileId}
 use Rattle.xt_base.specs.declared.ids.Stamp.{Stamp}
 use Rattle.xt_messages.specs.declared.file.Capability.{Capability}
 use Rattle.xt_messages.specs.declared.reply.Reply.{Reply}
-use Rattle.xt_protocol.specs.declared.Turned.{Turned}
+use Rattle.xt_protocol.specs.declared.turned.Turned.{Turned}
 use Rattle.xt_protocol.specs.LeaseRows.{LeaseState, free, asking, writing, held, lease_expired, has_run_out, has_turn, round_over, renewal_left}
-use Rattle.file_lease.specs.declared.news.Expiry.{Expiry}
-use Rattle.file_lease.specs.declared.news.Expiry.TheVariants.{Stands, RanOut, Lapsed}
-use Rattle.file_lease.specs.Shown.{expiry_of}
-use Rattle.file_lease.specs.Moves.{IsSettled}
-use Rattle.osd_rows.specs.declared.Tenure.{Tenure}
-use Rattle.osd_rows.specs.FileStates.{FileState, Site, FileStep, nothing}
-use Rattle.osd_rows.specs.Overdue.{expired, lease_became, lease_lapses, no_lease_for_all, deadlines_come, deadlines_under}
+use Rattle.flease.specs.declared.news.Expiry.{Expiry}
+use Rattle.flease.specs.declared.news.Expiry.TheVariants.{Stands, RanOut, Lapsed}
+use Rattle.flease.specs.Shown.{expiry_of}
+use Rattle.flease.specs.Moves.{IsSettled}
+use Rattle.xt_protocol.specs.declared.states.Tenure.{Tenure}
+use Rattle.xt_protocol.specs.FileStates.{FileState, Site, FileStep, nothing}
+use Rattle.xt_protocol.specs.Overdue.{expired, lease_became, lease_lapses, no_lease_for_all, deadlines_come, deadlines_under}
 use Rattle.osd_files.specs.Counts.{no_majority}
 use Rattle.osd_files.specs.Rows.{IsRow}
 use Rattle.osd_files.specs.Views.{FileView, site_at}

@@ -10,7 +10,7 @@ use Rattle.xt_messages.specs.declared.message.Payload.{Payload}
 use Rattle.xt_messages.specs.declared.message.Payload.TheVariants as payload
 use Rattle.xt_protocol.specs.Register.{Round, Promised, Took, ignored, counted, write_to, alive, on_promise, report_taken, promise_counted, promise_ignored, same_ballot, lease_of, on_acceptance, with_promise, counted_pairs, majority_of, has_promise, report_after_write, live_report, bars, awaits_promise}
 use Rattle.xt_protocol.specs.LeaseRows.{LeaseState, LeaseStep, Held, Renewing, asked_by, Written, written_still, written_won, free, asking, writing, held, lease_expired, has_run_out, has_turn, is_inside, renewal_left, on_answer, renewal_under, renewal_answered, renewal_promised, renewal_accepted, renewal_ignores, renewal_outrun, asking_answered, writing_answered, step_of_asking, step_of_written, round_won, round_over, lease_won, won_too_late, outrun_learnt, can_ask, round_starts, is_renewal_due, renewal_starts, without_renewal, with_renewal, no_news, renewed, ends, nothing, news_of_targets, targets_of, writing_accepted}
-use Rattle.file_lease.specs.Moves.{asks_at, renews_at}
+use Rattle.flease.specs.Moves.{asks_at, renews_at}
 use Rattle.osd_files.specs.Owners.{Owner, owner_of, renewer_of, renewer_in, owner_of_round, owner_of_proposer}
 
 -- a lease of this owner

@@ -2,12 +2,12 @@
 use Rattle.std.proofs.Common.{◌≡◌, ◌∙◌, ℕ, refl, ap, sym, Option, Some, None, List, [], cond}
 use Rattle.std.specs.Prelude.{◌&&◌, ◌==◌, ◌+◌, nat_le, not}
 use Rattle.xt_base.specs.declared.ids.NodeId.{NodeId}
-use Rattle.xt_protocol.specs.declared.Turned.{Turned}
+use Rattle.xt_protocol.specs.declared.turned.Turned.{Turned}
 use Rattle.xt_protocol.specs.Heads.{head_after}
 use Rattle.xt_protocol.specs.Folds.{body_of}
-use Rattle.osd_rows.specs.Primaries.{if_any}
-use Rattle.osd_rows.specs.FileStates.{FileState, Site, FileStep}
-use Rattle.osd_rows.specs.FileSteps.{replica_acts}
+use Rattle.xt_protocol.specs.Primaries.{if_any}
+use Rattle.xt_protocol.specs.FileStates.{FileState, Site, FileStep}
+use Rattle.xt_protocol.specs.FileSteps.{replica_acts}
 use Rattle.xt_base.specs.declared.ids.FileId.{FileId}
 use Rattle.xt_base.specs.declared.ids.Epoch.{Epoch}
 use Rattle.xt_base.specs.declared.ids.Stamp.{Stamp}
@@ -21,8 +21,8 @@ use Rattle.xt_messages.specs.declared.record.Record.TheVariants as kept
 use Rattle.xt_messages.specs.declared.message.Payload.{Payload}
 use Rattle.xt_messages.specs.declared.message.Payload.TheVariants as payload
 use Rattle.xt_protocol.specs.Stamps.{is_earlier, is_epoch, is_below, has_version}
-use Rattle.osd_rows.specs.declared.Acted.{Acted}
-use Rattle.osd_rows.specs.ReplicaRows.{kept_after, gathered, staged, headed, updated, refused, behind, unanswered, after_record, only, as_promised, stage_record, head_taken, first_missing, head_offered, next_update, update_offered, head_fits}
+use Rattle.xt_protocol.specs.declared.states.Acted.{Acted}
+use Rattle.xt_protocol.specs.ReplicaRows.{kept_after, gathered, staged, headed, updated, refused, behind, unanswered, after_record, only, as_promised, stage_record, head_taken, first_missing, head_offered, next_update, update_offered, head_fits}
 use Rattle.osd_files.specs.Kinds.{acted_on}
 use Rattle.osd_files.proofs.Owned.{either}
 

@@ -7,16 +7,16 @@ use Rattle.xt_base.specs.Faults.{Rose}
 use Rattle.xt_messages.specs.declared.record.Record.{Record}
 use Rattle.xt_base.specs.declared.ids.Stamp.{Stamp}
 use Rattle.xt_messages.specs.declared.file.Capability.{Capability}
-use Rattle.xt_protocol.specs.declared.Turned.{Turned}
-use Rattle.osd_rows.specs.FileStates.{FileState, Site, FileStep}
-use Rattle.osd_rows.specs.Primaries.{idle}
-use Rattle.osd_rows.specs.Turns.{joined}
+use Rattle.xt_protocol.specs.declared.turned.Turned.{Turned}
+use Rattle.xt_protocol.specs.FileStates.{FileState, Site, FileStep}
+use Rattle.xt_protocol.specs.Primaries.{idle}
+use Rattle.xt_protocol.specs.Turns.{joined}
 use Rattle.xt_base.specs.declared.ids.NodeId.{NodeId}
 use Rattle.xt_messages.specs.declared.message.Payload.{Payload}
 use Rattle.xt_protocol.specs.LeaseRows.{Awake, LeaseState, LeaseNews, on_answer}
-use Rattle.osd_rows.specs.FileLeases.{answer_comes, end_after_answer, lease_news}
-use Rattle.osd_rows.specs.Overdue.{no_lease_for_all, lease_lapses}
-use Rattle.kept_bodies.specs.KeptBodies.{ReadsOnly}
+use Rattle.xt_protocol.specs.FileLeases.{answer_comes, end_after_answer, lease_news}
+use Rattle.xt_protocol.specs.Overdue.{no_lease_for_all, lease_lapses}
+use Rattle.object_versions.specs.KeptBodies.{ReadsOnly}
 use Rattle.osd_files.specs.Views.{FileView, site_at}
 use Rattle.osd_files.specs.Rows.{IsRow, IsRowBy}
 

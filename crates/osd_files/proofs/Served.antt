@@ -2,19 +2,19 @@
 use Rattle.std.proofs.Common.{◌≡◌, ◌∙◌, ℕ, Bool, true, false, refl, ap, sym, Option, Some, None, cond}
 use Rattle.std.specs.Prelude.{◌&&◌, is_some}
 use Rattle.xt_messages.specs.declared.record.Record.{Record}
-use Rattle.xt_protocol.specs.declared.Turned.{Turned}
+use Rattle.xt_protocol.specs.declared.turned.Turned.{Turned}
 use Rattle.xt_protocol.specs.LeaseRows.{LeaseState, Proposer, Turn, free, asking, writing, held, has_turn}
-use Rattle.file_lease.specs.Moves.{turn_of, is_free, IsSettled}
-use Rattle.osd_rows.specs.declared.Asks.{Asks}
-use Rattle.osd_rows.specs.declared.PrimaryState.{PrimaryState}
-use Rattle.osd_rows.specs.declared.WaitingAsk.{WaitingAsk}
-use Rattle.osd_rows.specs.FileStates.{FileState, Site, FileStep, ground_of, serves_to}
-use Rattle.osd_rows.specs.Primaries.{Led, issued_by, is_active}
-use Rattle.osd_rows.specs.ReplicaRows.{kept_after}
-use Rattle.osd_rows.specs.Serving.{reads, writes}
-use Rattle.osd_rows.specs.Turns.{quiet, joined}
-use Rattle.osd_rows.specs.Asks.{Served, asked_already, is_read, read_answer, serves, write_done, waits}
-use Rattle.osd_rows.specs.AskRows.{ask_rows, ask_served, ask_under, ask_waits}
+use Rattle.flease.specs.Moves.{turn_of, is_free, IsSettled}
+use Rattle.xt_protocol.specs.declared.states.Asks.{Asks}
+use Rattle.xt_protocol.specs.declared.states.PrimaryState.{PrimaryState}
+use Rattle.xt_protocol.specs.declared.states.WaitingAsk.{WaitingAsk}
+use Rattle.xt_protocol.specs.FileStates.{FileState, Site, FileStep, ground_of, serves_to}
+use Rattle.xt_protocol.specs.Primaries.{Led, issued_by, is_active}
+use Rattle.xt_protocol.specs.ReplicaRows.{kept_after}
+use Rattle.xt_protocol.specs.Serving.{reads, writes}
+use Rattle.xt_protocol.specs.Turns.{quiet, joined}
+use Rattle.xt_protocol.specs.Asks.{Served, asked_already, is_read, read_answer, serves, write_done, waits}
+use Rattle.xt_protocol.specs.AskRows.{ask_rows, ask_served, ask_under, ask_waits}
 use Rattle.osd_invariants.proofs.Kept.{served_none}
 use Rattle.osd_files.specs.Asking.{asks_once_done}
 use Rattle.osd_files.proofs.Rows.{when_true, when_false}

@@ -15,17 +15,17 @@ use Rattle.xt_messages.specs.declared.file.Update.{Update}
 use Rattle.xt_messages.specs.declared.file.Capability.{Capability}
 use Rattle.xt_messages.specs.declared.message.Payload.{Payload}
 use Rattle.xt_messages.specs.declared.message.Payload.TheVariants as payload
-use Rattle.xt_protocol.specs.declared.Turned.{Turned}
+use Rattle.xt_protocol.specs.declared.turned.Turned.{Turned}
 use Rattle.xt_protocol.specs.LeaseRows.{Awake, LeaseState, Proposer, free}
-use Rattle.osd_rows.specs.declared.Asks.{Asks}
-use Rattle.osd_rows.specs.declared.Tenure.{Tenure}
-use Rattle.osd_rows.specs.Asks.{no_asks}
-use Rattle.osd_rows.specs.Primaries.{issued_by}
-use Rattle.osd_rows.specs.FileStates.{FileState, Site, FileStep, and_then, members_of}
-use Rattle.osd_rows.specs.FileLeases.{answer_comes}
-use Rattle.osd_rows.specs.FileSteps.{message_comes, primary_hears, replica_acts, step_of_file, wake_of_file}
-use Rattle.osd_rows.specs.Overdue.{expired}
-use Rattle.osd_rows.specs.Turns.{joined}
+use Rattle.xt_protocol.specs.declared.states.Asks.{Asks}
+use Rattle.xt_protocol.specs.declared.states.Tenure.{Tenure}
+use Rattle.xt_protocol.specs.Asks.{no_asks}
+use Rattle.xt_protocol.specs.Primaries.{issued_by}
+use Rattle.xt_protocol.specs.FileStates.{FileState, Site, FileStep, and_then, members_of}
+use Rattle.xt_protocol.specs.FileLeases.{answer_comes}
+use Rattle.xt_protocol.specs.FileSteps.{message_comes, primary_hears, replica_acts, step_of_file, wake_of_file}
+use Rattle.xt_protocol.specs.Overdue.{expired}
+use Rattle.xt_protocol.specs.Turns.{joined}
 use Rattle.osd_invariants.specs.Sound.{AreOne, IsSound, LedUnder, ListUnder, PeersAre, WaitsUnder}
 use Rattle.osd_invariants.specs.OpenAsks.{AskIs, AsksAre, IsWithinLimits}
 use Rattle.osd_invariants.proofs.OpenAsks.{expired_are, none_are, step_are, wake_are}

@@ -5,15 +5,15 @@ use Rattle.std.specs.List.{fold}
 use Rattle.xt_messages.specs.declared.message.Msg.{Msg}
 use Rattle.xt_messages.specs.declared.event.Mark.{Mark}
 use Rattle.xt_messages.specs.declared.record.Record.{Record}
-use Rattle.xt_protocol.specs.declared.Turned.{Turned}
-use Rattle.osd_rows.specs.declared.Asks.{Asks}
-use Rattle.osd_rows.specs.declared.PrimaryState.{PrimaryState}
-use Rattle.osd_rows.specs.declared.Tenure.{Tenure}
-use Rattle.osd_rows.specs.declared.WaitingAsk.{WaitingAsk}
-use Rattle.osd_rows.specs.Primaries.{Ground, Led, issued_by, is_ready}
-use Rattle.osd_rows.specs.Serving.{reads, writes}
-use Rattle.osd_rows.specs.Turns.{quiet, joined, the_record}
-use Rattle.osd_rows.specs.Asks.{Served, is_read, read_answer, no_asks, stays, write_done, serves, serves_waiting, serves_all, asks_behind, asks_follow}
+use Rattle.xt_protocol.specs.declared.turned.Turned.{Turned}
+use Rattle.xt_protocol.specs.declared.states.Asks.{Asks}
+use Rattle.xt_protocol.specs.declared.states.PrimaryState.{PrimaryState}
+use Rattle.xt_protocol.specs.declared.states.Tenure.{Tenure}
+use Rattle.xt_protocol.specs.declared.states.WaitingAsk.{WaitingAsk}
+use Rattle.xt_protocol.specs.Primaries.{Ground, Led, issued_by, is_ready}
+use Rattle.xt_protocol.specs.Serving.{reads, writes}
+use Rattle.xt_protocol.specs.Turns.{quiet, joined, the_record}
+use Rattle.xt_protocol.specs.Asks.{Served, is_read, read_answer, no_asks, stays, write_done, serves, serves_waiting, serves_all, asks_behind, asks_follow}
 use Rattle.osd_invariants.proofs.Kept.{served_none}
 use Rattle.osd_files.specs.Asking.{asks_once_done}
 use Rattle.osd_files.specs.Serves.{asks_after}

@@ -3,13 +3,13 @@ use Rattle.std.proofs.Common.{◌≡◌, ◌∙◌, ℕ, Bool, true, false, refl
 use Rattle.std.specs.Prelude.{is_some}
 use Rattle.xt_messages.specs.declared.file.Location.{Location}
 use Rattle.xt_messages.specs.declared.record.Record.{Record}
-use Rattle.xt_protocol.specs.declared.Turned.{Turned}
+use Rattle.xt_protocol.specs.declared.turned.Turned.{Turned}
 use Rattle.xt_protocol.specs.LeaseRows.{LeaseState, Held, Turn, free, asking, writing, held, has_turn}
-use Rattle.file_lease.specs.Moves.{turn_of, IsSettled}
-use Rattle.osd_rows.specs.FileStates.{FileState, Site, ground_of, nothing}
-use Rattle.osd_rows.specs.ReplicaRows.{kept_after}
-use Rattle.osd_rows.specs.Serving.{wakes}
-use Rattle.osd_rows.specs.FileSteps.{wake_of_file, wakes_under_lease, renews}
+use Rattle.flease.specs.Moves.{turn_of, IsSettled}
+use Rattle.xt_protocol.specs.FileStates.{FileState, Site, ground_of, nothing}
+use Rattle.xt_protocol.specs.ReplicaRows.{kept_after}
+use Rattle.xt_protocol.specs.Serving.{wakes}
+use Rattle.xt_protocol.specs.FileSteps.{wake_of_file, wakes_under_lease, renews}
 use Rattle.osd_invariants.specs.Sound.{IsStored, ListUnder}
 use Rattle.osd_invariants.proofs.Kept.{wake_keeps}
 use Rattle.osd_files.specs.Answers.{HasTurn}

@@ -5,16 +5,16 @@ use Rattle.xt_base.specs.declared.ids.FileId.{FileId}
 use Rattle.xt_base.specs.declared.ids.Ballot.{Ballot}
 use Rattle.xt_base.specs.declared.ids.Boot.{Boot}
 use Rattle.xt_messages.specs.declared.message.Payload.TheVariants as payload
-use Rattle.xt_protocol.specs.declared.Turned.{Turned}
-use Rattle.osd_rows.specs.Turns.{sends, message}
+use Rattle.xt_protocol.specs.declared.turned.Turned.{Turned}
+use Rattle.xt_protocol.specs.Turns.{sends, message}
 use Rattle.xt_messages.specs.declared.file.Location.{Location}
-use Rattle.flease_register.specs.declared.acceptor.ReadAnswer.{ReadAnswer}
-use Rattle.flease_register.specs.declared.acceptor.ReadAnswer.TheVariants as read
-use Rattle.flease_register.specs.declared.acceptor.WriteAnswer.{WriteAnswer}
-use Rattle.flease_register.specs.declared.acceptor.WriteAnswer.TheVariants as write
-use Rattle.file_lease.specs.declared.news.News.{News}
-use Rattle.file_lease.specs.declared.news.News.TheVariants as news
-use Rattle.file_lease.specs.Moves.{turn_of}
+use Rattle.flease.specs.declared.acceptor.ReadAnswer.{ReadAnswer}
+use Rattle.flease.specs.declared.acceptor.ReadAnswer.TheVariants as read
+use Rattle.flease.specs.declared.acceptor.WriteAnswer.{WriteAnswer}
+use Rattle.flease.specs.declared.acceptor.WriteAnswer.TheVariants as write
+use Rattle.flease.specs.declared.news.News.{News}
+use Rattle.flease.specs.declared.news.News.TheVariants as news
+use Rattle.flease.specs.Moves.{turn_of}
 use Rattle.osd_invariants.specs.Sound.{IsStored}
 use Rattle.xt_protocol.specs.Register as register
 use Rattle.xt_protocol.specs.LeaseRows as told

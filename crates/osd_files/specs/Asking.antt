@@ -4,14 +4,14 @@ use Rattle.xt_base.specs.declared.ids.NodeId.{NodeId}
 use Rattle.xt_base.specs.declared.ids.Epoch.{Epoch}
 use Rattle.xt_base.specs.declared.ids.Stamp.{Stamp}
 use Rattle.xt_base.specs.declared.ids.FileId.{FileId}
-use Rattle.osd_rows.specs.FileStates.{FileState, Site, FileStep, steps_to}
-use Rattle.osd_rows.specs.ReplicaRows.{fetched_from}
-use Rattle.osd_rows.specs.Turns.{sends, message}
+use Rattle.xt_protocol.specs.FileStates.{FileState, Site, FileStep, steps_to}
+use Rattle.xt_protocol.specs.ReplicaRows.{fetched_from}
+use Rattle.xt_protocol.specs.Turns.{sends, message}
 use Rattle.xt_messages.specs.declared.file.Location.{Location}
 use Rattle.xt_messages.specs.declared.record.Record.{Record}
 use Rattle.xt_messages.specs.declared.record.Record.TheVariants as kept
-use Rattle.osd_rows.specs.declared.Asks.{Asks}
-use Rattle.osd_rows.specs.declared.WaitingAsk.{WaitingAsk}
+use Rattle.xt_protocol.specs.declared.states.Asks.{Asks}
+use Rattle.xt_protocol.specs.declared.states.WaitingAsk.{WaitingAsk}
 
 -- the record of a file's first list
 abbrev pub first_list : FileId → Location → Option Location → Option Record

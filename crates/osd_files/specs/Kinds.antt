@@ -5,8 +5,8 @@ use Rattle.xt_messages.specs.declared.file.FileHead.{FileHead}
 use Rattle.xt_messages.specs.declared.file.ObjectVersion.{ObjectVersion}
 use Rattle.xt_messages.specs.declared.message.Payload.{Payload}
 use Rattle.xt_messages.specs.declared.message.Payload.TheVariants as payload
-use Rattle.osd_rows.specs.declared.Acted.{Acted}
-use Rattle.osd_rows.specs.ReplicaRows.{gathered, staged, headed, updated, unanswered}
+use Rattle.xt_protocol.specs.declared.states.Acted.{Acted}
+use Rattle.xt_protocol.specs.ReplicaRows.{gathered, staged, headed, updated, unanswered}
 
 abbrev pub is_for_replica : Payload → Bool
 is_for_replica (payload.Gather file epoch) = true

@@ -3,10 +3,10 @@ use Rattle.std.specs.Prelude.{◌≡◌, Option, Some, None}
 use Rattle.xt_base.specs.declared.ids.NodeId.{NodeId}
 use Rattle.xt_base.specs.declared.ids.FileId.{FileId}
 use Rattle.xt_messages.specs.declared.file.Location.{Location}
-use Rattle.osd_rows.specs.declared.Place.{Place}
-use Rattle.osd_rows.specs.declared.PrimaryState.{PrimaryState}
-use Rattle.osd_rows.specs.Primaries.{new_primary}
-use Rattle.osd_rows.specs.FileStates.{stripe_of}
+use Rattle.xt_protocol.specs.declared.states.Place.{Place}
+use Rattle.xt_protocol.specs.declared.states.PrimaryState.{PrimaryState}
+use Rattle.xt_protocol.specs.Primaries.{new_primary}
+use Rattle.xt_protocol.specs.FileStates.{stripe_of}
 use Rattle.osd_files.specs.declared.lead.Listed.{Listed}
 
 -- the node and the file, where the file is if a list is stored, and the state of the primary

@@ -3,8 +3,8 @@ use Rattle.std.specs.Prelude.{ℕ, Bool, List, ◌≡◌}
 use Rattle.xt_base.specs.declared.ids.FileId.{FileId}
 use Rattle.xt_base.specs.declared.ids.Stamp.{Stamp}
 use Rattle.xt_messages.specs.declared.file.Capability.{Capability}
-use Rattle.xt_protocol.specs.declared.Turned.{Turned}
-use Rattle.osd_rows.specs.FileStates.{FileState, Site, FileStep}
+use Rattle.xt_protocol.specs.declared.turned.Turned.{Turned}
+use Rattle.xt_protocol.specs.FileStates.{FileState, Site, FileStep}
 use Rattle.osd_files.specs.Views.{FileView, site_at}
 
 -- the file is as the row leaves it at this site, and the call gives what the row gives

@@ -3,14 +3,14 @@ use Rattle.std.specs.Prelude.{Bool, ◌≡◌, ◌&&◌, not, if◌then◌else�
 use Rattle.xt_messages.specs.declared.file.FileHead.{FileHead}
 use Rattle.xt_messages.specs.declared.file.ObjectVersion.{ObjectVersion}
 use Rattle.xt_messages.specs.declared.record.Record.{Record}
-use Rattle.xt_protocol.specs.declared.Turned.{Turned}
-use Rattle.osd_rows.specs.declared.Asks.{Asks}
-use Rattle.osd_rows.specs.declared.PrimaryState.{PrimaryState}
-use Rattle.osd_rows.specs.declared.WaitingAsk.{WaitingAsk}
-use Rattle.osd_rows.specs.Turns.{quiet, joined}
-use Rattle.osd_rows.specs.Primaries.{Ground, is_ready}
-use Rattle.osd_rows.specs.Asks.{Served, asks_behind, serves_all, serves_waiting}
-use Rattle.osd_rows.specs.FileStates.{stripe_of}
+use Rattle.xt_protocol.specs.declared.turned.Turned.{Turned}
+use Rattle.xt_protocol.specs.declared.states.Asks.{Asks}
+use Rattle.xt_protocol.specs.declared.states.PrimaryState.{PrimaryState}
+use Rattle.xt_protocol.specs.declared.states.WaitingAsk.{WaitingAsk}
+use Rattle.xt_protocol.specs.Turns.{quiet, joined}
+use Rattle.xt_protocol.specs.Primaries.{Ground, is_ready}
+use Rattle.xt_protocol.specs.Asks.{Served, asks_behind, serves_all, serves_waiting}
+use Rattle.xt_protocol.specs.FileStates.{stripe_of}
 use Rattle.replica_primary.specs.Written.{ground}
 use Rattle.osd_files.specs.Views.{FileView}
 

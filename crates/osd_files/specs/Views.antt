@@ -4,7 +4,7 @@ use Rattle.xt_base.specs.declared.ids.FileId.{FileId}
 use Rattle.xt_base.specs.declared.ids.Stamp.{Stamp}
 use Rattle.xt_messages.specs.declared.file.Capability.{Capability}
 use Rattle.xt_protocol.specs.LeaseRows.{Awake}
-use Rattle.osd_rows.specs.FileStates.{FileState, Site}
+use Rattle.xt_protocol.specs.FileStates.{FileState, Site}
 use Rattle.xt_protocol.specs.LeaseRows.{LeaseState}
 use Rattle.osd_files.specs.Leads.{LeadView}
 use Rattle.osd_files.specs.declared.parts.Parts.{Parts}

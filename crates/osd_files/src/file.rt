@@ -1,17 +1,17 @@
 ghost use Rattle.std.specs.Prelude.{◌≡◌, ◌<◌, ◌^◌, Bool, IfOk};
 ghost use Rattle.xt_messages.specs.Limits.{FitsPayload};
 ghost use Rattle.xt_protocol.specs.SeenBodies.{body_by};
-ghost use Rattle.kept_bodies.specs.KeptBodies.{fault_of, ReadsOnly};
-ghost use Rattle.osd_rows.specs.FileStates.{file_from};
-ghost use Rattle.osd_rows.specs.FileSteps as rows;
+ghost use Rattle.object_versions.specs.KeptBodies.{fault_of, ReadsOnly};
+ghost use Rattle.xt_protocol.specs.FileStates.{file_from};
+ghost use Rattle.xt_protocol.specs.FileSteps as rows;
 ghost use Rattle.osd_files.specs.Whole.{IsRowOn, IsWoken, RowRises};
 
 use crate::parts::Parts;
 use crate::starting::{file_from, give_up};
 use crate::steps::step_of_file;
 use crate::waking::{Woken, wake_whole};
-use flease_lease::Awake;
-use kept_bodies::{Bodies, StepErr};
+use flease::Awake;
+use object_versions::{Bodies, StepErr};
 use std::alloc::Global;
 use std::marker::Model;
 use xt_base::{FileId, NodeId, OutOfMemory};

@@ -1,26 +1,24 @@
 ghost use Rattle.std.specs.Prelude.{◌≡◌, [], ℕ, List, true, IfOk, OnErr};
 ghost use Rattle.xt_messages.specs.Limits.{FitsPayload};
-ghost use Rattle.osd_rows.specs.Primaries.{if_any};
-ghost use Rattle.osd_rows.specs.ReplicaRows.{kept_after};
-ghost use Rattle.osd_rows.specs.FileSteps as rows;
+ghost use Rattle.xt_protocol.specs.Primaries.{if_any};
+ghost use Rattle.xt_protocol.specs.ReplicaRows.{kept_after};
+ghost use Rattle.xt_protocol.specs.FileSteps as rows;
 ghost use Rattle.osd_files.specs.Views.{shown};
 ghost use Rattle.osd_files.specs.Asking.{fetch_row};
 ghost use Rattle.osd_files.specs.Kinds.{acted_on, is_for_replica};
 ghost use Rattle.osd_files.specs.Rows.{IsRow, IsRowBy};
 ghost use Rattle.xt_protocol.specs.SeenBodies.{body_by};
-ghost use Rattle.kept_bodies.specs.KeptBodies.{fault_of, ReadsOnly};
+ghost use Rattle.object_versions.specs.KeptBodies.{fault_of, ReadsOnly};
 
 use crate::joining::both;
 use crate::parts::Parts;
-use kept_bodies::{Bodies, StepErr};
-use osd_peers::send_any;
-use osd_rows::Acted;
+use object_versions::{Bodies, StepErr};
+use replica_primary::send_any;
 use replica_state::{Replica, fetched_from};
 use std::alloc::Global;
-use step_outputs::{message, sends_one};
 use xt_base::{Epoch, NodeId, OptionalBox, OutOfMemory, Seq, Stamp};
 use xt_messages::{Msgs, Payload};
-use xt_protocol::Turned;
+use xt_protocol::{Acted, Turned, message, sends_one};
 
 /// The answer to whoever asked, if there is one.
 fn answered(

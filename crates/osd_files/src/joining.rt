@@ -1,12 +1,11 @@
 ghost use Rattle.std.specs.Prelude.{◌≡◌, Ok, Err, IfOk, MatchResult};
-ghost use Rattle.kept_bodies.specs.KeptBodies.{fault_of};
-ghost use Rattle.xt_protocol.specs.declared.Turned.{Turned};
-ghost use Rattle.osd_rows.specs.Turns as rows;
+ghost use Rattle.object_versions.specs.KeptBodies.{fault_of};
+ghost use Rattle.xt_protocol.specs.declared.turned.Turned.{Turned};
+ghost use Rattle.xt_protocol.specs.Turns as rows;
 
-use kept_bodies::StepErr;
-use step_outputs::join;
+use object_versions::StepErr;
 use xt_base::OutOfMemory;
-use xt_protocol::Turned;
+use xt_protocol::{Turned, join};
 
 /// What was made, and what the next part gives; where that fails, its error. So what was made is dropped here, by one call, and
 /// not case by case on the way out of each function that holds it.

@@ -1,33 +1,32 @@
 ghost use Rattle.std.specs.Prelude.{◌≡◌, ◌≤◌, ◌+◌, ◌/◌, IfOk, IfNone, IfSome, OnErr, List, None, Some, is_none, is_some};
 ghost use Rattle.xt_messages.specs.Limits.{FitsStripe};
 ghost use Rattle.osd_invariants.specs.Sound.{IsStored};
-ghost use Rattle.osd_rows.specs.Primaries as rows;
+ghost use Rattle.xt_protocol.specs.Primaries as rows;
 ghost use Rattle.xt_messages.specs.declared.reply.Reply.TheVariants as reply;
 ghost use Rattle.xt_base.specs.declared.ids.NodeId.{NodeId};
 ghost use Rattle.xt_base.specs.declared.ids.FileId.{FileId};
-ghost use Rattle.osd_rows.specs.PrimaryRows.{epoch_drawn, hears};
-ghost use Rattle.osd_rows.specs.Serving.{reads, wakes, writes};
+ghost use Rattle.xt_protocol.specs.PrimaryRows.{epoch_drawn, hears};
+ghost use Rattle.xt_protocol.specs.Serving.{reads, wakes, writes};
 ghost use Rattle.std.specs.Option.{option_map};
 ghost use Rattle.xt_messages.specs.Limits.{FitsOp};
 ghost use Rattle.xt_messages.specs.declared.file.FileHead.{FileHead};
 ghost use Rattle.xt_messages.specs.declared.file.ObjectVersion.{ObjectVersion};
-ghost use Rattle.version_lists.specs.Rising.{HeadRises};
-ghost use Rattle.kept_bodies.specs.KeptBodies.{fault_of, ReadsOnly};
+ghost use Rattle.object_versions.specs.Rising.{HeadRises};
+ghost use Rattle.object_versions.specs.KeptBodies.{fault_of, ReadsOnly};
 ghost use Rattle.replica_primary.specs.Written.{ground};
-ghost use Rattle.osd_rows.specs.FileStates.{members_of};
+ghost use Rattle.xt_protocol.specs.FileStates.{members_of};
 ghost use Rattle.osd_files.specs.Leads.{location_in, primary_in, place_of, StandsAt};
 ghost use Rattle.osd_files.specs.Asking.{first_list, list_after};
 ghost use Rattle.osd_files.specs.Counts.{heard_at, IsCountedIn, no_majority, no_majority_at};
 
-use flease_lease::Turn;
-use kept_bodies::{Bodies, StepErr};
+use flease::Turn;
+use object_versions::{Bodies, StepErr};
 use replica_primary::{Phase, Primary};
 use std::alloc::Global;
 use std::marker::Model;
-use step_outputs::quiet;
 use xt_base::{FileId, NodeId, OpId, OutOfMemory};
 use xt_messages::{FileHead, HeldSet, Location, Op, Payload, Record, Reply};
-use xt_protocol::Turned;
+use xt_protocol::{Turned, quiet};
 
 /// Where a file is, and the primary that stands on that.
 #[derive(Drop)]
@@ -184,7 +183,7 @@ impl Lead {
     }
 
     /// What a wake sends again in this turn to whoever hasn't answered the primary. It stays as it is.
-    #[tactic(auto, unfolding(osd_rows::specs::Serving::wakes))]
+    #[tactic(auto, unfolding(xt_protocol::specs::Serving::wakes))]
     pub fn wake(&self, turn: &Turn<'_>) -> Result<Turned, OutOfMemory>
         requires { turn.now.node ≡ self.now.node }
         ensures { IfOk result (λ led. led ≡ wakes (place_of self.now) self.now.primary) }
@@ -226,7 +225,7 @@ impl Lead {
     }
 
     /// Read served in this turn: what the committed head shows, its count and its mark; none where the primary isn't active.
-    #[tactic(auto, unfolding(osd_rows::specs::Serving::reads))]
+    #[tactic(auto, unfolding(xt_protocol::specs::Serving::reads))]
     pub fn read<B: Bodies>(
         &self,
         turn: &Turn<'_>,

@@ -1,14 +1,14 @@
 ghost use Rattle.std.specs.Prelude.{◌≡◌, ◌<◌, ◌^◌, IfOk, is_some};
 ghost use Rattle.std.specs.List.{AllByRecursion};
 ghost use Rattle.xt_protocol.specs.SeenBodies.{body_by};
-ghost use Rattle.file_lease.specs.Moves.{IsSettled, turn_of};
-ghost use Rattle.kept_bodies.specs.KeptBodies.{fault_of, ReadsOnly};
+ghost use Rattle.flease.specs.Moves.{IsSettled, turn_of};
+ghost use Rattle.object_versions.specs.KeptBodies.{fault_of, ReadsOnly};
 ghost use Rattle.osd_invariants.specs.Sound.{IsStored, ListUnder};
 ghost use Rattle.osd_invariants.specs.OpenAsks.{IsWithinLimits};
-ghost use Rattle.osd_rows.specs.FileLeases.{leads_to};
-ghost use Rattle.osd_rows.specs.FileStates.{ground_of};
-ghost use Rattle.osd_rows.specs.FileSteps as rows;
-ghost use Rattle.osd_rows.specs.PrimaryRows.{hears};
+ghost use Rattle.xt_protocol.specs.FileLeases.{leads_to};
+ghost use Rattle.xt_protocol.specs.FileStates.{ground_of};
+ghost use Rattle.xt_protocol.specs.FileSteps as rows;
+ghost use Rattle.xt_protocol.specs.PrimaryRows.{hears};
 ghost use Rattle.osd_files.specs.Answers.{HasTurn};
 ghost use Rattle.osd_files.specs.Rows.{IsRowBy};
 ghost use Rattle.osd_files.specs.Views.{shown};
@@ -17,12 +17,11 @@ use crate::joining::join_rest;
 use crate::leases::{noted, stay_in_range};
 use crate::parts::Parts;
 use crate::serving::asks_follow;
-use file_lease::FileLease;
-use kept_bodies::{Bodies, StepErr};
-use step_outputs::quiet;
+use flease::FileLease;
+use object_versions::{Bodies, StepErr};
 use xt_base::NodeId;
 use xt_messages::Payload;
-use xt_protocol::Turned;
+use xt_protocol::{Turned, quiet};
 
 /// The primary hears a message in its turn, and its own replica notes what it records.
 fn primary_led<B: Bodies>(

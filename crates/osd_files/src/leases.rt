@@ -3,14 +3,14 @@ ghost use Rattle.xt_messages.specs.declared.file.Location.{Location};
 ghost use Rattle.xt_base.specs.declared.ids.NodeId.{NodeId};
 ghost use Rattle.xt_base.specs.declared.ids.Boot.{Boot};
 ghost use Rattle.xt_messages.specs.declared.message.Payload.TheVariants as payload;
-ghost use Rattle.xt_protocol.specs.LeaseRows.{renewal_takes_under};
-ghost use Rattle.file_lease.specs.Moves.{IsSettled};
+ghost use Rattle.xt_protocol.specs.LeaseRows.{renewal_takes_under, running_round};
+ghost use Rattle.flease.specs.Moves.{IsSettled};
 ghost use Rattle.osd_invariants.specs.Sound.{IsStored, ListUnder};
 ghost use Rattle.replica_state.specs.Kept.{IsNotable};
-ghost use Rattle.osd_rows.specs.ReplicaRows.{kept_after};
-ghost use Rattle.osd_rows.specs.Turns.{message, sends};
-ghost use Rattle.osd_rows.specs.FileLeases as rows;
-ghost use Rattle.osd_rows.specs.FileSteps.{message_comes};
+ghost use Rattle.xt_protocol.specs.ReplicaRows.{kept_after};
+ghost use Rattle.xt_protocol.specs.Turns.{message, sends};
+ghost use Rattle.xt_protocol.specs.FileLeases as rows;
+ghost use Rattle.xt_protocol.specs.FileSteps.{message_comes};
 ghost use Rattle.osd_files.specs.Answers.{read_answer, write_answer, answered_write, news_of, HasTurn, HoldBy};
 ghost use Rattle.osd_files.specs.Views.{shown};
 ghost use Rattle.osd_files.specs.Kinds.{is_for_lease};
@@ -18,14 +18,12 @@ ghost use Rattle.osd_files.specs.Rows.{IsRow};
 
 use crate::joining::{both, join_next};
 use crate::parts::Parts;
-use file_lease::{FileLease, News};
-use flease_register::{ReadAnswer, WriteAnswer};
+use flease::{FileLease, News, ReadAnswer, WriteAnswer};
 use replica_state::Replica;
 use std::alloc::Global;
-use step_outputs::{message, quiet, sends, sends_one, shows};
 use xt_base::{Ballot, Boot, FileId, Lease, NodeId, OptionalBox, OutOfMemory, Seq};
 use xt_messages::{Mark, Payload, Record, Reply};
-use xt_protocol::Turned;
+use xt_protocol::{Turned, message, quiet, sends, sends_one, shows};
 
 /// The message that answers a Read.
 fn answer_to_read(file: FileId, boot: Boot, ballot: Ballot, answer: ReadAnswer) -> Payload
@@ -43,7 +41,7 @@ fn answer_to_read(file: FileId, boot: Boot, ballot: Ballot, answer: ReadAnswer) 
 }
 
 /// A Read comes: promised, or outrun.
-#[tactic(auto, unfolding(osd_rows::specs::FileLeases::read_comes), using(crate::proofs::News::read_back))]
+#[tactic(auto, unfolding(xt_protocol::specs::FileLeases::read_comes), using(crate::proofs::News::read_back))]
 fn read_comes(file: &mut Parts, from: NodeId, ballot: Ballot) -> Result<Turned, OutOfMemory>
     ensures { IfOk result (λ turned. (now : ℕ) → IsRow (λ site s. rows.read_comes site s from ballot) now (shown file.old) (shown file.new) turned) }
 {
@@ -90,7 +88,7 @@ fn end_after_write(end: u64, lease: Lease, answer: WriteAnswer) -> u64
 }
 
 /// A Write comes: accepted, outrun, or for another boot.
-#[tactic(auto, unfolding(osd_rows::specs::FileLeases::write_comes), using(crate::proofs::News::write_back))]
+#[tactic(auto, unfolding(xt_protocol::specs::FileLeases::write_comes), using(crate::proofs::News::write_back))]
 fn write_comes(
     file: &mut Parts,
     from: NodeId,
@@ -259,7 +257,7 @@ fn reported_end(end: u64, content: &Payload) -> u64
 
 /// The end that was met last: that of a report is, where the promise is taken.
 fn end_after_answer(lease: &FileLease, end: u64, now: u64, from: NodeId, content: &Payload) -> u64
-    ensures { result ≡ (if renewal_takes_under (rows.running_round lease.now) now from content.now then rows.reported_end end content.now else end) }
+    ensures { result ≡ (if renewal_takes_under (running_round lease.now) now from content.now then rows.reported_end end content.now else end) }
 {
     if lease.takes(now, from, content) {
         reported_end(end, content)

@@ -1,6 +1,6 @@
 //! A file at an OSD that is awake: the step on a message that concerns it, and what a Wake gives at it.
 //!
-//! `OsdFile` does exactly what the rows of `osd_rows` say (`step_of_file`, `expired`, `wake_of_file`) on the state that contracts
+//! `OsdFile` does exactly what the rows of `xt_protocol` say (`step_of_file`, `expired`, `wake_of_file`) on the state that contracts
 //! see, which is sound at every moment. Want of memory, and a body that can't be read, are all that a call may answer beside
 //! that; then the file isn't to be used again. Clocks are in milliseconds, below 2^62. A primary acts only in a turn of the lease.
 #![tactic(auto)]

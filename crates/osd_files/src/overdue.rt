@@ -1,15 +1,14 @@
 ghost use Rattle.std.specs.Prelude.{◌≡◌, ◌<◌, ◌^◌, ℕ, IfOk};
-ghost use Rattle.osd_rows.specs.Overdue as rows;
+ghost use Rattle.xt_protocol.specs.Overdue as rows;
 ghost use Rattle.osd_files.specs.Views.{shown};
 ghost use Rattle.osd_files.specs.Rows.{IsRow};
-ghost use Rattle.file_lease.specs.Moves.{IsSettled};
+ghost use Rattle.flease.specs.Moves.{IsSettled};
 
 use crate::parts::Parts;
-use file_lease::Expiry;
-use step_outputs::{quiet, sends};
+use flease::Expiry;
 use xt_base::OutOfMemory;
 use xt_messages::Reply;
-use xt_protocol::Turned;
+use xt_protocol::{Turned, quiet, sends};
 
 /// All asks are told that there is no lease: the issued one unless it was told, then those that wait.
 fn no_lease_for_all(file: &mut Parts) -> Result<Turned, OutOfMemory>

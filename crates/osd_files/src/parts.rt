@@ -2,9 +2,7 @@ ghost use Rattle.std.specs.Prelude.{◌≡◌, ◌<◌, ◌^◌};
 ghost use Rattle.osd_files.specs.Owners.{owner_at, owner_of, renewer_of};
 
 use crate::lead::Lead;
-use file_lease::FileLease;
-use flease_lease::Awake;
-use flease_register::Acceptor;
+use flease::{Acceptor, Awake, FileLease};
 use osd_asks::OpenAsks;
 use replica_state::Replica;
 use std::alloc::Global;

@@ -1,11 +1,11 @@
 ghost use Rattle.std.specs.Prelude.{◌≡◌, ◌<◌, ◌^◌, ◌&&◌, false, not, IfOk, is_some};
 ghost use Rattle.std.specs.List.{AllByRecursion};
 ghost use Rattle.xt_messages.specs.Limits.{FitsOp};
-ghost use Rattle.kept_bodies.specs.KeptBodies.{fault_of, ReadsOnly};
+ghost use Rattle.object_versions.specs.KeptBodies.{fault_of, ReadsOnly};
 ghost use Rattle.osd_invariants.specs.Sound.{IsStored};
 ghost use Rattle.osd_invariants.specs.OpenAsks.{IsWithinLimits};
-ghost use Rattle.osd_rows.specs.Asks.{is_read};
-ghost use Rattle.osd_rows.specs.Primaries.{is_ready};
+ghost use Rattle.xt_protocol.specs.Asks.{is_read};
+ghost use Rattle.xt_protocol.specs.Primaries.{is_ready};
 ghost use Rattle.osd_files.specs.Answers.{HasTurn};
 ghost use Rattle.osd_files.specs.Serves.{AsksFollow, AsksWait, ServesAll, ServesNext, ServesOne};
 ghost use Rattle.osd_files.specs.Views.{shown};
@@ -14,12 +14,10 @@ use crate::asks::{mark_issued, read_served};
 use crate::joining::join_rest;
 use crate::lead::Lead;
 use crate::parts::Parts;
-use kept_bodies::{Bodies, StepErr};
+use object_versions::{Bodies, StepErr};
 use osd_decisions::is_read;
-use osd_rows::WaitingAsk;
-use step_outputs::quiet;
 use xt_base::OutOfMemory;
-use xt_protocol::Turned;
+use xt_protocol::{Turned, WaitingAsk, quiet};
 
 /// A waiting write, where no other one is issued: it is answered, refused or issued; else it stays.
 fn waiting_write<B: Bodies>(

@@ -1,13 +1,11 @@
 ghost use Rattle.std.specs.Prelude.{◌≡◌};
-ghost use Rattle.osd_rows.specs.FileStates.{file_from};
+ghost use Rattle.xt_protocol.specs.FileStates.{file_from};
 ghost use Rattle.osd_files.specs.Views.{shown};
 ghost use Rattle.osd_files.specs.Whole.{IsWhole, RowRises};
 
 use crate::lead::Lead;
 use crate::parts::Parts;
-use file_lease::FileLease;
-use flease_lease::Awake;
-use flease_register::Acceptor;
+use flease::{Acceptor, Awake, FileLease};
 use osd_asks::OpenAsks;
 use replica_state::Replica;
 use std::alloc::Global;

@@ -2,9 +2,9 @@ ghost use Rattle.std.specs.Prelude.{◌≡◌, ◌<◌, ◌^◌, Bool, IfOk};
 ghost use Rattle.xt_messages.specs.Limits.{FitsOp, FitsPayload, FitsStripe};
 ghost use Rattle.xt_messages.specs.declared.file.Capability.{Capability};
 ghost use Rattle.xt_protocol.specs.SeenBodies.{body_by};
-ghost use Rattle.file_lease.specs.Moves.{IsSettled};
-ghost use Rattle.kept_bodies.specs.KeptBodies.{fault_of, ReadsOnly};
-ghost use Rattle.osd_rows.specs.FileSteps as rows;
+ghost use Rattle.flease.specs.Moves.{IsSettled};
+ghost use Rattle.object_versions.specs.KeptBodies.{fault_of, ReadsOnly};
+ghost use Rattle.xt_protocol.specs.FileSteps as rows;
 ghost use Rattle.osd_files.specs.Rows.{IsStep};
 ghost use Rattle.osd_files.specs.Views.{shown, site_at};
 ghost use Rattle.osd_files.specs.Whole.{IsRowOn, IsWhole};
@@ -16,11 +16,10 @@ use crate::leading::primary_hears;
 use crate::leases::lease_comes;
 use crate::overdue::expire;
 use crate::parts::Parts;
-use kept_bodies::{Bodies, StepErr};
-use step_outputs::quiet;
+use object_versions::{Bodies, StepErr};
 use xt_base::{NodeId, OpId};
 use xt_messages::{Capability, Kind, Op, Payload};
-use xt_protocol::Turned;
+use xt_protocol::{Turned, quiet};
 
 /// An ask by the kind of its file; those of striped files do nothing yet.
 fn ask_comes<B: Bodies>(

@@ -1,10 +1,10 @@
 ghost use Rattle.std.specs.Prelude.{◌≡◌, ◌<◌, ◌^◌, ℕ, List, Bool, IfOk};
 ghost use Rattle.xt_messages.specs.declared.message.Payload.TheVariants as payload;
 ghost use Rattle.xt_protocol.specs.LeaseRows.{Held, held};
-ghost use Rattle.file_lease.specs.Moves.{IsSettled};
+ghost use Rattle.flease.specs.Moves.{IsSettled};
 ghost use Rattle.osd_invariants.specs.Sound.{IsStored, ListUnder};
-ghost use Rattle.osd_rows.specs.FileSteps as rows;
-ghost use Rattle.osd_rows.specs.Turns.{to_each, sends};
+ghost use Rattle.xt_protocol.specs.FileSteps as rows;
+ghost use Rattle.xt_protocol.specs.Turns.{to_each, sends};
 ghost use Rattle.osd_files.specs.Views.{shown};
 ghost use Rattle.osd_files.specs.Rows.{IsRow};
 ghost use Rattle.osd_files.specs.Whole.{IsWhole, IsWoken};
@@ -13,10 +13,9 @@ use crate::joining::{both, join_next};
 use crate::overdue::expire;
 use crate::parts::Parts;
 use std::alloc::Global;
-use step_outputs::{quiet, sends, to_each};
 use xt_base::{Ballot, FileId, Members, NodeId, OutOfMemory};
 use xt_messages::Payload;
-use xt_protocol::Turned;
+use xt_protocol::{Turned, quiet, sends, to_each};
 
 /// What a Wake gives at a file: of what was overdue, and of what is sent again or renewed.
 #[derive(Drop)]

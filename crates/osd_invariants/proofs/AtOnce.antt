@@ -28,29 +28,29 @@ use Rattle.xt_protocol.specs.Register.{Round, lease_of, on_acceptance, same_ball
 use Rattle.xt_protocol.specs.LeaseRows.{LeaseState, LeaseStep, Held, Proposer, Renewing, news_of_renewal, no_news, renewal_accepted, renewal_ignores, renewal_under, renewal_won, renewed, with_renewal, without_renewal, free, asking, writing, held, holds, can_ask, has_run_out, has_turn, is_inside, lease_expired, lease_won, on_answer, renewal_left, round_over, round_starts, round_won, step_of_written, won_too_late, writing_accepted, written_still, written_won}
 use Rattle.xt_protocol.specs.LeaseRows as lease
 use Rattle.xt_protocol.specs.Stamps.{is_epoch, is_below}
-use Rattle.osd_rows.specs.declared.Asks.{Asks}
-use Rattle.osd_rows.specs.declared.IssuedAsk.{IssuedAsk}
-use Rattle.osd_rows.specs.declared.IssuedUpdate.{IssuedUpdate}
-use Rattle.osd_rows.specs.declared.Peer.{Peer}
-use Rattle.osd_rows.specs.declared.PeerState.{PeerState}
-use Rattle.osd_rows.specs.declared.PeerState.TheVariants as peer
-use Rattle.osd_rows.specs.declared.PrimaryState.{PrimaryState}
-use Rattle.osd_rows.specs.declared.Progress.{Progress}
-use Rattle.osd_rows.specs.declared.Progress.TheVariants as progress
-use Rattle.osd_rows.specs.declared.Tenure.{Tenure}
-use Rattle.osd_rows.specs.declared.WaitingAsk.{WaitingAsk}
-use Rattle.osd_rows.specs.Turns.{joined, keeps, message, quiet, reply_to, sends, shows, to_each}
-use Rattle.osd_rows.specs.ReplicaRows.{kept_after}
-use Rattle.osd_rows.specs.Primaries.{Ground, Led, carries, is_active, is_active_in, is_ready, peer_in, with_node, with_peer}
-use Rattle.osd_rows.specs.PrimaryRows.{committed, goes_on, hears, hears_ack, hears_in, hears_member, makes_current, unmoved, update_acked, with_state}
-use Rattle.osd_rows.specs.Serving.{reads, reads_in, reads_under, writes}
-use Rattle.osd_rows.specs.Asks.{Served, asked_already, asks_behind, asks_follow, is_issued_ask, is_id, is_read, read_answer, serves_all, waits, write_done}
-use Rattle.osd_rows.specs.AskRows.{ask_handled, ask_let_in, ask_rows, ask_served, ask_under, ask_waits, ask_without_lease, elsewhere, reads_of, refusal_of, view_record, waiting_ask}
-use Rattle.osd_rows.specs.FileLeases.{answer_comes, end_after_answer, lease_held, lease_news, led_on}
-use Rattle.osd_rows.specs.FileStates.{FileState, Site, FileStep, ground_of, members_of, serves_to, steps_to}
-use Rattle.osd_rows.specs.FileStates as files
-use Rattle.osd_rows.specs.FileSteps.{ask_comes, message_comes, primary_hears, step_of_file}
-use Rattle.osd_rows.specs.Overdue.{deadlines_under, expired, is_due, issued_due, lease_became}
+use Rattle.xt_protocol.specs.declared.states.Asks.{Asks}
+use Rattle.xt_protocol.specs.declared.states.IssuedAsk.{IssuedAsk}
+use Rattle.xt_protocol.specs.declared.states.IssuedUpdate.{IssuedUpdate}
+use Rattle.xt_protocol.specs.declared.states.Peer.{Peer}
+use Rattle.xt_protocol.specs.declared.states.PeerState.{PeerState}
+use Rattle.xt_protocol.specs.declared.states.PeerState.TheVariants as peer
+use Rattle.xt_protocol.specs.declared.states.PrimaryState.{PrimaryState}
+use Rattle.xt_protocol.specs.declared.states.Progress.{Progress}
+use Rattle.xt_protocol.specs.declared.states.Progress.TheVariants as progress
+use Rattle.xt_protocol.specs.declared.states.Tenure.{Tenure}
+use Rattle.xt_protocol.specs.declared.states.WaitingAsk.{WaitingAsk}
+use Rattle.xt_protocol.specs.Turns.{joined, keeps, message, quiet, reply_to, sends, shows, to_each}
+use Rattle.xt_protocol.specs.ReplicaRows.{kept_after}
+use Rattle.xt_protocol.specs.Primaries.{Ground, Led, carries, is_active, is_active_in, is_ready, peer_in, with_node, with_peer}
+use Rattle.xt_protocol.specs.PrimaryRows.{committed, goes_on, hears, hears_ack, hears_in, hears_member, makes_current, unmoved, update_acked, with_state}
+use Rattle.xt_protocol.specs.Serving.{reads, reads_in, reads_under, writes}
+use Rattle.xt_protocol.specs.Asks.{Served, asked_already, asks_behind, asks_follow, is_issued_ask, is_id, is_read, read_answer, serves_all, waits, write_done}
+use Rattle.xt_protocol.specs.AskRows.{ask_handled, ask_let_in, ask_rows, ask_served, ask_under, ask_waits, ask_without_lease, elsewhere, reads_of, refusal_of, view_record, waiting_ask}
+use Rattle.xt_protocol.specs.FileLeases.{answer_comes, end_after_answer, lease_held, lease_news, led_on}
+use Rattle.xt_protocol.specs.FileStates.{FileState, Site, FileStep, ground_of, members_of, serves_to, steps_to}
+use Rattle.xt_protocol.specs.FileStates as files
+use Rattle.xt_protocol.specs.FileSteps.{ask_comes, message_comes, primary_hears, step_of_file}
+use Rattle.xt_protocol.specs.Overdue.{deadlines_under, expired, is_due, issued_due, lease_became}
 use Rattle.osd_invariants.specs.AtOnce.{AnswersOk, AsksEach, Completes, InTurn, IsNewAsk, RenewsInTime, Sends, ShowsMark, WinsInTime, kept_once_let_in}
 
 -- ---- what is overdue, where the lease stands

@@ -17,25 +17,25 @@ use Rattle.xt_messages.specs.declared.message.Payload.{Payload}
 use Rattle.xt_messages.specs.declared.message.Payload.TheVariants as payload
 use Rattle.xt_protocol.specs.LeaseRows.{LeaseState, LeaseNews, Proposer, Held, is_renewal_due, free, asking, writing, held, sends_write, holds, finds, ends, lease_expired, on_answer, can_ask}
 use Rattle.xt_protocol.specs.LeaseRows as lease
-use Rattle.osd_rows.specs.declared.WaitingAsk.{WaitingAsk}
-use Rattle.osd_rows.specs.declared.Place.{Place}
-use Rattle.osd_rows.specs.declared.IssuedUpdate.{IssuedUpdate}
-use Rattle.osd_rows.specs.declared.Asks.{Asks}
-use Rattle.osd_rows.specs.declared.Progress.{Progress}
-use Rattle.osd_rows.specs.declared.Progress.TheVariants as progress
-use Rattle.osd_rows.specs.declared.Tenure.{Tenure}
-use Rattle.osd_rows.specs.declared.PrimaryState.{PrimaryState}
-use Rattle.osd_rows.specs.Turns.{the_record, quiet, keeps, joined}
-use Rattle.osd_rows.specs.ReplicaRows.{kept_after}
-use Rattle.osd_rows.specs.Writes.{Standing, repeated, older, turned_away, fresh, standing}
-use Rattle.osd_rows.specs.Primaries.{Ground, Led, is_active}
-use Rattle.osd_rows.specs.Serving.{reads, writes, writes_under, writes_in, write_stands, issues, next_update_of, wakes, wakes_under, wakes_in}
-use Rattle.osd_rows.specs.Asks.{Served, serves, waits, write_done, read_answer, is_read, asked_already}
-use Rattle.osd_rows.specs.FileStates.{FileState, Site, FileStep, serves_to, ground_of, steps_to, and_then}
-use Rattle.osd_rows.specs.Overdue.{expired, lease_became, deadlines_under}
-use Rattle.osd_rows.specs.AskRows.{ask_handled, ask_let_in, ask_rows, ask_under, ask_without_lease, refusal_of, elsewhere, view_record, waiting_ask}
-use Rattle.osd_rows.specs.FileLeases.{read_comes, write_comes, answer_comes, end_after_answer, lease_news, led_on, waiting_told}
-use Rattle.osd_rows.specs.FileSteps.{step_of_file, message_comes, ask_comes, primary_hears, renews, wakes_under_lease, wake_of_file}
+use Rattle.xt_protocol.specs.declared.states.WaitingAsk.{WaitingAsk}
+use Rattle.xt_protocol.specs.declared.states.Place.{Place}
+use Rattle.xt_protocol.specs.declared.states.IssuedUpdate.{IssuedUpdate}
+use Rattle.xt_protocol.specs.declared.states.Asks.{Asks}
+use Rattle.xt_protocol.specs.declared.states.Progress.{Progress}
+use Rattle.xt_protocol.specs.declared.states.Progress.TheVariants as progress
+use Rattle.xt_protocol.specs.declared.states.Tenure.{Tenure}
+use Rattle.xt_protocol.specs.declared.states.PrimaryState.{PrimaryState}
+use Rattle.xt_protocol.specs.Turns.{the_record, quiet, keeps, joined}
+use Rattle.xt_protocol.specs.ReplicaRows.{kept_after}
+use Rattle.xt_protocol.specs.Writes.{Standing, repeated, older, turned_away, fresh, standing}
+use Rattle.xt_protocol.specs.Primaries.{Ground, Led, is_active}
+use Rattle.xt_protocol.specs.Serving.{reads, writes, writes_under, writes_in, write_stands, issues, next_update_of, wakes, wakes_under, wakes_in}
+use Rattle.xt_protocol.specs.Asks.{Served, serves, waits, write_done, read_answer, is_read, asked_already}
+use Rattle.xt_protocol.specs.FileStates.{FileState, Site, FileStep, serves_to, ground_of, steps_to, and_then}
+use Rattle.xt_protocol.specs.Overdue.{expired, lease_became, deadlines_under}
+use Rattle.xt_protocol.specs.AskRows.{ask_handled, ask_let_in, ask_rows, ask_under, ask_without_lease, refusal_of, elsewhere, view_record, waiting_ask}
+use Rattle.xt_protocol.specs.FileLeases.{read_comes, write_comes, answer_comes, end_after_answer, lease_news, led_on, waiting_told}
+use Rattle.xt_protocol.specs.FileSteps.{step_of_file, message_comes, ask_comes, primary_hears, renews, wakes_under_lease, wake_of_file}
 use Rattle.osd_invariants.specs.Keeping.{FollowsRecord}
 
 -- a part of a step that makes no record

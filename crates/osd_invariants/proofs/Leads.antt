@@ -13,18 +13,18 @@ use Rattle.xt_messages.specs.declared.record.Record.TheVariants as kept
 use Rattle.xt_messages.specs.declared.record.FileRow.{FileRow}
 use Rattle.xt_base.specs.declared.TheConstants.{COUNTS}
 use Rattle.xt_protocol.specs.Folds.{body_of}
-use Rattle.osd_rows.specs.declared.Place.{Place}
-use Rattle.osd_rows.specs.declared.IssuedUpdate.{IssuedUpdate}
-use Rattle.osd_rows.specs.declared.Peer.{Peer}
-use Rattle.osd_rows.specs.declared.PeerState.{PeerState}
-use Rattle.osd_rows.specs.declared.PeerState.TheVariants as peer
-use Rattle.osd_rows.specs.declared.Progress.{Progress}
-use Rattle.osd_rows.specs.declared.Progress.TheVariants as progress
-use Rattle.osd_rows.specs.declared.Tenure.{Tenure}
+use Rattle.xt_protocol.specs.declared.states.Place.{Place}
+use Rattle.xt_protocol.specs.declared.states.IssuedUpdate.{IssuedUpdate}
+use Rattle.xt_protocol.specs.declared.states.Peer.{Peer}
+use Rattle.xt_protocol.specs.declared.states.PeerState.{PeerState}
+use Rattle.xt_protocol.specs.declared.states.PeerState.TheVariants as peer
+use Rattle.xt_protocol.specs.declared.states.Progress.{Progress}
+use Rattle.xt_protocol.specs.declared.states.Progress.TheVariants as progress
+use Rattle.xt_protocol.specs.declared.states.Tenure.{Tenure}
 use Rattle.xt_protocol.specs.Stamps.{has_version, is_epoch, is_earlier, is_below, is_version}
-use Rattle.osd_rows.specs.ReplicaRows.{kept_after, stage_record}
-use Rattle.osd_rows.specs.Primaries.{Ground, Led, carries, is_unknown, is_ready, is_ready_in, is_active, is_active_in, issued_in, issued_by, majority_among, nodes_of, peer_in, reports_of, statuses_counted, target_of, unknown_peer, with_node, with_peer}
-use Rattle.osd_rows.specs.PrimaryRows.{epoch_drawn, epoch_above, installs, peers_fed, fetches, head_chosen, chooses, status_counted, feeds, status_told, with_state, body_fetched, body_beyond, hears_object, body_staged, body_missed, hears_missing, target_in, update_acked, acked_below, hears_ack, makes_current, hears_peer, hears_member, hears_epoch, unmoved}
+use Rattle.xt_protocol.specs.ReplicaRows.{kept_after, stage_record}
+use Rattle.xt_protocol.specs.Primaries.{Ground, Led, carries, is_unknown, is_ready, is_ready_in, is_active, is_active_in, issued_in, issued_by, majority_among, nodes_of, peer_in, reports_of, statuses_counted, target_of, unknown_peer, with_node, with_peer}
+use Rattle.xt_protocol.specs.PrimaryRows.{epoch_drawn, epoch_above, installs, peers_fed, fetches, head_chosen, chooses, status_counted, feeds, status_told, with_state, body_fetched, body_beyond, hears_object, body_staged, body_missed, hears_missing, target_in, update_acked, acked_below, hears_ack, makes_current, hears_peer, hears_member, hears_epoch, unmoved}
 use Rattle.osd_invariants.specs.Sound.{PeersAre}
 
 -- a record that leaves the list

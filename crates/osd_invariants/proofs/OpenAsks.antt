@@ -14,21 +14,21 @@ use Rattle.xt_messages.specs.declared.reply.Reply.{Reply}
 use Rattle.xt_messages.specs.declared.reply.Reply.TheVariants as reply
 use Rattle.xt_protocol.specs.LeaseRows.{LeaseState, Proposer, free, asking, writing, held, LeaseNews, sends_write, holds, finds, ends, on_answer, can_ask, round_starts, is_renewal_due, lease_expired}
 use Rattle.xt_protocol.specs.LeaseRows as lease
-use Rattle.osd_rows.specs.AskRows.{reads_of, ask_waits, ask_served, elsewhere, ask_without_lease, ask_under, ask_rows, ask_let_in, refusal_of, ask_handled, waiting_ask}
-use Rattle.osd_rows.specs.Asks.{Served, WAITING, no_asks, waits, stays, is_read, newly_issued, write_done, serves, serves_waiting, serves_all, comes_back, asks_follow, asked_already}
-use Rattle.osd_rows.specs.FileLeases.{read_comes, write_comes, answer_comes, end_after_answer, waiting_told, led_on, lease_news}
-use Rattle.osd_rows.specs.FileStates.{FileState, Site, FileStep, nothing, steps_to, members_of, ground_of}
-use Rattle.osd_rows.specs.FileSteps.{ask_comes, primary_hears, message_comes, step_of_file, wakes_under_lease, wake_of_file}
-use Rattle.osd_rows.specs.Overdue.{is_due, issued_due, deadlines_under, lease_became, expired}
-use Rattle.osd_rows.specs.Primaries.{Ground, Led, is_active, is_ready}
-use Rattle.osd_rows.specs.PrimaryRows.{hears}
-use Rattle.osd_rows.specs.Serving.{writes}
-use Rattle.osd_rows.specs.Turns.{quiet}
-use Rattle.osd_rows.specs.declared.Asks.{Asks}
-use Rattle.osd_rows.specs.declared.IssuedAsk.{IssuedAsk}
-use Rattle.osd_rows.specs.declared.PrimaryState.{PrimaryState}
-use Rattle.osd_rows.specs.declared.Tenure.{Tenure}
-use Rattle.osd_rows.specs.declared.WaitingAsk.{WaitingAsk}
+use Rattle.xt_protocol.specs.AskRows.{reads_of, ask_waits, ask_served, elsewhere, ask_without_lease, ask_under, ask_rows, ask_let_in, refusal_of, ask_handled, waiting_ask}
+use Rattle.xt_protocol.specs.Asks.{Served, WAITING, no_asks, waits, stays, is_read, newly_issued, write_done, serves, serves_waiting, serves_all, comes_back, asks_follow, asked_already}
+use Rattle.xt_protocol.specs.FileLeases.{read_comes, write_comes, answer_comes, end_after_answer, waiting_told, led_on, lease_news}
+use Rattle.xt_protocol.specs.FileStates.{FileState, Site, FileStep, nothing, steps_to, members_of, ground_of}
+use Rattle.xt_protocol.specs.FileSteps.{ask_comes, primary_hears, message_comes, step_of_file, wakes_under_lease, wake_of_file}
+use Rattle.xt_protocol.specs.Overdue.{is_due, issued_due, deadlines_under, lease_became, expired}
+use Rattle.xt_protocol.specs.Primaries.{Ground, Led, is_active, is_ready}
+use Rattle.xt_protocol.specs.PrimaryRows.{hears}
+use Rattle.xt_protocol.specs.Serving.{writes}
+use Rattle.xt_protocol.specs.Turns.{quiet}
+use Rattle.xt_protocol.specs.declared.states.Asks.{Asks}
+use Rattle.xt_protocol.specs.declared.states.IssuedAsk.{IssuedAsk}
+use Rattle.xt_protocol.specs.declared.states.PrimaryState.{PrimaryState}
+use Rattle.xt_protocol.specs.declared.states.Tenure.{Tenure}
+use Rattle.xt_protocol.specs.declared.states.WaitingAsk.{WaitingAsk}
 use Rattle.osd_invariants.specs.OpenAsks.{AskIs, AsksAre, IssuedIs}
 
 module _ (P : WaitingAsk → Type 0) where

@@ -6,10 +6,10 @@ use Rattle.xt_base.specs.declared.ids.FileId.{FileId}
 use Rattle.xt_base.specs.declared.ids.Epoch.{Epoch}
 use Rattle.xt_messages.specs.declared.message.Payload.TheVariants as payload
 use Rattle.xt_messages.specs.declared.record.Record.TheVariants as kept
-use Rattle.osd_rows.specs.declared.Acted.{Acted}
+use Rattle.xt_protocol.specs.declared.states.Acted.{Acted}
 use Rattle.xt_protocol.specs.Stamps.{is_earlier}
-use Rattle.osd_rows.specs.ReplicaRows.{gathered, kept_after, refused, after_record, only}
-use Rattle.osd_rows.specs.FileStates.{FileState, Site}
+use Rattle.xt_protocol.specs.ReplicaRows.{gathered, kept_after, refused, after_record, only}
+use Rattle.xt_protocol.specs.FileStates.{FileState, Site}
 use Rattle.osd_invariants.specs.Promises.{PromisesOver}
 
 row_promises : (s : FileState) (epoch : Epoch) → is_earlier epoch s.kept.head.promised ≡ false → is_earlier s.kept.head.promised epoch ≡ true

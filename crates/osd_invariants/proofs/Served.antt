@@ -10,20 +10,20 @@ use Rattle.xt_messages.specs.declared.file.Op.{Op}
 use Rattle.xt_messages.specs.declared.file.Op.TheVariants as op
 use Rattle.xt_base.specs.declared.TheConstants.{COUNTS}
 use Rattle.xt_messages.specs.declared.record.Record.{Record}
-use Rattle.osd_rows.specs.declared.WaitingAsk.{WaitingAsk}
-use Rattle.osd_rows.specs.declared.IssuedAsk.{IssuedAsk}
-use Rattle.osd_rows.specs.declared.IssuedUpdate.{IssuedUpdate}
-use Rattle.osd_rows.specs.declared.Asks.{Asks}
-use Rattle.osd_rows.specs.declared.Progress.{Progress}
-use Rattle.osd_rows.specs.declared.Progress.TheVariants as progress
-use Rattle.osd_rows.specs.declared.PrimaryState.{PrimaryState}
-use Rattle.osd_rows.specs.declared.Tenure.{Tenure}
-use Rattle.osd_rows.specs.Turns.{quiet, joined, the_record}
-use Rattle.osd_rows.specs.ReplicaRows.{kept_after}
-use Rattle.osd_rows.specs.Writes.{Standing, repeated, older, turned_away, fresh, update_of}
-use Rattle.osd_rows.specs.Primaries.{Ground, Led, is_ready, is_ready_in, is_active, is_active_in, issued_in, issued_by, nodes_of}
-use Rattle.osd_rows.specs.Serving.{issues, issues_unless, write_stands, writes_in, writes_under, writes, next_update_of, reads}
-use Rattle.osd_rows.specs.Asks.{Served, asks_behind, asks_follow, comes_back, is_read, no_asks, newly_issued, read_answer, serves, serves_all, serves_waiting, stays, write_done}
+use Rattle.xt_protocol.specs.declared.states.WaitingAsk.{WaitingAsk}
+use Rattle.xt_protocol.specs.declared.states.IssuedAsk.{IssuedAsk}
+use Rattle.xt_protocol.specs.declared.states.IssuedUpdate.{IssuedUpdate}
+use Rattle.xt_protocol.specs.declared.states.Asks.{Asks}
+use Rattle.xt_protocol.specs.declared.states.Progress.{Progress}
+use Rattle.xt_protocol.specs.declared.states.Progress.TheVariants as progress
+use Rattle.xt_protocol.specs.declared.states.PrimaryState.{PrimaryState}
+use Rattle.xt_protocol.specs.declared.states.Tenure.{Tenure}
+use Rattle.xt_protocol.specs.Turns.{quiet, joined, the_record}
+use Rattle.xt_protocol.specs.ReplicaRows.{kept_after}
+use Rattle.xt_protocol.specs.Writes.{Standing, repeated, older, turned_away, fresh, update_of}
+use Rattle.xt_protocol.specs.Primaries.{Ground, Led, is_ready, is_ready_in, is_active, is_active_in, issued_in, issued_by, nodes_of}
+use Rattle.xt_protocol.specs.Serving.{issues, issues_unless, write_stands, writes_in, writes_under, writes, next_update_of, reads}
+use Rattle.xt_protocol.specs.Asks.{Served, asks_behind, asks_follow, comes_back, is_read, no_asks, newly_issued, read_answer, serves, serves_all, serves_waiting, stays, write_done}
 use Rattle.osd_invariants.specs.Sound.{AreOne, PeersAre}
 use Rattle.osd_invariants.proofs.Kept.{served_none}
 use Rattle.osd_invariants.proofs.Leads.{KeepsList, SameIssued, Moved, readied, unready, went_on, Leads}

@@ -30,27 +30,27 @@ use Rattle.xt_protocol.specs.Folds.{body_of}
 use Rattle.xt_protocol.specs.Register.{Round, same_ballot, lease_of, on_promise}
 use Rattle.xt_protocol.specs.LeaseRows.{Awake, LeaseState, LeaseStep, LeaseNews, Proposer, Held, free, asking, writing, held, sends_write, holds, finds, ends, lease_expired, has_run_out, has_turn, round_over, renewal_left, on_answer, can_ask, is_renewal_due, round_starts, Asked, asked_still, asked_write, asked_found, Written, written_still, written_won, written_late, Renewal, no_news, renewal_write, renewed, step_of_asking, step_of_written, news_of_targets, news_of_renewal, asking_answered, asking_promised, writing_answered, writing_accepted, on_renewal, outrun_learnt}
 use Rattle.xt_protocol.specs.LeaseRows as lease
-use Rattle.xt_protocol.specs.declared.Turned.{Turned}
-use Rattle.osd_rows.specs.declared.Acted.{Acted}
-use Rattle.osd_rows.specs.declared.Asks.{Asks}
-use Rattle.osd_rows.specs.declared.IssuedAsk.{IssuedAsk}
-use Rattle.osd_rows.specs.declared.IssuedUpdate.{IssuedUpdate}
-use Rattle.osd_rows.specs.declared.Place.{Place}
-use Rattle.osd_rows.specs.declared.Progress.TheVariants as progress
-use Rattle.osd_rows.specs.declared.WaitingAsk.{WaitingAsk}
-use Rattle.osd_rows.specs.declared.Tenure.{Tenure}
+use Rattle.xt_protocol.specs.declared.turned.Turned.{Turned}
+use Rattle.xt_protocol.specs.declared.states.Acted.{Acted}
+use Rattle.xt_protocol.specs.declared.states.Asks.{Asks}
+use Rattle.xt_protocol.specs.declared.states.IssuedAsk.{IssuedAsk}
+use Rattle.xt_protocol.specs.declared.states.IssuedUpdate.{IssuedUpdate}
+use Rattle.xt_protocol.specs.declared.states.Place.{Place}
+use Rattle.xt_protocol.specs.declared.states.Progress.TheVariants as progress
+use Rattle.xt_protocol.specs.declared.states.WaitingAsk.{WaitingAsk}
+use Rattle.xt_protocol.specs.declared.states.Tenure.{Tenure}
 use Rattle.xt_protocol.specs.Stamps.{is_epoch, is_earlier, is_below, has_version}
-use Rattle.osd_rows.specs.Turns.{quiet, keeps}
-use Rattle.osd_rows.specs.ReplicaRows.{kept_after, gathered, staged, headed, updated, as_promised, head_offered, head_taken, update_offered, first_missing, head_fits, stage_record}
-use Rattle.osd_rows.specs.Primaries.{Ground, Led, is_ready, is_active, issued_by, if_any}
-use Rattle.osd_rows.specs.PrimaryRows.{epoch_drawn, epoch_above, hears, hears_in, hears_epoch, epoch_told}
-use Rattle.osd_rows.specs.Serving.{wakes}
-use Rattle.osd_rows.specs.Asks.{Served, asks_follow, serves, waits, asked_already, WAITING}
-use Rattle.osd_rows.specs.FileStates.{FileState, Site, FileStep, steps_to, serves_to, ground_of, members_of, file_from}
-use Rattle.osd_rows.specs.Overdue.{expired, lease_became, deadlines_under, issued_due, is_due, no_lease_for_all}
-use Rattle.osd_rows.specs.AskRows.{ask_handled, ask_let_in, ask_rows, ask_under, ask_without_lease, ask_waits, ask_served, round_for, refusal_of, elsewhere, view_record, waiting_ask}
-use Rattle.osd_rows.specs.FileLeases.{read_comes, write_comes, answer_comes, end_after_answer, lease_news, led_on, waiting_told}
-use Rattle.osd_rows.specs.FileSteps.{step_of_file, message_comes, ask_comes, primary_hears, replica_acts, renews, wakes_under_lease, wake_of_file}
+use Rattle.xt_protocol.specs.Turns.{quiet, keeps}
+use Rattle.xt_protocol.specs.ReplicaRows.{kept_after, gathered, staged, headed, updated, as_promised, head_offered, head_taken, update_offered, first_missing, head_fits, stage_record}
+use Rattle.xt_protocol.specs.Primaries.{Ground, Led, is_ready, is_active, issued_by, if_any}
+use Rattle.xt_protocol.specs.PrimaryRows.{epoch_drawn, epoch_above, hears, hears_in, hears_epoch, epoch_told}
+use Rattle.xt_protocol.specs.Serving.{wakes}
+use Rattle.xt_protocol.specs.Asks.{Served, asks_follow, serves, waits, asked_already, WAITING}
+use Rattle.xt_protocol.specs.FileStates.{FileState, Site, FileStep, steps_to, serves_to, ground_of, members_of, file_from}
+use Rattle.xt_protocol.specs.Overdue.{expired, lease_became, deadlines_under, issued_due, is_due, no_lease_for_all}
+use Rattle.xt_protocol.specs.AskRows.{ask_handled, ask_let_in, ask_rows, ask_under, ask_without_lease, ask_waits, ask_served, round_for, refusal_of, elsewhere, view_record, waiting_ask}
+use Rattle.xt_protocol.specs.FileLeases.{read_comes, write_comes, answer_comes, end_after_answer, lease_news, led_on, waiting_told}
+use Rattle.xt_protocol.specs.FileSteps.{step_of_file, message_comes, ask_comes, primary_hears, replica_acts, renews, wakes_under_lease, wake_of_file}
 use Rattle.osd_invariants.specs.Sound.{IsHeld, LedUnder, AreOne, WaitsUnder, IsStored, ListUnder, PeersAre, IsSound}
 use Rattle.osd_invariants.proofs.Kept.{served_none, wake_keeps}
 use Rattle.osd_invariants.proofs.Leads.{KeepsList, drawn_leads, epoch_leads}

@@ -21,17 +21,17 @@ use Rattle.xt_messages.specs.declared.record.FileRow.{FileRow}
 use Rattle.xt_protocol.specs.Register.{Round, lease_of, on_acceptance, same_ballot}
 use Rattle.xt_protocol.specs.LeaseRows.{Held, Proposer, free, writing, held, can_ask, has_run_out, has_turn, is_inside}
 use Rattle.xt_protocol.specs.Stamps.{is_epoch, is_below}
-use Rattle.osd_rows.specs.declared.IssuedUpdate.{IssuedUpdate}
-use Rattle.osd_rows.specs.declared.PeerState.{PeerState}
-use Rattle.osd_rows.specs.declared.Progress.TheVariants as progress
-use Rattle.osd_rows.specs.declared.Tenure.{Tenure}
-use Rattle.osd_rows.specs.Turns.{reply_to, to_each}
-use Rattle.osd_rows.specs.ReplicaRows.{kept_after}
-use Rattle.osd_rows.specs.Primaries.{carries, is_active, peer_in, with_node}
-use Rattle.osd_rows.specs.Asks.{asked_already}
-use Rattle.osd_rows.specs.AskRows.{elsewhere, refusal_of, view_record}
-use Rattle.osd_rows.specs.FileStates.{FileState, Site, FileStep, ground_of, members_of}
-use Rattle.osd_rows.specs.FileSteps.{step_of_file}
+use Rattle.xt_protocol.specs.declared.states.IssuedUpdate.{IssuedUpdate}
+use Rattle.xt_protocol.specs.declared.states.PeerState.{PeerState}
+use Rattle.xt_protocol.specs.declared.states.Progress.TheVariants as progress
+use Rattle.xt_protocol.specs.declared.states.Tenure.{Tenure}
+use Rattle.xt_protocol.specs.Turns.{reply_to, to_each}
+use Rattle.xt_protocol.specs.ReplicaRows.{kept_after}
+use Rattle.xt_protocol.specs.Primaries.{carries, is_active, peer_in, with_node}
+use Rattle.xt_protocol.specs.Asks.{asked_already}
+use Rattle.xt_protocol.specs.AskRows.{elsewhere, refusal_of, view_record}
+use Rattle.xt_protocol.specs.FileStates.{FileState, Site, FileStep, ground_of, members_of}
+use Rattle.xt_protocol.specs.FileSteps.{step_of_file}
 
 -- this message is among those that a step sends
 pub record Sends (msg : Msg) (step : FileStep) : Type 0 where

@@ -3,10 +3,10 @@ use Rattle.std.specs.Prelude.{◌≡◌}
 use Rattle.xt_base.specs.declared.ids.NodeId.{NodeId}
 use Rattle.xt_messages.specs.declared.message.Payload.{Payload}
 use Rattle.xt_messages.specs.declared.record.FileRow.{FileRow}
-use Rattle.osd_rows.specs.ReplicaRows.{kept_after}
-use Rattle.osd_rows.specs.FileStates.{FileState, Site, FileStep}
-use Rattle.osd_rows.specs.Overdue.{expired}
-use Rattle.osd_rows.specs.FileSteps.{step_of_file, wake_of_file}
+use Rattle.xt_protocol.specs.ReplicaRows.{kept_after}
+use Rattle.xt_protocol.specs.FileStates.{FileState, Site, FileStep}
+use Rattle.xt_protocol.specs.Overdue.{expired}
+use Rattle.xt_protocol.specs.FileSteps.{step_of_file, wake_of_file}
 
 -- the step's record says what is kept after it
 abbrev pub FollowsRecord : FileRow → FileStep → Type 0

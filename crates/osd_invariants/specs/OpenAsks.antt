@@ -7,12 +7,12 @@ use Rattle.xt_messages.specs.declared.message.Payload.{Payload}
 use Rattle.xt_messages.specs.declared.message.Payload.TheVariants as payload
 use Rattle.xt_messages.specs.declared.record.FileRow.{FileRow}
 use Rattle.xt_protocol.specs.LeaseRows.{Awake}
-use Rattle.osd_rows.specs.declared.Asks.{Asks}
-use Rattle.osd_rows.specs.declared.IssuedAsk.{IssuedAsk}
-use Rattle.osd_rows.specs.declared.WaitingAsk.{WaitingAsk}
-use Rattle.osd_rows.specs.FileStates.{FileState, Site, file_from}
-use Rattle.osd_rows.specs.Overdue.{expired}
-use Rattle.osd_rows.specs.FileSteps.{step_of_file, wake_of_file}
+use Rattle.xt_protocol.specs.declared.states.Asks.{Asks}
+use Rattle.xt_protocol.specs.declared.states.IssuedAsk.{IssuedAsk}
+use Rattle.xt_protocol.specs.declared.states.WaitingAsk.{WaitingAsk}
+use Rattle.xt_protocol.specs.FileStates.{FileState, Site, file_from}
+use Rattle.xt_protocol.specs.Overdue.{expired}
+use Rattle.xt_protocol.specs.FileSteps.{step_of_file, wake_of_file}
 
 abbrev pub IssuedIs : (WaitingAsk → Type 0) → Option IssuedAsk → Type 0
 IssuedIs P None = Unit {0}

@@ -5,8 +5,8 @@ use Rattle.xt_base.specs.declared.ids.FileId.{FileId}
 use Rattle.xt_base.specs.declared.ids.Epoch.{Epoch}
 use Rattle.xt_messages.specs.declared.message.Payload.TheVariants as payload
 use Rattle.xt_protocol.specs.Stamps.{is_earlier}
-use Rattle.osd_rows.specs.FileStates.{FileState, Site}
-use Rattle.osd_rows.specs.FileSteps.{message_comes}
+use Rattle.xt_protocol.specs.FileStates.{FileState, Site}
+use Rattle.xt_protocol.specs.FileSteps.{message_comes}
 
 pub record PromisesOver (site : Site) (s : FileState) (from : NodeId) (file : FileId) (epoch : Epoch) : Type 0 where
   pub primary : (message_comes site s from (payload.Gather file epoch)).state.primary ≡ s.primary

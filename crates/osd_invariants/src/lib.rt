@@ -1,4 +1,4 @@
-//! What holds of the state of a file at an OSD at every moment, proved of the rows of `osd_rows`.
+//! What holds of the state of a file at an OSD at every moment, proved of the rows of `xt_protocol`.
 //!
 //! A file is sound when its node starts, and expiry, every message and every Wake keep it so: it leads only while it holds
 //! the lease, an issued ask stands exactly where an update is issued, nothing waits while the lease is free, and a primary's

@@ -12,10 +12,10 @@ use Rattle.xt_messages.specs.declared.record.Record.{Record}
 use Rattle.xt_protocol.specs.FileIds.{is_file}
 use Rattle.xt_protocol.specs.Folds.{fold_of, row_in, new_row}
 use Rattle.xt_protocol.specs.LeaseRows.{Silent, Awake, awake_at, is_silent}
-use Rattle.osd_rows.specs.FileStates.{FileState, Site, file_from}
-use Rattle.osd_rows.specs.FileSteps.{step_of_file}
-use Rattle.osd_rows.specs.Overdue.{expired}
-use Rattle.osd_rows.specs.OsdSteps.{OsdState, OsdStep, osd_from, step_of_osd, handled_awake, file_at, file_concerned}
+use Rattle.xt_protocol.specs.FileStates.{FileState, Site, file_from}
+use Rattle.xt_protocol.specs.FileSteps.{step_of_file}
+use Rattle.xt_protocol.specs.Overdue.{expired}
+use Rattle.xt_protocol.specs.OsdSteps.{OsdState, OsdStep, osd_from, step_of_osd, handled_awake, file_at, file_concerned}
 use Rattle.osd_invariants.specs.Sound.{IsSound}
 use Rattle.osd_invariants.proofs.Kept.{step_follows}
 use Rattle.osd_invariants.proofs.SoundSteps.{expired_so, start_so, step_so, wake_so}
@@ -28,8 +28,8 @@ use Rattle.world_runs.specs.View.{awake_as}
 use Rattle.world_runs.specs.Worlds.{Agrees}
 use Rattle.world_runs.proofs.Files.{start_agrees, step_agrees}
 use Rattle.world_runs.proofs.Woken.{AtMap, found_at, found_nowhere, at_map}
-use Rattle.version_lists.proofs.HeadLimits.{either}
-use Rattle.cluster_fits.specs.Fits.{FitsContent}
+use Rattle.object_versions.proofs.HeadLimits.{either}
+use Rattle.xt_messages.specs.Limits.{FitsEvent}
 use Rattle.cluster_fits.proofs.Kept.{KeptIs, NextOf, next_is, more_is, start_is}
 use Rattle.cluster_fits.proofs.Osd.{osd_step_is, started_is}
 use Rattle.osd_keeping.specs.Keeping.{RunsOn, StepsOn}
@@ -123,7 +123,7 @@ module _ (records : List Record) (s : OsdState) (reading : ℕ) (agrees : Agrees
       by_silence false is = subst (λ (a : Option Awake). Keeps records (handled_awake (outside_of records) s now happens a)) (sym (ap (λ (b : Bool). cond b None (Some awake)) is)) (at_event happens (ap (λ (b : Bool). cond b None (Some awake)) is))
 
 -- a step, and what is kept after it
-pub steps : (records : List Record) (s : OsdState) (reading : ℕ) (happens : Event) → KeptIs records → RunsOn records s → reading < 2 ^ 62 → FitsContent happens
+pub steps : (records : List Record) (s : OsdState) (reading : ℕ) (happens : Event) → KeptIs records → RunsOn records s → reading < 2 ^ 62 → FitsEvent happens
     → StepsOn records (step_of_osd (outside_of records) s reading happens)
 steps records s reading happens kept runs clock fits =
     let step = step_of_osd (outside_of records) s reading happens in

@@ -4,7 +4,7 @@ use Rattle.std.specs.List.{AllByRecursion}
 use Rattle.xt_messages.specs.Limits.{FitsMessage}
 use Rattle.xt_base.specs.declared.ids.FileId.{FileId}
 use Rattle.xt_messages.specs.declared.record.Record.{Record}
-use Rattle.osd_rows.specs.OsdSteps.{OsdState, OsdStep, file_at}
+use Rattle.xt_protocol.specs.OsdSteps.{OsdState, OsdStep, file_at}
 use Rattle.osd_invariants.specs.Sound.{IsSound}
 use Rattle.cluster_runs.specs.NodeSteps.{one_more}
 use Rattle.world_runs.specs.View.{awake_as}

@@ -12,15 +12,15 @@ ghost use Rattle.xt_messages.specs.declared.record.Record.{Record};
 ghost use Rattle.xt_messages.specs.declared.record.Record.TheVariants as kept;
 ghost use Rattle.xt_protocol.specs.Folds.{fold_of};
 ghost use Rattle.xt_protocol.specs.LeaseRows.{Silent};
-ghost use Rattle.osd_rows.specs.OsdSteps.{OsdState, osd_from, step_of_osd};
+ghost use Rattle.xt_protocol.specs.OsdSteps.{OsdState, osd_from, step_of_osd};
 ghost use Rattle.cluster_runs.specs.NodeSteps.{outside_of};
-ghost use Rattle.cluster_fits.specs.Fits.{FitsContent};
+ghost use Rattle.xt_messages.specs.Limits.{FitsEvent};
 ghost use Rattle.cluster_fits.proofs.Kept.{KeptIs};
 ghost use Rattle.osd_keeping.specs.Keeping.{RunsOn, StepsOn};
 
 /// A step of an OSD on the records that it runs on, at any reading of its clock, on any event within the limits.
 pub fn steps_are_kept()
-    ensures { (records : List Record) (s : OsdState) (reading : ℕ) (happens : Event) → KeptIs records → RunsOn records s → reading < 2 ^ 62 → FitsContent happens → StepsOn records (step_of_osd (outside_of records) s reading happens) }
+    ensures { (records : List Record) (s : OsdState) (reading : ℕ) (happens : Event) → KeptIs records → RunsOn records s → reading < 2 ^ 62 → FitsEvent happens → StepsOn records (step_of_osd (outside_of records) s reading happens) }
 {}
 
 /// An OSD that starts from what its records say, and keeps the record of that start.

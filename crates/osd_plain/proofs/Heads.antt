@@ -10,9 +10,9 @@ use Rattle.xt_messages.specs.declared.record.FileRow.{FileRow}
 use Rattle.xt_base.specs.declared.TheConstants.{NO_OBJECT}
 use Rattle.xt_messages.specs.Limits.{rise}
 use Rattle.xt_protocol.specs.Heads.{head_after, versions_below}
-use Rattle.osd_rows.specs.ReplicaRows.{kept_after}
-use Rattle.version_lists.specs.Rising.{HeadRises}
-use Rattle.version_lists.proofs.HeadLimits.{when, objects_of, below_still_rise, versions_still_rise, sessions_still_rise}
+use Rattle.xt_protocol.specs.ReplicaRows.{kept_after}
+use Rattle.object_versions.specs.Rising.{HeadRises}
+use Rattle.object_versions.proofs.HeadLimits.{when, objects_of, below_still_rise, versions_still_rise, sessions_still_rise}
 use Rattle.osd_plain.specs.Rows.{PlainFile, plain_after}
 
 pub still_rises : (head : FileHead) (update : Update) → HeadRises head → HeadRises (head_after head update)

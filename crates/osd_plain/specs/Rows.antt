@@ -20,8 +20,8 @@ use Rattle.xt_messages.specs.declared.record.Record.TheVariants as kept
 use Rattle.xt_base.specs.declared.TheConstants.{OBJECTS, COUNTS}
 use Rattle.xt_protocol.specs.Heads.{plain_stamp, version_of, head_after}
 use Rattle.xt_protocol.specs.Objects.{present_body}
-use Rattle.osd_rows.specs.ReplicaRows.{kept_after, head_fits}
-use Rattle.osd_rows.specs.Writes.{Standing, repeated, older, turned_away, fresh, standing, update_of}
+use Rattle.xt_protocol.specs.ReplicaRows.{kept_after, head_fits}
+use Rattle.xt_protocol.specs.Writes.{Standing, repeated, older, turned_away, fresh, standing, update_of}
 use Rattle.osd_plain.specs.declared.PlainActed.{PlainActed}
 
 -- what a member of a striped file keeps: the file, the node itself, and the head over the objects that it owns

@@ -11,7 +11,7 @@ mod serving;
 ghost use Rattle.std.specs.Prelude.{◌≡◌, Option};
 ghost use Rattle.xt_messages.specs.declared.record.Record.{Record};
 ghost use Rattle.xt_messages.specs.declared.record.FileRow.{FileRow};
-ghost use Rattle.osd_rows.specs.ReplicaRows.{kept_after};
+ghost use Rattle.xt_protocol.specs.ReplicaRows.{kept_after};
 ghost use Rattle.osd_plain.specs.Rows.{PlainFile, plain_after};
 
 pub use plain::Plain;

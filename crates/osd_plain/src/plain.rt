@@ -2,19 +2,18 @@ ghost use Rattle.std.specs.Prelude.{◌≡◌, ◌≤◌, false, Some, IfOk, OnE
 ghost use Rattle.xt_base.specs.FieldLimits.{IsCount};
 ghost use Rattle.xt_messages.specs.Limits.{FitsLocation, FitsOp, FitsOpId};
 ghost use Rattle.xt_protocol.specs.SeenBodies.{body_by};
-ghost use Rattle.osd_rows.specs.AskRows.{leaves_object};
-ghost use Rattle.kept_bodies.specs.KeptBodies.{fault_of, ReadsOnly};
-ghost use Rattle.version_lists.specs.Rising.{HeadRises};
+ghost use Rattle.xt_protocol.specs.AskRows.{leaves_object};
+ghost use Rattle.object_versions.specs.KeptBodies.{fault_of, ReadsOnly};
+ghost use Rattle.object_versions.specs.Rising.{HeadRises};
 ghost use Rattle.osd_plain.specs.Rows.{plain_after, plain_step};
 ghost use Rattle.osd_plain.specs.Rows as rows;
 
 use crate::PlainActed;
 use crate::serving::{next_update, nothing, only, read_served, refusal, update_fits};
-use kept_bodies::{Bodies, StepErr};
+use object_versions::{Bodies, StepErr, update_head};
 use osd_decisions::{Standing, standing_of};
 use std::alloc::Global;
 use std::marker::Model;
-use version_lists::update_head;
 use xt_base::{FileId, NodeId, OBJECTS, Octets, OpId, OutOfMemory};
 use xt_messages::{FileHead, Location, Op, Record, Reply, Update};
 
@@ -29,7 +28,7 @@ pub struct Plain {
 
 impl Model for Plain {
     ghost use Rattle.osd_plain.specs.Rows.{PlainFile};
-    ghost use Rattle.version_lists.specs.Rising.{HeadRises};
+    ghost use Rattle.object_versions.specs.Rising.{HeadRises};
 
     ghost Value = { PlainFile };
 

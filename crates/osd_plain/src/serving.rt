@@ -2,16 +2,17 @@ ghost use Rattle.std.specs.Prelude.{◌≡◌, ◌≤◌, length, IfOk};
 ghost use Rattle.xt_messages.specs.Limits.{FitsOp};
 ghost use Rattle.xt_protocol.specs.SeenBodies.{body_by};
 ghost use Rattle.xt_protocol.specs.Heads.{head_after};
-ghost use Rattle.osd_rows.specs.ReplicaRows.{head_fits};
-ghost use Rattle.kept_bodies.specs.KeptBodies.{fault_of, ReadsOnly};
-ghost use Rattle.version_lists.specs.Rising.{HeadRises};
+ghost use Rattle.xt_protocol.specs.ReplicaRows.{head_fits};
+ghost use Rattle.object_versions.specs.KeptBodies.{fault_of, ReadsOnly};
+ghost use Rattle.object_versions.specs.Rising.{HeadRises};
 ghost use Rattle.osd_plain.specs.Rows as rows;
 
 use crate::PlainActed;
-use kept_bodies::{Bodies, StepErr, behind, cut_or_filled};
+use object_versions::{
+    Bodies, StepErr, behind, cut_or_filled, sessions_after, version_of, versions_after,
+};
 use osd_decisions::{present_body, update_of};
 use std::alloc::Global;
-use version_lists::{sessions_after, version_of, versions_after};
 use xt_base::{CLIENTS, COUNTS, Epoch, FileId, Members, NodeId, OBJECTS, OpId, Stamp};
 use xt_messages::{Denial, FileHead, Op, Reply, Update};
 

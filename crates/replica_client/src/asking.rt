@@ -2,15 +2,14 @@
 ghost use Rattle.std.specs.Prelude.{◌≡◌, ◌∷◌, [], IfOk, IsSome, Some};
 ghost use Rattle.xt_messages.specs.declared.message.Payload.TheVariants as payload;
 ghost use Rattle.xt_messages.specs.declared.event.Mark.TheVariants as mark;
-ghost use Rattle.osd_rows.specs.Turns as turns;
+ghost use Rattle.xt_protocol.specs.Turns as turns;
 ghost use Rattle.cluster_runs.specs.Clients as rows;
 
 use cluster_runs::{RunningCall, Tried};
 use std::alloc::Global;
-use step_outputs::{message, one};
 use xt_base::{Copies, Members, NodeId, OptionalBox, OutOfMemory, Seq};
 use xt_messages::{Call, Capability, Mark, Marks, Msgs, Op, Outcome, Payload};
-use xt_protocol::Turned;
+use xt_protocol::{Turned, message, one};
 
 /// The first member.
 pub fn first_member(members: &Members) -> NodeId

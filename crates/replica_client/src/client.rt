@@ -3,7 +3,7 @@ ghost use Rattle.cluster_runs.specs.declared.RunningCall.{RunningCall};
 ghost use Rattle.cluster_runs.specs.declared.ClientState.{ClientState};
 ghost use Rattle.cluster_runs.specs.Steps.{stays};
 ghost use Rattle.cluster_runs.specs.Clients as rows;
-ghost use Rattle.osd_rows.specs.Turns as turns;
+ghost use Rattle.xt_protocol.specs.Turns as turns;
 ghost use Rattle.xt_messages.specs.declared.event.Mark.TheVariants as mark;
 ghost use Rattle.replica_client.specs.Views.{Acts, CallActs, ended_by};
 ghost use Rattle.replica_client.specs.Again.{asks_first, again_of_client};
@@ -15,12 +15,11 @@ use cluster_runs::{KnownFile, RunningCall, Tried};
 use std::alloc::Global;
 use std::marker::Model;
 use std::mem;
-use step_outputs::{one, quiet, sends};
 use xt_base::{COUNTS, Copies, FileId, NodeId, Octets, OutOfMemory, Seq, Times};
 use xt_messages::{
     AskRefusal, Call, Capability, Event, Marks, Msgs, Op, Outcome, Payload, Reply, Retry,
 };
-use xt_protocol::Turned;
+use xt_protocol::{Turned, one, quiet, sends};
 
 /// A client's calls on replicated files, one at a time. Contracts see which node it is, its times and its state, and how the call
 /// that ended last ended, until that is taken.

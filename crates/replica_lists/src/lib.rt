@@ -16,7 +16,7 @@ use thiserror::Error;
 use xt_base::{Members, NodeId};
 
 /// Why no OSDs were picked.
-#[derive(Clone, Copy, Debug, PartialEq, Eq, Error)]
+#[derive(Clone, Copy, Debug, Error)]
 pub enum PickErr {
     #[error("no memory was left")]
     OutOfMemory,

@@ -7,17 +7,17 @@ use Rattle.xt_base.specs.declared.ids.Stamp.{Stamp}
 use Rattle.xt_messages.specs.declared.file.FileHead.{FileHead}
 use Rattle.xt_messages.specs.declared.file.Update.{Update}
 use Rattle.xt_messages.specs.declared.message.Payload.TheVariants as payload
-use Rattle.xt_protocol.specs.declared.Turned.{Turned}
+use Rattle.xt_protocol.specs.declared.turned.Turned.{Turned}
 use Rattle.xt_protocol.specs.Stamps.{is_below}
-use Rattle.osd_rows.specs.declared.IssuedUpdate.{IssuedUpdate}
-use Rattle.osd_rows.specs.declared.Peer.{Peer}
-use Rattle.osd_rows.specs.declared.PeerState.TheVariants as peer
-use Rattle.osd_rows.specs.declared.Progress.{Progress}
-use Rattle.osd_rows.specs.declared.Progress.TheVariants as progress
-use Rattle.osd_rows.specs.declared.Tenure.{Tenure}
-use Rattle.osd_rows.specs.Turns.{message, quiet, sends}
-use Rattle.osd_rows.specs.Primaries.{Ground, is_active_in, issued_in, with_node, with_peer}
-use Rattle.osd_rows.specs.PrimaryRows.{goes_on, hears_ack, unmoved, update_acked}
+use Rattle.xt_protocol.specs.declared.states.IssuedUpdate.{IssuedUpdate}
+use Rattle.xt_protocol.specs.declared.states.Peer.{Peer}
+use Rattle.xt_protocol.specs.declared.states.PeerState.TheVariants as peer
+use Rattle.xt_protocol.specs.declared.states.Progress.{Progress}
+use Rattle.xt_protocol.specs.declared.states.Progress.TheVariants as progress
+use Rattle.xt_protocol.specs.declared.states.Tenure.{Tenure}
+use Rattle.xt_protocol.specs.Turns.{message, quiet, sends}
+use Rattle.xt_protocol.specs.Primaries.{Ground, is_active_in, issued_in, with_node, with_peer}
+use Rattle.xt_protocol.specs.PrimaryRows.{goes_on, hears_ack, unmoved, update_acked}
 use Rattle.replica_primary.specs.Acks.{acked_by, is_installing, peers_after}
 
 -- the head that is installed is acknowledged

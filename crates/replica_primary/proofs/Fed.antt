@@ -3,11 +3,11 @@ use Rattle.std.proofs.Common.{◌≡◌, ℕ, Option, Some, None, refl}
 use Rattle.xt_base.specs.declared.ids.NodeId.{NodeId}
 use Rattle.xt_messages.specs.declared.file.ObjectVersion.{ObjectVersion}
 use Rattle.xt_messages.specs.declared.file.FileHead.{FileHead}
-use Rattle.osd_rows.specs.declared.PeerState.{PeerState}
-use Rattle.osd_rows.specs.declared.PeerState.TheVariants as peer
-use Rattle.osd_rows.specs.declared.Tenure.{Tenure}
-use Rattle.osd_rows.specs.Primaries.{Ground}
-use Rattle.osd_rows.specs.PrimaryRows.{body_missed, body_staged, unmoved}
+use Rattle.xt_protocol.specs.declared.states.PeerState.{PeerState}
+use Rattle.xt_protocol.specs.declared.states.PeerState.TheVariants as peer
+use Rattle.xt_protocol.specs.declared.states.Tenure.{Tenure}
+use Rattle.xt_protocol.specs.Primaries.{Ground}
+use Rattle.xt_protocol.specs.PrimaryRows.{body_missed, body_staged, unmoved}
 use Rattle.replica_primary.specs.Moves.{feeds_any, known_at_head, known_of, with_any, without_any}
 
 module _ (g : Ground) (learnt : ℕ) (t : Tenure) (from : NodeId) (v : ObjectVersion) where

@@ -12,23 +12,23 @@ use Rattle.xt_messages.specs.declared.file.ObjectVersion.{ObjectVersion}
 use Rattle.xt_messages.specs.declared.file.FileHead.{FileHead}
 use Rattle.xt_messages.specs.declared.message.Payload.{Payload}
 use Rattle.xt_messages.specs.declared.message.Payload.TheVariants as payload
-use Rattle.xt_protocol.specs.declared.Turned.{Turned}
+use Rattle.xt_protocol.specs.declared.turned.Turned.{Turned}
 use Rattle.xt_protocol.specs.Stamps.{has_version, is_earlier, is_epoch}
 use Rattle.xt_messages.specs.declared.record.Record.{Record}
-use Rattle.osd_rows.specs.declared.IssuedUpdate.{IssuedUpdate}
-use Rattle.osd_rows.specs.ReplicaRows.{stage_record}
+use Rattle.xt_protocol.specs.declared.states.IssuedUpdate.{IssuedUpdate}
+use Rattle.xt_protocol.specs.ReplicaRows.{stage_record}
 use Rattle.replica_primary.specs.declared.moving.FetchedBody.{FetchedBody}
-use Rattle.osd_rows.specs.declared.Peer.{Peer}
-use Rattle.osd_rows.specs.declared.PeerState.{PeerState}
-use Rattle.osd_rows.specs.declared.PeerState.TheVariants as peer
-use Rattle.osd_rows.specs.declared.Progress.{Progress}
-use Rattle.osd_rows.specs.declared.Progress.TheVariants as progress
-use Rattle.osd_rows.specs.declared.Tenure.{Tenure}
-use Rattle.osd_rows.specs.Choice.{chosen_of, difference}
-use Rattle.osd_rows.specs.Primaries.{Ground, Led, fed, fed_next, is_reported, is_unknown, known_of_own, last_to_each, majority_among, nodes_of, peer_in, report_of, reports_of, statuses_counted, target_of, with_peer}
-use Rattle.osd_rows.specs.PrimaryRows.{after_keeping, body_beyond, body_fetched, body_missed, chooses, epoch_drawn, fetches, forgotten, goes_on, head_chosen, hears_epoch, hears_member, hears_missing, hears_object, hears_peer, hears_status, installs, peer_fed, peers_fed, status_counted, status_told, target_in, unmoved}
-use Rattle.osd_rows.specs.PrimaryRows as rows
-use Rattle.osd_rows.specs.Turns.{message, quiet, sends}
+use Rattle.xt_protocol.specs.declared.states.Peer.{Peer}
+use Rattle.xt_protocol.specs.declared.states.PeerState.{PeerState}
+use Rattle.xt_protocol.specs.declared.states.PeerState.TheVariants as peer
+use Rattle.xt_protocol.specs.declared.states.Progress.{Progress}
+use Rattle.xt_protocol.specs.declared.states.Progress.TheVariants as progress
+use Rattle.xt_protocol.specs.declared.states.Tenure.{Tenure}
+use Rattle.xt_protocol.specs.Choice.{chosen_of, difference}
+use Rattle.xt_protocol.specs.Primaries.{Ground, Led, fed, fed_next, is_reported, is_unknown, known_of_own, last_to_each, majority_among, nodes_of, peer_in, report_of, reports_of, statuses_counted, target_of, with_peer}
+use Rattle.xt_protocol.specs.PrimaryRows.{after_keeping, body_beyond, body_fetched, body_missed, chooses, epoch_drawn, fetches, forgotten, goes_on, head_chosen, hears_epoch, hears_member, hears_missing, hears_object, hears_peer, hears_status, installs, peer_fed, peers_fed, status_counted, status_told, target_in, unmoved}
+use Rattle.xt_protocol.specs.PrimaryRows as rows
+use Rattle.xt_protocol.specs.Turns.{message, quiet, sends}
 use Rattle.osd_decisions.specs.Reports.{best_report}
 use Rattle.replica_primary.specs.declared.moving.Heard.TheVariants as heard
 use Rattle.replica_primary.specs.declared.moving.Next.TheVariants as step

@@ -4,3 +4,4 @@ pub mod Fed
 pub mod Rises
 pub mod Acks
 pub mod Hears
+mod Places

@@ -4,13 +4,13 @@ use Rattle.xt_base.specs.declared.ids.OpId.{OpId}
 use Rattle.xt_messages.specs.declared.file.Op.{Op}
 use Rattle.xt_messages.specs.declared.file.FileHead.{FileHead}
 use Rattle.xt_messages.specs.declared.reply.Reply.{Reply}
-use Rattle.osd_rows.specs.declared.IssuedUpdate.{IssuedUpdate}
-use Rattle.osd_rows.specs.declared.Tenure.{Tenure}
-use Rattle.osd_rows.specs.Turns.{answers, tells}
-use Rattle.osd_rows.specs.Writes as rows
-use Rattle.osd_rows.specs.Primaries.{Ground}
-use Rattle.osd_rows.specs.PrimaryRows.{goes_on, unmoved}
-use Rattle.osd_rows.specs.Serving.{write_stands, issues_unless}
+use Rattle.xt_protocol.specs.declared.states.IssuedUpdate.{IssuedUpdate}
+use Rattle.xt_protocol.specs.declared.states.Tenure.{Tenure}
+use Rattle.xt_protocol.specs.Turns.{answers, tells}
+use Rattle.xt_protocol.specs.Writes as rows
+use Rattle.xt_protocol.specs.Primaries.{Ground}
+use Rattle.xt_protocol.specs.PrimaryRows.{goes_on, unmoved}
+use Rattle.xt_protocol.specs.Serving.{write_stands, issues_unless}
 use Rattle.osd_decisions.specs.declared.judging.Standing.TheVariants as standing
 use Rattle.osd_decisions.specs.Shown.{shown_standing}
 

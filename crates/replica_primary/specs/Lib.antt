@@ -3,3 +3,4 @@ pub mod Phases
 pub mod Written
 pub mod Moves
 pub mod Acks
+pub mod Places

@@ -11,17 +11,17 @@ use Rattle.xt_messages.specs.declared.message.Payload.TheVariants as payload
 use Rattle.xt_messages.specs.declared.record.Record.{Record}
 use Rattle.xt_messages.specs.declared.record.Record.TheVariants as kept
 use Rattle.xt_protocol.specs.SeenBodies.{body_by}
-use Rattle.osd_rows.specs.declared.Place.{Place}
-use Rattle.osd_rows.specs.declared.Peer.{Peer}
-use Rattle.osd_rows.specs.declared.PeerState.{PeerState}
-use Rattle.osd_rows.specs.declared.PeerState.TheVariants as peer
+use Rattle.xt_protocol.specs.declared.states.Place.{Place}
+use Rattle.xt_protocol.specs.declared.states.Peer.{Peer}
+use Rattle.xt_protocol.specs.declared.states.PeerState.{PeerState}
+use Rattle.xt_protocol.specs.declared.states.PeerState.TheVariants as peer
 use Rattle.xt_protocol.specs.Stamps.{is_earlier, is_version, without_version}
-use Rattle.osd_rows.specs.declared.Progress.{Progress}
-use Rattle.osd_rows.specs.declared.Progress.TheVariants as progress
-use Rattle.osd_rows.specs.declared.Tenure.{Tenure}
-use Rattle.osd_rows.specs.Primaries.{Ground, Led, is_reported, nodes_of, with_known}
-use Rattle.osd_rows.specs.PrimaryRows.{after_keeping, body_beyond, epoch_drawn, feeds, goes_on, installs, target_in, unmoved}
-use Rattle.osd_rows.specs.Turns.{quiet}
+use Rattle.xt_protocol.specs.declared.states.Progress.{Progress}
+use Rattle.xt_protocol.specs.declared.states.Progress.TheVariants as progress
+use Rattle.xt_protocol.specs.declared.states.Tenure.{Tenure}
+use Rattle.xt_protocol.specs.Primaries.{Ground, Led, is_reported, nodes_of, with_known}
+use Rattle.xt_protocol.specs.PrimaryRows.{after_keeping, body_beyond, epoch_drawn, feeds, goes_on, installs, target_in, unmoved}
+use Rattle.xt_protocol.specs.Turns.{quiet}
 use Rattle.replica_primary.specs.declared.moving.FetchedBody.{FetchedBody}
 use Rattle.replica_primary.specs.declared.moving.Next.{Next}
 use Rattle.replica_primary.specs.declared.moving.Next.TheVariants as step

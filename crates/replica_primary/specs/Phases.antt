@@ -1,10 +1,10 @@
 -- how far a primary is
 use Rattle.std.specs.Prelude.{Option, Some, None, List, length}
-use Rattle.osd_rows.specs.declared.Peer.{Peer}
-use Rattle.osd_rows.specs.declared.Progress.{Progress}
-use Rattle.osd_rows.specs.declared.Progress.TheVariants as progress
-use Rattle.osd_rows.specs.declared.Tenure.{Tenure}
-use Rattle.osd_rows.specs.Primaries.{statuses_counted}
+use Rattle.xt_protocol.specs.declared.states.Peer.{Peer}
+use Rattle.xt_protocol.specs.declared.states.Progress.{Progress}
+use Rattle.xt_protocol.specs.declared.states.Progress.TheVariants as progress
+use Rattle.xt_protocol.specs.declared.states.Tenure.{Tenure}
+use Rattle.xt_protocol.specs.Primaries.{statuses_counted}
 use Rattle.replica_primary.specs.declared.primary.Phase.{Phase}
 use Rattle.replica_primary.specs.declared.primary.Phase.TheVariants as phase
 

@@ -1,6 +1,6 @@
 -- a primary as contracts see it
-use Rattle.osd_rows.specs.declared.Place.{Place}
-use Rattle.osd_rows.specs.declared.PrimaryState.{PrimaryState}
+use Rattle.xt_protocol.specs.declared.states.Place.{Place}
+use Rattle.xt_protocol.specs.declared.states.PrimaryState.{PrimaryState}
 
 -- where it stands, and its state in the rows' terms
 pub record PrimaryView : Type 0 where

@@ -3,25 +3,27 @@ ghost use Rattle.xt_messages.specs.declared.file.ObjectVersion.{ObjectVersion};
 ghost use Rattle.xt_base.specs.declared.ids.Stamp.{Stamp};
 ghost use Rattle.xt_messages.specs.declared.message.Payload.TheVariants as payload;
 ghost use Rattle.xt_messages.specs.declared.record.Record.{Record};
-ghost use Rattle.osd_rows.specs.declared.Progress.TheVariants as progress;
-ghost use Rattle.osd_rows.specs.Turns.{message, quiet, sends};
-ghost use Rattle.osd_rows.specs.Primaries.{carries, is_active_in, issued_in};
-ghost use Rattle.osd_rows.specs.PrimaryRows as rows;
-ghost use Rattle.osd_rows.specs.PrimaryRows.{goes_on};
+ghost use Rattle.xt_protocol.specs.declared.states.Progress.TheVariants as progress;
+ghost use Rattle.xt_protocol.specs.Turns.{message, quiet, sends};
+ghost use Rattle.xt_protocol.specs.Primaries.{carries, is_active_in, issued_in};
+ghost use Rattle.xt_protocol.specs.PrimaryRows as rows;
+ghost use Rattle.xt_protocol.specs.PrimaryRows.{goes_on};
 ghost use Rattle.replica_primary.specs.Written.{ground};
 ghost use Rattle.replica_primary.specs.Acks.{acked_by, acked_in, carried_told, commit_told, is_installing, peers_after, with_ack};
 
+use crate::known::add_node;
 use crate::moving::advance;
+use crate::peers::set_peer;
 use crate::serving::send_update;
+use object_versions::is_below;
 use osd_decisions::carries;
-use osd_peers::{add_node, set_peer};
-use osd_rows::{IssuedUpdate, PeerState, Peers, Place, Progress, Tenure};
 use std::alloc::Global;
-use step_outputs::{answers, join, quiet, sends, shows};
-use version_lists::is_below;
 use xt_base::{Copies, NodeId, Octets, OutOfMemory, Seq, Stamp};
 use xt_messages::{FileHead, Mark, Update};
-use xt_protocol::Turned;
+use xt_protocol::{
+    IssuedUpdate, PeerState, Peers, Place, Progress, Tenure, Turned, answers, join, quiet, sends,
+    shows,
+};
 
 /// Whether an acknowledgement makes the peer current: it isn't below the head that was sent to it, or it is the own node's.
 pub fn makes_current(place: &Place, from: NodeId, state: &PeerState, stamp: Stamp) -> bool

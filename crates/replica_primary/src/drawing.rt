@@ -1,17 +1,15 @@
 ghost use Rattle.std.specs.Prelude.{◌≡◌, IfOk};
 ghost use Rattle.xt_messages.specs.declared.message.Payload.TheVariants as payload;
-ghost use Rattle.osd_rows.specs.Primaries.{nodes_of};
-ghost use Rattle.osd_rows.specs.PrimaryRows as rows;
-ghost use Rattle.osd_rows.specs.Turns.{to_each};
+ghost use Rattle.xt_protocol.specs.Primaries.{nodes_of};
+ghost use Rattle.xt_protocol.specs.PrimaryRows as rows;
+ghost use Rattle.xt_protocol.specs.Turns.{to_each};
 ghost use Rattle.osd_decisions.specs.Committed.{CommittedUnder};
 
-use osd_peers::unknown_peers;
-use osd_rows::{Nodes, Peer, Place, Progress, Tenure};
+use crate::peers::unknown_peers;
 use std::alloc::Global;
-use step_outputs::{quiet, to_each};
 use xt_base::{COUNTS, Epoch, NodeId, OptionalBox, OutOfMemory, Seq};
 use xt_messages::{FileHead, Msgs, Payload, Record};
-use xt_protocol::Turned;
+use xt_protocol::{Nodes, Peer, Place, Progress, Tenure, Turned, quiet, to_each};
 
 /// A tenure that begins, none where no number is left, and what is sent then.
 #[derive(Drop)]
@@ -37,7 +35,7 @@ fn gathers(
 }
 
 /// Epoch drawn: the own promise is kept, and all are asked. Without a number left the primary is idle.
-#[tactic(auto, unfolding(osd_rows::specs::PrimaryRows::epoch_drawn))]
+#[tactic(auto, unfolding(xt_protocol::specs::PrimaryRows::epoch_drawn))]
 pub fn epoch_drawn(
     alloc: Global,
     place: &Place,

@@ -1,24 +1,23 @@
 ghost use Rattle.std.specs.Prelude.{◌≡◌, ℕ, List, None, Some, IfOk};
 ghost use Rattle.xt_messages.specs.declared.file.ObjectVersion.{ObjectVersion};
 ghost use Rattle.xt_messages.specs.declared.file.FileHead.{FileHead};
-ghost use Rattle.osd_rows.specs.declared.PeerState.{PeerState};
-ghost use Rattle.osd_rows.specs.Primaries as rows;
-ghost use Rattle.osd_rows.specs.PrimaryRows.{feeds, goes_on, target_in, with_state};
-ghost use Rattle.osd_rows.specs.Turns.{sends};
-ghost use Rattle.kept_bodies.specs.KeptBodies.{fault_of, ReadsOnly};
+ghost use Rattle.xt_protocol.specs.declared.states.PeerState.{PeerState};
+ghost use Rattle.xt_protocol.specs.Primaries as rows;
+ghost use Rattle.xt_protocol.specs.PrimaryRows.{feeds, goes_on, target_in, with_state};
+ghost use Rattle.xt_protocol.specs.Turns.{sends};
+ghost use Rattle.object_versions.specs.KeptBodies.{fault_of, ReadsOnly};
 ghost use Rattle.replica_primary.specs.Written.{ground};
 ghost use Rattle.replica_primary.specs.Moves.{body_seen, feeds_any, known_at_head, known_of, next_fed, with_any, without_any};
 
+use crate::known::{add_known, first_unknown, remove_version};
 use crate::moving::{FetchedBody, Next, unmoved};
-use kept_bodies::{Bodies, StepErr, seen};
-use osd_peers::{add_known, first_unknown, last_sent, peer_in, remove_version, send_any, set_peer};
-use osd_rows::{Peer, PeerState, Place, Progress, Tenure};
+use crate::peers::{peer_in, set_peer};
+use crate::sending::{last_sent, send_any};
+use object_versions::{Bodies, StepErr, is_epoch, is_stamp, seen};
 use std::alloc::Global;
-use step_outputs::{quiet, sends};
-use version_lists::{is_epoch, is_stamp};
 use xt_base::{Copies, Epoch, FileId, NodeId, Octets, OutOfMemory, Seq, Stamp};
 use xt_messages::{FileHead, HeldPairs, ObjectVersion};
-use xt_protocol::Turned;
+use xt_protocol::{Peer, PeerState, Place, Progress, Tenure, Turned, quiet, sends};
 
 /// A body as a row sees it: the one that was just fetched, else the one that is kept.
 fn body_seen<B: Bodies>(
@@ -41,7 +40,7 @@ fn body_seen<B: Bodies>(
 }
 
 /// Fed: a peer of which these versions are known, on its way to this head.
-#[tactic(auto, unfolding(osd_rows::specs::Primaries::fed))]
+#[tactic(auto, unfolding(xt_protocol::specs::Primaries::fed))]
 pub fn fed<B: Bodies>(
     bodies: &mut B,
     alloc: Global,

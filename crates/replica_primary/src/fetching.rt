@@ -4,24 +4,24 @@ ghost use Rattle.xt_base.specs.declared.ids.NodeId.{NodeId};
 ghost use Rattle.xt_messages.specs.declared.file.FileHead.{FileHead};
 ghost use Rattle.xt_messages.specs.declared.file.ObjectVersion.{ObjectVersion};
 ghost use Rattle.xt_messages.specs.declared.record.Record.{Record};
-ghost use Rattle.osd_rows.specs.declared.PeerState.{PeerState};
-ghost use Rattle.osd_rows.specs.declared.Place.{Place};
-ghost use Rattle.osd_rows.specs.declared.Progress.TheVariants as progress;
-ghost use Rattle.osd_rows.specs.Primaries.{peer_in};
-ghost use Rattle.osd_rows.specs.PrimaryRows as rows;
-ghost use Rattle.osd_rows.specs.ReplicaRows.{stage_record};
+ghost use Rattle.xt_protocol.specs.declared.states.PeerState.{PeerState};
+ghost use Rattle.xt_protocol.specs.declared.states.Place.{Place};
+ghost use Rattle.xt_protocol.specs.declared.states.Progress.TheVariants as progress;
+ghost use Rattle.xt_protocol.specs.Primaries.{peer_in};
+ghost use Rattle.xt_protocol.specs.PrimaryRows as rows;
+ghost use Rattle.xt_protocol.specs.ReplicaRows.{stage_record};
 ghost use Rattle.replica_primary.specs.Written.{ground};
 ghost use Rattle.replica_primary.specs.Moves.{is_asked, kept_of, led_by, next_of, source_in};
 
 use crate::feeding::body_missed;
 use crate::gathering::fetches;
 use crate::moving::{FetchedBody, Heard, Next, advance, unmoved};
-use osd_rows::{Place, Progress, Tenure};
+use object_versions::{holds, is_version};
 use std::alloc::Global;
 use std::mem;
-use version_lists::{holds, is_version};
 use xt_base::{Copies, NodeId, Octets, OutOfMemory};
 use xt_messages::{HeldSet, ObjectVersion};
+use xt_protocol::{Place, Progress, Tenure};
 
 /// A fetched body, unless it is held.
 fn unless_held(held: &HeldSet, body: FetchedBody) -> Option<FetchedBody>

@@ -5,27 +5,28 @@ ghost use Rattle.xt_messages.specs.declared.file.FileHead.{FileHead};
 ghost use Rattle.xt_messages.specs.declared.message.Payload.TheVariants as payload;
 ghost use Rattle.xt_messages.specs.declared.record.Record.{Record};
 ghost use Rattle.xt_base.specs.declared.ids.NodeId.{NodeId};
-ghost use Rattle.osd_rows.specs.declared.Progress.{Progress};
-ghost use Rattle.osd_rows.specs.declared.PeerState.TheVariants as peer;
-ghost use Rattle.osd_rows.specs.Primaries.{last_to_each, report_of, reports_of, target_of, with_peer};
-ghost use Rattle.osd_rows.specs.PrimaryRows as rows;
-ghost use Rattle.osd_rows.specs.PrimaryRows.{after_keeping, goes_on};
-ghost use Rattle.osd_rows.specs.Turns.{message, sends};
-ghost use Rattle.kept_bodies.specs.KeptBodies.{fault_of, ReadsOnly};
+ghost use Rattle.xt_protocol.specs.declared.states.Progress.{Progress};
+ghost use Rattle.xt_protocol.specs.declared.states.PeerState.TheVariants as peer;
+ghost use Rattle.xt_protocol.specs.Primaries.{last_to_each, report_of, reports_of, target_of, with_peer};
+ghost use Rattle.xt_protocol.specs.PrimaryRows as rows;
+ghost use Rattle.xt_protocol.specs.PrimaryRows.{after_keeping, goes_on};
+ghost use Rattle.xt_protocol.specs.Turns.{message, sends};
+ghost use Rattle.object_versions.specs.KeptBodies.{fault_of, ReadsOnly};
 ghost use Rattle.replica_primary.specs.Written.{ground};
 ghost use Rattle.replica_primary.specs.Moves.{IsSplit, any_report, ground_beyond, is_to_feed, kept_of, next_of};
 
 use crate::feeding::{fed, target_of};
 use crate::moving::{FetchedBody, Next, advance, after_keeping, kept_of, put, unmoved};
-use kept_bodies::{Bodies, StepErr};
+use crate::peers::set_peer;
+use crate::sending::last_to_each;
+use object_versions::{Bodies, StepErr};
 use osd_decisions::{choose, difference, is_majority, statuses_counted};
-use osd_peers::{last_to_each, set_peer};
-use osd_rows::{Peer, PeerState, Peers, Place, Progress, Tenure};
 use std::alloc::Global;
-use step_outputs::{join, message, sends, sends_one};
 use xt_base::{Copies, Epoch, NodeId, OutOfMemory, Seq};
 use xt_messages::{FileHead, ObjectVersion, Payload, Versions};
-use xt_protocol::Turned;
+use xt_protocol::{
+    Peer, PeerState, Peers, Place, Progress, Tenure, Turned, join, message, sends, sends_one,
+};
 
 /// The head that a peer has reported.
 fn report_of(alloc: Global, peer: &Peer) -> Result<Option<(NodeId, FileHead)>, OutOfMemory>

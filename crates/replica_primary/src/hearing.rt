@@ -4,13 +4,13 @@ ghost use Rattle.xt_messages.specs.declared.file.FileHead.{FileHead};
 ghost use Rattle.xt_messages.specs.declared.message.Payload.TheVariants as payload;
 ghost use Rattle.xt_messages.specs.declared.record.Record.{Record};
 ghost use Rattle.xt_protocol.specs.Folds.{body_of};
-ghost use Rattle.osd_rows.specs.declared.PeerState.{PeerState};
-ghost use Rattle.osd_rows.specs.Primaries.{is_reported, is_unknown, nodes_of, peer_in, with_peer};
-ghost use Rattle.osd_rows.specs.PrimaryRows as rows;
-ghost use Rattle.osd_rows.specs.PrimaryRows.{goes_on};
-ghost use Rattle.osd_rows.specs.Turns.{message, quiet, sends};
-ghost use Rattle.kept_bodies.specs.KeptBodies.{fault_of, ReadsOnly};
-ghost use Rattle.version_lists.specs.Rising.{HeadRises};
+ghost use Rattle.xt_protocol.specs.declared.states.PeerState.{PeerState};
+ghost use Rattle.xt_protocol.specs.Primaries.{is_reported, is_unknown, nodes_of, peer_in, with_peer};
+ghost use Rattle.xt_protocol.specs.PrimaryRows as rows;
+ghost use Rattle.xt_protocol.specs.PrimaryRows.{goes_on};
+ghost use Rattle.xt_protocol.specs.Turns.{message, quiet, sends};
+ghost use Rattle.object_versions.specs.KeptBodies.{fault_of, ReadsOnly};
+ghost use Rattle.object_versions.specs.Rising.{HeadRises};
 ghost use Rattle.osd_decisions.specs.Committed.{CommittedUnder};
 ghost use Rattle.replica_primary.specs.declared.moving.Heard.TheVariants as heard;
 ghost use Rattle.replica_primary.specs.declared.moving.Next.TheVariants as step;
@@ -23,15 +23,14 @@ use crate::feeding::{body_staged, feeds_on};
 use crate::fetching::{hears_missing, hears_object};
 use crate::gathering::{installs_keeping, status_told};
 use crate::moving::{Heard, Next, put, unmoved};
-use kept_bodies::{Bodies, StepErr};
-use osd_peers::{peer_in, set_peer};
-use osd_rows::{Peer, PeerState, Peers, Place, PrimaryState, Tenure};
+use crate::peers::{peer_in, set_peer};
+use object_versions::{Bodies, StepErr, is_earlier, is_epoch};
 use std::alloc::Global;
-use step_outputs::{message, quiet, sends_one};
-use version_lists::{is_earlier, is_epoch};
 use xt_base::{Epoch, NodeId, OutOfMemory, Stamp};
 use xt_messages::{FileHead, HeldSet, ObjectVersion, Payload};
-use xt_protocol::Turned;
+use xt_protocol::{
+    Peer, PeerState, Peers, Place, PrimaryState, Tenure, Turned, message, quiet, sends_one,
+};
 
 /// Whether nothing is known of this peer.
 fn is_unknown(peers: &[Peer], from: NodeId) -> bool
@@ -299,7 +298,7 @@ fn redraws(
 }
 
 /// A message to a primary. Where it can't be taken, what was learnt goes on, and the tenure isn't to be used again.
-#[tactic(auto, unfolding(osd_rows::specs::PrimaryRows::hears))]
+#[tactic(auto, unfolding(xt_protocol::specs::PrimaryRows::hears))]
 pub fn hears<B: Bodies>(
     bodies: &mut B,
     alloc: Global,

@@ -1,7 +1,7 @@
 //! The primary of a file, in its turns: it draws an epoch, gathers statuses, chooses a head and fetches its bodies, feeds its
 //! peers, serves reads, issues updates and counts who has acknowledged them; a wake sends again what wasn't answered.
 //!
-//! Each call computes exactly its row of the definitions in `osd_rows`. Contracts see where the primary stands, and its state in
+//! Each call computes exactly its row of the definitions in `xt_protocol`. Contracts see where the primary stands, and its state in
 //! the rows' own terms. Where a message can't be taken for want of memory or for a fault, the primary is idle; where any other
 //! call fails, it is as it was. The head that a commit leaves is a copy of the own one.
 #![tactic(auto)]
@@ -12,10 +12,14 @@ mod feeding;
 mod fetching;
 mod gathering;
 mod hearing;
+mod known;
 mod moving;
+mod peers;
 mod primary;
+mod sending;
 mod serving;
 mod waking;
 
 pub use primary::{Phase, Primary};
+pub use sending::send_any;
 pub use xt_protocol::Turned as Led;

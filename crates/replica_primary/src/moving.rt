@@ -1,15 +1,13 @@
 ghost use Rattle.std.specs.Prelude.{◌≡◌, IfOk};
-ghost use Rattle.osd_rows.specs.Turns.{quiet};
+ghost use Rattle.xt_protocol.specs.Turns.{quiet};
 ghost use Rattle.replica_primary.specs.declared.moving.Next.TheVariants as step;
 ghost use Rattle.replica_primary.specs.Moves.{kept_of};
 
-use osd_rows::{Progress, Tenure};
 use std::alloc::Global;
 use std::mem;
-use step_outputs::quiet;
 use xt_base::{FileId, Octets, OptionalBox, OutOfMemory, Stamp};
 use xt_messages::{FileHead, HeldPairs, Record};
-use xt_protocol::Turned;
+use xt_protocol::{Progress, Tenure, Turned, quiet};
 
 /// How a tenure goes on after a message, told before a body is read for it.
 #[derive(Drop)]

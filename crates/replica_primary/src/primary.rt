@@ -1,12 +1,12 @@
 ghost use Rattle.std.specs.Prelude.{◌≡◌, List, None, Some, IfOk, IfNone, OnErr};
-ghost use Rattle.osd_rows.specs.Primaries as rows;
-ghost use Rattle.osd_rows.specs.PrimaryRows.{epoch_drawn, hears};
-ghost use Rattle.osd_rows.specs.Serving.{reads, wakes, writes};
+ghost use Rattle.xt_protocol.specs.Primaries as rows;
+ghost use Rattle.xt_protocol.specs.PrimaryRows.{epoch_drawn, hears};
+ghost use Rattle.xt_protocol.specs.Serving.{reads, wakes, writes};
 ghost use Rattle.xt_messages.specs.declared.file.FileHead.{FileHead};
 ghost use Rattle.xt_messages.specs.declared.file.ObjectVersion.{ObjectVersion};
 ghost use Rattle.xt_messages.specs.Limits.{FitsOp, FitsStripe};
-ghost use Rattle.kept_bodies.specs.KeptBodies.{fault_of, ReadsOnly};
-ghost use Rattle.version_lists.specs.Rising.{HeadRises};
+ghost use Rattle.object_versions.specs.KeptBodies.{fault_of, ReadsOnly};
+ghost use Rattle.object_versions.specs.Rising.{HeadRises};
 ghost use Rattle.replica_primary.specs.Written.{ground};
 ghost use Rattle.replica_primary.specs.Phases.{phase_in, phase_of};
 ghost use Rattle.std.specs.Option.{option_map};
@@ -16,15 +16,14 @@ use crate::hearing::hears;
 use crate::moving::put;
 use crate::serving::{Written, put_issued, writes};
 use crate::waking::wakes;
-use flease_lease::Turn;
-use kept_bodies::{Bodies, StepErr};
+use flease::Turn;
+use object_versions::{Bodies, StepErr};
 use osd_decisions::{reads_under, statuses_counted};
-use osd_rows::{Peer, Place, PrimaryState, Progress};
 use std::alloc::Global;
 use std::marker::Model;
 use xt_base::{FileId, Members, NodeId, OpId, OutOfMemory};
 use xt_messages::{FileHead, HeldSet, Op, Payload, Reply};
-use xt_protocol::Turned;
+use xt_protocol::{Peer, Place, PrimaryState, Progress, Turned};
 
 /// The primary of one file at one node. Contracts see where it stands and its state.
 #[derive(Drop)]
@@ -115,7 +114,7 @@ impl Primary {
     }
 
     /// Read served: what the committed head shows, its count and its mark; none where the primary isn't active.
-    #[tactic(auto, unfolding(osd_rows::specs::Serving::reads))]
+    #[tactic(auto, unfolding(xt_protocol::specs::Serving::reads))]
     pub fn read<B: Bodies>(
         &self,
         turn: &Turn<'_>,

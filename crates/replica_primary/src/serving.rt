@@ -5,26 +5,27 @@ ghost use Rattle.xt_messages.specs.declared.record.Record.{Record};
 ghost use Rattle.xt_messages.specs.declared.event.Mark.TheVariants as mark;
 ghost use Rattle.xt_messages.specs.declared.message.Payload.TheVariants as payload;
 ghost use Rattle.xt_messages.specs.Limits.{FitsOp};
-ghost use Rattle.osd_rows.specs.declared.Progress.TheVariants as progress;
-ghost use Rattle.osd_rows.specs.Turns.{message, to_each};
-ghost use Rattle.osd_rows.specs.Writes.{standing};
-ghost use Rattle.osd_rows.specs.PrimaryRows.{goes_on};
-ghost use Rattle.osd_rows.specs.Primaries.{is_current};
-ghost use Rattle.osd_rows.specs.Serving as rows;
-ghost use Rattle.kept_bodies.specs.KeptBodies.{fault_of, ReadsOnly};
-ghost use Rattle.version_lists.specs.Rising.{HeadRises};
+ghost use Rattle.xt_protocol.specs.declared.states.Progress.TheVariants as progress;
+ghost use Rattle.xt_protocol.specs.Turns.{message, to_each};
+ghost use Rattle.xt_protocol.specs.Writes.{standing};
+ghost use Rattle.xt_protocol.specs.PrimaryRows.{goes_on};
+ghost use Rattle.xt_protocol.specs.Primaries.{is_current};
+ghost use Rattle.xt_protocol.specs.Serving as rows;
+ghost use Rattle.object_versions.specs.KeptBodies.{fault_of, ReadsOnly};
+ghost use Rattle.object_versions.specs.Rising.{HeadRises};
 ghost use Rattle.osd_decisions.specs.Committed.{CommittedRises, CommittedUnder};
 ghost use Rattle.replica_primary.specs.Written.{ground, tenure_after, led_of, led_under, with_issued, under_issued};
 
 use crate::moving::put;
-use kept_bodies::{Bodies, StepErr};
+use object_versions::{Bodies, StepErr};
 use osd_decisions::{Standing, standing_of, update_of};
-use osd_rows::{IssuedUpdate, Nodes, Peer, PeerState, Place, PrimaryState, Progress, Tenure};
 use std::alloc::Global;
-use step_outputs::{answers, join, message, one, quiet, sends, shows, tells};
 use xt_base::{COUNTS, Copies, NodeId, OBJECTS, Octets, OpId, OutOfMemory, Seq, Stamp};
 use xt_messages::{FileHead, Mark, Msgs, Op, Payload, Update};
-use xt_protocol::Turned;
+use xt_protocol::{
+    IssuedUpdate, Nodes, Peer, PeerState, Place, PrimaryState, Progress, Tenure, Turned, answers,
+    join, message, one, quiet, sends, shows, tells,
+};
 
 /// What comes of a write: the update that it issues, if it issues one, and what is sent then.
 #[derive(Drop)]
@@ -253,7 +254,7 @@ fn write_stands<B: Bodies>(
 }
 
 /// What a write gives; none where the primary isn't active, and where another one is issued.
-#[tactic(auto, unfolding(osd_rows::specs::Serving::writes))]
+#[tactic(auto, unfolding(xt_protocol::specs::Serving::writes))]
 pub fn writes<B: Bodies>(
     bodies: &mut B,
     alloc: Global,

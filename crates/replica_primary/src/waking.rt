@@ -1,15 +1,16 @@
 ghost use Rattle.std.specs.Prelude.{◌≡◌, IfOk, flat_map};
-ghost use Rattle.osd_rows.specs.Primaries.{if_any};
-ghost use Rattle.osd_rows.specs.Serving as rows;
-ghost use Rattle.osd_rows.specs.Turns.{sends};
+ghost use Rattle.xt_protocol.specs.Primaries.{if_any};
+ghost use Rattle.xt_protocol.specs.Serving as rows;
+ghost use Rattle.xt_protocol.specs.Turns.{sends};
 
-use osd_peers::{last_sent, send_any};
-use osd_rows::{IssuedUpdate, Peer, PeerState, Place, PrimaryState, Progress, Tenure};
+use crate::sending::{last_sent, send_any};
 use std::alloc::Global;
-use step_outputs::{message, quiet, sends, sends_one};
 use xt_base::{Copies, Epoch, FileId, NodeId, OutOfMemory, Seq, has_node};
 use xt_messages::Payload;
-use xt_protocol::Turned;
+use xt_protocol::{
+    IssuedUpdate, Peer, PeerState, Place, PrimaryState, Progress, Tenure, Turned, message, quiet,
+    sends, sends_one,
+};
 
 /// An unknown peer is asked anew.
 fn gather_unknown(place: &Place, epoch: Epoch, peer: &Peer) -> Option<Payload>
@@ -122,7 +123,7 @@ fn wakes_in(alloc: Global, place: &Place, tenure: &Tenure) -> Result<Turned, Out
 }
 
 /// Wakes: who hasn't answered is sent the same again.
-#[tactic(auto, unfolding(osd_rows::specs::Serving::wakes))]
+#[tactic(auto, unfolding(xt_protocol::specs::Serving::wakes))]
 pub fn wakes(alloc: Global, place: &Place, primary: &PrimaryState) -> Result<Turned, OutOfMemory>
     ensures { IfOk result (λ turned. turned ≡ rows.wakes place.now primary.now) }
 {

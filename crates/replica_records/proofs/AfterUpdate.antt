@@ -11,7 +11,7 @@ use Rattle.xt_messages.specs.declared.file.Update.{Update}
 use Rattle.xt_base.specs.declared.TheConstants.{NO_OBJECT}
 use Rattle.xt_protocol.specs.Heads.{first_epoch, versions_below, head_after}
 use Rattle.xt_protocol.specs.Folds.{FollowsHead}
-use Rattle.version_lists.proofs.HeadLimits.{when, objects_of, below_all, version_all, below_still_rise, versions_still_rise, session_all, sessions_still_rise}
+use Rattle.object_versions.proofs.HeadLimits.{when, objects_of, below_all, version_all, below_still_rise, versions_still_rise, session_all, sessions_still_rise}
 use Rattle.replica_records.specs.Sound.{HasRoomFor, FitsLists}
 
 -- ---- the limits

@@ -9,7 +9,7 @@ use Rattle.xt_messages.specs.declared.record.Record.TheVariants as kept
 use Rattle.xt_messages.specs.declared.file.Update.{Update}
 use Rattle.xt_base.specs.declared.TheConstants.{CLIENTS, OBJECTS}
 use Rattle.xt_protocol.specs.Heads.{head_after}
-use Rattle.version_lists.specs.Rising.{HeadRises}
+use Rattle.object_versions.specs.Rising.{HeadRises}
 use Rattle.replica_records.specs.RowPlaces.{FilesRise}
 
 -- the head after an update has no version and no session too many

@@ -5,7 +5,7 @@ use thiserror::Error;
 use xt_wire::FieldErr;
 
 /// Why bytes weren't read as a record.
-#[derive(Clone, Copy, Debug, PartialEq, Eq, Error)]
+#[derive(Clone, Copy, Debug, Error)]
 pub enum RecordErr {
     #[error("the bytes aren't one record")]
     BadRecord,

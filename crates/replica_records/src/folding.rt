@@ -8,9 +8,9 @@ ghost use Rattle.replica_records.specs.Sound.{FitsFold, IsSoundRow, AreSoundRows
 
 use crate::head::{head_after, new_head};
 use crate::order::{are_held, fits_fold, follows_fitting, follows_head};
+use object_versions::hold;
 use std::alloc::Global;
 use std::marker::Model;
-use version_lists::hold;
 use xt_base::{Boot, Copies, Epoch, FileId, NO_OBJECT, OutOfMemory, Seq, Stamp};
 use xt_messages::{FileHead, FileRow, FileTable, Folded, HeldSet, ObjectVersion, Record, Update};
 use xt_wire::is_at_most;
@@ -67,7 +67,7 @@ fn take_update(
     ensures err { OnErr result (row.new ≡ row.old) }
 {
     if within {
-        return version_lists::take_update(&mut row.head, &mut row.held, update);
+        return object_versions::take_update(&mut row.head, &mut row.held, update);
     }
     let head = head_after(alloc, &row.head, update)?;
     if update.object != NO_OBJECT {

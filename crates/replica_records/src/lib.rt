@@ -18,7 +18,7 @@ mod writing;
 pub use errors::RecordErr;
 pub use folding::{Folding, fold};
 pub use head::{head_after, new_head, plain_stamp};
-pub use kept_bodies::{Bodies, BodyErr};
 pub use log::RecordLog;
+pub use object_versions::{Bodies, BodyErr};
 pub use payload::{read_record, record_bytes};
 pub use xt_messages::{FileRow, FileTable, Folded, HeldPairs, Keep, Record};

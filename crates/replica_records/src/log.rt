@@ -1,7 +1,7 @@
 ghost use Rattle.replica_records.specs.Places.{ArePlacesIn, are_places_prop};
 
 use crate::places::{BodyKey, Places, body_in};
-use kept_bodies::BodyErr;
+use object_versions::BodyErr;
 use std::alloc::Global;
 use xt_base::{Copies, FileId, Octets, OutOfMemory, Stamp};
 use xt_messages::Record;
@@ -18,8 +18,8 @@ pub struct RecordLog {
 impl RecordLog {
     ghost use Rattle.std.specs.Prelude.{◌≡◌, ◌↔◌, ◌++◌, ◌∷◌, [], Some, None, Err, IfOk, OnOk, OnErr, length};
     ghost use Rattle.xt_protocol.specs.Folds.{body_kept};
-    ghost use Rattle.kept_bodies.specs.declared.errors.BodyErr.TheVariants.{NoSuchVersion};
-    ghost use Rattle.kept_bodies.specs.KeptBodies.{fault_in};
+    ghost use Rattle.object_versions.specs.declared.errors.BodyErr.TheVariants.{NoSuchVersion};
+    ghost use Rattle.object_versions.specs.KeptBodies.{fault_in};
     ghost use Rattle.replica_records.specs.Logs.{records_in, HasRoom};
 
     /// No record.

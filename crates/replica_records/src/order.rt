@@ -3,12 +3,12 @@ ghost use Rattle.std.specs.List.{All, AllByRecursion};
 ghost use Rattle.xt_messages.specs.Limits.{is_at_most, rise, FitsEpoch, FitsStamp, FitsOpId, FitsMark, FitsVersion, FitsSession, FitsVersions, FitsSessions, FitsHead, FitsUpdate, IsObjectOrNone};
 ghost use Rattle.xt_protocol.specs.Heads.{first_epoch};
 ghost use Rattle.xt_protocol.specs.Folds.{FollowsHead};
-ghost use Rattle.version_lists.specs.Rising.{HeadRises};
+ghost use Rattle.object_versions.specs.Rising.{HeadRises};
 ghost use Rattle.replica_records.specs.Sound.{FitsFold, FitsLists, HasRoomFor};
 
 use crate::head::{head_after, plain_stamp};
+use object_versions::{holds, sessions_after, versions_after};
 use std::alloc::Global;
-use version_lists::{holds, sessions_after, versions_after};
 use xt_base::{CLIENTS, COUNTS, Epoch, NO_OBJECT, OBJECTS, OpId, OutOfMemory, SizeMark, Stamp};
 use xt_messages::{FileHead, HeldSet, ObjectVersion, Record, Session, Update};
 use xt_wire::{clients_rise, is_at_most, objects_rise};

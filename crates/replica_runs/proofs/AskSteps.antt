@@ -5,13 +5,13 @@ use Rattle.xt_base.specs.declared.ids.NodeId.{NodeId}
 use Rattle.xt_messages.specs.declared.file.Op.{Op}
 use Rattle.xt_messages.specs.declared.message.Payload.{Payload}
 use Rattle.xt_messages.specs.declared.message.Payload.TheVariants as payload
-use Rattle.osd_rows.specs.Asks.{no_asks}
-use Rattle.osd_rows.specs.FileStates.{FileState, Site, FileStep, and_then}
-use Rattle.osd_rows.specs.FileSteps.{step_of_file, wake_of_file}
-use Rattle.osd_rows.specs.Overdue.{expired}
-use Rattle.osd_rows.specs.declared.Asks.{Asks}
-use Rattle.osd_rows.specs.declared.IssuedAsk.{IssuedAsk}
-use Rattle.osd_rows.specs.declared.WaitingAsk.{WaitingAsk}
+use Rattle.xt_protocol.specs.Asks.{no_asks}
+use Rattle.xt_protocol.specs.FileStates.{FileState, Site, FileStep, and_then}
+use Rattle.xt_protocol.specs.FileSteps.{step_of_file, wake_of_file}
+use Rattle.xt_protocol.specs.Overdue.{expired}
+use Rattle.xt_protocol.specs.declared.states.Asks.{Asks}
+use Rattle.xt_protocol.specs.declared.states.IssuedAsk.{IssuedAsk}
+use Rattle.xt_protocol.specs.declared.states.WaitingAsk.{WaitingAsk}
 use Rattle.osd_invariants.specs.OpenAsks.{AskIs, AsksAre, IssuedIs}
 use Rattle.osd_invariants.proofs.OpenAsks.{none_are, expired_are, step_are, wake_are}
 use Rattle.replica_safety.specs.Lists.{Has}

@@ -6,11 +6,11 @@ use Rattle.xt_base.specs.declared.ids.NodeId.{NodeId}
 use Rattle.xt_messages.specs.declared.file.FileHead.{FileHead}
 use Rattle.xt_protocol.specs.Stamps.{is_stamp, is_below}
 use Rattle.xt_protocol.proofs.Stamps.{stamp-equal}
-use Rattle.osd_rows.specs.Choice.{is_better, chosen_of}
-use Rattle.osd_rows.specs.Primaries.{reported, report_of, reports_of}
-use Rattle.osd_rows.specs.declared.Peer.{Peer}
-use Rattle.osd_rows.specs.declared.PeerState.{PeerState}
-use Rattle.osd_rows.specs.declared.PeerState.TheVariants as peer
+use Rattle.xt_protocol.specs.Choice.{is_better, chosen_of}
+use Rattle.xt_protocol.specs.Primaries.{reported, report_of, reports_of}
+use Rattle.xt_protocol.specs.declared.states.Peer.{Peer}
+use Rattle.xt_protocol.specs.declared.states.PeerState.{PeerState}
+use Rattle.xt_protocol.specs.declared.states.PeerState.TheVariants as peer
 use Rattle.replica_safety.specs.Epochs.{AtMost}
 use Rattle.replica_safety.specs.Lists.{Has}
 use Rattle.replica_safety.proofs.Orders.{at_most_self, at_most_trans, below_at_most}

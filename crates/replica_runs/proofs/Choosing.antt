@@ -13,21 +13,21 @@ use Rattle.xt_messages.specs.declared.message.Msg.{Msg}
 use Rattle.xt_messages.specs.declared.message.Payload.TheVariants as payload
 use Rattle.xt_messages.specs.declared.record.Record.{Record}
 use Rattle.xt_messages.specs.declared.record.Record.TheVariants as kept
-use Rattle.xt_protocol.specs.declared.Turned.{Turned}
+use Rattle.xt_protocol.specs.declared.turned.Turned.{Turned}
 use Rattle.xt_protocol.specs.Folds.{body_of}
 use Rattle.xt_protocol.specs.Stamps.{is_version, has_version, with_held}
 use Rattle.xt_protocol.proofs.Stamps.{version-equal}
-use Rattle.osd_rows.specs.Choice.{chosen_of, difference}
-use Rattle.osd_rows.specs.Primaries.{Led, Ground, peer_in, with_peer, unknown_peer, nodes_of, reported, reports_of, majority_among, statuses_counted, target_of, last_sent, if_any, last_to_each, known_of_own}
-use Rattle.osd_rows.specs.PrimaryRows.{goes_on, unmoved, epoch_above, epoch_drawn, peers_fed, installs, fetches, chooses, status_counted, body_beyond, after_keeping, body_fetched}
-use Rattle.osd_rows.specs.ReplicaRows.{kept_after}
-use Rattle.osd_rows.specs.Turns.{quiet, message, to_each}
-use Rattle.osd_rows.specs.declared.Peer.{Peer}
-use Rattle.osd_rows.specs.declared.PeerState.{PeerState}
-use Rattle.osd_rows.specs.declared.PeerState.TheVariants as peer
-use Rattle.osd_rows.specs.declared.Progress.{Progress}
-use Rattle.osd_rows.specs.declared.Progress.TheVariants as progress
-use Rattle.osd_rows.specs.declared.Tenure.{Tenure}
+use Rattle.xt_protocol.specs.Choice.{chosen_of, difference}
+use Rattle.xt_protocol.specs.Primaries.{Led, Ground, peer_in, with_peer, unknown_peer, nodes_of, reported, reports_of, majority_among, statuses_counted, target_of, last_sent, if_any, last_to_each, known_of_own}
+use Rattle.xt_protocol.specs.PrimaryRows.{goes_on, unmoved, epoch_above, epoch_drawn, peers_fed, installs, fetches, chooses, status_counted, body_beyond, after_keeping, body_fetched}
+use Rattle.xt_protocol.specs.ReplicaRows.{kept_after}
+use Rattle.xt_protocol.specs.Turns.{quiet, message, to_each}
+use Rattle.xt_protocol.specs.declared.states.Peer.{Peer}
+use Rattle.xt_protocol.specs.declared.states.PeerState.{PeerState}
+use Rattle.xt_protocol.specs.declared.states.PeerState.TheVariants as peer
+use Rattle.xt_protocol.specs.declared.states.Progress.{Progress}
+use Rattle.xt_protocol.specs.declared.states.Progress.TheVariants as progress
+use Rattle.xt_protocol.specs.declared.states.Tenure.{Tenure}
 use Rattle.replica_safety.specs.Epochs.{AtMost}
 use Rattle.replica_safety.specs.Lists.{Has, AreDistinct}
 use Rattle.replica_runs.specs.HeadSteps.{Step, Loses, Draws, KeepsBody, CountsStatus, Chooses, IsChosen, nobody, with_status, with_acted, MayAll, after_steps}

@@ -12,15 +12,15 @@ use Rattle.xt_messages.specs.declared.file.Update.{Update}
 use Rattle.xt_messages.specs.declared.message.Msg.{Msg}
 use Rattle.xt_messages.specs.declared.message.Payload.{Payload}
 use Rattle.xt_protocol.specs.Stamps.{is_epoch, has_version}
-use Rattle.osd_rows.specs.Primaries.{with_peer, fed_next, fed, last_sent, if_any, target_of}
-use Rattle.osd_rows.specs.PrimaryRows.{target_in, peer_fed, peers_fed}
-use Rattle.osd_rows.specs.declared.IssuedUpdate.{IssuedUpdate}
-use Rattle.osd_rows.specs.declared.Peer.{Peer}
-use Rattle.osd_rows.specs.declared.PeerState.{PeerState}
-use Rattle.osd_rows.specs.declared.PeerState.TheVariants as peer
-use Rattle.osd_rows.specs.declared.Progress.{Progress}
-use Rattle.osd_rows.specs.declared.Progress.TheVariants as progress
-use Rattle.osd_rows.specs.declared.Tenure.{Tenure}
+use Rattle.xt_protocol.specs.Primaries.{with_peer, fed_next, fed, last_sent, if_any, target_of}
+use Rattle.xt_protocol.specs.PrimaryRows.{target_in, peer_fed, peers_fed}
+use Rattle.xt_protocol.specs.declared.states.IssuedUpdate.{IssuedUpdate}
+use Rattle.xt_protocol.specs.declared.states.Peer.{Peer}
+use Rattle.xt_protocol.specs.declared.states.PeerState.{PeerState}
+use Rattle.xt_protocol.specs.declared.states.PeerState.TheVariants as peer
+use Rattle.xt_protocol.specs.declared.states.Progress.{Progress}
+use Rattle.xt_protocol.specs.declared.states.Progress.TheVariants as progress
+use Rattle.xt_protocol.specs.declared.states.Tenure.{Tenure}
 use Rattle.replica_safety.specs.Lists.{Has}
 use Rattle.replica_runs.specs.HeadSteps.{Step, SendsBody, SendsChosen, SendsOwn, SendsGather, SendsUpdate}
 use Rattle.replica_runs.specs.HeadSteps as heads

@@ -19,27 +19,27 @@ use Rattle.xt_messages.specs.declared.message.Payload.{Payload}
 use Rattle.xt_messages.specs.declared.message.Payload.TheVariants as payload
 use Rattle.xt_messages.specs.declared.reply.Reply.{Reply}
 use Rattle.xt_messages.specs.declared.reply.Reply.TheVariants as reply
-use Rattle.xt_protocol.specs.declared.Turned.{Turned}
+use Rattle.xt_protocol.specs.declared.turned.Turned.{Turned}
 use Rattle.xt_protocol.specs.Register.{Round, same_ballot, lease_of, on_promise, ReadAnswer, promise, read_refused, WriteAnswer, Write, accepted, write_refused, other_boot, on_read, on_write}
 use Rattle.xt_protocol.specs.LeaseRows.{LeaseState, Proposer, Held, free, asking, writing, held, LeaseNews, LeaseStep, Asked, asked_still, asked_write, asked_found, asking_promised, Written, written_still, written_won, written_late, writing_accepted, Renewal, no_news, renewal_write, renewed, on_renewal, step_of_asking, step_of_written, news_of_targets, news_of_renewal, asking_answered, writing_answered, sends_write, holds, finds, ends, on_answer, can_ask, round_starts, renewal_starts, is_renewal_due, has_run_out, has_turn, round_over, renewal_left, lease_expired}
 use Rattle.xt_protocol.specs.LeaseRows as lease
 use Rattle.osd_invariants.specs.Sound.{ListUnder, IsHeld}
-use Rattle.osd_rows.specs.AskRows.{ask_waits, ask_served, reads_of, round_for, elsewhere, ask_without_lease, ask_under, ask_rows, view_record, ask_let_in, refusal_of, ask_handled, waiting_ask}
-use Rattle.osd_rows.specs.Asks.{Served, waits, asks_follow, asked_already, serves, tells_each, tells_untold}
-use Rattle.osd_rows.specs.FileLeases.{answer_to_read, read_comes, answers_to_write, end_after_write, write_comes, end_after_answer, writes_to, waiting_told, live_lease, led_on, lease_held, lease_news, answer_comes}
-use Rattle.osd_rows.specs.FileStates.{FileState, Site, FileStep, nothing, steps_to, and_then, members_of, stripe_of, ground_of}
-use Rattle.osd_rows.specs.FileSteps.{replica_acts, ask_comes, primary_hears, message_comes, step_of_file, renews, wakes_under_lease, wake_of_file}
-use Rattle.osd_rows.specs.Overdue.{no_lease_for_all, deadlines_under, lease_became, expired, is_due, newly_due}
-use Rattle.osd_rows.specs.Primaries.{Ground, Led, is_active, have_in, majority_among, idle, if_any}
-use Rattle.osd_rows.specs.PrimaryRows.{epoch_drawn, hears}
-use Rattle.osd_rows.specs.ReplicaRows.{kept_after, gathered, staged, headed, updated}
-use Rattle.osd_rows.specs.Serving.{wakes}
-use Rattle.osd_rows.specs.Turns.{quiet, shows, sends, joined, the_record, message, reply_to, tells}
-use Rattle.osd_rows.specs.declared.Acted.{Acted}
-use Rattle.osd_rows.specs.declared.IssuedAsk.{IssuedAsk}
-use Rattle.osd_rows.specs.declared.PrimaryState.{PrimaryState}
-use Rattle.osd_rows.specs.declared.Tenure.{Tenure}
-use Rattle.osd_rows.specs.declared.WaitingAsk.{WaitingAsk}
+use Rattle.xt_protocol.specs.AskRows.{ask_waits, ask_served, reads_of, round_for, elsewhere, ask_without_lease, ask_under, ask_rows, view_record, ask_let_in, refusal_of, ask_handled, waiting_ask}
+use Rattle.xt_protocol.specs.Asks.{Served, waits, asks_follow, asked_already, serves, tells_each, tells_untold}
+use Rattle.xt_protocol.specs.FileLeases.{answer_to_read, read_comes, answers_to_write, end_after_write, write_comes, end_after_answer, writes_to, waiting_told, live_lease, led_on, lease_held, lease_news, answer_comes}
+use Rattle.xt_protocol.specs.FileStates.{FileState, Site, FileStep, nothing, steps_to, and_then, members_of, stripe_of, ground_of}
+use Rattle.xt_protocol.specs.FileSteps.{replica_acts, ask_comes, primary_hears, message_comes, step_of_file, renews, wakes_under_lease, wake_of_file}
+use Rattle.xt_protocol.specs.Overdue.{no_lease_for_all, deadlines_under, lease_became, expired, is_due, newly_due}
+use Rattle.xt_protocol.specs.Primaries.{Ground, Led, is_active, have_in, majority_among, idle, if_any}
+use Rattle.xt_protocol.specs.PrimaryRows.{epoch_drawn, hears}
+use Rattle.xt_protocol.specs.ReplicaRows.{kept_after, gathered, staged, headed, updated}
+use Rattle.xt_protocol.specs.Serving.{wakes}
+use Rattle.xt_protocol.specs.Turns.{quiet, shows, sends, joined, the_record, message, reply_to, tells}
+use Rattle.xt_protocol.specs.declared.states.Acted.{Acted}
+use Rattle.xt_protocol.specs.declared.states.IssuedAsk.{IssuedAsk}
+use Rattle.xt_protocol.specs.declared.states.PrimaryState.{PrimaryState}
+use Rattle.xt_protocol.specs.declared.states.Tenure.{Tenure}
+use Rattle.xt_protocol.specs.declared.states.WaitingAsk.{WaitingAsk}
 use Rattle.replica_safety.specs.Lists.{Has, AreDistinct}
 use Rattle.replica_safety.proofs.Lists.{has-append}
 use Rattle.replica_runs.specs.HeadWorld.{Message, shown, Entry}

@@ -16,7 +16,7 @@ use Rattle.xt_base.specs.declared.TheConstants.{NO_OBJECT, OBJECTS}
 use Rattle.xt_base.specs.Overlay.{overlay}
 use Rattle.xt_protocol.specs.Heads.{new_head, head_after, version_of, session_of}
 use Rattle.xt_protocol.specs.Objects.{present_body}
-use Rattle.osd_rows.specs.Writes.{repeated, older, turned_away, fresh, reach, judged, is_old_epoch, too_far, known_client, by_session, standing, written, cuts_body, truncated, update_of}
+use Rattle.xt_protocol.specs.Writes.{repeated, older, turned_away, fresh, reach, judged, is_old_epoch, too_far, known_client, by_session, standing, written, cuts_body, truncated, update_of}
 use Rattle.replica_safety.specs.Epochs.{name}
 use Rattle.replica_safety.specs.Lists.{Has}
 use Rattle.replica_runs.specs.FileHeads.{folded, head_of, versions_of}

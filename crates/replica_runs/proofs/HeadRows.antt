@@ -15,9 +15,9 @@ use Rattle.xt_protocol.specs.Folds.{held_after}
 use Rattle.xt_protocol.specs.Folds as folds
 use Rattle.xt_protocol.specs.Heads.{head_after, version_of}
 use Rattle.xt_protocol.specs.Stamps.{is_earlier, is_epoch, is_below, has_version}
-use Rattle.osd_rows.specs.declared.Acted.{Acted}
-use Rattle.osd_rows.specs.PrimaryRows.{body_beyond}
-use Rattle.osd_rows.specs.ReplicaRows.{unanswered, only, after_record, refused, behind, as_promised, gathered, head_taken, first_missing, head_offered, headed, head_fits, next_update, update_offered, updated}
+use Rattle.xt_protocol.specs.declared.states.Acted.{Acted}
+use Rattle.xt_protocol.specs.PrimaryRows.{body_beyond}
+use Rattle.xt_protocol.specs.ReplicaRows.{unanswered, only, after_record, refused, behind, as_promised, gathered, head_taken, first_missing, head_offered, headed, head_fits, next_update, update_offered, updated}
 use Rattle.replica_safety.specs.Epochs.{AtMost, stamp_of}
 use Rattle.replica_safety.specs.Lists.{Has}
 use Rattle.replica_safety.specs.Rules.{Start}

@@ -6,8 +6,8 @@ use Rattle.xt_base.specs.declared.TheConstants.{NO_OBJECT}
 use Rattle.xt_messages.specs.declared.file.Op.TheVariants as op
 use Rattle.xt_messages.specs.declared.file.FileHead.{FileHead}
 use Rattle.xt_protocol.specs.Heads.{first_epoch}
-use Rattle.osd_rows.specs.ReplicaRows.{gathered, headed, updated}
-use Rattle.osd_rows.specs.Writes.{standing}
+use Rattle.xt_protocol.specs.ReplicaRows.{gathered, headed, updated}
+use Rattle.xt_protocol.specs.Writes.{standing}
 use Rattle.replica_safety.specs.Epochs.{AtMost}
 use Rattle.replica_safety.specs.Rules.{first_start}
 use Rattle.replica_safety.proofs.Orders.{at_most_self, not_before_self}

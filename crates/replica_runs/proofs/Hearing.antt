@@ -15,16 +15,16 @@ use Rattle.xt_messages.specs.declared.message.Payload.{Payload}
 use Rattle.xt_messages.specs.declared.message.Payload.TheVariants as payload
 use Rattle.xt_protocol.specs.Folds.{body_of}
 use Rattle.xt_protocol.specs.Stamps.{is_epoch, is_earlier, is_below, is_version, without_version}
-use Rattle.osd_rows.specs.Primaries.{Led, peer_in, with_peer, reported, nodes_of, majority_among, with_node, carries, with_known, fed, last_sent, if_any, target_of}
-use Rattle.osd_rows.specs.PrimaryRows.{goes_on, unmoved, with_state, feeds, status_told, hears_status, hears_object, body_fetched, target_in, body_staged, body_missed, epoch_drawn, hears_missing, makes_current, activated, committed, update_acked, acked_below, hears_ack, forgotten, peer_behind, outpromised, epoch_told, hears_peer, hears_member, hears_epoch, hears}
-use Rattle.osd_rows.specs.Turns.{sends, answers, message}
-use Rattle.osd_rows.specs.declared.IssuedUpdate.{IssuedUpdate}
-use Rattle.osd_rows.specs.declared.Peer.{Peer}
-use Rattle.osd_rows.specs.declared.PeerState.{PeerState}
-use Rattle.osd_rows.specs.declared.PeerState.TheVariants as peer
-use Rattle.osd_rows.specs.declared.Progress.{Progress}
-use Rattle.osd_rows.specs.declared.Progress.TheVariants as progress
-use Rattle.osd_rows.specs.declared.Tenure.{Tenure}
+use Rattle.xt_protocol.specs.Primaries.{Led, peer_in, with_peer, reported, nodes_of, majority_among, with_node, carries, with_known, fed, last_sent, if_any, target_of}
+use Rattle.xt_protocol.specs.PrimaryRows.{goes_on, unmoved, with_state, feeds, status_told, hears_status, hears_object, body_fetched, target_in, body_staged, body_missed, epoch_drawn, hears_missing, makes_current, activated, committed, update_acked, acked_below, hears_ack, forgotten, peer_behind, outpromised, epoch_told, hears_peer, hears_member, hears_epoch, hears}
+use Rattle.xt_protocol.specs.Turns.{sends, answers, message}
+use Rattle.xt_protocol.specs.declared.states.IssuedUpdate.{IssuedUpdate}
+use Rattle.xt_protocol.specs.declared.states.Peer.{Peer}
+use Rattle.xt_protocol.specs.declared.states.PeerState.{PeerState}
+use Rattle.xt_protocol.specs.declared.states.PeerState.TheVariants as peer
+use Rattle.xt_protocol.specs.declared.states.Progress.{Progress}
+use Rattle.xt_protocol.specs.declared.states.Progress.TheVariants as progress
+use Rattle.xt_protocol.specs.declared.states.Tenure.{Tenure}
 use Rattle.replica_safety.specs.Lists.{Has, AreDistinct}
 use Rattle.replica_safety.proofs.Orders.{same_is}
 use Rattle.replica_runs.specs.HeadSteps.{Step, CountsInstalled, Activates, CountsUpdated, Commits, with_acked, MayAll, after_steps}

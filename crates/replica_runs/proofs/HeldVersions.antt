@@ -14,7 +14,7 @@ use Rattle.xt_protocol.specs.Folds as folds
 use Rattle.xt_protocol.specs.Stamps.{is_stamp, is_version, has_version, with_held}
 use Rattle.xt_protocol.proofs.Folds.{file-itself}
 use Rattle.xt_protocol.proofs.Stamps.{stamp-equal, version-equal, version-itself, has_version-with_held}
-use Rattle.osd_rows.specs.PrimaryRows.{body_beyond, newer_body}
+use Rattle.xt_protocol.specs.PrimaryRows.{body_beyond, newer_body}
 use Rattle.replica_safety.specs.Lists.{Has}
 use Rattle.replica_runs.specs.FileHeads.{Body, body_of}
 use Rattle.replica_runs.specs.HeadWorld.{BodiesAre}

@@ -3,10 +3,10 @@ use Rattle.std.proofs.Common.{◌≡◌, ℕ, ◌⊎◌, List, [], ◌∷◌, re
 use Rattle.std.specs.Prelude.{cond}
 use Rattle.xt_base.specs.declared.ids.NodeId.{NodeId}
 use Rattle.xt_messages.specs.declared.file.FileHead.{FileHead}
-use Rattle.osd_rows.specs.Primaries.{peer_in, with_peer, reported}
-use Rattle.osd_rows.specs.declared.Peer.{Peer}
-use Rattle.osd_rows.specs.declared.PeerState.{PeerState}
-use Rattle.osd_rows.specs.declared.PeerState.TheVariants as peer
+use Rattle.xt_protocol.specs.Primaries.{peer_in, with_peer, reported}
+use Rattle.xt_protocol.specs.declared.states.Peer.{Peer}
+use Rattle.xt_protocol.specs.declared.states.PeerState.{PeerState}
+use Rattle.xt_protocol.specs.declared.states.PeerState.TheVariants as peer
 use Rattle.replica_safety.specs.Lists.{Has, AreDistinct}
 use Rattle.replica_runs.specs.HeadSteps.{with_status}
 use Rattle.replica_runs.proofs.Tools.{by_node, by_test}

@@ -14,15 +14,15 @@ use Rattle.xt_messages.specs.declared.message.Msg.{Msg}
 use Rattle.xt_messages.specs.declared.message.Payload.{Payload}
 use Rattle.xt_messages.specs.declared.message.Payload.TheVariants as payload
 use Rattle.xt_messages.specs.declared.record.Record.TheVariants as kept
-use Rattle.xt_protocol.specs.declared.Turned.{Turned}
+use Rattle.xt_protocol.specs.declared.turned.Turned.{Turned}
 use Rattle.xt_protocol.specs.Folds.{body_of}
 use Rattle.xt_protocol.specs.Stamps.{is_earlier, has_version}
-use Rattle.osd_rows.specs.declared.Acted.{Acted}
-use Rattle.osd_rows.specs.declared.Tenure.{Tenure}
-use Rattle.osd_rows.specs.PrimaryRows.{body_beyond}
-use Rattle.osd_rows.specs.Primaries.{if_any}
-use Rattle.osd_rows.specs.ReplicaRows.{kept_after, only, refused, behind, gathered, fetched_from, stage_record, staged, headed, updated}
-use Rattle.osd_rows.specs.Turns.{sends, message, joined, the_record}
+use Rattle.xt_protocol.specs.declared.states.Acted.{Acted}
+use Rattle.xt_protocol.specs.declared.states.Tenure.{Tenure}
+use Rattle.xt_protocol.specs.PrimaryRows.{body_beyond}
+use Rattle.xt_protocol.specs.Primaries.{if_any}
+use Rattle.xt_protocol.specs.ReplicaRows.{kept_after, only, refused, behind, gathered, fetched_from, stage_record, staged, headed, updated}
+use Rattle.xt_protocol.specs.Turns.{sends, message, joined, the_record}
 use Rattle.replica_safety.specs.Lists.{Has}
 use Rattle.replica_safety.proofs.Lists.{has-append}
 use Rattle.replica_runs.specs.HeadSteps.{Step, Gains, StoresList, Gathers, TakesHead, TakesUpdate, SendsBody, KeepsBody, with_acted, keeping, May, after}

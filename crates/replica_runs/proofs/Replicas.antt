@@ -17,13 +17,13 @@ use Rattle.xt_protocol.specs.Folds.{body_of, held_after}
 use Rattle.xt_protocol.specs.Heads.{head_after, with_version, versions_below}
 use Rattle.xt_protocol.specs.Stamps.{is_epoch, is_earlier, is_below, has_version, with_held}
 use Rattle.xt_protocol.proofs.Folds.{row_after-file}
-use Rattle.osd_rows.specs.declared.Acted.{Acted}
-use Rattle.osd_rows.specs.declared.Peer.{Peer}
-use Rattle.osd_rows.specs.declared.Progress.{Progress}
-use Rattle.osd_rows.specs.declared.Progress.TheVariants as progress
-use Rattle.osd_rows.specs.declared.Tenure.{Tenure}
-use Rattle.osd_rows.specs.Primaries.{last_sent}
-use Rattle.osd_rows.specs.ReplicaRows.{kept_after, unanswered, only, after_record, refused, behind, as_promised, gathered, head_taken, first_missing, head_offered, headed, head_fits, next_update, update_offered, updated}
+use Rattle.xt_protocol.specs.declared.states.Acted.{Acted}
+use Rattle.xt_protocol.specs.declared.states.Peer.{Peer}
+use Rattle.xt_protocol.specs.declared.states.Progress.{Progress}
+use Rattle.xt_protocol.specs.declared.states.Progress.TheVariants as progress
+use Rattle.xt_protocol.specs.declared.states.Tenure.{Tenure}
+use Rattle.xt_protocol.specs.Primaries.{last_sent}
+use Rattle.xt_protocol.specs.ReplicaRows.{kept_after, unanswered, only, after_record, refused, behind, as_promised, gathered, head_taken, first_missing, head_offered, headed, head_fits, next_update, update_offered, updated}
 use Rattle.replica_safety.specs.Lists.{Has}
 use Rattle.replica_runs.specs.HeadWorld.{Message, Status, shown, shown_if}
 use Rattle.replica_runs.proofs.HeldVersions.{held_new, held_more}

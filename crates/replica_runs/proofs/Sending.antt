@@ -4,13 +4,13 @@ use Rattle.std.specs.Prelude.{flat_map, map}
 use Rattle.xt_base.specs.declared.ids.Epoch.{Epoch}
 use Rattle.xt_messages.specs.declared.file.FileHead.{FileHead}
 use Rattle.xt_messages.specs.declared.message.Msg.{Msg}
-use Rattle.xt_protocol.specs.declared.Turned.{Turned}
+use Rattle.xt_protocol.specs.declared.turned.Turned.{Turned}
 use Rattle.xt_messages.specs.declared.file.Op.{Op}
-use Rattle.osd_rows.specs.PrimaryRows.{body_beyond}
-use Rattle.osd_rows.specs.Primaries.{last_sent, is_ready}
-use Rattle.osd_rows.specs.ReplicaRows.{kept_after}
-use Rattle.osd_rows.specs.declared.Peer.{Peer}
-use Rattle.osd_rows.specs.declared.Tenure.{Tenure}
+use Rattle.xt_protocol.specs.PrimaryRows.{body_beyond}
+use Rattle.xt_protocol.specs.Primaries.{last_sent, is_ready}
+use Rattle.xt_protocol.specs.ReplicaRows.{kept_after}
+use Rattle.xt_protocol.specs.declared.states.Peer.{Peer}
+use Rattle.xt_protocol.specs.declared.states.Tenure.{Tenure}
 use Rattle.replica_safety.specs.Lists.{Has}
 use Rattle.replica_safety.proofs.Lists.{has-append}
 use Rattle.replica_runs.specs.HeadSteps.{Step, May, MayAll, after, after_steps}

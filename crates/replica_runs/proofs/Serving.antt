@@ -23,20 +23,20 @@ use Rattle.xt_messages.specs.declared.reply.Reply.{Reply}
 use Rattle.xt_messages.specs.declared.reply.Reply.TheVariants as reply
 use Rattle.xt_protocol.specs.Heads.{session_of, version_of}
 use Rattle.xt_protocol.specs.Objects.{present_body}
-use Rattle.xt_protocol.specs.declared.Turned.{Turned}
-use Rattle.osd_rows.specs.Asks.{is_read, read_answer}
-use Rattle.osd_rows.specs.Primaries.{Led, Ground, last_sent}
-use Rattle.osd_rows.specs.PrimaryRows.{body_beyond}
-use Rattle.osd_rows.specs.ReplicaRows.{kept_after}
-use Rattle.osd_rows.specs.Serving.{reads_in, current_others, issues, next_update_of, write_stands, writes_in}
-use Rattle.osd_rows.specs.Turns.{quiet, the_record, joined, message, answers}
-use Rattle.osd_rows.specs.Writes.{bytes_shown, Standing, repeated, older, turned_away, fresh, standing, by_session, judged, reach, is_old_epoch, too_far, update_of}
-use Rattle.osd_rows.specs.declared.IssuedUpdate.{IssuedUpdate}
-use Rattle.osd_rows.specs.declared.Peer.{Peer}
-use Rattle.osd_rows.specs.declared.Progress.{Progress}
-use Rattle.osd_rows.specs.declared.Progress.TheVariants as progress
-use Rattle.osd_rows.specs.declared.Tenure.{Tenure}
-use Rattle.osd_rows.specs.declared.WaitingAsk.{WaitingAsk}
+use Rattle.xt_protocol.specs.declared.turned.Turned.{Turned}
+use Rattle.xt_protocol.specs.Asks.{is_read, read_answer}
+use Rattle.xt_protocol.specs.Primaries.{Led, Ground, last_sent}
+use Rattle.xt_protocol.specs.PrimaryRows.{body_beyond}
+use Rattle.xt_protocol.specs.ReplicaRows.{kept_after}
+use Rattle.xt_protocol.specs.Serving.{reads_in, current_others, issues, next_update_of, write_stands, writes_in}
+use Rattle.xt_protocol.specs.Turns.{quiet, the_record, joined, message, answers}
+use Rattle.xt_protocol.specs.Writes.{bytes_shown, Standing, repeated, older, turned_away, fresh, standing, by_session, judged, reach, is_old_epoch, too_far, update_of}
+use Rattle.xt_protocol.specs.declared.states.IssuedUpdate.{IssuedUpdate}
+use Rattle.xt_protocol.specs.declared.states.Peer.{Peer}
+use Rattle.xt_protocol.specs.declared.states.Progress.{Progress}
+use Rattle.xt_protocol.specs.declared.states.Progress.TheVariants as progress
+use Rattle.xt_protocol.specs.declared.states.Tenure.{Tenure}
+use Rattle.xt_protocol.specs.declared.states.WaitingAsk.{WaitingAsk}
 use Rattle.replica_safety.specs.Lists.{Has}
 use Rattle.replica_safety.proofs.Lists.{has-append}
 use Rattle.replica_runs.specs.HeadSteps.{Step, Issues, AnswersRead, AnswersRepeated, none_acked, MayAll, after_steps, IsAllowed, IsMadeOver}

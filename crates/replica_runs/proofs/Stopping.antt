@@ -7,11 +7,11 @@ use Rattle.xt_messages.specs.declared.message.Payload.{Payload}
 use Rattle.xt_messages.specs.declared.message.Payload.TheVariants as payload
 use Rattle.xt_messages.specs.declared.record.FileRow.{FileRow}
 use Rattle.xt_messages.specs.declared.record.Record.{Record}
-use Rattle.xt_protocol.specs.declared.Turned.{Turned}
-use Rattle.osd_rows.specs.ReplicaRows.{kept_after, gathered, headed, updated}
-use Rattle.osd_rows.specs.Turns.{quiet}
-use Rattle.osd_rows.specs.declared.Acted.{Acted}
-use Rattle.osd_rows.specs.declared.Tenure.{Tenure}
+use Rattle.xt_protocol.specs.declared.turned.Turned.{Turned}
+use Rattle.xt_protocol.specs.ReplicaRows.{kept_after, gathered, headed, updated}
+use Rattle.xt_protocol.specs.Turns.{quiet}
+use Rattle.xt_protocol.specs.declared.states.Acted.{Acted}
+use Rattle.xt_protocol.specs.declared.states.Tenure.{Tenure}
 use Rattle.replica_safety.specs.Lists.{Has}
 use Rattle.replica_safety.proofs.Lists.{has-append}
 use Rattle.replica_runs.specs.HeadSteps.{Step, May, MayAll, after, after_steps}

@@ -10,20 +10,20 @@ use Rattle.xt_messages.specs.declared.file.Op.{Op}
 use Rattle.xt_messages.specs.declared.message.Msg.{Msg}
 use Rattle.xt_messages.specs.declared.message.Payload.{Payload}
 use Rattle.xt_messages.specs.declared.message.Payload.TheVariants as payload
-use Rattle.xt_protocol.specs.declared.Turned.{Turned}
-use Rattle.osd_rows.specs.Asks.{Served, no_asks, stays, is_read, read_answer, write_done, serves, serves_waiting, serves_all, asks_behind, asks_follow}
-use Rattle.osd_rows.specs.Primaries.{Led, last_sent, if_any, is_ready}
-use Rattle.osd_rows.specs.Serving.{reads, reads_under, writes, gather_unknown, unacked, sent_again, to_peers, wakes_in, wakes}
-use Rattle.osd_rows.specs.Turns.{quiet, the_record, joined, message}
-use Rattle.osd_rows.specs.declared.Asks.{Asks}
-use Rattle.osd_rows.specs.declared.IssuedUpdate.{IssuedUpdate}
-use Rattle.osd_rows.specs.declared.Peer.{Peer}
-use Rattle.osd_rows.specs.declared.PeerState.{PeerState}
-use Rattle.osd_rows.specs.declared.PeerState.TheVariants as peer
-use Rattle.osd_rows.specs.declared.Progress.{Progress}
-use Rattle.osd_rows.specs.declared.Progress.TheVariants as progress
-use Rattle.osd_rows.specs.declared.Tenure.{Tenure}
-use Rattle.osd_rows.specs.declared.WaitingAsk.{WaitingAsk}
+use Rattle.xt_protocol.specs.declared.turned.Turned.{Turned}
+use Rattle.xt_protocol.specs.Asks.{Served, no_asks, stays, is_read, read_answer, write_done, serves, serves_waiting, serves_all, asks_behind, asks_follow}
+use Rattle.xt_protocol.specs.Primaries.{Led, last_sent, if_any, is_ready}
+use Rattle.xt_protocol.specs.Serving.{reads, reads_under, writes, gather_unknown, unacked, sent_again, to_peers, wakes_in, wakes}
+use Rattle.xt_protocol.specs.Turns.{quiet, the_record, joined, message}
+use Rattle.xt_protocol.specs.declared.states.Asks.{Asks}
+use Rattle.xt_protocol.specs.declared.states.IssuedUpdate.{IssuedUpdate}
+use Rattle.xt_protocol.specs.declared.states.Peer.{Peer}
+use Rattle.xt_protocol.specs.declared.states.PeerState.{PeerState}
+use Rattle.xt_protocol.specs.declared.states.PeerState.TheVariants as peer
+use Rattle.xt_protocol.specs.declared.states.Progress.{Progress}
+use Rattle.xt_protocol.specs.declared.states.Progress.TheVariants as progress
+use Rattle.xt_protocol.specs.declared.states.Tenure.{Tenure}
+use Rattle.xt_protocol.specs.declared.states.WaitingAsk.{WaitingAsk}
 use Rattle.replica_safety.specs.Lists.{Has}
 use Rattle.replica_runs.specs.HeadWorld.{Message, Gather, UpdateSent, shown, shown_if}
 use Rattle.replica_runs.proofs.Tools.{by_test, both_true}

@@ -15,11 +15,11 @@ use Rattle.xt_protocol.specs.Folds as folds
 use Rattle.xt_protocol.specs.Heads.{version_of, session_of}
 use Rattle.xt_protocol.specs.Objects.{present_body}
 use Rattle.xt_protocol.specs.Stamps.{is_below, has_version}
-use Rattle.osd_rows.specs.declared.Acted.{Acted}
-use Rattle.osd_rows.specs.AskRows.{leaves_object}
-use Rattle.osd_rows.specs.PrimaryRows.{body_beyond, epoch_above}
-use Rattle.osd_rows.specs.ReplicaRows.{kept_after, gathered, headed, updated, stage_record}
-use Rattle.osd_rows.specs.Writes.{standing, fresh, update_of}
+use Rattle.xt_protocol.specs.declared.states.Acted.{Acted}
+use Rattle.xt_protocol.specs.AskRows.{leaves_object}
+use Rattle.xt_protocol.specs.PrimaryRows.{body_beyond, epoch_above}
+use Rattle.xt_protocol.specs.ReplicaRows.{kept_after, gathered, headed, updated, stage_record}
+use Rattle.xt_protocol.specs.Writes.{standing, fresh, update_of}
 use Rattle.replica_safety.specs.Epochs.{name, AtMost}
 use Rattle.replica_safety.specs.Lists.{Has}
 use Rattle.replica_safety.specs.Rules.{Start}

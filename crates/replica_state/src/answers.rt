@@ -4,17 +4,19 @@ ghost use Rattle.xt_messages.specs.declared.file.ObjectVersion.{ObjectVersion};
 ghost use Rattle.xt_messages.specs.declared.record.Record.TheVariants as kept;
 ghost use Rattle.xt_messages.specs.Limits.{is_at_most};
 ghost use Rattle.xt_protocol.specs.Stamps.{with_held};
-ghost use Rattle.osd_rows.specs.declared.Acted.{Acted};
+ghost use Rattle.xt_protocol.specs.declared.states.Acted.{Acted};
 ghost use Rattle.xt_messages.specs.declared.message.Payload.TheVariants as payload;
-ghost use Rattle.osd_rows.specs.ReplicaRows.{unanswered, only, after_record, refused, behind, as_promised, staged, stage_record, first_missing, head_offered, headed, head_fits, update_offered, updated};
+ghost use Rattle.xt_protocol.specs.ReplicaRows.{unanswered, only, after_record, refused, behind, as_promised, staged, stage_record, first_missing, head_offered, headed, head_fits, update_offered, updated};
 ghost use Rattle.xt_protocol.specs.Heads.{head_after};
-ghost use Rattle.version_lists.specs.Rising.{HeadRises};
+ghost use Rattle.object_versions.specs.Rising.{HeadRises};
 
-use osd_rows::Acted;
+use object_versions::{
+    hold, holds, is_below, is_earlier, is_epoch, sessions_after, versions_after,
+};
 use std::alloc::Global;
-use version_lists::{hold, holds, is_below, is_earlier, is_epoch, sessions_after, versions_after};
 use xt_base::{CLIENTS, COUNTS, Copies, Epoch, FileId, OBJECTS, Octets, OutOfMemory, Stamp};
 use xt_messages::{FileHead, HeldSet, ObjectVersion, Payload, Record, Update};
+use xt_protocol::Acted;
 
 /// Nothing comes of a message.
 pub fn unanswered() -> Acted
@@ -170,7 +172,7 @@ fn head_declined(
 }
 
 /// What a head gets that isn't taken. One under another epoch than its own gets nothing.
-#[tactic(auto, unfolding(osd_rows::specs::ReplicaRows::headed))]
+#[tactic(auto, unfolding(xt_protocol::specs::ReplicaRows::headed))]
 pub fn head_turned_away(
     file: &FileId,
     own: &FileHead,
@@ -215,7 +217,7 @@ fn update_declined(file: &FileId, own: &FileHead, update: &Update) -> Option<Act
 }
 
 /// What an update gets that isn't taken.
-#[tactic(auto, unfolding(osd_rows::specs::ReplicaRows::updated))]
+#[tactic(auto, unfolding(xt_protocol::specs::ReplicaRows::updated))]
 pub fn update_turned_away(file: &FileId, own: &FileHead, update: &Update) -> Option<Acted>
     requires { HeadRises own.now }
     ensures row { updated file.now own.now update.now ≡ unwrap_or result (after_record (kept.Update file.now update.now) (payload.Ack file.now update.now.stamp)) }
@@ -230,7 +232,7 @@ pub fn update_turned_away(file: &FileId, own: &FileHead, update: &Update) -> Opt
 }
 
 /// What a body gets whose epoch isn't the promised one.
-#[tactic(auto, unfolding(osd_rows::specs::ReplicaRows::staged))]
+#[tactic(auto, unfolding(xt_protocol::specs::ReplicaRows::staged))]
 pub fn body_turned_away(file: &FileId, own: &FileHead, epoch: Epoch) -> Option<Acted>
     ensures row { (held : List ObjectVersion) (object : ℕ) (version : Stamp) (bytes : List ℕ) → staged file.now own.now held epoch object version bytes ≡ unwrap_or result (record { rec = stage_record file.now held object version bytes; answer = Some (payload.Staged file.now epoch object version) }) }
     ensures unkept { IfSome result (λ acted. acted.rec ≡ None) }

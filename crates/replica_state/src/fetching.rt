@@ -1,16 +1,15 @@
 ghost use Rattle.std.specs.Prelude.{◌≡◌, IfOk};
 ghost use Rattle.xt_protocol.specs.SeenBodies.{body_by};
-ghost use Rattle.osd_rows.specs.ReplicaRows.{fetched_from};
-ghost use Rattle.kept_bodies.specs.KeptBodies.{fault_of, ReadsOnly};
+ghost use Rattle.xt_protocol.specs.ReplicaRows.{fetched_from};
+ghost use Rattle.object_versions.specs.KeptBodies.{fault_of, ReadsOnly};
 
-use kept_bodies::{Bodies, StepErr, seen};
+use object_versions::{Bodies, StepErr, holds, seen};
 use std::alloc::Global;
-use version_lists::holds;
 use xt_base::{Epoch, FileId, Stamp};
 use xt_messages::{HeldSet, ObjectVersion, Payload};
 
 /// Fetched from: the body of a version that is held, whatever is promised; one that isn't held is missing.
-#[tactic(auto, unfolding(osd_rows::specs::ReplicaRows::fetched_from))]
+#[tactic(auto, unfolding(xt_protocol::specs::ReplicaRows::fetched_from))]
 pub fn fetched_from<B: Bodies>(
     alloc: Global,
     bodies: &mut B,

@@ -1,19 +1,19 @@
 ghost use Rattle.std.specs.Prelude.{◌≡◌, IfOk, OnOk, OnErr};
 ghost use Rattle.xt_messages.specs.Limits.{FitsEpoch, FitsHead, FitsUpdate};
 ghost use Rattle.xt_protocol.specs.Folds.{row_after};
-ghost use Rattle.osd_rows.specs.ReplicaRows.{kept_after, gathered, staged, headed, updated};
+ghost use Rattle.xt_protocol.specs.ReplicaRows.{kept_after, gathered, staged, headed, updated};
 ghost use Rattle.replica_state.specs.Kept.{kept_row, IsNotable};
 
 use crate::answers::{
     acknowledgement, after_record, body_turned_away, head_turned_away, hold_body, only,
     plain_status, promised_status, refused, update_turned_away,
 };
-use osd_rows::Acted;
+use object_versions::{hold, is_earlier, take_update};
 use std::alloc::Global;
 use std::marker::Model;
-use version_lists::{hold, is_earlier, take_update};
 use xt_base::{Copies, Epoch, FileId, Octets, OutOfMemory, Stamp};
 use xt_messages::{FileHead, HeldSet, ObjectVersion, Payload, Record, Update};
+use xt_protocol::Acted;
 
 /// A replica of one file. Contracts see what is kept of the file, without where its content is kept.
 #[derive(Drop)]
@@ -73,7 +73,7 @@ impl Replica {
     }
 
     /// Gathered: an epoch that isn't earlier than the promised one is promised, and the head told; else it is refused.
-    #[tactic(auto, unfolding(osd_rows::specs::ReplicaRows::gathered), using(crate::proofs::HeadFits::promised_fits, crate::proofs::HeadFits::earlier_at_most))]
+    #[tactic(auto, unfolding(xt_protocol::specs::ReplicaRows::gathered), using(crate::proofs::HeadFits::promised_fits, crate::proofs::HeadFits::earlier_at_most))]
     pub fn on_gather(&mut self, epoch: &Epoch) -> Result<Acted, OutOfMemory>
         requires { FitsEpoch epoch.now }
         ensures row { IfOk result (λ acted. acted ≡ gathered self.old.file self.old.head epoch.now) }

@@ -9,7 +9,7 @@ use time_line::LINE_BYTES;
 use xt_base::{Failed, OutOfMemory};
 
 /// Why the reading of a line ended.
-#[derive(Clone, Copy, PartialEq, Eq)]
+#[derive(Clone, Copy)]
 pub enum RawLine {
     /// Nothing was left.
     End,

@@ -12,7 +12,7 @@ use Rattle.xt_messages.specs.declared.record.Record.TheVariants as kept
 use Rattle.xt_messages.specs.declared.status.Limited.TheVariants as limited
 use Rattle.xt_base.specs.declared.TheConstants.{COUNTS}
 use Rattle.disk_model.specs.declared.plan.Stop.{Stop}
-use Rattle.xt_protocol.specs.declared.Turned.{Turned}
+use Rattle.xt_protocol.specs.declared.turned.Turned.{Turned}
 use Rattle.time_line.specs.declared.line.Line.{Line}
 use Rattle.time_line.specs.declared.line.Line.TheVariants as line
 use Rattle.time_line.specs.declared.entry.Entry.{Entry}

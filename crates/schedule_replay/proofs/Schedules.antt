@@ -13,7 +13,7 @@ use Rattle.cluster_runs.specs.Rules.{refusal}
 use Rattle.cluster_runs.specs.NodeSteps.{Room, Cause}
 use Rattle.cluster_runs.specs.Lines.{so_far}
 use Rattle.cluster_runs.specs.Runs.{run_of, IsPartOf}
-use Rattle.cluster_safety.proofs.Runs.{runs_safe, parts_safe}
+use Rattle.cluster_safety.proofs.Whole.{runs_safe, parts_safe}
 use Rattle.world_hull.specs.declared.errors.WorldErr.{WorldErr}
 use Rattle.world_hull.specs.declared.errors.WorldErr.TheVariants as error
 use Rattle.cluster_core.specs.Standing.{Standing, IsDone, IsLeft, CameTo, IsApplied}

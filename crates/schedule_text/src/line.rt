@@ -17,7 +17,7 @@ use xt_base::{NodeId, OutOfMemory};
 use xt_messages::Call;
 
 /// Why a line isn't read.
-#[derive(Clone, Copy, PartialEq, Eq)]
+#[derive(Clone, Copy)]
 pub enum LineErr {
     /// No line is spelled so.
     Malformed,

@@ -4,7 +4,7 @@ use Rattle.std.specs.Option.{option_map}
 use Rattle.disk_model.specs.declared.plan.Stop.{Stop}
 use Rattle.xt_messages.specs.declared.message.Msg.{Msg}
 use Rattle.xt_messages.specs.declared.record.Record.{Record}
-use Rattle.xt_protocol.specs.declared.Turned.{Turned}
+use Rattle.xt_protocol.specs.declared.turned.Turned.{Turned}
 use Rattle.cluster_runs.specs.World.{Node, Running}
 use Rattle.cluster_runs.specs.NodeSteps.{Room, Cause, Doing, end_of_step, appends, sends, loses_own, stopped_in_append, cut_in_sending, after_turn, to_itself}
 use Rattle.world_hull.specs.declared.errors.WorldErr.{WorldErr}

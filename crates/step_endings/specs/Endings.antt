@@ -8,7 +8,7 @@ use Rattle.xt_messages.specs.declared.event.Mark.{Mark}
 use Rattle.xt_messages.specs.declared.message.Msg.{Msg}
 use Rattle.xt_messages.specs.declared.record.Record.{Record}
 use Rattle.xt_messages.specs.declared.status.Limited.{Limited}
-use Rattle.xt_protocol.specs.declared.Turned.{Turned}
+use Rattle.xt_protocol.specs.declared.turned.Turned.{Turned}
 use Rattle.cluster_runs.specs.World.{World, Node, Running, with_node}
 use Rattle.cluster_runs.specs.NodeSteps.{Room, Cause, came_to, has_no_room, Doing, numbered, one_more, overflow_of, within_limits, after_turn, to_itself, loses_own, cut_in_sending, stopped_in_append}
 use Rattle.world_tables.specs.Limits.{limit_passed}

@@ -2,7 +2,7 @@ use xt_base::{Boot, NodeId, Octets, OpId};
 use xt_messages::{Call, Location, Outcome};
 
 /// How a node stopped.
-#[derive(Clone, Copy, PartialEq, Eq)]
+#[derive(Clone, Copy)]
 pub enum Halt {
     /// Between two steps.
     Idle,

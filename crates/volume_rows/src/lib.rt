@@ -19,7 +19,7 @@ use xt_messages::Location;
 
 /// What is kept of a file: its number, where its content is, the truncate epoch that was issued last, and its size as it was
 /// reported.
-#[derive(Clone, Copy, PartialEq, Eq)]
+#[derive(Clone, Copy)]
 pub struct Stored {
     pub number: u64,
     pub location: Location,
@@ -28,21 +28,21 @@ pub struct Stored {
 }
 
 /// What an entry is.
-#[derive(Clone, Copy, PartialEq, Eq)]
+#[derive(Clone, Copy)]
 pub enum Content {
     Directory,
     File { stored: Stored },
 }
 
 /// Who asks: a user, and the user's group.
-#[derive(Clone, Copy, PartialEq, Eq)]
+#[derive(Clone, Copy)]
 pub struct Asker {
     pub user: u32,
     pub group: u32,
 }
 
 /// What stands at a path: whose it is, who may do what with it, and what it is.
-#[derive(Clone, Copy, PartialEq, Eq)]
+#[derive(Clone, Copy)]
 pub struct Entry {
     pub owner: u32,
     pub group: u32,
@@ -53,7 +53,7 @@ pub struct Entry {
 }
 
 /// Where a new file's content goes.
-#[derive(Clone, Copy, PartialEq, Eq)]
+#[derive(Clone, Copy)]
 pub enum Picked {
     On { location: Location },
     /// So many OSDs are there, fewer than the file wants.
@@ -61,7 +61,7 @@ pub enum Picked {
 }
 
 /// What is granted of a file: where its content is, the truncate epoch of the capability, and its size.
-#[derive(Clone, Copy, PartialEq, Eq)]
+#[derive(Clone, Copy)]
 pub struct Granting {
     pub file: FileId,
     pub location: Location,

@@ -10,7 +10,7 @@ use Rattle.xt_messages.specs.declared.registry.RegistryRow.{RegistryRow}
 use Rattle.xt_messages.specs.declared.message.Payload.TheVariants as payload
 use Rattle.xt_messages.specs.declared.message.Msg.{Msg}
 use Rattle.xt_messages.specs.declared.event.Event.TheVariants as event
-use Rattle.osd_rows.specs.Turns.{message}
+use Rattle.xt_protocol.specs.Turns.{message}
 use Rattle.dir_core.specs.Steps.{DirState, DirStep, reply_to, step_of_dir}
 
 -- who asks, under which number, and what; what is answered, and whether the request is recorded

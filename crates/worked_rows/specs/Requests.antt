@@ -17,7 +17,7 @@ use Rattle.xt_messages.specs.declared.message.Msg.{Msg}
 use Rattle.xt_messages.specs.declared.event.Mark.{Mark}
 use Rattle.xt_messages.specs.declared.event.Mark.TheVariants as mark
 use Rattle.xt_messages.specs.declared.registry.RegistryReq.TheVariants as wish
-use Rattle.osd_rows.specs.Turns.{message, sends}
+use Rattle.xt_protocol.specs.Turns.{message, sends}
 use Rattle.capabilities.specs.Tags.{sealed}
 use Rattle.mrc_core.specs.Steps.{MrcStep, step_of_mrc}
 use Rattle.mrc_core.specs.Examples.{key, new_server, rows_from}

@@ -1,7 +1,7 @@
 -- how the calls of a hull end early
 use Rattle.std.specs.Prelude.{ℕ, ◌≡◌, List, Option, Some, None, Result, Ok, Err}
-use Rattle.kept_bodies.specs.declared.errors.BodyErr.{BodyErr}
-use Rattle.kept_bodies.specs.declared.errors.BodyErr.TheVariants as body
+use Rattle.object_versions.specs.declared.errors.BodyErr.{BodyErr}
+use Rattle.object_versions.specs.declared.errors.BodyErr.TheVariants as body
 use Rattle.cluster_runs.specs.NodeSteps.{Overflow}
 use Rattle.world_hull.specs.declared.errors.WorldErr.{WorldErr}
 use Rattle.world_hull.specs.declared.errors.WorldErr.TheVariants as error

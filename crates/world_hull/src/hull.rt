@@ -8,13 +8,13 @@ ghost use Rattle.world_hull.specs.Appends.{IsInAppend, IsAppended, AreOthersSame
 
 use crate::errors::WorldErr;
 use disk_model::{OPEN_GATE, Stop};
-use kept_bodies::BodyErr;
+use object_versions::BodyErr;
 use std::alloc::Global;
 use xt_base::{FileId, NodeId, Octets, Stamp};
 use xt_messages::{Msg, Record};
 
 /// How an append ended.
-#[derive(Clone, Copy, PartialEq, Eq)]
+#[derive(Clone, Copy)]
 pub enum Kept {
     /// The record is kept.
     Done,

@@ -11,5 +11,5 @@ mod list_hull;
 
 pub use errors::WorldErr;
 pub use hull::{Hull, Kept};
-pub use kept_bodies::BodyErr;
 pub use list_hull::ListHull;
+pub use object_versions::BodyErr;

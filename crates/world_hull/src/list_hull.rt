@@ -6,7 +6,7 @@ ghost use Rattle.world_hull.specs.Logs.{records_of};
 use crate::errors::WorldErr;
 use crate::hull::{Hull, Kept};
 use disk_model::Stop;
-use kept_bodies::BodyErr;
+use object_versions::BodyErr;
 use replica_records::RecordLog;
 use std::alloc::Global;
 use std::collections::BTreeMap;

@@ -18,9 +18,9 @@ use Rattle.xt_messages.specs.declared.event.Event.{Event}
 use Rattle.xt_messages.specs.declared.record.Record.{Record}
 use Rattle.xt_base.specs.declared.ids.Boot.{Boot}
 use Rattle.xt_messages.specs.declared.record.Folded.{Folded}
-use Rattle.xt_protocol.specs.declared.Turned.{Turned}
+use Rattle.xt_protocol.specs.declared.turned.Turned.{Turned}
 use Rattle.xt_protocol.specs.Folds.{fold_of}
-use Rattle.osd_rows.specs.OsdSteps.{osd_from}
+use Rattle.xt_protocol.specs.OsdSteps.{osd_from}
 use Rattle.cluster_runs.specs.Lines.{runs, osd_starting}
 use Rattle.cluster_runs.specs.Steps.{Step}
 use Rattle.cluster_runs.specs.World.{Node, Running, Core, osd, node_in, with_node}

@@ -9,7 +9,7 @@ use Rattle.xt_messages.specs.declared.file.Op.{Op}
 use Rattle.xt_messages.specs.declared.event.Call.{Call}
 use Rattle.xt_messages.specs.declared.event.Event.{Event}
 use Rattle.xt_messages.specs.declared.record.Record.{Record}
-use Rattle.xt_protocol.specs.declared.Turned.{Turned}
+use Rattle.xt_protocol.specs.declared.turned.Turned.{Turned}
 use Rattle.cluster_runs.specs.Steps.{Step}
 use Rattle.cluster_runs.specs.declared.ClientState.{ClientState}
 use Rattle.cluster_runs.specs.World.{World, Node, Running, Core, client, node_in, with_node}

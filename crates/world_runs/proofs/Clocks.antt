@@ -21,8 +21,8 @@ use Rattle.lease_safety.specs.Legal.{IsClose}
 use Rattle.lease_runs.specs.LeaseWorld.{LeaseSetting, LeaseRow, LeaseNode, IsSeenAs, fresh_row, node_started}
 use Rattle.lease_runs.proofs.Seen as seen_steps
 use Rattle.lease_runs.proofs.Worlds.{clocks_close}
-use Rattle.osd_rows.specs.FileStates.{file_from}
-use Rattle.osd_rows.specs.OsdSteps.{OsdState, file_at}
+use Rattle.xt_protocol.specs.FileStates.{file_from}
+use Rattle.xt_protocol.specs.OsdSteps.{OsdState, file_at}
 use Rattle.lease_runs.specs.LeaseView.{lease_row_of}
 use Rattle.cluster_runs.specs.declared.DeclaredFile.{DeclaredFile}
 use Rattle.time_line.specs.declared.entry.Entry.TheVariants as entry

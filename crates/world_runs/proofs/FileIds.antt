@@ -35,23 +35,23 @@ use Rattle.xt_protocol.specs.Register.{Round, ReadAnswer, promise, read_refused,
 use Rattle.xt_protocol.specs.LeaseRows.{LeaseState, Proposer, Held, free, asking, writing, held, LeaseNews, sends_write, holds, finds, ends, on_answer, can_ask, round_starts, is_renewal_due, lease_expired}
 use Rattle.xt_protocol.specs.LeaseRows as lease
 use Rattle.lease_safety.specs.State.{Has}
-use Rattle.osd_rows.specs.declared.Acted.{Acted}
-use Rattle.osd_rows.specs.declared.Asks.{Asks}
-use Rattle.osd_rows.specs.declared.IssuedAsk.{IssuedAsk}
-use Rattle.osd_rows.specs.declared.PrimaryState.{PrimaryState}
-use Rattle.osd_rows.specs.declared.Tenure.{Tenure}
-use Rattle.osd_rows.specs.declared.WaitingAsk.{WaitingAsk}
-use Rattle.osd_rows.specs.Turns.{quiet, keeps, reply_to, message}
-use Rattle.osd_rows.specs.Primaries.{Ground, Led, is_active, is_ready, if_any, have_in, majority_among}
-use Rattle.osd_rows.specs.PrimaryRows.{hears}
-use Rattle.osd_rows.specs.ReplicaRows.{gathered, fetched_from, staged, headed, updated, as_promised, head_offered, head_taken, head_fits, first_missing, update_offered, stage_record}
-use Rattle.osd_rows.specs.Serving.{reads, writes, wakes}
-use Rattle.osd_rows.specs.Asks.{Served, WAITING, no_asks, waits, stays, is_read, read_answer, newly_issued, write_done, serves, serves_waiting, serves_all, comes_back, asks_follow, asked_already, tells_each, tells_untold}
-use Rattle.osd_rows.specs.FileStates.{FileState, Site, FileStep, nothing, steps_to, and_then, members_of, ground_of}
-use Rattle.osd_rows.specs.Overdue.{is_due, issued_due, newly_due, deadlines_under, lease_became, expired}
-use Rattle.osd_rows.specs.FileLeases.{read_comes, write_comes, answer_comes, answer_to_read, answers_to_write, end_after_answer, waiting_told, led_on, lease_news}
-use Rattle.osd_rows.specs.AskRows.{ask_waits, ask_served, elsewhere, ask_without_lease, ask_under, ask_rows, ask_let_in, refusal_of, capability_refused, capability_list_range, list_and_range, with_member, list_against, same_list, leaves_object, ask_handled, waiting_ask, view_record}
-use Rattle.osd_rows.specs.FileSteps.{ask_comes, primary_hears, message_comes, renews, step_of_file, wakes_under_lease, wake_of_file}
+use Rattle.xt_protocol.specs.declared.states.Acted.{Acted}
+use Rattle.xt_protocol.specs.declared.states.Asks.{Asks}
+use Rattle.xt_protocol.specs.declared.states.IssuedAsk.{IssuedAsk}
+use Rattle.xt_protocol.specs.declared.states.PrimaryState.{PrimaryState}
+use Rattle.xt_protocol.specs.declared.states.Tenure.{Tenure}
+use Rattle.xt_protocol.specs.declared.states.WaitingAsk.{WaitingAsk}
+use Rattle.xt_protocol.specs.Turns.{quiet, keeps, reply_to, message}
+use Rattle.xt_protocol.specs.Primaries.{Ground, Led, is_active, is_ready, if_any, have_in, majority_among}
+use Rattle.xt_protocol.specs.PrimaryRows.{hears}
+use Rattle.xt_protocol.specs.ReplicaRows.{gathered, fetched_from, staged, headed, updated, as_promised, head_offered, head_taken, head_fits, first_missing, update_offered, stage_record}
+use Rattle.xt_protocol.specs.Serving.{reads, writes, wakes}
+use Rattle.xt_protocol.specs.Asks.{Served, WAITING, no_asks, waits, stays, is_read, read_answer, newly_issued, write_done, serves, serves_waiting, serves_all, comes_back, asks_follow, asked_already, tells_each, tells_untold}
+use Rattle.xt_protocol.specs.FileStates.{FileState, Site, FileStep, nothing, steps_to, and_then, members_of, ground_of}
+use Rattle.xt_protocol.specs.Overdue.{is_due, issued_due, newly_due, deadlines_under, lease_became, expired}
+use Rattle.xt_protocol.specs.FileLeases.{read_comes, write_comes, answer_comes, answer_to_read, answers_to_write, end_after_answer, waiting_told, led_on, lease_news}
+use Rattle.xt_protocol.specs.AskRows.{ask_waits, ask_served, elsewhere, ask_without_lease, ask_under, ask_rows, ask_let_in, refusal_of, capability_refused, capability_list_range, list_and_range, with_member, list_against, same_list, leaves_object, ask_handled, waiting_ask, view_record}
+use Rattle.xt_protocol.specs.FileSteps.{ask_comes, primary_hears, message_comes, renews, step_of_file, wakes_under_lease, wake_of_file}
 use Rattle.lease_runs.proofs.LeaseSteps.{expired_keeps}
 use Rattle.time_line.specs.TimeLine.{id_of}
 use Rattle.world_runs.proofs.Lists.{has_in, has_filter}

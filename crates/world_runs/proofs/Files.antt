@@ -18,14 +18,14 @@ use Rattle.xt_protocol.proofs.Folds.{file-equal, row_in-with_row, fold_of-push, 
 use Rattle.xt_protocol.specs.LeaseRows.{Silent, Awake, LeaseState, free, asking, writing, held, lease_expired, on_answer}
 use Rattle.lease_safety.specs.State.{Has}
 use Rattle.lease_runs.specs.LeaseWorld.{LeaseSetting, LeaseRow, row_handles}
-use Rattle.osd_rows.specs.ReplicaRows.{kept_after}
-use Rattle.osd_rows.specs.FileStates.{FileState, Site, FileStep, file_from}
-use Rattle.osd_rows.specs.FileSteps.{step_of_file}
-use Rattle.osd_rows.specs.OsdSteps.{OsdState, osd_from, file_at, file_concerned}
+use Rattle.xt_protocol.specs.ReplicaRows.{kept_after}
+use Rattle.xt_protocol.specs.FileStates.{FileState, Site, FileStep, file_from}
+use Rattle.xt_protocol.specs.FileSteps.{step_of_file}
+use Rattle.xt_protocol.specs.OsdSteps.{OsdState, osd_from, file_at, file_concerned}
 use Rattle.osd_invariants.specs.Sound.{IsHeld, IsStored}
 use Rattle.osd_invariants.proofs.Kept.{step_follows}
 use Rattle.osd_invariants.proofs.SoundSteps
-use Rattle.osd_rows.specs.Overdue.{expired}
+use Rattle.xt_protocol.specs.Overdue.{expired}
 use Rattle.lease_runs.specs.LeaseView.{is_ask, lease_setting, settled_row, Follows, handles, asks, stays, Wakes, renewing, resting}
 use Rattle.lease_runs.specs.OsdView.{wake_step}
 use Rattle.lease_runs.specs.ActsView.{IsBusy, RecordIs}
@@ -35,7 +35,7 @@ use Rattle.lease_runs.proofs.ActSteps.{step_rec, wake_step_kept}
 use Rattle.cluster_runs.specs.declared.DeclaredFile.{DeclaredFile}
 use Rattle.cluster_runs.specs.World.{file_in}
 use Rattle.cluster_runs.specs.Lines.{declared_file}
-use Rattle.osd_rows.specs.OsdSteps.{with_file}
+use Rattle.xt_protocol.specs.OsdSteps.{with_file}
 use Rattle.cluster_runs.specs.NodeSteps.{one_more}
 use Rattle.world_runs.specs.View.{awake_as}
 use Rattle.lease_runs.proofs.OsdLeases.{file_at-with_file, at_file}

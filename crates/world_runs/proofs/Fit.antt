@@ -7,14 +7,14 @@ use Rattle.xt_base.specs.TimeSettings.{TimeSettings}
 use Rattle.xt_base.specs.declared.ids.NodeId.{NodeId}
 use Rattle.xt_messages.specs.declared.message.Msg.{Msg}
 use Rattle.xt_messages.specs.declared.record.Record.{Record}
-use Rattle.xt_protocol.specs.declared.Turned.{Turned}
+use Rattle.xt_protocol.specs.declared.turned.Turned.{Turned}
 use Rattle.xt_protocol.specs.Folds.{fold_of}
 use Rattle.time_line.specs.declared.entry.Halt.{Halt}
 use Rattle.lease_safety.specs.State.{Has}
 use Rattle.lease_runs.specs.LeaseWorld.{LeaseSetting, LeaseNode, RowStep, row_stepped, IsReached, IsHolding}
 use Rattle.lease_runs.proofs.Worlds.{one_holds}
 use Rattle.lease_runs.proofs.Tests.{same_node}
-use Rattle.osd_rows.specs.FileStates.{members_of}
+use Rattle.xt_protocol.specs.FileStates.{members_of}
 use Rattle.cluster_runs.specs.declared.DeclaredFile.{DeclaredFile}
 use Rattle.time_line.specs.declared.entry.Entry.TheVariants as entry
 use Rattle.cluster_runs.specs.declared.Sent.{Sent}

@@ -25,7 +25,7 @@ use Rattle.xt_protocol.specs.LeaseRows.{Silent}
 use Rattle.lease_safety.specs.State.{Has}
 use Rattle.lease_runs.specs.LeaseWorld.{LeaseRow, LeaseNode, RowStep, node_stepped, row_stepped, IsReached, lease_file}
 use Rattle.lease_runs.proofs.Seen as seen_steps
-use Rattle.osd_rows.specs.OsdSteps.{OsdState, step_of_osd, file_at}
+use Rattle.xt_protocol.specs.OsdSteps.{OsdState, step_of_osd, file_at}
 use Rattle.lease_runs.specs.LeaseView.{lease_row_of, is_about, is_ask}
 use Rattle.cluster_runs.specs.declared.DeclaredFile.{DeclaredFile}
 use Rattle.cluster_runs.specs.declared.RunningCall.{RunningCall}
@@ -44,7 +44,7 @@ use Rattle.world_runs.proofs.OsdEvents as osd_events
 use Rattle.world_runs.proofs.Fit.{IsShaped, members_by, are_members, IsNext, kept_boot}
 use Rattle.world_runs.specs.Worlds.{AskFits, CallFits, CoreFits, UpFits, EndFits, Stands}
 use Rattle.cluster_runs.specs.Lines.{declared_file, declared_capability, epoch_of, uses}
-use Rattle.xt_protocol.specs.declared.Turned.{Turned}
+use Rattle.xt_protocol.specs.declared.turned.Turned.{Turned}
 use Rattle.world_runs.proofs.Walk.{Reaches, NodeStep, of_osd, of_client, of_call, call_step}
 
 -- ---- OSDs

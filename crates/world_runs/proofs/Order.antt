@@ -15,11 +15,11 @@ use Rattle.xt_base.specs.declared.ids.FileId.{FileId}
 use Rattle.xt_protocol.specs.LeaseRows.{LeaseState}
 use Rattle.lease_runs.specs.LeaseWorld.{LeaseRow}
 use Rattle.lease_runs.proofs.Tests.{same_node}
-use Rattle.osd_rows.specs.declared.Tenure.{Tenure}
-use Rattle.osd_rows.specs.Overdue.{expired}
+use Rattle.xt_protocol.specs.declared.states.Tenure.{Tenure}
+use Rattle.xt_protocol.specs.Overdue.{expired}
 use Rattle.osd_invariants.specs.Sound.{IsHeld, LedUnder}
 use Rattle.osd_invariants.proofs.SoundSteps
-use Rattle.osd_rows.specs.OsdSteps.{file_at}
+use Rattle.xt_protocol.specs.OsdSteps.{file_at}
 use Rattle.lease_runs.specs.OsdView.{site_of}
 use Rattle.lease_runs.proofs.LeaseSteps.{expired_shows}
 use Rattle.cluster_runs.specs.NodeSteps.{outside_of}

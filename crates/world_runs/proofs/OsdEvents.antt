@@ -25,10 +25,10 @@ use Rattle.lease_runs.specs.LeaseWorld.{LeaseSetting, LeaseRow, RowStep, row_han
 use Rattle.lease_runs.proofs.Outs.{handles_of, asks_of}
 use Rattle.lease_runs.proofs.Seen as seen_steps
 use Rattle.lease_runs.proofs.Worlds.{turn_holds}
-use Rattle.osd_rows.specs.Turns.{quiet}
-use Rattle.osd_rows.specs.FileStates.{FileState, Site, FileStep}
-use Rattle.osd_rows.specs.FileSteps.{step_of_file}
-use Rattle.osd_rows.specs.OsdSteps.{OsdState, OsdStep, Outside, step_of_osd, handled_awake, file_at, with_file, file_concerned}
+use Rattle.xt_protocol.specs.Turns.{quiet}
+use Rattle.xt_protocol.specs.FileStates.{FileState, Site, FileStep}
+use Rattle.xt_protocol.specs.FileSteps.{step_of_file}
+use Rattle.xt_protocol.specs.OsdSteps.{OsdState, OsdStep, Outside, step_of_osd, handled_awake, file_at, with_file, file_concerned}
 use Rattle.osd_invariants.specs.Sound.{IsHeld, IsStored}
 use Rattle.lease_runs.specs.LeaseView.{lease_row_of, lease_setting, is_about, is_ask, is_lease_or_ask, leases_and_asks, held_ends, settled_row, ShowsRow, stays_so, Follows, handles, asks, stays, Wakes, renewing, resting}
 use Rattle.lease_runs.specs.OsdView.{site_of, wake_step, ShowsWake}

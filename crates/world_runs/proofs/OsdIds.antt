@@ -12,15 +12,15 @@ use Rattle.xt_messages.specs.declared.event.Event.TheVariants as event
 use Rattle.xt_messages.specs.declared.event.Mark.{Mark}
 use Rattle.xt_messages.specs.declared.event.Mark.TheVariants as mark
 use Rattle.xt_messages.specs.declared.record.FileRow.{FileRow}
-use Rattle.xt_protocol.specs.declared.Turned.{Turned}
+use Rattle.xt_protocol.specs.declared.turned.Turned.{Turned}
 use Rattle.xt_protocol.specs.FileIds.{is_file}
 use Rattle.xt_protocol.specs.Folds.{new_row}
 use Rattle.xt_protocol.specs.LeaseRows.{Awake, LeaseState, awake_at}
 use Rattle.lease_safety.specs.State.{Has}
-use Rattle.osd_rows.specs.FileStates.{FileState, Site, FileStep, file_from}
-use Rattle.osd_rows.specs.FileSteps.{step_of_file, wake_of_file}
-use Rattle.osd_rows.specs.Overdue.{expired}
-use Rattle.osd_rows.specs.OsdSteps.{Outside, OsdState, file_at, each_file, file_concerned, message_handled, woken, event_handled, handled_awake, step_of_osd}
+use Rattle.xt_protocol.specs.FileStates.{FileState, Site, FileStep, file_from}
+use Rattle.xt_protocol.specs.FileSteps.{step_of_file, wake_of_file}
+use Rattle.xt_protocol.specs.Overdue.{expired}
+use Rattle.xt_protocol.specs.OsdSteps.{Outside, OsdState, file_at, each_file, file_concerned, message_handled, woken, event_handled, handled_awake, step_of_osd}
 use Rattle.osd_invariants.proofs.Kept.{step_follows, wake_follows}
 use Rattle.lease_runs.specs.ActsView.{AreActs, MarksAre, no_marks, won, acting}
 use Rattle.lease_runs.specs.OsdView.{site_of}

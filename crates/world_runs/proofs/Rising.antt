@@ -10,8 +10,8 @@ use Rattle.xt_protocol.specs.FileIds.{is_file, is_before, file_cmp}
 use Rattle.xt_protocol.specs.Folds.{with_row}
 use Rattle.xt_protocol.proofs.Folds.{file-equal, is_file-file_cmp, file_cmp_total}
 use Rattle.lease_safety.specs.State.{Has}
-use Rattle.osd_rows.specs.FileStates.{FileState}
-use Rattle.osd_rows.specs.OsdSteps.{with_file}
+use Rattle.xt_protocol.specs.FileStates.{FileState}
+use Rattle.xt_protocol.specs.OsdSteps.{with_file}
 use Rattle.world_runs.specs.Worlds.{AreBehind, Rises, files_of, row_files}
 
 -- ---- the order of files

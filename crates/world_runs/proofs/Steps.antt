@@ -17,9 +17,9 @@ use Rattle.xt_messages.specs.declared.event.Call.TheVariants as call
 use Rattle.xt_messages.specs.declared.event.Event.{Event}
 use Rattle.xt_messages.specs.declared.event.Mark.{Mark}
 use Rattle.xt_base.specs.declared.TheConstants.{COUNTS}
-use Rattle.xt_protocol.specs.declared.Turned.{Turned}
+use Rattle.xt_protocol.specs.declared.turned.Turned.{Turned}
 use Rattle.lease_safety.specs.State.{Has}
-use Rattle.osd_rows.specs.OsdSteps.{OsdState, step_of_osd}
+use Rattle.xt_protocol.specs.OsdSteps.{OsdState, step_of_osd}
 use Rattle.time_line.specs.declared.entry.Entry.{Entry}
 use Rattle.time_line.specs.declared.entry.Entry.TheVariants as entry
 use Rattle.cluster_runs.specs.declared.Sent.{Sent}

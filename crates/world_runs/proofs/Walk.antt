@@ -38,10 +38,10 @@ use Rattle.world_runs.proofs.Clocks.{close_by}
 use Rattle.std.specs.Prelude.{take, drop}
 use Rattle.std.proofs.lemmas.List.{append-nil, take-append-drop}
 use Rattle.xt_messages.specs.declared.event.Event.{Event}
-use Rattle.xt_protocol.specs.declared.Turned.{Turned}
+use Rattle.xt_protocol.specs.declared.turned.Turned.{Turned}
 use Rattle.time_line.specs.declared.entry.Halt.{Halt}
 use Rattle.lease_safety.specs.Legal.{IsClose}
-use Rattle.osd_rows.specs.OsdSteps.{OsdState, step_of_osd}
+use Rattle.xt_protocol.specs.OsdSteps.{OsdState, step_of_osd}
 use Rattle.cluster_runs.specs.Steps.{Step}
 use Rattle.cluster_runs.specs.Clients.{step_of_client}
 use Rattle.cluster_runs.specs.NodeSteps.{to_itself, after_turn, appends, within_limits, frame_bytes, end_of_step, overflow_of, core_step, osd_steps, outside_of, event_at}

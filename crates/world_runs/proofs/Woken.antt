@@ -7,8 +7,8 @@ use Rattle.xt_protocol.specs.FileIds.{is_file}
 use Rattle.xt_protocol.proofs.Folds.{file-back, file-along}
 use Rattle.xt_protocol.specs.LeaseRows.{Awake}
 use Rattle.lease_safety.specs.State.{Has}
-use Rattle.osd_rows.specs.FileStates.{FileState}
-use Rattle.osd_rows.specs.OsdSteps.{file_at}
+use Rattle.xt_protocol.specs.FileStates.{FileState}
+use Rattle.xt_protocol.specs.OsdSteps.{file_at}
 use Rattle.world_runs.proofs.Lists.{has_in}
 use Rattle.world_runs.proofs.Rising.{before_itself}
 use Rattle.world_runs.specs.Worlds.{Rises, files_of}

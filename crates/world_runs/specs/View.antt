@@ -7,7 +7,7 @@ use Rattle.xt_messages.specs.declared.message.Msg.{Msg}
 use Rattle.xt_messages.specs.declared.record.Record.{Record}
 use Rattle.xt_protocol.specs.Folds.{fold_of}
 use Rattle.xt_protocol.specs.LeaseRows.{Silent, Awake}
-use Rattle.osd_rows.specs.OsdSteps.{file_at}
+use Rattle.xt_protocol.specs.OsdSteps.{file_at}
 use Rattle.time_line.specs.declared.entry.Entry.{Entry}
 use Rattle.cluster_runs.specs.declared.Sent.{Sent}
 use Rattle.time_line.specs.TimeLine.{Standing, standing}

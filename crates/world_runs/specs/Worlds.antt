@@ -14,10 +14,10 @@ use Rattle.xt_protocol.specs.FileIds.{is_before}
 use Rattle.xt_protocol.specs.Folds.{fold_of, row_in}
 use Rattle.xt_protocol.specs.LeaseRows.{lease_expired}
 use Rattle.lease_safety.specs.State.{Has}
-use Rattle.osd_rows.specs.FileStates.{FileState}
-use Rattle.osd_rows.specs.declared.Tenure.{Tenure}
-use Rattle.osd_rows.specs.Overdue.{expired}
-use Rattle.osd_rows.specs.OsdSteps.{OsdState, file_at}
+use Rattle.xt_protocol.specs.FileStates.{FileState}
+use Rattle.xt_protocol.specs.declared.states.Tenure.{Tenure}
+use Rattle.xt_protocol.specs.Overdue.{expired}
+use Rattle.xt_protocol.specs.OsdSteps.{OsdState, file_at}
 use Rattle.osd_invariants.specs.Sound.{IsHeld, IsStored, IsSound}
 use Rattle.lease_runs.specs.OsdView.{site_of}
 use Rattle.lease_runs.specs.ActsView.{IsBusy}

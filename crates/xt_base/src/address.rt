@@ -4,7 +4,7 @@ use std::marker::Model;
 use std::str;
 
 /// Where a node is reached: UTF-8 text of at most 64 bytes. Contracts see the bytes.
-#[derive(Clone, Copy, PartialEq, Eq)]
+#[derive(Clone, Copy)]
 pub struct Address {
     bytes: [u8; 64],
     count: usize,

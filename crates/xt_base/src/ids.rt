@@ -65,7 +65,7 @@ pub struct Stamp {
 }
 
 /// A lease: who holds it, and the clock in milliseconds at which it ends.
-#[derive(Clone, Copy, PartialEq, Eq)]
+#[derive(Clone, Copy)]
 pub struct Lease {
     pub node: NodeId,
     pub boot: Boot,

@@ -5,7 +5,7 @@ use crate::ids::NodeId;
 use std::marker::Model;
 
 /// One to nine different nodes, in the order of a file's list. Contracts see the list.
-#[derive(Clone, Copy, PartialEq, Eq)]
+#[derive(Clone, Copy)]
 pub struct Members {
     nodes: [NodeId; 9],
     count: usize,
@@ -29,7 +29,7 @@ impl Model for Members {
 }
 
 /// These aren't one to nine different nodes.
-#[derive(Clone, Copy, PartialEq, Eq)]
+#[derive(Clone, Copy)]
 pub struct BadMembers;
 
 /// Whether the node stands in the list.

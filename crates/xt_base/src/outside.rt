@@ -6,7 +6,7 @@ use std::fmt;
 pub type CallList = Seq<u64>;
 
 /// The outside failed. The object's count of faults has risen.
-#[derive(Clone, Copy, Debug, PartialEq, Eq)]
+#[derive(Clone, Copy, Debug)]
 pub struct Failed;
 
 impl fmt::Display for Failed {

@@ -4,7 +4,7 @@ ghost use Rattle.xt_base.specs.TimeSettings.{AreTimes};
 use std::marker::Model;
 
 /// The length of a lease and the greatest difference of two running clocks, in milliseconds.
-#[derive(Clone, Copy, PartialEq, Eq)]
+#[derive(Clone, Copy)]
 pub struct Times {
     lease: u64,
     drift: u64,
@@ -23,7 +23,7 @@ impl Model for Times {
 }
 
 /// Not `0 < 2 * drift < lease < 2^40`.
-#[derive(Clone, Copy, PartialEq, Eq)]
+#[derive(Clone, Copy)]
 pub struct BadTimes;
 
 impl Times {

@@ -5,7 +5,7 @@ use thiserror::Error;
 use xt_fields::FieldErr;
 
 /// Why bytes don't begin with a frame. Where several hold, the first one in the order of the tests is given.
-#[derive(Clone, Copy, Debug, PartialEq, Eq, Error)]
+#[derive(Clone, Copy, Debug, Error)]
 pub enum FrameErr {
     #[error("the frame is cut off")]
     Truncated,

@@ -43,7 +43,7 @@ pub fn piece_of(alloc: Global, payload: &[u8]) -> Result<Vec<u8>, OutOfMemory>
 }
 
 /// Why a record isn't appended.
-#[derive(Clone, Copy, PartialEq, Eq)]
+#[derive(Clone, Copy)]
 pub enum Refusal {
     Broken,
     OutOfMemory,

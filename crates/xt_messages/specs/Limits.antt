@@ -37,6 +37,8 @@ use Rattle.xt_messages.specs.declared.registry.RegistryAnswer.TheVariants as tol
 use Rattle.xt_messages.specs.declared.message.Payload.{Payload}
 use Rattle.xt_messages.specs.declared.message.Payload.TheVariants as payload
 use Rattle.xt_messages.specs.declared.message.Msg.{Msg}
+use Rattle.xt_messages.specs.declared.event.Event.{Event}
+use Rattle.xt_messages.specs.declared.event.Event.TheVariants as event
 use Rattle.xt_messages.specs.declared.record.Logged.{Logged}
 use Rattle.xt_messages.specs.declared.record.Logged.TheVariants as logged
 use Rattle.xt_messages.specs.declared.record.Record.{Record}
@@ -284,6 +286,12 @@ pub record FitsMessage (msg : Msg) : Type 0 where
   pub receiver : FitsNode msg.to
   pub first : msg.list ≡ 1
   pub content : FitsPayload msg.payload
+
+-- a message that is delivered is within its limits
+abbrev pub FitsEvent : Event → Type 0
+FitsEvent (event.Deliver msg) = FitsMessage msg
+FitsEvent event.Wake = Unit {0}
+FitsEvent (event.Call call) = Unit {0}
 
 -- ---- records
 

@@ -4,7 +4,7 @@ use xt_base::{
 };
 
 /// How a file's objects lie on its OSDs.
-#[derive(Clone, Copy, PartialEq, Eq)]
+#[derive(Clone, Copy)]
 pub enum Kind {
     /// Each member keeps all objects, and one at a time acts as primary.
     Replicated,
@@ -13,7 +13,7 @@ pub enum Kind {
 }
 
 /// Where a file's content is kept. A change of the members raises the version.
-#[derive(Clone, Copy, PartialEq, Eq)]
+#[derive(Clone, Copy)]
 pub struct Location {
     pub version: u32,
     pub kind: Kind,
@@ -23,7 +23,7 @@ pub struct Location {
 }
 
 /// What lets a client use a file, from the MRC, under a secret that it shares with the OSDs.
-#[derive(Clone, Copy, PartialEq, Eq)]
+#[derive(Clone, Copy)]
 pub struct Capability {
     pub file: FileId,
     /// 1 to read, 2 to read and write.
@@ -106,7 +106,7 @@ impl Copies for ObjectVersion {
 pub type Versions = Seq<ObjectVersion>;
 
 /// The last write of a client: its number, and how many writes the file had with it.
-#[derive(Clone, Copy, PartialEq, Eq)]
+#[derive(Clone, Copy)]
 pub struct Session {
     pub client: NodeId,
     pub number: u64,

@@ -134,7 +134,7 @@ pub enum MetaRefusal {
 }
 
 /// What a row of a volume is.
-#[derive(Clone, Copy, PartialEq, Eq)]
+#[derive(Clone, Copy)]
 pub enum RowKind {
     Directory,
     File,

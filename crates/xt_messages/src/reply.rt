@@ -2,7 +2,7 @@ use std::alloc::Global;
 use xt_base::{Copies, NodeId, Octets, OutOfMemory, Seq, SizeMark};
 
 /// Why an OSD, or the MRC for a report, denies an ask. Its number is sent and printed.
-#[derive(Clone, Copy, PartialEq, Eq)]
+#[derive(Clone, Copy)]
 pub enum Denial {
     /// The capability's tag isn't the one under the shared secret.
     Tag = 1,

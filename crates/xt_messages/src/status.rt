@@ -26,7 +26,7 @@ pub enum Rule {
 }
 
 /// A count that has a limit.
-#[derive(Clone, Copy, PartialEq, Eq)]
+#[derive(Clone, Copy)]
 pub enum Limited {
     /// Lines of a schedule.
     Lines,

@@ -9,7 +9,7 @@ use thiserror::Error;
 use xt_base::{Boot, FRAME, NodeId, Octets};
 
 /// Why a message wasn't cut.
-#[derive(Clone, Copy, Debug, PartialEq, Eq, Error)]
+#[derive(Clone, Copy, Debug, Error)]
 pub enum CutErr {
     #[error("out of memory")]
     OutOfMemory,

@@ -13,7 +13,7 @@ use thiserror::Error;
 use xt_base::{Boot, FRAME, NodeId, Octets};
 
 /// Why a part wasn't taken. The joiner is as it was.
-#[derive(Clone, Copy, Debug, PartialEq, Eq, Error)]
+#[derive(Clone, Copy, Debug, Error)]
 pub enum JoinErr {
     /// The bytes aren't a part, or they give a half joined message another length.
     #[error("not a part of a message")]

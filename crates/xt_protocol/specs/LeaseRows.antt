@@ -257,6 +257,13 @@ pub data LeaseState : Type 0 where
   writing : Round → LeaseState
   held : Held → LeaseState
 
+-- the round that runs: for a lease, or to renew it
+abbrev pub running_round : LeaseState → Option Round
+running_round (free p) = None
+running_round (asking r) = Some r
+running_round (writing r) = Some r
+running_round (held h) = h.renewal
+
 -- what is overdue, before any row: lease lapses; round runs out
 abbrev pub lease_expired : LeaseState → ℕ → LeaseState
 lease_expired (free p) now = free p

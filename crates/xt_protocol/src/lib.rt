@@ -1,41 +1,53 @@
-//! The protocol, as definitions: what an OSD, a client and the other roles do in one step, row by row, and what
-//! their records say.
+//! The protocol, as definitions: what an OSD does in one step, row by row (what is overdue, an ask, the lease, the replica, the primary
+//! and a wake), and what records say.
 //!
-//! The type here is what every step gives. The rows stand in `specs/` as functions; the code of the crates above
-//! computes them, and the safety theorems speak of them.
+//! The rows stand in `specs/` as functions: the crates above compute them, and the safety theorems speak of them. The types here are the
+//! states that rows change, and what a step gives (`Turned`): its calls put that together as the rows do, and fail for want of memory alone.
 #![tactic(auto)]
 
-ghost use Rattle.std.specs.Prelude.{◌≡◌};
+mod states;
+mod turned;
 
-use xt_base::OptionalBox;
-use xt_messages::{Marks, Msgs, Record};
+ghost use Rattle.std.specs.Prelude.{◌≡◌, ℕ, max, None, List, [], ◌∷◌};
+ghost use Rattle.xt_messages.specs.declared.event.Event.{Event};
+ghost use Rattle.xt_protocol.specs.LeaseRows.{awake_at};
+ghost use Rattle.xt_protocol.specs.OsdSteps.{Outside, OsdState, step_of_osd};
+ghost use Rattle.xt_protocol.specs.Examples.{marks_of, trio, alone, alone_marks, catching_up, catching_up_marks, turns_edge, turns_edge_marks, repeats, repeats_marks, forgotten_promises, vanished, vanished_marks, found, found_marks, silence, silence_marks, told_to, outrun, outrun_reply, deadline, deadline_reply, behind_issued, behind_issued_marks, committed_then, too_far_reply, file_1, ahead, shorter, taken, missed, epoch_of, promised_head, promises, refuses, stamp_of};
+ghost use Rattle.xt_protocol.specs.ReplicaRows.{gathered, headed};
+ghost use Rattle.xt_protocol.specs.Heads.{new_head};
+ghost use Rattle.xt_protocol.specs.Folds.{body_of};
 
-/// What a step gives: at most one record, which is kept first; then its marks; then its messages, in order.
-pub struct Turned {
-    pub rec: OptionalBox<Record>,
-    pub outs: Msgs,
-    pub marks: Marks,
-}
+pub use states::{
+    Acted, Asks, IssuedAsk, IssuedUpdate, Nodes, Peer, PeerState, Peers, Place, PrimaryState,
+    Progress, Tenure, WaitingAsk,
+};
+pub use turned::{
+    Turned, answers, extend, join, keeps, message, one, quiet, reply_to, sends, sends_one, shows,
+    tells, to_each,
+};
 
-impl Turned {
-    /// Its record, its messages and its marks.
-    pub fn into_parts(self) -> (OptionalBox<Record>, Msgs, Marks)
-        ensures rec { result.0 ≡ self.rec }
-        ensures outs { result.1 ≡ self.outs }
-        ensures marks { result.2 ≡ self.marks }
-    {
-        let Turned { rec, outs, marks } = self;
-        (rec, outs, marks)
-    }
-}
+/// In its silence nothing comes of an event.
+pub fn silence_is_kept()
+    ensures { (outside : Outside) (osd : OsdState) (reading : ℕ) (happens : Event) → awake_at osd.started (max reading osd.last) ≡ None → (step_of_osd outside osd reading happens).osd ≡ osd }
+{}
 
-// A derived drop is part of the code of each function that may drop a value, and proved there. This is proved once.
-impl Drop for Turned {
-    fn drop(self) {
-        let Turned {
-            rec: _,
-            outs: _,
-            marks: _,
-        } = self;
-    }
-}
+/// What a few nodes do by these rows.
+pub fn examples()
+    ensures one { marks_of 0 (1 ∷ []) alone ≡ alone_marks }
+    ensures behind { marks_of 0 trio catching_up ≡ catching_up_marks }
+    ensures edge { marks_of 3900 trio turns_edge ≡ turns_edge_marks }
+    ensures again { marks_of 0 trio repeats ≡ repeats_marks }
+    ensures unheld { marks_of 0 (1 ∷ 2 ∷ 3 ∷ 4 ∷ 5 ∷ []) forgotten_promises ≡ [] }
+    ensures lost { marks_of 0 trio vanished ≡ vanished_marks }
+    ensures there { marks_of 0 trio found ≡ found_marks }
+    ensures silent { marks_of 2950 (1 ∷ []) silence ≡ silence_marks }
+    ensures outran { told_to 10 0 trio outrun ≡ outrun_reply }
+    ensures late { told_to 10 0 trio deadline ≡ deadline_reply }
+    ensures issued { marks_of 0 trio behind_issued ≡ behind_issued_marks }
+    ensures untested { told_to 11 0 trio behind_issued ≡ [] }
+    ensures tested { told_to 11 0 trio committed_then ≡ too_far_reply }
+    ensures took { headed file_1 ahead (body_of 0 (stamp_of 1 1 1) ∷ []) (epoch_of 2 2) shorter ≡ taken }
+    ensures misses { headed file_1 ahead [] (epoch_of 2 2) shorter ≡ missed }
+    ensures promised { gathered file_1 new_head (epoch_of 2 3) ≡ promises }
+    ensures stands { gathered file_1 promised_head (epoch_of 1 1) ≡ refuses }
+{}

@@ -1,5 +1,5 @@
 -- Clause by clause.
-use Rattle.cluster_safety.proofs.Runs.{runs_safe, parts_safe}
+use Rattle.cluster_safety.proofs.Whole.{runs_safe, parts_safe}
 use Rattle.cluster_safety.proofs.runs_are_safe.Goals as goal
 
 pub returns-clause-whole : goal.returns-clause-whole

@@ -1,5 +1,5 @@
 -- Calls do at each moment what they do in the whole trace.
-use Rattle.cluster_safety.proofs.Files.{have_begun, stand_once, answers_show}
+use Rattle.cluster_safety.proofs.Orders.{have_begun, stand_once, answers_show}
 use Rattle.cluster_safety.proofs.what_is_told_has_begun.Goals as goal
 
 pub returns-clause-begun : goal.returns-clause-begun

@@ -6,7 +6,7 @@ ghost use Rattle.cluster_runs.specs.Clients.{new_client};
 ghost use Rattle.cluster_runs.specs.Rules.{clock_ends};
 ghost use Rattle.cluster_runs.specs.Lines.{runs, first_boot, crashes, cuts, reads_clock, aims, ticked};
 ghost use Rattle.node_hosts.specs.Turns.{Handles};
-ghost use Rattle.cluster_fits.specs.Fits.{FitsContent};
+ghost use Rattle.xt_messages.specs.Limits.{FitsEvent};
 ghost use Rattle.world_nodes.specs.Nodes.{IsAt, Changes, ChangesUp, NodeHandles, NodeCalls};
 
 use crate::nodes::Nodes;
@@ -96,7 +96,7 @@ impl<C: NodeCore, H: Hull> Nodes<C, H> {
     pub fn handle(&mut self, place: usize, ev: &Event) -> Result<Option<Turned>, OutOfMemory>
         requires inside { place < length self.old.nodes }
         requires running { (node : Node) → IsAt self.old.nodes place node → IfSome node.up (λ running. running.clock < 2 ^ 62) }
-        requires fits { FitsContent ev.now }
+        requires fits { FitsEvent ev.now }
         ensures { IfOk result (λ turned. (node : Node) → IsAt self.old.nodes place node → NodeHandles ev.now self.old node self.new turned) }
     {
         handle(&mut self.hosts[place], &self.hull, ev)
@@ -126,7 +126,7 @@ fn handle<C: NodeCore, H: Hull>(
     ev: &Event,
 ) -> Result<Option<Turned>, OutOfMemory>
     requires running { IfSome host.old.up (λ running. running.clock < 2 ^ 62) }
-    requires fits { FitsContent ev.now }
+    requires fits { FitsEvent ev.now }
     ensures handled { IfOk result (λ turned. Handles (H.kept hull.now host.old.id.0) ev.now host.old host.new turned) }
     ensures err { OnErr result (host.new ≡ record host.old { up = None }) }
 {

@@ -1,6 +1,6 @@
 use Rattle.std.proofs.Common.{◌≡◌, ◌++◌, take, filter}
-use Rattle.osd_rows.specs.Asks.{tells_each}
-use Rattle.osd_rows.specs.Overdue.{is_due}
+use Rattle.xt_protocol.specs.Asks.{tells_each}
+use Rattle.xt_protocol.specs.Overdue.{is_due}
 use Rattle.osd_asks.proofs.open.tell_due_of.Given as goal
 
 abbrev pub invariant-loop-ask : goal.invariant-loop-ask

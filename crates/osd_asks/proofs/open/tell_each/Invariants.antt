@@ -1,5 +1,5 @@
 use Rattle.std.proofs.Common.{◌≡◌, ◌++◌, take}
-use Rattle.osd_rows.specs.Asks.{tells_each}
+use Rattle.xt_protocol.specs.Asks.{tells_each}
 use Rattle.osd_asks.proofs.open.tell_each.Given as goal
 
 abbrev pub invariant-loop-ask : goal.invariant-loop-ask

@@ -1,6 +1,6 @@
 use Rattle.std.proofs.Common.{subst, sym}
 use Rattle.xt_protocol.specs.SeenBodies.{body_by}
-use Rattle.osd_rows.specs.OsdSteps.{event_handled}
+use Rattle.xt_protocol.specs.OsdSteps.{event_handled}
 use Rattle.osd_files.specs.Views.{site_at}
 use Rattle.osd_core.specs.Keys.{sealed_by}
 use Rattle.osd_core.specs.Slots.{StepsFiles}

@@ -2,8 +2,8 @@ use Rattle.std.proofs.Common.{ap, ◌∙◌, ◌∷◌, [], refl}
 use Rattle.std.proofs.lemmas.List.{with_items_is}
 use Rattle.xt_base.specs.declared.ids.NodeId.{NodeId}
 use Rattle.xt_messages.specs.declared.message.Msg.{Msg}
-use Rattle.osd_rows.specs.Turns.{sends, joined}
-use Rattle.osd_rows.specs.OsdSteps.{asks_dir}
+use Rattle.xt_protocol.specs.Turns.{sends, joined}
+use Rattle.xt_protocol.specs.OsdSteps.{asks_dir}
 use Rattle.osd_core.proofs.Stepping.{slots_woke}
 use Rattle.osd_core.proofs.slots.wake.Goals as goal
 

@@ -2,7 +2,7 @@ use Rattle.std.proofs.Common.{◌≡◌, ◌<◌, ◌-◌, get_or, take, drop}
 use Rattle.std.specs.List.{best_of}
 use Rattle.xt_base.specs.declared.ids.NodeId.{NodeId}
 use Rattle.xt_messages.specs.declared.file.FileHead.{FileHead}
-use Rattle.osd_rows.specs.Choice.{is_better}
+use Rattle.xt_protocol.specs.Choice.{is_better}
 use Rattle.osd_decisions.proofs.choosing.choose.Given as goal
 
 -- the best of the reports so far stands at the place

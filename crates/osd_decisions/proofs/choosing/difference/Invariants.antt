@@ -1,5 +1,5 @@
 use Rattle.std.proofs.Common.{◌≡◌, take}
-use Rattle.osd_rows.specs.Choice.{difference}
+use Rattle.xt_protocol.specs.Choice.{difference}
 use Rattle.osd_decisions.proofs.choosing.difference.Given as goal
 
 -- what is missing of the versions so far

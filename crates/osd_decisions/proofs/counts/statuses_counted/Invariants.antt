@@ -1,5 +1,5 @@
 use Rattle.std.proofs.Common.{◌≡◌, ◌≤◌, take}
-use Rattle.osd_rows.specs.Primaries.{statuses_counted}
+use Rattle.xt_protocol.specs.Primaries.{statuses_counted}
 use Rattle.osd_decisions.proofs.counts.statuses_counted.Given as goal
 
 abbrev pub invariant-loop-peer : goal.invariant-loop-peer

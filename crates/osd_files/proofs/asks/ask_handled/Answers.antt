@@ -3,11 +3,11 @@ use Rattle.xt_base.specs.declared.ids.NodeId.{NodeId}
 use Rattle.xt_base.specs.declared.ids.FileId.{FileId}
 use Rattle.xt_messages.specs.declared.file.Location.{Location}
 use Rattle.xt_messages.specs.declared.file.Capability.{Capability}
-use Rattle.xt_protocol.specs.declared.Turned.{Turned}
+use Rattle.xt_protocol.specs.declared.turned.Turned.{Turned}
 use Rattle.xt_protocol.specs.SeenBodies.{body_by}
-use Rattle.osd_rows.specs.Turns.{tells}
-use Rattle.osd_rows.specs.AskRows.{ask_handled, ask_let_in, refusal_of}
-use Rattle.osd_rows.specs.FileStates.{FileStep}
+use Rattle.xt_protocol.specs.Turns.{tells}
+use Rattle.xt_protocol.specs.AskRows.{ask_handled, ask_let_in, refusal_of}
+use Rattle.xt_protocol.specs.FileStates.{FileStep}
 use Rattle.osd_files.specs.Rows.{IsRowBy, IsStep}
 use Rattle.osd_files.specs.Views.{shown, site_at}
 use Rattle.osd_files.proofs.LetIn.{handled}

@@ -1,7 +1,7 @@
 use Rattle.std.proofs.Common.{◌∙◌, ap, sym}
 use Rattle.xt_protocol.specs.LeaseRows.{LeaseState}
 use Rattle.xt_protocol.specs.SeenBodies.{body_by}
-use Rattle.osd_rows.specs.AskRows.{ask_rows, ask_served, ask_under}
+use Rattle.xt_protocol.specs.AskRows.{ask_rows, ask_served, ask_under}
 use Rattle.osd_files.specs.Views.{shown, site_at}
 use Rattle.osd_files.proofs.Rows.{rows_by}
 use Rattle.osd_files.proofs.Served.{free_by, new_ask, serves_under, waits_under}

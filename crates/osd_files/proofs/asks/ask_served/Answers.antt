@@ -1,12 +1,12 @@
 use Rattle.std.proofs.Common.{◌≡◌, ◌∙◌, ap, sym, refl, true, false, List}
 use Rattle.xt_messages.specs.declared.file.FileHead.{FileHead}
 use Rattle.xt_messages.specs.declared.file.ObjectVersion.{ObjectVersion}
-use Rattle.xt_protocol.specs.declared.Turned.{Turned}
+use Rattle.xt_protocol.specs.declared.turned.Turned.{Turned}
 use Rattle.xt_protocol.specs.SeenBodies.{body_by}
-use Rattle.osd_rows.specs.Asks.{is_read, read_answer}
-use Rattle.osd_rows.specs.FileStates.{FileStep}
-use Rattle.osd_rows.specs.Serving.{reads}
-use Rattle.osd_rows.specs.AskRows.{ask_served}
+use Rattle.xt_protocol.specs.Asks.{is_read, read_answer}
+use Rattle.xt_protocol.specs.FileStates.{FileStep}
+use Rattle.xt_protocol.specs.Serving.{reads}
+use Rattle.xt_protocol.specs.AskRows.{ask_served}
 use Rattle.osd_files.specs.Rows.{IsRowBy}
 use Rattle.osd_files.specs.Serves.{ground_at}
 use Rattle.osd_files.specs.Views.{shown, site_at}

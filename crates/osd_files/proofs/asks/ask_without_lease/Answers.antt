@@ -1,9 +1,9 @@
 use Rattle.std.proofs.Common.{◌≡◌, ◌∙◌, ap, sym, refl, Option}
 use Rattle.xt_messages.specs.declared.reply.Reply.{Reply}
-use Rattle.xt_protocol.specs.declared.Turned.{Turned}
+use Rattle.xt_protocol.specs.declared.turned.Turned.{Turned}
 use Rattle.xt_protocol.specs.LeaseRows.{Proposer, free}
-use Rattle.osd_rows.specs.AskRows.{round_for, ask_under, ask_without_lease, elsewhere}
-use Rattle.osd_rows.specs.FileStates.{FileState, Site, FileStep}
+use Rattle.xt_protocol.specs.AskRows.{round_for, ask_under, ask_without_lease, elsewhere}
+use Rattle.xt_protocol.specs.FileStates.{FileState, Site, FileStep}
 use Rattle.osd_files.specs.Rows.{IsRow}
 use Rattle.osd_files.specs.Views.{shown, site_at}
 use Rattle.osd_files.proofs.Rows.{if_ok, row_from}

@@ -4,9 +4,9 @@ use Rattle.xt_base.specs.declared.ids.FileId.{FileId}
 use Rattle.xt_messages.specs.declared.file.Op.{Op}
 use Rattle.xt_messages.specs.declared.record.Record.{Record}
 use Rattle.xt_protocol.specs.SeenBodies.{body_by}
-use Rattle.osd_rows.specs.Turns.{keeps}
-use Rattle.osd_rows.specs.AskRows.{ask_rows, ask_let_in, waiting_ask}
-use Rattle.osd_rows.specs.FileStates.{FileState, Site, FileStep}
+use Rattle.xt_protocol.specs.Turns.{keeps}
+use Rattle.xt_protocol.specs.AskRows.{ask_rows, ask_let_in, waiting_ask}
+use Rattle.xt_protocol.specs.FileStates.{FileState, Site, FileStep}
 use Rattle.osd_files.specs.Asking.{first_list, list_after}
 use Rattle.osd_files.specs.Leads.{LeadView}
 use Rattle.osd_files.specs.Views.{shown, with_lead, site_at}

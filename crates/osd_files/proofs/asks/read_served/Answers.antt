@@ -2,10 +2,10 @@ use Rattle.std.proofs.Common.{◌≡◌, ◌∙◌, ap, sym, Option}
 use Rattle.xt_base.specs.declared.ids.NodeId.{NodeId}
 use Rattle.xt_base.specs.declared.ids.FileId.{FileId}
 use Rattle.xt_messages.specs.declared.reply.Reply.{Reply}
-use Rattle.osd_rows.specs.declared.Place.{Place}
-use Rattle.osd_rows.specs.Asks.{read_answer}
-use Rattle.osd_rows.specs.FileStates.{stripe_of}
-use Rattle.osd_rows.specs.Serving.{reads}
+use Rattle.xt_protocol.specs.declared.states.Place.{Place}
+use Rattle.xt_protocol.specs.Asks.{read_answer}
+use Rattle.xt_protocol.specs.FileStates.{stripe_of}
+use Rattle.xt_protocol.specs.Serving.{reads}
 use Rattle.replica_primary.specs.Written.{ground}
 use Rattle.osd_files.specs.Leads.{place_of}
 use Rattle.osd_files.specs.Serves.{ground_at}

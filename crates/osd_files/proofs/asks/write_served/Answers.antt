@@ -2,13 +2,13 @@ use Rattle.std.proofs.Common.{◌≡◌, ◌∙◌, ap, sym, subst, refl, Option
 use Rattle.std.specs.Option.{option_map}
 use Rattle.xt_base.specs.declared.ids.NodeId.{NodeId}
 use Rattle.xt_base.specs.declared.ids.FileId.{FileId}
-use Rattle.xt_protocol.specs.declared.Turned.{Turned}
+use Rattle.xt_protocol.specs.declared.turned.Turned.{Turned}
 use Rattle.xt_protocol.specs.SeenBodies.{body_by}
-use Rattle.osd_rows.specs.Primaries.{Ground, Led}
-use Rattle.osd_rows.specs.FileStates.{FileStep, stripe_of}
-use Rattle.osd_rows.specs.Serving.{writes}
-use Rattle.osd_rows.specs.Asks.{waits}
-use Rattle.osd_rows.specs.AskRows.{ask_waits}
+use Rattle.xt_protocol.specs.Primaries.{Ground, Led}
+use Rattle.xt_protocol.specs.FileStates.{FileStep, stripe_of}
+use Rattle.xt_protocol.specs.Serving.{writes}
+use Rattle.xt_protocol.specs.Asks.{waits}
+use Rattle.xt_protocol.specs.AskRows.{ask_waits}
 use Rattle.osd_files.specs.Leads.{LeadView}
 use Rattle.osd_files.specs.Asking.{asks_once_done}
 use Rattle.osd_files.specs.Views.{shown, with_lead, site_at}

@@ -1,7 +1,7 @@
 use Rattle.std.proofs.Common.{◌≡◌, ◌∙◌, ap, sym}
 use Rattle.xt_messages.specs.declared.message.Payload.{Payload}
-use Rattle.osd_rows.specs.declared.Acted.{Acted}
-use Rattle.osd_rows.specs.ReplicaRows.{gathered, staged, headed, updated}
+use Rattle.xt_protocol.specs.declared.states.Acted.{Acted}
+use Rattle.xt_protocol.specs.ReplicaRows.{gathered, staged, headed, updated}
 use Rattle.osd_files.specs.Kinds.{acted_on}
 use Rattle.osd_files.proofs.Rows.{if_ok}
 use Rattle.osd_files.proofs.hearing.acts.Goals as goal

@@ -3,11 +3,11 @@ use Rattle.xt_base.specs.declared.ids.NodeId.{NodeId}
 use Rattle.xt_base.specs.declared.ids.FileId.{FileId}
 use Rattle.xt_messages.specs.declared.file.FileHead.{FileHead}
 use Rattle.xt_messages.specs.declared.file.ObjectVersion.{ObjectVersion}
-use Rattle.osd_rows.specs.FileStates.{stripe_of}
-use Rattle.osd_rows.specs.ReplicaRows.{kept_after}
-use Rattle.xt_protocol.specs.declared.Turned.{Turned}
-use Rattle.osd_rows.specs.Primaries.{Led}
-use Rattle.osd_rows.specs.PrimaryRows.{hears}
+use Rattle.xt_protocol.specs.FileStates.{stripe_of}
+use Rattle.xt_protocol.specs.ReplicaRows.{kept_after}
+use Rattle.xt_protocol.specs.declared.turned.Turned.{Turned}
+use Rattle.xt_protocol.specs.Primaries.{Led}
+use Rattle.xt_protocol.specs.PrimaryRows.{hears}
 use Rattle.replica_primary.specs.Written.{ground}
 use Rattle.osd_files.specs.Leads.{place_of}
 use Rattle.osd_files.specs.Views.{shown}

@@ -1,9 +1,9 @@
 use Rattle.std.proofs.Common.{◌∙◌, ap, sym, subst}
 use Rattle.xt_protocol.specs.LeaseRows.{LeaseState, on_answer}
-use Rattle.file_lease.specs.declared.news.News.{News}
-use Rattle.file_lease.specs.Shown.{shown_news}
-use Rattle.osd_rows.specs.FileLeases.{lease_news, answer_comes}
-use Rattle.osd_rows.specs.FileStates.{FileState}
+use Rattle.flease.specs.declared.news.News.{News}
+use Rattle.flease.specs.Shown.{shown_news}
+use Rattle.xt_protocol.specs.FileLeases.{lease_news, answer_comes}
+use Rattle.xt_protocol.specs.FileStates.{FileState}
 use Rattle.osd_files.specs.Answers.{news_of, HoldBy}
 use Rattle.osd_files.specs.Owners.{owner_at, owner_of, renewer_of}
 use Rattle.osd_files.specs.Views.{shown, site_at}

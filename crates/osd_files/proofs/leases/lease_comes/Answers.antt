@@ -1,8 +1,8 @@
 use Rattle.std.proofs.Common.{◌≡◌, ◌∙◌, ap, ℕ, true}
 use Rattle.xt_messages.specs.declared.message.Payload.{Payload}
-use Rattle.xt_protocol.specs.declared.Turned.{Turned}
-use Rattle.osd_rows.specs.FileLeases.{answer_comes, read_comes, write_comes}
-use Rattle.osd_rows.specs.FileSteps.{message_comes}
+use Rattle.xt_protocol.specs.declared.turned.Turned.{Turned}
+use Rattle.xt_protocol.specs.FileLeases.{answer_comes, read_comes, write_comes}
+use Rattle.xt_protocol.specs.FileSteps.{message_comes}
 use Rattle.osd_files.specs.Kinds.{is_for_lease}
 use Rattle.osd_files.specs.Rows.{IsRow}
 use Rattle.osd_files.specs.Views.{shown, site_at}

@@ -1,10 +1,10 @@
 use Rattle.std.proofs.Common.{◌∙◌, ap, sym}
 use Rattle.xt_base.specs.declared.ids.FileId.{FileId}
 use Rattle.xt_messages.specs.declared.event.Mark.TheVariants as mark
-use Rattle.xt_protocol.specs.declared.Turned.{Turned}
-use Rattle.osd_rows.specs.Turns.{shows}
-use Rattle.osd_rows.specs.FileLeases.{led_on, lease_held}
-use Rattle.osd_rows.specs.FileStates.{FileState, Site, FileStep}
+use Rattle.xt_protocol.specs.declared.turned.Turned.{Turned}
+use Rattle.xt_protocol.specs.Turns.{shows}
+use Rattle.xt_protocol.specs.FileLeases.{led_on, lease_held}
+use Rattle.xt_protocol.specs.FileStates.{FileState, Site, FileStep}
 use Rattle.osd_files.specs.Views.{shown, site_at}
 use Rattle.osd_files.proofs.Rows.{joins_next, behind_it}
 use Rattle.osd_files.proofs.leases.lease_held.Goals as goal

@@ -3,13 +3,13 @@ use Rattle.xt_base.specs.declared.ids.NodeId.{NodeId}
 use Rattle.xt_base.specs.declared.ids.FileId.{FileId}
 use Rattle.xt_base.specs.declared.ids.Boot.{Boot}
 use Rattle.xt_messages.specs.declared.message.Payload.TheVariants as payload
-use Rattle.xt_protocol.specs.declared.Turned.{Turned}
-use Rattle.osd_rows.specs.Turns.{message, sends}
-use Rattle.file_lease.specs.declared.news.News.TheVariants as news
+use Rattle.xt_protocol.specs.declared.turned.Turned.{Turned}
+use Rattle.xt_protocol.specs.Turns.{message, sends}
+use Rattle.flease.specs.declared.news.News.TheVariants as news
 use Rattle.xt_messages.specs.declared.reply.Reply.TheVariants as reply
-use Rattle.file_lease.specs.declared.news.News.{News}
-use Rattle.osd_rows.specs.FileLeases.{lease_held, live_lease, waiting_told, lease_news}
-use Rattle.osd_rows.specs.FileStates.{FileState, Site, FileStep}
+use Rattle.flease.specs.declared.news.News.{News}
+use Rattle.xt_protocol.specs.FileLeases.{lease_held, live_lease, waiting_told, lease_news}
+use Rattle.xt_protocol.specs.FileStates.{FileState, Site, FileStep}
 use Rattle.osd_files.specs.Answers.{news_of}
 use Rattle.osd_files.specs.Views.{shown}
 use Rattle.osd_files.specs.Rows.{IsRow}

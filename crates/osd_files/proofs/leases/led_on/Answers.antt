@@ -1,6 +1,6 @@
 use Rattle.std.proofs.Common.{◌<◌, ◌^◌, ◌∙◌, subst, sym}
 use Rattle.xt_base.specs.declared.ids.NodeId.{NodeId}
-use Rattle.osd_rows.specs.FileStates.{members_of}
+use Rattle.xt_protocol.specs.FileStates.{members_of}
 use Rattle.osd_files.specs.Leads.{place_of}
 use Rattle.osd_files.proofs.Drawn.{drawn_notable}
 use Rattle.osd_files.proofs.leases.led_on.Goals as goal

@@ -2,8 +2,8 @@ use Rattle.std.proofs.Common.{◌∙◌, ap, sym, ◌≡◌, true, false}
 use Rattle.std.specs.Prelude.{◌==◌}
 use Rattle.xt_base.specs.declared.ids.NodeId.{NodeId}
 use Rattle.xt_messages.specs.declared.reply.Reply.TheVariants as reply
-use Rattle.osd_rows.specs.FileLeases.{waiting_told, live_lease}
-use Rattle.osd_rows.specs.FileStates.{FileState, Site, FileStep}
+use Rattle.xt_protocol.specs.FileLeases.{waiting_told, live_lease}
+use Rattle.xt_protocol.specs.FileStates.{FileState, Site, FileStep}
 use Rattle.osd_files.specs.Views.{shown, site_at}
 use Rattle.osd_files.proofs.Rows.{each_clock, eq_true, eq_false, when_true, when_false}
 use Rattle.osd_files.proofs.leases.live_lease.Goals as goal

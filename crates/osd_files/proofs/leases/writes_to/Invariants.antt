@@ -2,7 +2,7 @@ use Rattle.std.proofs.Common.{◌≡◌, map, take}
 use Rattle.xt_base.specs.declared.ids.NodeId.{NodeId}
 use Rattle.xt_base.specs.declared.ids.Boot.{Boot}
 use Rattle.xt_messages.specs.declared.message.Payload.TheVariants as payload
-use Rattle.osd_rows.specs.Turns.{message}
+use Rattle.xt_protocol.specs.Turns.{message}
 use Rattle.osd_files.proofs.leases.writes_to.Given as goal
 
 abbrev pub invariant-loop-target : goal.invariant-loop-target

@@ -1,7 +1,7 @@
 use Rattle.std.proofs.Common.{◌∙◌, ap, sym, refl, None, Some}
-use Rattle.xt_protocol.specs.declared.Turned.{Turned}
-use Rattle.osd_rows.specs.FileStates.{FileStep}
-use Rattle.osd_rows.specs.Overdue.{deadlines_come, deadlines_under}
+use Rattle.xt_protocol.specs.declared.turned.Turned.{Turned}
+use Rattle.xt_protocol.specs.FileStates.{FileStep}
+use Rattle.xt_protocol.specs.Overdue.{deadlines_come, deadlines_under}
 use Rattle.osd_files.specs.Rows.{IsRow}
 use Rattle.osd_files.specs.Views.{shown}
 use Rattle.osd_files.proofs.Rows.{if_ok}

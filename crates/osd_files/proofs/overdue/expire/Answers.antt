@@ -1,9 +1,9 @@
 use Rattle.std.proofs.Common.{◌∙◌, sym, refl}
-use Rattle.xt_protocol.specs.declared.Turned.{Turned}
-use Rattle.file_lease.specs.declared.news.Expiry.TheVariants.{Stands, RanOut, Lapsed}
-use Rattle.file_lease.specs.Moves.{IsSettled}
-use Rattle.osd_rows.specs.FileStates.{FileState}
-use Rattle.osd_rows.specs.Overdue.{deadlines_under, expired, lease_lapses, no_lease_for_all}
+use Rattle.xt_protocol.specs.declared.turned.Turned.{Turned}
+use Rattle.flease.specs.declared.news.Expiry.TheVariants.{Stands, RanOut, Lapsed}
+use Rattle.flease.specs.Moves.{IsSettled}
+use Rattle.xt_protocol.specs.FileStates.{FileState}
+use Rattle.xt_protocol.specs.Overdue.{deadlines_under, expired, lease_lapses, no_lease_for_all}
 use Rattle.osd_files.specs.Rows.{IsRow}
 use Rattle.osd_files.specs.Views.{FileView, shown, site_at}
 use Rattle.osd_files.proofs.Rows.{at_clock, if_ok, rows_from}

@@ -1,6 +1,6 @@
 use Rattle.std.proofs.Common.{ℕ, ap}
-use Rattle.xt_protocol.specs.declared.Turned.{Turned}
-use Rattle.osd_rows.specs.Overdue.{no_lease_for_all, lease_lapses}
+use Rattle.xt_protocol.specs.declared.turned.Turned.{Turned}
+use Rattle.xt_protocol.specs.Overdue.{no_lease_for_all, lease_lapses}
 use Rattle.osd_files.specs.Rows.{IsRow}
 use Rattle.osd_files.specs.Views.{shown, with_lead}
 use Rattle.osd_files.proofs.Rows.{if_ok, lapses}

@@ -1,9 +1,9 @@
 use Rattle.std.proofs.Common.{◌≡◌, ◌∙◌, sym, true, false}
 use Rattle.std.specs.Prelude.{◌&&◌, not}
-use Rattle.xt_protocol.specs.declared.Turned.{Turned}
-use Rattle.osd_rows.specs.Asks.{Served, asks_behind, serves_all}
-use Rattle.osd_rows.specs.Primaries.{is_ready}
-use Rattle.osd_rows.specs.Turns.{quiet}
+use Rattle.xt_protocol.specs.declared.turned.Turned.{Turned}
+use Rattle.xt_protocol.specs.Asks.{Served, asks_behind, serves_all}
+use Rattle.xt_protocol.specs.Primaries.{is_ready}
+use Rattle.xt_protocol.specs.Turns.{quiet}
 use Rattle.osd_files.specs.Serves.{AsksFollow, ServesAll, ground_at}
 use Rattle.osd_files.specs.Views.{shown}
 use Rattle.osd_files.proofs.Rows.{if_ok, when_true, when_false}

@@ -1,11 +1,11 @@
 use Rattle.std.proofs.Common.{◌≡◌, ◌∙◌, ap, sym, subst, refl, List, rules}
 use Rattle.std.specs.List.{fold, AllByRecursion}
 use Rattle.std.specs.Vec.Iter.{into_iter_items}
-use Rattle.xt_protocol.specs.declared.Turned.{Turned}
-use Rattle.osd_rows.specs.declared.Asks.{Asks}
-use Rattle.osd_rows.specs.declared.WaitingAsk.{WaitingAsk}
-use Rattle.osd_rows.specs.Asks.{Served, no_asks, serves_all, serves_waiting}
-use Rattle.osd_rows.specs.Turns.{quiet}
+use Rattle.xt_protocol.specs.declared.turned.Turned.{Turned}
+use Rattle.xt_protocol.specs.declared.states.Asks.{Asks}
+use Rattle.xt_protocol.specs.declared.states.WaitingAsk.{WaitingAsk}
+use Rattle.xt_protocol.specs.Asks.{Served, no_asks, serves_all, serves_waiting}
+use Rattle.xt_protocol.specs.Turns.{quiet}
 use Rattle.osd_invariants.specs.OpenAsks.{IsWithinLimits}
 use Rattle.osd_files.specs.Serves.{ground_at}
 use Rattle.osd_files.specs.Views.{shown}

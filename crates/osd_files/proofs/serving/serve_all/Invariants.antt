@@ -3,7 +3,7 @@ use Rattle.std.specs.List.{fold, AllByRecursion}
 use Rattle.std.specs.Vec.Iter.{into_iter_items, into_iter_len}
 use Rattle.xt_messages.specs.declared.file.FileHead.{FileHead}
 use Rattle.xt_messages.specs.declared.file.ObjectVersion.{ObjectVersion}
-use Rattle.osd_rows.specs.Asks.{serves_all, serves_waiting}
+use Rattle.xt_protocol.specs.Asks.{serves_all, serves_waiting}
 use Rattle.osd_invariants.specs.OpenAsks.{IsWithinLimits}
 use Rattle.osd_files.specs.Serves.{OnlyServes, ground_at, served_in}
 use Rattle.osd_files.specs.Views.{shown}

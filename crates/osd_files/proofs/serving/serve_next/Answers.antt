@@ -1,6 +1,6 @@
 use Rattle.std.proofs.Common.{◌≡◌, ◌∙◌, ap}
-use Rattle.xt_protocol.specs.declared.Turned.{Turned}
-use Rattle.osd_rows.specs.Turns.{joined}
+use Rattle.xt_protocol.specs.declared.turned.Turned.{Turned}
+use Rattle.xt_protocol.specs.Turns.{joined}
 use Rattle.osd_files.specs.Serves.{ServesNext, ServesOne, served_in}
 use Rattle.osd_files.specs.Views.{shown}
 use Rattle.osd_files.proofs.Rows.{reads_as, rest_ok}

@@ -2,10 +2,10 @@ use Rattle.std.proofs.Common.{◌≡◌, ◌∙◌, ap, sym, refl, List, true, f
 use Rattle.std.specs.Prelude.{is_some}
 use Rattle.xt_messages.specs.declared.file.FileHead.{FileHead}
 use Rattle.xt_messages.specs.declared.file.ObjectVersion.{ObjectVersion}
-use Rattle.xt_protocol.specs.declared.Turned.{Turned}
-use Rattle.osd_rows.specs.Asks.{Served, is_read, read_answer}
-use Rattle.osd_rows.specs.Serving.{reads}
-use Rattle.osd_rows.specs.Turns.{joined}
+use Rattle.xt_protocol.specs.declared.turned.Turned.{Turned}
+use Rattle.xt_protocol.specs.Asks.{Served, is_read, read_answer}
+use Rattle.xt_protocol.specs.Serving.{reads}
+use Rattle.xt_protocol.specs.Turns.{joined}
 use Rattle.osd_files.specs.Serves.{ServesOne, ground_at, served_in}
 use Rattle.osd_files.specs.Views.{shown}
 use Rattle.osd_files.proofs.Rows.{if_ok}

@@ -4,12 +4,12 @@ use Rattle.xt_base.specs.declared.ids.NodeId.{NodeId}
 use Rattle.xt_base.specs.declared.ids.FileId.{FileId}
 use Rattle.xt_messages.specs.declared.file.FileHead.{FileHead}
 use Rattle.xt_messages.specs.declared.file.ObjectVersion.{ObjectVersion}
-use Rattle.xt_protocol.specs.declared.Turned.{Turned}
-use Rattle.osd_rows.specs.Primaries.{Ground, Led}
-use Rattle.osd_rows.specs.FileStates.{stripe_of}
-use Rattle.osd_rows.specs.Serving.{writes}
-use Rattle.osd_rows.specs.Turns.{joined, quiet}
-use Rattle.osd_rows.specs.Asks.{Served}
+use Rattle.xt_protocol.specs.declared.turned.Turned.{Turned}
+use Rattle.xt_protocol.specs.Primaries.{Ground, Led}
+use Rattle.xt_protocol.specs.FileStates.{stripe_of}
+use Rattle.xt_protocol.specs.Serving.{writes}
+use Rattle.xt_protocol.specs.Turns.{joined, quiet}
+use Rattle.xt_protocol.specs.Asks.{Served}
 use Rattle.replica_primary.specs.Written.{ground}
 use Rattle.osd_files.specs.Leads.{LeadView}
 use Rattle.osd_files.specs.Asking.{asks_once_done}

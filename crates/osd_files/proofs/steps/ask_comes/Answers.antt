@@ -1,10 +1,10 @@
 use Rattle.std.proofs.Common.{◌≡◌, ◌∙◌, ap, sym, subst, refl, Bool, IfOk}
 use Rattle.xt_messages.specs.declared.file.Capability.{Capability}
 use Rattle.xt_messages.specs.declared.file.Kind.{Kind}
-use Rattle.xt_protocol.specs.declared.Turned.{Turned}
+use Rattle.xt_protocol.specs.declared.turned.Turned.{Turned}
 use Rattle.xt_protocol.specs.SeenBodies.{body_by}
-use Rattle.osd_rows.specs.FileStates.{FileStep}
-use Rattle.osd_rows.specs.FileSteps.{ask_comes}
+use Rattle.xt_protocol.specs.FileStates.{FileStep}
+use Rattle.xt_protocol.specs.FileSteps.{ask_comes}
 use Rattle.osd_files.specs.Rows.{IsStep}
 use Rattle.osd_files.specs.Views.{shown, site_at}
 use Rattle.osd_files.proofs.steps.ask_comes.Goals as goal

@@ -3,9 +3,9 @@ use Rattle.xt_messages.specs.declared.file.Capability.{Capability}
 use Rattle.xt_base.specs.declared.ids.OpId.{OpId}
 use Rattle.xt_messages.specs.declared.message.Payload.{Payload}
 use Rattle.xt_messages.specs.declared.message.Payload.TheVariants as payload
-use Rattle.xt_protocol.specs.declared.Turned.{Turned}
+use Rattle.xt_protocol.specs.declared.turned.Turned.{Turned}
 use Rattle.xt_protocol.specs.SeenBodies.{body_by}
-use Rattle.osd_rows.specs.FileSteps.{ask_comes, message_comes, primary_hears}
+use Rattle.xt_protocol.specs.FileSteps.{ask_comes, message_comes, primary_hears}
 use Rattle.osd_files.specs.Asking.{fetch_row}
 use Rattle.osd_files.specs.Rows.{IsRowBy, IsStep}
 use Rattle.osd_files.specs.Views.{shown, site_at}

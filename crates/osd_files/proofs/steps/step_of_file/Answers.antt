@@ -1,8 +1,8 @@
 use Rattle.std.proofs.Common.{◌≡◌}
-use Rattle.xt_protocol.specs.declared.Turned.{Turned}
+use Rattle.xt_protocol.specs.declared.turned.Turned.{Turned}
 use Rattle.xt_protocol.specs.SeenBodies.{body_by}
-use Rattle.osd_rows.specs.FileSteps.{message_comes, step_of_file}
-use Rattle.osd_rows.specs.Turns.{joined}
+use Rattle.xt_protocol.specs.FileSteps.{message_comes, step_of_file}
+use Rattle.xt_protocol.specs.Turns.{joined}
 use Rattle.osd_files.specs.Views.{shown}
 use Rattle.osd_files.specs.Whole.{IsRowOn}
 use Rattle.osd_files.proofs.Rows.{reads_as, rest_ok}

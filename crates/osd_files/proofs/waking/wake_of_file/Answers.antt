@@ -1,12 +1,12 @@
 use Rattle.std.proofs.Common.{◌≡◌, ◌∙◌, ap, sym, rules, None}
 use Rattle.xt_base.specs.declared.ids.NodeId.{NodeId}
 use Rattle.xt_base.specs.declared.ids.FileId.{FileId}
-use Rattle.file_lease.specs.Moves.{turn_of}
-use Rattle.osd_rows.specs.declared.Place.{Place}
-use Rattle.osd_rows.specs.Serving.{wakes}
-use Rattle.osd_rows.specs.FileSteps.{wake_of_file, renews}
-use Rattle.osd_rows.specs.FileStates.{Site, FileState, FileStep, stripe_of}
-use Rattle.xt_protocol.specs.declared.Turned.{Turned}
+use Rattle.flease.specs.Moves.{turn_of}
+use Rattle.xt_protocol.specs.declared.states.Place.{Place}
+use Rattle.xt_protocol.specs.Serving.{wakes}
+use Rattle.xt_protocol.specs.FileSteps.{wake_of_file, renews}
+use Rattle.xt_protocol.specs.FileStates.{Site, FileState, FileStep, stripe_of}
+use Rattle.xt_protocol.specs.declared.turned.Turned.{Turned}
 use Rattle.xt_protocol.specs.LeaseRows.{Held, held}
 use Rattle.osd_files.specs.Rows.{IsRow}
 use Rattle.osd_files.specs.Views.{shown, site_at}

@@ -1,7 +1,7 @@
 use Rattle.std.proofs.Common.{subst, sym}
-use Rattle.xt_protocol.specs.declared.Turned.{Turned}
-use Rattle.osd_rows.specs.FileSteps.{wake_of_file}
-use Rattle.osd_rows.specs.Overdue.{expired}
+use Rattle.xt_protocol.specs.declared.turned.Turned.{Turned}
+use Rattle.xt_protocol.specs.FileSteps.{wake_of_file}
+use Rattle.xt_protocol.specs.Overdue.{expired}
 use Rattle.osd_files.specs.Rows.{IsRow}
 use Rattle.osd_files.proofs.Rows.{given_ok}
 use Rattle.osd_files.specs.Views.{shown}

@@ -1,6 +1,6 @@
 use Rattle.std.proofs.Common.{◌∙◌, Bool, List, ap, sym}
-use Rattle.osd_rows.specs.declared.Peer.{Peer}
-use Rattle.osd_rows.specs.PrimaryRows.{hears_ack}
+use Rattle.xt_protocol.specs.declared.states.Peer.{Peer}
+use Rattle.xt_protocol.specs.PrimaryRows.{hears_ack}
 use Rattle.replica_primary.specs.Acks.{acked_by}
 use Rattle.replica_primary.specs.Written.{ground}
 use Rattle.replica_primary.proofs.Given.{if_so}

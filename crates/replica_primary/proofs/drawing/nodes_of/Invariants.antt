@@ -1,5 +1,5 @@
 use Rattle.std.proofs.Common.{◌≡◌, take}
-use Rattle.osd_rows.specs.Primaries.{nodes_of}
+use Rattle.xt_protocol.specs.Primaries.{nodes_of}
 use Rattle.replica_primary.proofs.drawing.nodes_of.Given as goal
 
 abbrev pub invariant-loop-peer : goal.invariant-loop-peer

@@ -1,7 +1,7 @@
 use Rattle.std.proofs.Common.{◌∙◌, Some, ap, sym}
 use Rattle.xt_messages.specs.declared.file.FileHead.{FileHead}
-use Rattle.osd_rows.specs.declared.Progress.{Progress}
-use Rattle.osd_rows.specs.PrimaryRows.{feeds, target_in}
+use Rattle.xt_protocol.specs.declared.states.Progress.{Progress}
+use Rattle.xt_protocol.specs.PrimaryRows.{feeds, target_in}
 use Rattle.replica_primary.specs.Written.{ground}
 use Rattle.replica_primary.specs.Moves.{feeds_any}
 use Rattle.replica_primary.proofs.Given.{if_so}

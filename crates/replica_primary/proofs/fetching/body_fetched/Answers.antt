@@ -1,7 +1,7 @@
 use Rattle.std.proofs.Common.{◌∙◌, ap}
-use Rattle.osd_rows.specs.declared.Progress.TheVariants as progress
-use Rattle.osd_rows.specs.Primaries.{Led}
-use Rattle.osd_rows.specs.PrimaryRows.{after_keeping}
+use Rattle.xt_protocol.specs.declared.states.Progress.TheVariants as progress
+use Rattle.xt_protocol.specs.Primaries.{Led}
+use Rattle.xt_protocol.specs.PrimaryRows.{after_keeping}
 use Rattle.replica_primary.specs.Written.{ground}
 use Rattle.replica_primary.specs.Moves.{beyond, kept_of}
 use Rattle.replica_primary.proofs.Given.{if_so}

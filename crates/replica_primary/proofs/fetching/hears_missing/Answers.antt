@@ -1,6 +1,6 @@
 use Rattle.std.proofs.Common.{◌∙◌, ap, sym, List}
-use Rattle.osd_rows.specs.declared.Peer.{Peer}
-use Rattle.osd_rows.specs.Primaries.{peer_in}
+use Rattle.xt_protocol.specs.declared.states.Peer.{Peer}
+use Rattle.xt_protocol.specs.Primaries.{peer_in}
 use Rattle.replica_primary.specs.declared.moving.Next.{Next}
 use Rattle.replica_primary.specs.Moves.{known_at_head, next_of, without_any}
 use Rattle.replica_primary.specs.Written.{ground}

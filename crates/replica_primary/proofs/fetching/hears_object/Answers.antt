@@ -1,5 +1,5 @@
 use Rattle.std.proofs.Common.{◌∙◌, ℕ, List, ap, sym}
-use Rattle.osd_rows.specs.PrimaryRows.{body_fetched}
+use Rattle.xt_protocol.specs.PrimaryRows.{body_fetched}
 use Rattle.replica_primary.specs.declared.moving.Next.{Next}
 use Rattle.replica_primary.specs.Written.{ground}
 use Rattle.replica_primary.specs.Moves.{next_of}

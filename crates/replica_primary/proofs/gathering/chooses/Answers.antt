@@ -1,6 +1,6 @@
 use Rattle.std.proofs.Common.{◌∙◌, ap, rules, ◌<◌, length}
 use Rattle.xt_messages.specs.declared.file.FileHead.{FileHead}
-use Rattle.osd_rows.specs.PrimaryRows.{head_chosen}
+use Rattle.xt_protocol.specs.PrimaryRows.{head_chosen}
 use Rattle.replica_primary.specs.Written.{ground}
 use Rattle.replica_primary.proofs.Given.{if_so}
 use Rattle.replica_primary.proofs.Hears.{best_at, chooses_best}

@@ -1,8 +1,8 @@
 use Rattle.std.proofs.Common.{◌∙◌, [], List, ap, arith, get_or}
 use Rattle.xt_messages.specs.declared.record.Record.{Record}
-use Rattle.osd_rows.specs.declared.Peer.{Peer}
-use Rattle.osd_rows.specs.PrimaryRows.{peer_fed}
-use Rattle.flease_register.proofs.Filled.{map-step-at}
+use Rattle.xt_protocol.specs.declared.states.Peer.{Peer}
+use Rattle.xt_protocol.specs.PrimaryRows.{peer_fed}
+use Rattle.flease.proofs.Filled.{map-step-at}
 use Rattle.replica_primary.specs.Moves.{ground_beyond}
 use Rattle.replica_primary.proofs.gathering.each_fed.Goals as goal
 

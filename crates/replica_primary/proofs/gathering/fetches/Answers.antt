@@ -1,6 +1,6 @@
 use Rattle.std.proofs.Common.{List, ap, sym}
 use Rattle.xt_messages.specs.declared.file.ObjectVersion.{ObjectVersion}
-use Rattle.osd_rows.specs.PrimaryRows.{after_keeping, fetches}
+use Rattle.xt_protocol.specs.PrimaryRows.{after_keeping, fetches}
 use Rattle.replica_primary.specs.Moves.{ground_beyond, kept_of}
 use Rattle.replica_primary.proofs.Hears.{fetched_next, split_none, split_some}
 use Rattle.replica_primary.proofs.gathering.fetches.Goals as goal

@@ -1,7 +1,7 @@
 use Rattle.std.proofs.Common.{◌∙◌, List, ap}
 use Rattle.xt_messages.specs.declared.file.ObjectVersion.{ObjectVersion}
-use Rattle.osd_rows.specs.Choice.{difference}
-use Rattle.osd_rows.specs.PrimaryRows.{fetches}
+use Rattle.xt_protocol.specs.Choice.{difference}
+use Rattle.xt_protocol.specs.PrimaryRows.{fetches}
 use Rattle.replica_primary.specs.Written.{ground}
 use Rattle.replica_primary.proofs.Given.{if_so}
 use Rattle.replica_primary.proofs.Hears.{keeps_none, other_chosen, own_chosen}

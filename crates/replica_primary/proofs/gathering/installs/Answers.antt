@@ -1,9 +1,9 @@
 use Rattle.std.proofs.Common.{◌∙◌, ◌∷◌, List, ap}
-use Rattle.osd_rows.specs.declared.Peer.{Peer}
+use Rattle.xt_protocol.specs.declared.states.Peer.{Peer}
 use Rattle.replica_primary.specs.Moves.{ground_beyond}
 use Rattle.xt_messages.specs.declared.message.Payload.TheVariants as payload
-use Rattle.osd_rows.specs.Turns.{message, sends}
-use Rattle.osd_rows.specs.Primaries.{last_to_each}
+use Rattle.xt_protocol.specs.Turns.{message, sends}
+use Rattle.xt_protocol.specs.Primaries.{last_to_each}
 use Rattle.replica_primary.proofs.Hears.{installed}
 use Rattle.replica_primary.proofs.gathering.installs.Goals as goal
 

@@ -1,8 +1,8 @@
 use Rattle.std.proofs.Common.{◌∙◌, Option, ap}
-use Rattle.xt_protocol.specs.declared.Turned.{Turned}
+use Rattle.xt_protocol.specs.declared.turned.Turned.{Turned}
 use Rattle.xt_messages.specs.declared.record.Record.{Record}
-use Rattle.osd_rows.specs.Primaries.{Led}
-use Rattle.osd_rows.specs.PrimaryRows.{after_keeping, goes_on}
+use Rattle.xt_protocol.specs.Primaries.{Led}
+use Rattle.xt_protocol.specs.PrimaryRows.{after_keeping, goes_on}
 use Rattle.replica_primary.specs.Moves.{ground_beyond, kept_of}
 use Rattle.replica_primary.proofs.gathering.installs_keeping.Goals as goal
 

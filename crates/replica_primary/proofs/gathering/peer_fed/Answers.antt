@@ -1,6 +1,6 @@
 use Rattle.std.proofs.Common.{◌∙◌, List, ap, sym}
 use Rattle.xt_messages.specs.declared.file.ObjectVersion.{ObjectVersion}
-use Rattle.osd_rows.specs.Primaries.{fed}
+use Rattle.xt_protocol.specs.Primaries.{fed}
 use Rattle.replica_primary.specs.Moves.{ground_beyond}
 use Rattle.replica_primary.proofs.Hears.{feed_to, left_as}
 use Rattle.replica_primary.proofs.gathering.peer_fed.Goals as goal

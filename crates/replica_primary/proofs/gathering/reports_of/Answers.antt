@@ -1,7 +1,7 @@
 use Rattle.std.proofs.Common.{◌∙◌, ◌++◌, List, Option, ap, sym, take}
 use Rattle.xt_messages.specs.declared.file.FileHead.{FileHead}
 use Rattle.xt_base.specs.declared.ids.NodeId.{NodeId}
-use Rattle.osd_rows.specs.Primaries.{reports_of}
+use Rattle.xt_protocol.specs.Primaries.{reports_of}
 use Rattle.replica_primary.specs.Moves.{any_report}
 use Rattle.replica_primary.proofs.Hears.{reports_more}
 use Rattle.replica_primary.proofs.gathering.reports_of.Goals as goal

@@ -1,10 +1,10 @@
 use Rattle.std.proofs.Common.{◌∙◌, ℕ, List, ap, sym}
-use Rattle.osd_rows.specs.declared.Peer.{Peer}
+use Rattle.xt_protocol.specs.declared.states.Peer.{Peer}
 use Rattle.xt_messages.specs.declared.file.FileHead.{FileHead}
 use Rattle.xt_base.specs.declared.ids.NodeId.{NodeId}
 use Rattle.std.specs.Prelude.{nat_le}
-use Rattle.osd_rows.specs.Primaries.{majority_among, reports_of, statuses_counted}
-use Rattle.osd_rows.specs.PrimaryRows.{chooses}
+use Rattle.xt_protocol.specs.Primaries.{majority_among, reports_of, statuses_counted}
+use Rattle.xt_protocol.specs.PrimaryRows.{chooses}
 use Rattle.replica_primary.specs.Written.{ground}
 use Rattle.replica_primary.proofs.Given.{if_so}
 use Rattle.replica_primary.proofs.Hears.{majority_told}

@@ -1,7 +1,7 @@
 use Rattle.std.proofs.Common.{◌∙◌, List, ap, sym}
-use Rattle.osd_rows.specs.declared.Peer.{Peer}
-use Rattle.osd_rows.specs.declared.PeerState.{PeerState}
-use Rattle.osd_rows.specs.Primaries.{peer_in, with_peer}
+use Rattle.xt_protocol.specs.declared.states.Peer.{Peer}
+use Rattle.xt_protocol.specs.declared.states.PeerState.{PeerState}
+use Rattle.xt_protocol.specs.Primaries.{peer_in, with_peer}
 use Rattle.replica_primary.proofs.Hears.{other_forgotten, reported_kept}
 use Rattle.replica_primary.proofs.hearing.forget.Goals as goal
 

@@ -1,9 +1,9 @@
 use Rattle.std.proofs.Common.{◌∙◌, Bool, List, ap, sym}
-use Rattle.osd_rows.specs.declared.Peer.{Peer}
+use Rattle.xt_protocol.specs.declared.states.Peer.{Peer}
 use Rattle.xt_messages.specs.declared.file.ObjectVersion.{ObjectVersion}
 use Rattle.xt_messages.specs.declared.message.Payload.{Payload}
-use Rattle.osd_rows.specs.Primaries.{peer_in}
-use Rattle.osd_rows.specs.PrimaryRows.{body_staged, hears_ack, hears_object, hears_peer, target_in}
+use Rattle.xt_protocol.specs.Primaries.{peer_in}
+use Rattle.xt_protocol.specs.PrimaryRows.{body_staged, hears_ack, hears_object, hears_peer, target_in}
 use Rattle.replica_primary.specs.declared.moving.Next.{Next}
 use Rattle.replica_primary.specs.Moves.{known_of, next_of, with_any}
 use Rattle.replica_primary.specs.Written.{ground}

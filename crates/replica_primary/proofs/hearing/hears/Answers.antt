@@ -1,6 +1,6 @@
 use Rattle.std.proofs.Common.{◌∙◌, Option, ap, sym}
-use Rattle.osd_rows.specs.declared.Tenure.{Tenure}
-use Rattle.osd_rows.specs.PrimaryRows.{goes_on, hears, hears_in}
+use Rattle.xt_protocol.specs.declared.states.Tenure.{Tenure}
+use Rattle.xt_protocol.specs.PrimaryRows.{goes_on, hears, hears_in}
 use Rattle.replica_primary.specs.declared.moving.Heard.{Heard}
 use Rattle.replica_primary.specs.Moves.{led_by}
 use Rattle.replica_primary.specs.Written.{ground}

@@ -1,7 +1,7 @@
 use Rattle.std.proofs.Common.{◌∙◌, ap, sym}
 use Rattle.xt_messages.specs.declared.file.ObjectVersion.{ObjectVersion}
 use Rattle.xt_messages.specs.declared.message.Payload.{Payload}
-use Rattle.osd_rows.specs.PrimaryRows.{hears_missing, hears_peer}
+use Rattle.xt_protocol.specs.PrimaryRows.{hears_missing, hears_peer}
 use Rattle.replica_primary.specs.declared.moving.Heard.{Heard}
 use Rattle.replica_primary.specs.Moves.{led_by}
 use Rattle.replica_primary.specs.Written.{ground}

@@ -1,11 +1,11 @@
 use Rattle.std.proofs.Common.{◌∙◌, ◌∷◌, [], List, ap}
 use Rattle.xt_messages.specs.declared.message.Msg.{Msg}
 use Rattle.xt_messages.specs.declared.message.Payload.TheVariants as payload
-use Rattle.xt_protocol.specs.declared.Turned.{Turned}
-use Rattle.osd_rows.specs.declared.Peer.{Peer}
-use Rattle.osd_rows.specs.declared.Tenure.{Tenure}
-use Rattle.osd_rows.specs.PrimaryRows.{goes_on}
-use Rattle.osd_rows.specs.Turns.{message, sends}
+use Rattle.xt_protocol.specs.declared.turned.Turned.{Turned}
+use Rattle.xt_protocol.specs.declared.states.Peer.{Peer}
+use Rattle.xt_protocol.specs.declared.states.Tenure.{Tenure}
+use Rattle.xt_protocol.specs.PrimaryRows.{goes_on}
+use Rattle.xt_protocol.specs.Turns.{message, sends}
 use Rattle.replica_primary.proofs.Given.{if_so}
 use Rattle.replica_primary.proofs.hearing.peer_behind.Goals as goal
 

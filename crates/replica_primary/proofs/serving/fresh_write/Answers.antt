@@ -1,9 +1,9 @@
 use Rattle.std.proofs.Common.{◌≡◌, ◌∙◌, ap, sym, refl, false, Option, Some, None}
 use Rattle.std.specs.Option.{is_some}
 use Rattle.xt_messages.specs.declared.file.Update.{Update}
-use Rattle.osd_rows.specs.declared.IssuedUpdate.{IssuedUpdate}
-use Rattle.osd_rows.specs.declared.Progress.TheVariants as progress
-use Rattle.osd_rows.specs.Serving.{issues, issues_unless}
+use Rattle.xt_protocol.specs.declared.states.IssuedUpdate.{IssuedUpdate}
+use Rattle.xt_protocol.specs.declared.states.Progress.TheVariants as progress
+use Rattle.xt_protocol.specs.Serving.{issues, issues_unless}
 use Rattle.replica_primary.specs.Written.{ground}
 use Rattle.replica_primary.proofs.serving.fresh_write.Goals as goal
 

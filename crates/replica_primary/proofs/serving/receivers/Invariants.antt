@@ -1,5 +1,5 @@
 use Rattle.std.proofs.Common.{◌≡◌, ◌∷◌, take}
-use Rattle.osd_rows.specs.Serving.{current_others}
+use Rattle.xt_protocol.specs.Serving.{current_others}
 use Rattle.replica_primary.proofs.serving.receivers.Given as goal
 
 abbrev pub invariant-loop-peer : goal.invariant-loop-peer

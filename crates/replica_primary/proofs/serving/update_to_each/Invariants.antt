@@ -1,6 +1,6 @@
 use Rattle.std.proofs.Common.{◌≡◌, take}
 use Rattle.xt_messages.specs.declared.message.Payload.TheVariants as payload
-use Rattle.osd_rows.specs.Turns.{to_each}
+use Rattle.xt_protocol.specs.Turns.{to_each}
 use Rattle.replica_primary.proofs.serving.update_to_each.Given as goal
 
 abbrev pub invariant-loop-to : goal.invariant-loop-to

@@ -1,6 +1,6 @@
 use Rattle.std.proofs.Common.{◌≡◌, take, flat_map}
-use Rattle.osd_rows.specs.Primaries.{if_any}
-use Rattle.osd_rows.specs.Serving.{sent_again}
+use Rattle.xt_protocol.specs.Primaries.{if_any}
+use Rattle.xt_protocol.specs.Serving.{sent_again}
 use Rattle.replica_primary.proofs.waking.again_to_each.Given as goal
 
 abbrev pub invariant-loop-peer : goal.invariant-loop-peer

@@ -1,6 +1,6 @@
 use Rattle.std.proofs.Common.{◌≡◌, take, flat_map}
-use Rattle.osd_rows.specs.Primaries.{if_any}
-use Rattle.osd_rows.specs.Serving.{gather_unknown}
+use Rattle.xt_protocol.specs.Primaries.{if_any}
+use Rattle.xt_protocol.specs.Serving.{gather_unknown}
 use Rattle.replica_primary.proofs.waking.gathers.Given as goal
 
 abbrev pub invariant-loop-peer : goal.invariant-loop-peer

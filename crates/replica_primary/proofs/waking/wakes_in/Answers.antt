@@ -1,8 +1,8 @@
 use Rattle.std.proofs.Common.{List, None, ap, refl, ◌∙◌, flat_map}
-use Rattle.osd_rows.specs.declared.Peer.{Peer}
-use Rattle.osd_rows.specs.Primaries.{if_any}
-use Rattle.osd_rows.specs.Serving.{gather_unknown, sent_again}
-use Rattle.osd_rows.specs.Turns.{sends}
+use Rattle.xt_protocol.specs.declared.states.Peer.{Peer}
+use Rattle.xt_protocol.specs.Primaries.{if_any}
+use Rattle.xt_protocol.specs.Serving.{gather_unknown, sent_again}
+use Rattle.xt_protocol.specs.Turns.{sends}
 use Rattle.replica_primary.proofs.Given.{if_so}
 use Rattle.replica_primary.proofs.waking.wakes_in.Goals as goal
 

@@ -6,11 +6,8 @@ use Rattle.node_hosts.specs.Turns.{IsCoreStep}
 use Rattle.node_cores.specs.declared.roles.Core.{Core}
 use Rattle.node_cores.specs.declared.roles.Core.TheVariants as core
 use Rattle.node_cores.specs.Cores.{core_of, IsOf}
-use Rattle.node_cores.proofs.Steps.{event_fits, osd_took}
+use Rattle.node_cores.proofs.Steps.{osd_took}
 use Rattle.node_cores.proofs.roles.CoreNodeCore.handle.Goals as goal
-
-pub step-requires-clause-fits : goal.step-requires-clause-fits
-step-requires-clause-fits g c = event_fits c.args.ev.now c.requires.fits
 
 pub returns-in-Ok : goal.returns-in-Ok
 returns-in-Ok g c =

@@ -1,6 +1,6 @@
 use Rattle.std.proofs.Common.{ap, subst, sym, ◌∙◌, List}
 use Rattle.xt_protocol.specs.LeaseRows.{Silent}
-use Rattle.osd_rows.specs.FileStates.{FileState}
+use Rattle.xt_protocol.specs.FileStates.{FileState}
 use Rattle.osd_core.specs.declared.slot.Slot.{Slot}
 use Rattle.osd_core.specs.Slots.{awake_of, states_of, slots_from, AreSlots}
 use Rattle.osd_core.specs.Views.{OsdView}

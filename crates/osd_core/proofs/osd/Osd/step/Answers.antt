@@ -1,5 +1,5 @@
 use Rattle.std.proofs.Common.{◌≡◌, ◌∙◌, subst, sym, arith}
-use Rattle.osd_rows.specs.OsdSteps.{OsdStep, step_of_osd}
+use Rattle.xt_protocol.specs.OsdSteps.{OsdStep, step_of_osd}
 use Rattle.osd_core.specs.Keys.{outside_of}
 use Rattle.osd_core.specs.Slots.{awake_of, states_of}
 use Rattle.osd_core.specs.Views.{OsdView}

@@ -1,5 +1,5 @@
 use Rattle.xt_protocol.specs.SeenBodies.{body_by}
-use Rattle.osd_rows.specs.FileSteps.{step_of_file}
+use Rattle.xt_protocol.specs.FileSteps.{step_of_file}
 use Rattle.osd_core.proofs.Steps.{slot_stays}
 use Rattle.osd_core.proofs.slot.Slot.take.Goals as goal
 

@@ -1,6 +1,6 @@
 use Rattle.std.proofs.Common.{subst, Some}
-use Rattle.osd_rows.specs.declared.Place.{Place}
-use Rattle.osd_rows.specs.PrimaryRows.{epoch_drawn}
+use Rattle.xt_protocol.specs.declared.states.Place.{Place}
+use Rattle.xt_protocol.specs.PrimaryRows.{epoch_drawn}
 use Rattle.osd_files.specs.Counts.{IsCountedIn}
 use Rattle.osd_files.specs.Leads.{StandsAt}
 use Rattle.osd_files.proofs.Counted.{begin_counted, place_begun}

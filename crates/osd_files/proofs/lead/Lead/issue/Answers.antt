@@ -2,10 +2,10 @@ use Rattle.std.proofs.Common.{◌≡◌, sym, subst, Some, Option, List, IfOk}
 use Rattle.std.specs.Option.{option_map}
 use Rattle.xt_messages.specs.declared.file.FileHead.{FileHead}
 use Rattle.xt_messages.specs.declared.file.ObjectVersion.{ObjectVersion}
-use Rattle.xt_protocol.specs.declared.Turned.{Turned}
-use Rattle.osd_rows.specs.declared.Place.{Place}
-use Rattle.osd_rows.specs.Primaries.{Led}
-use Rattle.osd_rows.specs.Serving.{writes}
+use Rattle.xt_protocol.specs.declared.turned.Turned.{Turned}
+use Rattle.xt_protocol.specs.declared.states.Place.{Place}
+use Rattle.xt_protocol.specs.Primaries.{Led}
+use Rattle.xt_protocol.specs.Serving.{writes}
 use Rattle.replica_primary.specs.Written.{ground}
 use Rattle.osd_files.specs.Leads.{LeadView, StandsAt, place_of, location_in, primary_in}
 use Rattle.osd_files.specs.Counts.{IsCountedIn}

@@ -1,8 +1,8 @@
 use Rattle.std.proofs.Common.{◌≡◌, sym, subst, Some, Option, List, IfOk}
 use Rattle.xt_messages.specs.declared.file.FileHead.{FileHead}
 use Rattle.xt_messages.specs.declared.file.ObjectVersion.{ObjectVersion}
-use Rattle.osd_rows.specs.declared.Place.{Place}
-use Rattle.osd_rows.specs.Serving.{reads}
+use Rattle.xt_protocol.specs.declared.states.Place.{Place}
+use Rattle.xt_protocol.specs.Serving.{reads}
 use Rattle.replica_primary.specs.Written.{ground}
 use Rattle.osd_files.specs.Leads.{LeadView, StandsAt, place_of, location_in, primary_in}
 use Rattle.osd_files.specs.declared.lead.Listed.{Listed}

@@ -1,5 +1,5 @@
 use Rattle.std.proofs.Common.{sym, subst}
-use Rattle.version_lists.specs.Rising.{HeadRises}
+use Rattle.object_versions.specs.Rising.{HeadRises}
 use Rattle.osd_plain.proofs.Heads.{still_rises}
 use Rattle.osd_plain.proofs.plain.Plain.keep.Goals as goal
 

@@ -1,5 +1,5 @@
 use Rattle.std.proofs.Common.{◌∙◌, ap, max, subst, sym}
-use Rattle.xt_protocol.specs.declared.Turned.{Turned}
+use Rattle.xt_protocol.specs.declared.turned.Turned.{Turned}
 use Rattle.replica_client.specs.Again.{asks_first}
 use Rattle.replica_client.specs.Views.{ClientView, Acts}
 use Rattle.replica_client.proofs.Acted.{Row, again_is}

@@ -3,7 +3,7 @@ use Rattle.std.specs.Option.{IfSome}
 use Rattle.xt_messages.specs.declared.event.Mark.{Mark}
 use Rattle.xt_messages.specs.declared.message.Msg.{Msg}
 use Rattle.xt_messages.specs.declared.record.Record.{Record}
-use Rattle.xt_protocol.specs.declared.Turned.{Turned}
+use Rattle.xt_protocol.specs.declared.turned.Turned.{Turned}
 use Rattle.cluster_runs.specs.World.{Node, Running}
 use Rattle.cluster_runs.specs.NodeSteps.{end_of_step}
 use Rattle.cluster_fits.specs.Fits.{FitsRunning, FitsTurned}

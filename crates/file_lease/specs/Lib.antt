@@ -1,3 +1,0 @@
-pub mod Shown
-pub mod States
-pub mod Moves

@@ -1,0 +1,7 @@
+pub mod Answers
+pub mod Moves
+pub mod Pairs
+pub mod Rounds
+pub mod SeatList
+pub mod Shown
+pub mod States

@@ -1,4 +1,0 @@
-pub mod Answers
-pub mod Pairs
-pub mod Rounds
-pub mod SeatList

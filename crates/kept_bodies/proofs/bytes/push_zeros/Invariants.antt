@@ -1,6 +1,0 @@
-use Rattle.std.proofs.Common.{◌≡◌, ◌++◌}
-use Rattle.xt_base.specs.Overlay.{zeros}
-use Rattle.kept_bodies.proofs.bytes.push_zeros.Given as goal
-
-abbrev pub invariant-loop-place : goal.invariant-loop-place
-invariant-loop-place l = l.bytes.items ≡ l.initial.bytes.items ++ zeros l._place

@@ -1,0 +1,5 @@
+pub mod HeadLimits
+pub mod HeadRows
+pub mod HeldSets
+pub mod HeldVersions
+pub mod Puts

@@ -1,6 +1,0 @@
-use Rattle.std.proofs.Common.{◌≡◌, take}
-use Rattle.osd_rows.specs.Turns.{to_each}
-use Rattle.step_outputs.proofs.to_each.Given as goal
-
-abbrev pub invariant-loop-to : goal.invariant-loop-to
-invariant-loop-to l = l.outs ≡ to_each l.from (take l.to-index l.nodes) l.payload

@@ -1,5 +1,0 @@
-pub mod Puts
-pub mod HeldVersions
-pub mod HeadRows
-pub mod HeadLimits
-pub mod HeldSets

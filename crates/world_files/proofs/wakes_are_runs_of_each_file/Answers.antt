@@ -1,5 +1,0 @@
-use Rattle.world_files.proofs.Steps.{wakes_run}
-use Rattle.world_files.proofs.wakes_are_runs_of_each_file.Goals as goal
-
-pub returns : goal.returns
-returns c = wakes_run
