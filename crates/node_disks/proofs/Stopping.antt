@@ -13,7 +13,7 @@ use Rattle.xt_messages.specs.declared.record.Record.{Record}
 use Rattle.xt_protocol.specs.Folds.{fold_of, IsInPlace}
 use Rattle.replica_records.specs.RecordText.{record_text}
 use Rattle.xt_journal.specs.Append.{IsStopped, payloads_after_stop}
-use Rattle.xt_journal.specs.Calls.{IsFirstFailure, AllSucceed}
+use Rattle.journal_records.specs.Calls.{IsFirstFailure, AllSucceed}
 use Rattle.xt_journal.specs.Format.{StandsFor, end_of}
 use Rattle.xt_journal.specs.Loaded.{MadeCalls}
 use Rattle.object_store.specs.Texts.{texts_of, AreRecords}

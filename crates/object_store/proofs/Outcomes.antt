@@ -5,7 +5,7 @@ use Rattle.xt_base.specs.Faults.{counted}
 use Rattle.xt_messages.specs.declared.record.Record.{Record}
 use Rattle.replica_records.specs.RecordText.{record_text}
 use Rattle.xt_journal.specs.Append.{IsStopped, IsWithOrWithout}
-use Rattle.xt_journal.specs.Calls.{GoesOn}
+use Rattle.journal_records.specs.Calls.{GoesOn}
 use Rattle.xt_journal.specs.Format.{KeepsJournal, StandsFor}
 use Rattle.object_store.specs.Texts.{texts_of}
 use Rattle.object_store.proofs.Reading.{texts-push}

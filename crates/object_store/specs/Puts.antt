@@ -6,7 +6,7 @@ use Rattle.xt_base.specs.Faults.{counted, fault_count_after}
 use Rattle.xt_messages.specs.declared.record.Record.{Record}
 use Rattle.xt_journal.specs.Access.{place_of, limit_of}
 use Rattle.xt_journal.specs.Append.{IsStopped, IsWithOrWithout}
-use Rattle.xt_journal.specs.Calls.{AllSucceed, GoesOn}
+use Rattle.journal_records.specs.Calls.{AllSucceed, GoesOn}
 use Rattle.xt_journal.specs.Format.{StandsFor}
 use Rattle.replica_records.specs.RecordText.{record_text}
 use Rattle.object_store.specs.declared.store.Store.{Store}

@@ -5,7 +5,8 @@ use Rattle.std.specs.List.{All, AllByRecursion}
 use Rattle.std.proofs.lemmas.Bool.{and_parts, eqb-false, ltb-true, leb-true}
 use Rattle.std.proofs.lemmas.List.Elements.{All-from_recursion}
 use Rattle.xt_journal.specs.Format.{header, open_gate, records, end_of, IsPayload, IsJournal, StandsFor}
-use Rattle.xt_journal.specs.Reading.{ReadsAs, Stands, Damaged, IsCutOff, payloads_of, placed_from}
+use Rattle.journal_records.specs.Records.{IsCutOff}
+use Rattle.xt_journal.specs.Reading.{ReadsAs, Stands, Damaged, payloads_of, placed_from}
 
 -- this, and what follows
 infixr 5 ◌▷◌

@@ -5,7 +5,8 @@ use Rattle.std.proofs.lemmas.List.{take_at}
 use Rattle.std.proofs.lemmas.List.Elements.{All-push}
 use Rattle.xt_journal.specs.declared.placed.Placed.{Placed}
 use Rattle.xt_journal.specs.Format.{header, open_gate, record_of, records, end_of, IsJournal, IsPayload}
-use Rattle.xt_journal.specs.Parsed.{HasRecords, IsFound, IsRecord, gates_of}
+use Rattle.journal_records.specs.Records.{IsRecord}
+use Rattle.xt_journal.specs.Parsed.{HasRecords, IsFound, gates_of}
 use Rattle.xt_journal.specs.Reading.{payloads_of, placed_from}
 use Rattle.xt_journal.proofs.Push.{records-push, end_of-push}
 use Rattle.xt_journal.proofs.Taken.{gates_of-push, payloads_of_placed}

@@ -1,6 +1,6 @@
 -- A fact on a result, from another one.
 use Rattle.std.proofs.Common.{◌≡◌, ℕ, ◌+◌, ◌-◌, ◌<◌, ◌≤◌, ⊎_elim, Bool, false, sym, ◌∙◌, ap, arith, Result, Ok, Err, OnOk, OnErr, IfOk, IfErr}
-use Rattle.xt_journal.specs.Calls.{GoesOn, IsFirstFailure, AllSucceed}
+use Rattle.journal_records.specs.Calls.{GoesOn, IsFirstFailure, AllSucceed}
 use Rattle.std.proofs.lemmas.Bool.{cases_lt}
 
 pub on_ok : {T E P Q : Type 0} (r : Result T E) → OnOk r P → (P → Q) → OnOk r Q

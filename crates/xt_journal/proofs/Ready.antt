@@ -5,7 +5,7 @@ use Rattle.disk_model.specs.Disk.{Kept, IsImage, at_rest}
 use Rattle.disk_model.proofs.Images.{rest_stays}
 use Rattle.xt_journal.specs.declared.format.Trouble.{Trouble}
 use Rattle.xt_journal.specs.declared.format.Trouble.TheVariants.{DiskFault, NotOurs, Layout, Damaged, OutOfMemory}
-use Rattle.xt_journal.specs.Calls.{GoesOn, MayBeTorn, IsTornAt}
+use Rattle.journal_records.specs.Calls.{GoesOn, MayBeTorn, IsTornAt}
 use Rattle.xt_journal.specs.Parsed.{is_fault}
 use Rattle.xt_journal.specs.Format.{journal_of}
 use Rattle.xt_journal.specs.Loaded.{IsReady, IsUnready, FailedCall, LeavesAsBefore, LeavesDisk, MadeCalls, TellsFresh}

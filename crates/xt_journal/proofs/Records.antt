@@ -6,7 +6,7 @@ use Rattle.std.proofs.lemmas.List.{take_at, drop_at}
 use Rattle.byteorder.specs.Endian.{big_bytes, big_number}
 use Rattle.byteorder.specs.Numbers.{big_number-reads_back, length-bytes_high_first}
 use Rattle.xt_journal.specs.Format.{header, open_gate, record_of, records, end_of, IsPayload}
-use Rattle.xt_journal.specs.Reading.{IsCutOff}
+use Rattle.journal_records.specs.Records.{IsCutOff}
 
 -- a number of four bytes is printed as it was read
 pub printed : (xs : List ℕ) → 4 ≤ length xs → ((i : ℕ) → slice_index xs i < 256) → big_bytes 4 (big_number 4 xs) ≡ take 4 xs

@@ -14,7 +14,7 @@ use Rattle.xt_journal.specs.declared.append.Refusal.{Refusal}
 use Rattle.xt_journal.specs.declared.append.Refusal.TheVariants.{Broken, OutOfMemory}
 use Rattle.xt_journal.specs.Appended.{Appends}
 use Rattle.xt_journal.specs.Append.{GoesAt, IsTurn, IsWithOrWithout, IsStopped, payloads_after_stop}
-use Rattle.xt_journal.specs.Calls.{MayBeTorn, IsTornAt}
+use Rattle.journal_records.specs.Calls.{MayBeTorn, IsTornAt}
 use Rattle.xt_journal.specs.Format.{header, open_gate, record_of, records, end_of, IsPayload, IsJournal, KeepsJournal, EndsAt, StandsFor}
 use Rattle.xt_journal.proofs.Records.{length-record}
 use Rattle.xt_journal.proofs.Push.{records-push, end_of-push}

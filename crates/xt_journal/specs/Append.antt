@@ -1,7 +1,7 @@
 -- What appending does to a disk.
 use Rattle.std.specs.Prelude.{ℕ, ◌+◌, ◌<◌, ◌≤◌, ◌≡◌, ◌⊎◌, Bool, ◌&&◌, ◌==◌, nat_le, if◌then◌else◌, List, [], ◌∷◌, ◌++◌, length}
 use Rattle.disk_model.specs.Disk.{Kept, IsImage, IsFilled}
-use Rattle.xt_journal.specs.Calls.{IsFirstFailure}
+use Rattle.journal_records.specs.Calls.{IsFirstFailure}
 use Rattle.xt_journal.specs.Format.{open_gate, record_of, end_of, IsPayload, StandsFor, KeepsJournal}
 
 -- the journal of these payloads, with this one more or without it

@@ -4,7 +4,7 @@ use Rattle.disk_model.specs.Disk.{Kept}
 use Rattle.xt_journal.specs.declared.append.Refusal.{Refusal}
 use Rattle.xt_journal.specs.declared.append.Refusal.TheVariants.{Broken, OutOfMemory}
 use Rattle.xt_journal.specs.Append.{IsStopped}
-use Rattle.xt_journal.specs.Calls.{GoesOn, AllSucceed}
+use Rattle.journal_records.specs.Calls.{GoesOn, AllSucceed}
 use Rattle.xt_journal.specs.Format.{KeepsJournal}
 
 -- the disk has the payload in its journal, or was stopped at it

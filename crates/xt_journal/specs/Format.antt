@@ -1,9 +1,9 @@
 -- The bytes of a journal, and what they stand for.
 use Rattle.std.specs.Prelude.{ℕ, ◌+◌, ◌^◌, ◌<◌, ◌≤◌, ◌≡◌, ◌≢◌, ◌⊎◌, List, [], ◌∷◌, ◌++◌, length}
 use Rattle.std.specs.List.{All}
-use Rattle.byteorder.specs.Endian.{big_bytes}
 use Rattle.disk_model.specs.Disk.{Kept, at_rest}
 pub use Rattle.disk_model.specs.Gate.{open_gate}
+pub use Rattle.journal_records.specs.Records.{record_of, IsPayload}
 
 -- the text XTFSJRNL
 abbrev pub sign : List ℕ
@@ -13,19 +13,10 @@ sign = 0x58 ∷ 0x54 ∷ 0x46 ∷ 0x53 ∷ 0x4a ∷ 0x52 ∷ 0x4e ∷ 0x4c ∷ [
 abbrev pub header : List ℕ
 header = sign ++ 0 ∷ 0 ∷ 0 ∷ 1 ∷ []
 
--- a payload behind its length
-abbrev pub record_of : List ℕ → List ℕ
-record_of payload = big_bytes 4 (length payload) ++ payload
-
 -- each behind an open gate
 abbrev pub records : List (List ℕ) → List ℕ
 records [] = []
 records (payload ∷ payloads) = open_gate ∷ (record_of payload ++ records payloads)
-
--- a payload has at least one byte, and its length is a number of 32 bits
-pub record IsPayload (payload : List ℕ) : Type 0 where
-  pub some : 1 ≤ length payload
-  pub fits : length payload < 2 ^ 32
 
 -- the header, the records, and a closed gate
 abbrev pub journal_of : List (List ℕ) → List ℕ

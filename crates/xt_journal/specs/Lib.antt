@@ -2,7 +2,6 @@ pub mod Access
 pub mod Answers
 pub mod Append
 pub mod Appended
-pub mod Calls
 pub mod Format
 pub mod Reading
 pub mod Parsed

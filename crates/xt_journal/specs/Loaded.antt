@@ -1,7 +1,7 @@
 -- What loading does to a disk.
 use Rattle.std.specs.Prelude.{ℕ, ◌+◌, ◌≤◌, ◌≡◌, ◌≢◌, ◌⊎◌, ◌<◌, Bool, true, false, List, [], length}
 use Rattle.disk_model.specs.Disk.{Kept, IsImage, at_rest}
-use Rattle.xt_journal.specs.Calls.{MayBeTorn, IsTornAt}
+use Rattle.journal_records.specs.Calls.{MayBeTorn, IsTornAt}
 use Rattle.xt_journal.specs.Format.{journal_of}
 
 -- the disk isn't written anew: it has more than 13 bytes, or is a journal with no record

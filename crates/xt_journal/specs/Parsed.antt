@@ -5,10 +5,9 @@ use Rattle.std.specs.declared.alloc.Global.{Global}
 use Rattle.xt_journal.specs.declared.placed.Placed.{Placed}
 use Rattle.xt_journal.specs.declared.format.Trouble.{Trouble}
 use Rattle.xt_journal.specs.declared.format.Trouble.TheVariants as trouble
-use Rattle.xt_journal.specs.declared.format.Next.{Next}
-use Rattle.xt_journal.specs.declared.format.Next.TheVariants as next
-use Rattle.xt_journal.specs.Format.{header, open_gate, record_of, records, end_of, IsPayload}
-use Rattle.xt_journal.specs.Reading.{Reading, ReadsAs, Stands, Foreign, Unknown, Damaged, IsCutOff, placed_from}
+use Rattle.journal_records.specs.Records.{IsCutOff}
+use Rattle.xt_journal.specs.Format.{header, open_gate, records, end_of, IsPayload}
+use Rattle.xt_journal.specs.Reading.{Reading, ReadsAs, Stands, Foreign, Unknown, Damaged, placed_from}
 
 -- the reading is the one of these bytes
 abbrev pub Gives : List ℕ → Result (ℕ × Vec Placed Global) Trouble → Type 0
@@ -69,28 +68,6 @@ Finds bytes (Err (trouble.Layout version)) = ReadsAs bytes (Unknown version)
 Finds bytes (Err (trouble.Damaged place)) = ReadsAs bytes (Damaged place)
 Finds bytes (Err trouble.DiskFault) = Unit {0}
 Finds bytes (Err trouble.OutOfMemory) = Unit {0}
-
-pub record IsRecord (bytes payload rest : List ℕ) : Type 0 where
-  pub are : bytes ≡ open_gate ∷ (record_of payload ++ rest)
-  pub is_payload : IsPayload payload
-  pub some : 1 ≤ length rest
-
-pub record IsClosed (bytes : List ℕ) : Type 0 where
-  pub gate : ℕ
-  pub rest : List ℕ
-  pub shut : gate ≢ open_gate
-  pub are : bytes ≡ gate ∷ rest
-
-pub record IsCut (bytes : List ℕ) : Type 0 where
-  pub rest : List ℕ
-  pub are : bytes ≡ open_gate ∷ rest
-  pub cut_off : IsCutOff rest
-
--- what stands where a record may
-abbrev pub IsNext : List ℕ → Next → Type 0
-IsNext bytes next.Closed = IsClosed bytes
-IsNext bytes next.CutOff = IsCut bytes
-IsNext bytes (next.Record payload rest) = IsRecord bytes payload.now rest.now
 
 -- the disk has failed
 abbrev pub is_fault : {T : Type 0} → Result T Trouble → Bool

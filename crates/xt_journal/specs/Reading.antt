@@ -3,6 +3,7 @@ use Rattle.std.specs.Prelude.{ℕ, ◌+◌, ◌<◌, ◌≤◌, ◌≡◌, ◌�
 use Rattle.std.specs.List.{All}
 use Rattle.byteorder.specs.Endian.{big_number}
 use Rattle.xt_journal.specs.declared.placed.Placed.{Placed}
+use Rattle.journal_records.specs.Records.{IsCutOff}
 use Rattle.xt_journal.specs.Format.{sign, header, open_gate, records, end_of, IsPayload, StandsFor}
 
 abbrev pub payloads_of : List Placed → List (List ℕ)
@@ -12,10 +13,6 @@ payloads_of placed = map (λ p. p.bytes) placed
 abbrev pub placed_from : ℕ → List (List ℕ) → List Placed
 placed_from gate [] = []
 placed_from gate (payload ∷ payloads) = record { gate = gate; bytes = payload } ∷ placed_from (gate + (5 + length payload)) payloads
-
--- what is behind an open gate isn't a length of at least 1, that many bytes and a gate
-abbrev pub IsCutOff : List ℕ → Type 0
-IsCutOff rest = (length rest < 4) ⊎ ((big_number 4 rest ≡ 0) ⊎ (length rest < 5 + big_number 4 rest))
 
 -- records up to an open gate that isn't followed by a record
 pub record IsDamaged (bytes : List ℕ) (place : ℕ) : Type 0 where

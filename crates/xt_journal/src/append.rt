@@ -3,13 +3,13 @@ ghost use Rattle.disk_model.specs.Disk.{IsImage, LeavesOnly};
 ghost use Rattle.xt_base.specs.Faults.{counted, fault_count_after};
 ghost use Rattle.xt_journal.specs.Append.{GoesAt, IsTurn, IsWithOrWithout, IsStopped};
 ghost use Rattle.xt_journal.specs.Appended.{Appends, MakesCalls};
-ghost use Rattle.xt_journal.specs.Calls.{GoesOn, AllSucceed};
+ghost use Rattle.journal_records.specs.Calls.{GoesOn, AllSucceed};
 ghost use Rattle.xt_journal.specs.Format.{record_of, EndsAt, KeepsJournal, StandsFor};
 ghost use Rattle.xt_journal.specs.Refused.{is_broken};
 
-use crate::calls::write_synced;
 use byteorder::{BigEndian, ByteOrder};
 use disk_model::{Disk, OPEN_GATE};
+use journal_records::write_synced;
 use std::alloc::Global;
 use xt_base::{Failed, OutOfMemory};
 

@@ -1,12 +1,12 @@
 ghost use Rattle.std.specs.Prelude.{◌≡◌, ◌≤◌, ◌<◌, ◌+◌, ℕ, List, IfOk, OnOk, IsErrOf, length, take, drop};
 ghost use Rattle.xt_journal.specs.declared.format.Trouble.TheVariants.{OutOfMemory};
 ghost use Rattle.xt_journal.specs.Format.{end_of, IsJournal};
-ghost use Rattle.xt_journal.specs.Parsed.{Finds, FindsRecords, Gives, HasRecords, IsNext};
+ghost use Rattle.xt_journal.specs.Parsed.{Finds, FindsRecords, Gives, HasRecords};
 ghost use Rattle.xt_journal.specs.Reading.{payloads_of, placed_from};
 
 use crate::placed::Placed;
 use byteorder::{BigEndian, ByteOrder};
-use disk_model::OPEN_GATE;
+use journal_records::{Next, next_record};
 use std::alloc::{AllocError, AllocFailed, Global};
 use xt_base::{Octets, OutOfMemory};
 
@@ -45,13 +45,6 @@ impl<T: Drop> From<AllocFailed<T>> for Trouble {
     fn from(_: AllocFailed<T>) -> Trouble {
         Trouble::OutOfMemory
     }
-}
-
-/// What stands where a record may.
-pub enum Next<'a> {
-    Closed,
-    CutOff,
-    Record { payload: &'a [u8], rest: &'a [u8] },
 }
 
 /// The payloads that stand in more than 13 bytes, and the place of the gate behind them.
@@ -150,24 +143,4 @@ fn take_last(records: &mut Vec<u8>, gate: u64) -> Result<Octets, OutOfMemory>
         records.shrink_to_fit();
     }
     Ok(Octets::from(payload))
-}
-
-fn next_record(rest: &[u8]) -> Next<'_>
-    requires { 1 ≤ length rest.now }
-    ensures { IsNext rest.now result }
-{
-    if rest[0] != OPEN_GATE {
-        return Next::Closed;
-    }
-    let behind = &rest[1..];
-    if behind.len() < 4 {
-        return Next::CutOff;
-    }
-    let len = BigEndian::read_u32(behind) as usize;
-    let body = &behind[4..];
-    if len == 0 || body.len() <= len {
-        return Next::CutOff;
-    }
-    let (payload, rest) = body.split_at(len);
-    Next::Record { payload, rest }
 }

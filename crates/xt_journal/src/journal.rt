@@ -25,7 +25,7 @@ impl<D: Disk> Journal<D> {
     ghost use Rattle.xt_journal.specs.Access.{disk_of, place_of, limit_of};
     ghost use Rattle.xt_journal.specs.Answers.{IsFullExactly, append_fault, disk_after_append, disk_after_load, load_fault, reading_of, without_memory};
     ghost use Rattle.xt_journal.specs.Append.{IsStopped, IsWithOrWithout};
-    ghost use Rattle.xt_journal.specs.Calls.{AllSucceed, GoesOn};
+    ghost use Rattle.journal_records.specs.Calls.{AllSucceed, GoesOn};
     ghost use Rattle.xt_journal.specs.Format.{KeepsJournal, StandsFor, end_of, journal_of};
     ghost use Rattle.xt_journal.specs.Loaded.{LeavesAsBefore, LeavesDisk, FailedCall, MadeCalls};
     ghost use Rattle.xt_journal.specs.Reading.{IsTheReading, payloads_of};

@@ -7,7 +7,6 @@
 #![tactic(auto)]
 
 mod append;
-mod calls;
 mod errors;
 mod format;
 mod journal;

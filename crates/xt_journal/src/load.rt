@@ -1,16 +1,16 @@
 ghost use Rattle.std.specs.Prelude.{◌≡◌, ◌⊎◌, ◌≤◌, ◌<◌, ◌+◌, [], ℕ, true, IsTrue, IfOk, IfSome, OnOk, OnErr, IsErrOf, is_err, length};
 ghost use Rattle.disk_model.specs.Disk.{GoesByPlan, IsImage, LeavesOnly, at_rest};
 ghost use Rattle.xt_base.specs.Faults.{fault_count_after};
-ghost use Rattle.xt_journal.specs.Calls.{GoesOn};
+ghost use Rattle.journal_records.specs.Calls.{GoesOn};
 ghost use Rattle.xt_journal.specs.Format.{end_of, journal_of, KeepsJournal};
 ghost use Rattle.xt_journal.specs.Loaded.{LeavesAsBefore, LeavesDisk, TellsFresh, FailedCall, MadeCalls};
 ghost use Rattle.xt_journal.specs.Parsed.{Gives, is_fault, reading_found};
 ghost use Rattle.xt_journal.specs.Reading.{IsTheReading, payloads_of};
 
-use crate::calls::write_synced;
 use crate::format::{FRESH, Trouble, parse};
 use crate::placed::Placed;
 use disk_model::Disk;
+use journal_records::write_synced;
 use std::alloc::Global;
 use xt_base::{Failed, OutOfMemory};
 

@@ -3,7 +3,7 @@ use Rattle.disk_model.specs.Disk.{Kept, LeavesOnly, at_rest}
 use Rattle.xt_base.specs.Overlay.{overlay}
 use Rattle.disk_model.proofs.Moments.{joined, weaker}
 use Rattle.xt_journal.specs.Append.{IsTurn, IsWithOrWithout, IsStopped}
-use Rattle.xt_journal.specs.Calls.{IsTornAt, IsFirstFailure, MayBeTorn, GoesOn, AllSucceed}
+use Rattle.journal_records.specs.Calls.{IsTornAt, IsFirstFailure, MayBeTorn, GoesOn, AllSucceed}
 use Rattle.xt_journal.specs.Format.{open_gate, KeepsJournal}
 use Rattle.xt_journal.proofs.Outcomes.{on_ok, an_err, both_err, later_failure}
 use Rattle.xt_journal.proofs.Steps.{first_half, second_half, finished, first_stop, second_stop}

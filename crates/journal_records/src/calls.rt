@@ -2,7 +2,7 @@ ghost use Rattle.std.specs.Prelude.{◌≡◌, ◌≤◌, ◌+◌, ℕ, IsTrue, 
 ghost use Rattle.disk_model.specs.Disk.{at_rest, LeavesOnly};
 ghost use Rattle.xt_base.specs.Overlay.{overlay};
 ghost use Rattle.xt_base.specs.Faults.{fault_count_after};
-ghost use Rattle.xt_journal.specs.Calls.{GoesOn, IsFirstFailure, AllSucceed, MayBeTorn, IsTornAt};
+ghost use Rattle.journal_records.specs.Calls.{GoesOn, IsFirstFailure, AllSucceed, MayBeTorn, IsTornAt};
 
 use disk_model::Disk;
 use xt_base::Failed;

@@ -3,8 +3,8 @@ use Rattle.std.proofs.lemmas.Bool.{cases_Bool}
 use Rattle.disk_model.specs.Disk.{Kept, IsImage, LeavesOnly, at_rest, after_write, range_of}
 use Rattle.disk_model.proofs.Images.{rest_stays, same_images, unbegun}
 use Rattle.disk_model.proofs.Moments.{elapsed, joined}
-use Rattle.xt_journal.specs.Calls.{MayBeTorn}
-use Rattle.xt_journal.proofs.calls.write_synced.Goals as goal
+use Rattle.journal_records.specs.Calls.{MayBeTorn}
+use Rattle.journal_records.proofs.calls.write_synced.Goals as goal
 
 pub returns-clause-any_moment : goal.returns-clause-any_moment
 returns-clause-any_moment g c told rest =
