@@ -1,12 +1,10 @@
 -- the nodes, where each that has kept a record has a store of its own
-use Rattle.std.specs.Prelude.{ℕ, ◌≡◌, ◌==◌, false, List, Option, None, Some, unwrap_or}
+use Rattle.std.specs.Prelude.{ℕ, ◌≡◌, ◌==◌, false, List, unwrap_or}
 use Rattle.std.specs.Ordering.{nat_cmp}
 use Rattle.std.specs.BTreeMap.{get}
 use Rattle.disk_model.specs.Changes.{Memory}
-use Rattle.disk_model.specs.declared.plan.Stop.{Stop}
 use Rattle.xt_base.specs.declared.ids.NodeId.{NodeId}
 use Rattle.xt_messages.specs.declared.record.Record.{Record}
-use Rattle.node_disks.specs.Ends.{IsReadAfter}
 use Rattle.node_disks.specs.Stored.{Stored, none_stored}
 use Rattle.disk_hull.specs.declared.disk_hull.DiskHull.{DiskHull}
 
@@ -21,11 +19,6 @@ records_of hull node = (node_of hull node).records
 -- its disk
 abbrev pub disk_of : DiskHull → ℕ → Memory
 disk_of hull node = (node_of hull node).disk
-
--- the node's disk after an append with this stop in it, or none
-abbrev pub IsDiskAfter : Option Stop → List Record → Record → Memory → Type 0
-IsDiskAfter None records rec new = Unit {0}
-IsDiskAfter (Some stop) records rec new = IsReadAfter stop records rec new
 
 -- every other node's records and disk are as they were
 abbrev pub AreOtherNodesSame : DiskHull → DiskHull → NodeId → Type 0

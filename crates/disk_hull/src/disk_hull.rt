@@ -9,10 +9,12 @@ ghost use Rattle.world_hull.specs.Appends.{IsInAppend, IsAppended, AreOthersSame
 ghost use Rattle.node_disks.specs.Disks.{AreOn};
 ghost use Rattle.node_disks.specs.Ends.{IsReadAgain, own_after};
 ghost use Rattle.node_disks.specs.Room.{journal_overflow};
-ghost use Rattle.disk_hull.specs.Nodes.{AreOtherNodesSame, IsDiskAfter, disk_of, node_of, records_of};
+ghost use Rattle.disk_steps.specs.Steps.{IsDiskAfter};
+ghost use Rattle.disk_hull.specs.Nodes.{AreOtherNodesSame, disk_of, node_of, records_of};
 
 use crate::carrying::carried;
 use disk_model::Stop;
+use disk_steps::{appended, read_again};
 use node_disks::NodeStore;
 use std::alloc::Global;
 use std::collections::BTreeMap;
@@ -26,19 +28,6 @@ pub struct DiskHull {
     stores: BTreeMap<u32, NodeStore>,
     /// How many messages were carried.
     carried: u64,
-}
-
-/// A node starts again from what a crash leaves of its disk. Gives the records that it finds there.
-fn read_again(alloc: Global, store: &mut NodeStore) -> Result<Vec<Record>, WorldErr>
-    ensures same { store.new.records ≡ store.old.records }
-    ensures found { IfOk result (λ found. found.items ≡ store.old.records) }
-    ensures read { IfOk result (λ found. IsReadAgain store.old.disk store.new.disk found.items) }
-    ensures error { IfErr result (λ error. error ≡ WorldErr.OutOfMemory) }
-{
-    let again = store.reloaded(alloc)?;
-    let found = again.copies(alloc)?;
-    *store = again;
-    Ok(found)
 }
 
 impl DiskHull {
@@ -101,10 +90,7 @@ impl DiskHull {
         ensures error { IfErr result IsFullOrMemory }
     {
         let store = self.take(alloc, node)?;
-        match stop {
-            None => store.put(alloc, rec),
-            Some(stop) => store.stopped(alloc, rec, stop),
-        }
+        appended(alloc, store, rec, stop)
     }
 }
 

@@ -10,7 +10,7 @@ use Rattle.cluster_runs.specs.World as world
 use Rattle.cluster_fits.specs.Fits.{FitsKept}
 use Rattle.node_hosts.specs.declared.running.Running.{Running}
 
--- records within their limits and in their places say so
+-- what some records say, each within its limits and in its place
 abbrev pub IsSaid : Folded → Type 0
 IsSaid folded = (kept : List Record) × FitsKept kept × (folded ≡ fold_of kept)
 

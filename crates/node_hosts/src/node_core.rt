@@ -45,7 +45,7 @@ pub trait NodeCore: Drop {
         ensures state { state result ≡ client (new_client now) }
         ensures own { is_of id times result };
 
-    /// The step on an event, at a reading of the clock.
+    /// The step on an event, at a reading of the clock. A body that can't be read is told as want of memory.
     fn handle<B: Bodies>(
         &mut self,
         bodies: &mut B,

@@ -1,7 +1,7 @@
 -- parts of messages of node 1, one after another
 use Rattle.std.specs.Prelude.{ℕ, Bool, Option, Some, None, List, [], ◌∷◌, ◌++◌, map, scan, take, is_none, slice_set, option_map}
 use Rattle.std.specs.List.{range_with_len}
-use Rattle.xt_parts.specs.declared.part.MessageId.{MessageId}
+use Rattle.message_ids.specs.declared.MessageId.{MessageId}
 use Rattle.xt_parts.specs.declared.part.Header.{Header}
 use Rattle.xt_parts.specs.Joining.{HalfJoined, Taken, half_of, joined_to, after_part}
 use Rattle.xt_parts.specs.Part.{parts_in, bytes_in}

@@ -1,6 +1,7 @@
 //! The course of a lease, of its promises and of its reports.
 ghost use Rattle.std.specs.Prelude.{◌≡◌, true, Some, None, Ok, Err, [], ◌∷◌, map, fold};
-ghost use Rattle.xt_protocol.specs.LeaseRows.{awake_at, turn_at, lapsed_at, renewal_starts, start_of, held};
+ghost use Rattle.std.specs.Option.{option_map};
+ghost use Rattle.xt_protocol.specs.LeaseRows.{awake_at, turn_at, lapsed_at, renewal_starts, held};
 ghost use Rattle.xt_protocol.specs.Register.{new_acceptor, write_refused};
 ghost use Rattle.worked_rows.specs.Values.{node};
 ghost use Rattle.worked_rows.specs.LeaseLife as lease;
@@ -30,7 +31,7 @@ pub fn a_holder_acts()
 
 /// A renewal that starts at 5500 asks by the next count, and moves the end to 6500 by a second acceptance of three.
 pub fn a_lease_is_renewed()
-    ensures starts { start_of (renewal_starts lease.holder 5500 lease.members).renewal ≡ Some 5500 }
+    ensures starts { option_map (λ round. round.start) (renewal_starts lease.holder 5500 lease.members).renewal ≡ Some 5500 }
     ensures count { (renewal_starts lease.holder 5500 lease.members).proposer.known ≡ 2 }
     ensures ends { lease.seen_after (held lease.holder) lease.renewal ≡ map lease.wanted lease.renewal }
     ensures behind { fold lease.after (held lease.holder) lease.renewal

@@ -3,13 +3,14 @@ use Rattle.std.proofs.Common.{◌≡◌, ◌≤◌, ◌-◌, ◌==◌, ◌∷◌
 use Rattle.std.proofs.lemmas.List.{length-drop}
 use Rattle.std.proofs.lemmas.Option.{same_Some, none-some, option_and_then_some}
 use Rattle.xt_parts.specs.declared.TheConstants.{HALF_JOINED}
-use Rattle.xt_parts.specs.declared.part.MessageId.{MessageId}
+use Rattle.message_ids.specs.declared.MessageId.{MessageId}
 use Rattle.xt_parts.specs.declared.part.Header.{Header}
 use Rattle.xt_parts.specs.Part.{read_part}
-use Rattle.xt_parts.specs.Joining.{HalfJoined, Taken, is_same, half_of, without, changed, newest, bytes_of, has_payload, given_or_kept, none_taken, begun, added, continued, joined_to}
+use Rattle.message_ids.specs.Same.{is_same}
+use Rattle.xt_parts.specs.Joining.{HalfJoined, Taken, half_of, without, changed, newest, bytes_of, has_payload, given_or_kept, none_taken, begun, added, continued, joined_to}
 use Rattle.xt_parts.specs.Runs.{AreApart}
 use Rattle.xt_parts.specs.Laws.{StaysFew, StaysApart, ForgetsGiven, ForgetsDropped}
-use Rattle.xt_parts.proofs.SameId.{same_id, other_way}
+use Rattle.message_ids.proofs.SameId.{same_id, other_way}
 use Rattle.xt_parts.proofs.Running.{not_first}
 
 absent-without : (held : List HalfJoined) (id other : MessageId) → half_of held other ≡ None →

@@ -5,6 +5,5 @@ pub mod Taking
 pub mod Running
 pub mod Ordered
 pub mod Mixing
-pub mod SameId
 pub mod Forgetting
 pub mod Spelling

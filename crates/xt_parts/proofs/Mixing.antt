@@ -6,14 +6,15 @@ use Rattle.std.proofs.lemmas.Option.{same_Some}
 use Rattle.std.proofs.lemmas.List.{get_or_default}
 use Rattle.std.proofs.lemmas.List.Elements.{All-from_recursion, recursion_from_All, All-weaker}
 use Rattle.xt_parts.specs.declared.TheConstants.{HALF_JOINED}
-use Rattle.xt_parts.specs.declared.part.MessageId.{MessageId}
+use Rattle.message_ids.specs.declared.MessageId.{MessageId}
 use Rattle.xt_parts.specs.declared.part.Header.{Header}
 use Rattle.xt_parts.specs.declared.joining.Whole.{Whole}
 use Rattle.xt_parts.specs.Part.{parts_in, payload_of, part_of}
-use Rattle.xt_parts.specs.Joining.{HalfJoined, Taken, is_same, half_of, without, changed, newest, bytes_of, has_payload, given_or_kept, added, continued, joined_to, after_part}
+use Rattle.message_ids.specs.Same.{is_same}
+use Rattle.xt_parts.specs.Joining.{HalfJoined, Taken, half_of, without, changed, newest, bytes_of, has_payload, given_or_kept, added, continued, joined_to, after_part}
 use Rattle.xt_parts.specs.Runs.{Joined, joined, with_whole, CanBeCut, whole_of}
 use Rattle.xt_parts.specs.Laws.{NeverMixes}
-use Rattle.xt_parts.proofs.SameId.{same_id}
+use Rattle.message_ids.proofs.SameId.{same_id}
 use Rattle.xt_parts.proofs.Taking.{taken_of, more, never_else}
 use Rattle.xt_parts.proofs.Running.{header_at, half_at, reads_part, begins}
 

@@ -4,7 +4,7 @@ use Rattle.std.specs.List.{range_with_len}
 use Rattle.std.proofs.lemmas.Bool.{cases_lt, cases_eq, or_left, or_right, or_from, lt-ltb, le-ltb}
 use Rattle.std.proofs.lemmas.List.{append-nil, map-id}
 use Rattle.std.proofs.lemmas.List.FromFn.{map-range_with_len_more, take-map-range_with_len}
-use Rattle.xt_parts.specs.declared.part.MessageId.{MessageId}
+use Rattle.message_ids.specs.declared.MessageId.{MessageId}
 use Rattle.xt_parts.specs.Part.{parts_in, payload_of, part_of, parts_of}
 use Rattle.xt_parts.specs.Joining.{HalfJoined, Taken, given_or_kept, after_part}
 use Rattle.xt_parts.specs.Runs.{joined, CanBeCut, whole_of, HasRoomFor, first_payloads, after_first, has_index, parts_at, IsLastOf}

@@ -3,8 +3,9 @@ use Rattle.std.proofs.Common.{◌≡◌, ◌<◌, ◌≤◌, ◌∷◌, [], ℕ,
 use Rattle.std.proofs.Math.Numerals.{one-add}
 use Rattle.std.proofs.lemmas.Option.{cond_some}
 use Rattle.std.specs.List.{position_or_len}
-use Rattle.xt_parts.specs.declared.part.MessageId.{MessageId}
-use Rattle.xt_parts.specs.Joining.{HalfJoined, is_same, half_of}
+use Rattle.message_ids.specs.declared.MessageId.{MessageId}
+use Rattle.message_ids.specs.Same.{is_same}
+use Rattle.xt_parts.specs.Joining.{HalfJoined, half_of}
 use Rattle.xt_parts.specs.Places.{StandsAt}
 
 first_stands : (half : HalfJoined) (held : List HalfJoined) (id : MessageId) → is_same half.id id ≡ true →

@@ -5,12 +5,13 @@ use Rattle.std.proofs.lemmas.Bool.{or_parts, or_left, or_right}
 use Rattle.std.proofs.lemmas.List.{length-take, length-drop, append_assoc, append-nil, map-append}
 use Rattle.std.proofs.lemmas.List.Folds.{list_any-append}
 use Rattle.xt_parts.specs.declared.TheConstants.{PAYLOAD, HALF_JOINED}
-use Rattle.xt_parts.specs.declared.part.MessageId.{MessageId}
+use Rattle.message_ids.specs.declared.MessageId.{MessageId}
 use Rattle.xt_parts.specs.declared.part.Header.{Header}
 use Rattle.xt_parts.specs.Part.{parts_in, bytes_in, payload_of, part_of, read_part}
-use Rattle.xt_parts.specs.Joining.{HalfJoined, Taken, is_same, half_of, without, changed, newest, bytes_of, given_or_kept, continued, joined_to, after_part}
+use Rattle.message_ids.specs.Same.{is_same}
+use Rattle.xt_parts.specs.Joining.{HalfJoined, Taken, half_of, without, changed, newest, bytes_of, given_or_kept, continued, joined_to, after_part}
 use Rattle.xt_parts.specs.Runs.{Joined, joined, with_whole, CanBeCut, whole_of, HasRoomFor, has_index, parts_at, IsLastOf}
-use Rattle.xt_parts.proofs.SameId.{same_itself}
+use Rattle.message_ids.proofs.SameId.{same_itself}
 use Rattle.xt_parts.proofs.Reading.{reads}
 use Rattle.xt_parts.proofs.Taking.{taken_of, none_first, more, again, known, lacking, complete, has_same, kept_index}
 

@@ -1,8 +1,9 @@
 -- what taking parts does: which messages are half joined afterwards, and which message is whole
-use Rattle.std.specs.Prelude.{ℕ, Bool, true, false, Option, Some, None, List, [], ◌∷◌, ◌++◌, ◌-◌, ◌==◌, ◌&&◌, if◌then◌else◌, length, drop, unwrap_or, option_and_then, is_some, slice_get, slice_set, replicate}
+use Rattle.std.specs.Prelude.{ℕ, Bool, true, false, Option, Some, None, List, [], ◌∷◌, ◌++◌, ◌-◌, ◌==◌, if◌then◌else◌, length, drop, unwrap_or, option_and_then, is_some, slice_get, slice_set, replicate}
 use Rattle.std.specs.List.{list_all, flat_map}
 use Rattle.xt_parts.specs.declared.TheConstants.{HALF_JOINED}
-use Rattle.xt_parts.specs.declared.part.MessageId.{MessageId}
+use Rattle.message_ids.specs.Same.{is_same}
+use Rattle.message_ids.specs.declared.MessageId.{MessageId}
 use Rattle.xt_parts.specs.declared.part.Header.{Header}
 use Rattle.xt_parts.specs.declared.joining.Whole.{Whole}
 use Rattle.xt_parts.specs.Part.{parts_in, read_part}
@@ -17,10 +18,6 @@ pub record HalfJoined : Type 0 where
 pub record Taken : Type 0 where
   pub held : List HalfJoined
   pub whole : Option Whole
-
--- messages are one only if sender, boot and number are the same
-abbrev pub is_same : MessageId → MessageId → Bool
-is_same a b = (a.sender.0 == b.sender.0) && (a.boot.0 == b.boot.0) && (a.number == b.number)
 
 -- the half joined message with this id
 abbrev pub half_of : List HalfJoined → MessageId → Option HalfJoined

@@ -1,7 +1,7 @@
 -- what joining promises of whole runs, whatever was taken before
 use Rattle.std.specs.Prelude.{ℕ, List, [], ◌∷◌, ◌++◌, ◌≡◌, ◌<◌, ◌≤◌, ◌+◌, ◌==◌, Some, None, if◌then◌else◌, length, map, take, slice_index, All, Any, IsSome, IsSomeAnd}
 use Rattle.xt_parts.specs.declared.TheConstants.{HALF_JOINED}
-use Rattle.xt_parts.specs.declared.part.MessageId.{MessageId}
+use Rattle.message_ids.specs.declared.MessageId.{MessageId}
 use Rattle.xt_parts.specs.declared.part.Header.{Header}
 use Rattle.xt_parts.specs.Part.{parts_in, FitsMessage, FitsFields, part_bytes, read_part, part_of, parts_of}
 use Rattle.xt_parts.specs.Joining.{HalfJoined, Taken, half_of, newest, after_part}

@@ -4,7 +4,7 @@ use Rattle.std.specs.Int.{w32, w64, to_be_bytes, from_be_bytes}
 use Rattle.std.specs.List.{range_with_len}
 use Rattle.xt_base.specs.declared.TheConstants.{FRAME}
 use Rattle.xt_parts.specs.declared.TheConstants.{VERSION, HEADER, PAYLOAD}
-use Rattle.xt_parts.specs.declared.part.MessageId.{MessageId}
+use Rattle.message_ids.specs.declared.MessageId.{MessageId}
 use Rattle.xt_parts.specs.declared.part.Header.{Header}
 
 -- how many parts a message of this length has

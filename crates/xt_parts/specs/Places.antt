@@ -1,6 +1,6 @@
 -- where in the list a half joined message stands
 use Rattle.std.specs.Prelude.{ℕ, List, Some, ◌≡◌, ◌<◌, length, slice_index_or, slice_set, remove}
-use Rattle.xt_parts.specs.declared.part.MessageId.{MessageId}
+use Rattle.message_ids.specs.declared.MessageId.{MessageId}
 use Rattle.xt_parts.specs.Joining.{HalfJoined, half_of, without, changed}
 
 -- the half joined message with the id stands at that place

@@ -4,7 +4,7 @@ use Rattle.std.specs.Option.{option_map, option_to_list}
 use Rattle.std.specs.List.{list_any, range_with_len}
 use Rattle.xt_base.specs.declared.TheConstants.{FRAME}
 use Rattle.xt_parts.specs.declared.TheConstants.{HALF_JOINED}
-use Rattle.xt_parts.specs.declared.part.MessageId.{MessageId}
+use Rattle.message_ids.specs.declared.MessageId.{MessageId}
 use Rattle.xt_parts.specs.declared.joining.Whole.{Whole}
 use Rattle.xt_parts.specs.Part.{parts_in, payload_of, part_of}
 use Rattle.xt_parts.specs.Joining.{HalfJoined, half_of, after_part}

@@ -3,7 +3,8 @@ ghost use Rattle.xt_parts.specs.Part.{parts_in, payload_of, part_of, parts_of};
 ghost use Rattle.xt_parts.specs.declared.cutting.CutErr.TheVariants.{OutOfMemory};
 
 use crate::PAYLOAD;
-use crate::part::{Header, MessageId, part_count};
+use crate::part::{Header, part_count};
+use message_ids::MessageId;
 use std::alloc::{AllocError, AllocFailed, Global};
 use thiserror::Error;
 use xt_base::{Boot, FRAME, NodeId, Octets};

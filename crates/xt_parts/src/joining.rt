@@ -3,10 +3,12 @@ ghost use Rattle.std.specs.List.{list_all};
 ghost use Rattle.xt_parts.specs.declared.joining.JoinErr.TheVariants.{BadPart, OutOfMemory};
 ghost use Rattle.xt_parts.specs.Part.{parts_in, bytes_in};
 ghost use Rattle.xt_parts.specs.Places.{StandsAt};
-ghost use Rattle.xt_parts.specs.Joining.{HalfJoined, is_same, bytes_of, has_payload, none_taken, half_of, newest, begun, added, joined_to, after_part};
+ghost use Rattle.message_ids.specs.Same.{is_same};
+ghost use Rattle.xt_parts.specs.Joining.{HalfJoined, bytes_of, has_payload, none_taken, half_of, newest, begun, added, joined_to, after_part};
 
-use crate::part::{Header, MessageId, part_count, read};
+use crate::part::{Header, part_count, read};
 use crate::{HALF_JOINED, PAYLOAD};
+use message_ids::MessageId;
 use std::alloc::{AllocError, AllocFailed, Global};
 use std::marker::Model;
 use thiserror::Error;
@@ -129,7 +131,7 @@ impl Half {
     fn is(&self, id: &MessageId) -> bool
         ensures { result ≡ is_same self.now.id id.now }
     {
-        self.id == *id
+        self.id.is(id)
     }
 
     /// Whether the payload of this index was taken.

@@ -16,7 +16,7 @@ pub use joining::{JoinErr, Joiner, Whole};
 pub use laws::{
     forgets_messages, joins_in_any_order, joins_in_order, never_mixes_messages, reads_the_layout,
 };
-pub use part::{Header, MessageId};
+pub use part::Header;
 
 /// The layout of a part that is read and written here.
 pub const VERSION: u8 = 1;

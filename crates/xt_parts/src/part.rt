@@ -3,16 +3,9 @@ ghost use Rattle.std.specs.Bool.{OnTrue};
 ghost use Rattle.xt_parts.specs.Part.{parts_in, bytes_in, part_bytes, word_at, long_at, header_of, is_cut, is_part, read_part};
 
 use crate::{HEADER, PAYLOAD, VERSION};
+use message_ids::MessageId;
 use std::alloc::Global;
 use xt_base::{Boot, FRAME, NodeId, Octets, OutOfMemory};
-
-/// Which message of which start of which node. A sender numbers its messages from 1 in each boot.
-#[derive(Clone, Copy, PartialEq, Eq)]
-pub struct MessageId {
-    pub sender: NodeId,
-    pub boot: Boot,
-    pub number: u64,
-}
 
 /// What a part says of itself: its message, its index in it from 0, and the length of the message in bytes.
 #[derive(Clone, Copy)]

@@ -226,11 +226,6 @@ renewal_takes_under (Some r) now from answer = renewal_takes_answer r now from a
 abbrev pub renewal_takes : Held → ℕ → NodeId → Payload → Bool
 renewal_takes h now from answer = renewal_takes_under h.renewal now from answer
 
--- the start of a round
-abbrev pub start_of : Option Round → Option ℕ
-start_of None = None
-start_of (Some r) = Some r.start
-
 -- round runs out: half the lease length after its start
 abbrev pub has_run_out : Round → ℕ → Bool
 has_run_out r now = nat_le (r.start + r.times.lease / 2) now

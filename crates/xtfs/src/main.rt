@@ -13,7 +13,9 @@ use xtfs_job::run;
 fn main(rt: HostRuntime) -> io::Result<ExitCode> {
     let alloc = rt.alloc();
     let mut words = Words::new(alloc);
-    for word in env::args(&rt)?.skip(1) {
+    let mut args = env::args(&rt)?;
+    let _name = args.next();
+    for word in args {
         words.push(alloc, word.as_str())?;
     }
     let mut source = StdinSource::new(alloc, rt.reader())?;

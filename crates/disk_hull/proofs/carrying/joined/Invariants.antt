@@ -1,6 +1,6 @@
 use Rattle.std.proofs.Common.{◌≡◌, ℕ, ◌==◌, [], Some, None, length, if◌then◌else◌}
 use Rattle.xt_base.specs.declared.ids.NodeId.{NodeId}
-use Rattle.xt_parts.specs.declared.part.MessageId.{MessageId}
+use Rattle.message_ids.specs.declared.MessageId.{MessageId}
 use Rattle.xt_parts.specs.Part.{parts_in}
 use Rattle.xt_parts.specs.Runs.{after_first, whole_of}
 use Rattle.disk_hull.proofs.carrying.joined.Given as goal

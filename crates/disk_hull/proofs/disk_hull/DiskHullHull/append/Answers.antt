@@ -2,7 +2,8 @@ use Rattle.std.proofs.Common.{ℕ, ap, sym, subst, ◌∙◌}
 use Rattle.world_hull.proofs.Failures.{on_err}
 use Rattle.node_disks.specs.Stored.{Stored}
 use Rattle.disk_hull.proofs.Hulls.{at_other, at_own, is_appended}
-use Rattle.disk_hull.specs.Nodes.{IsDiskAfter, node_of, records_of}
+use Rattle.disk_steps.specs.Steps.{IsDiskAfter}
+use Rattle.disk_hull.specs.Nodes.{node_of, records_of}
 use Rattle.disk_hull.proofs.disk_hull.DiskHullHull.append.Goals as goal
 
 pub returns-in_err-put_in-clause-others : goal.returns-in_err-put_in-clause-others

@@ -1,8 +1,8 @@
 -- ids by their numbers
 use Rattle.std.proofs.Common.{◌≡◌, ◌==◌, ◌&&◌, ℕ, Bool, true, false, refl, ap, ◌∙◌, eq-eqb}
 use Rattle.std.proofs.lemmas.Bool.{and_parts, and_from, eqb-true}
-use Rattle.xt_parts.specs.declared.part.MessageId.{MessageId}
-use Rattle.xt_parts.specs.Joining.{is_same}
+use Rattle.message_ids.specs.declared.MessageId.{MessageId}
+use Rattle.message_ids.specs.Same.{is_same}
 
 -- The same sender, boot and number are the same id.
 pub same_id : (a b : MessageId) → is_same a b ≡ true → a ≡ b
