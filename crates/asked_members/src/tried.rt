@@ -18,7 +18,8 @@ pub fn was_tried(tried: &[Tried], node: NodeId) -> bool
 /// A member that was asked, with this outcome where it is the node.
 fn told(member: &Tried, node: NodeId, how: &Retry) -> Tried
     ensures { result ≡
-        (if member.now.node.0 == node.0 then record { node = member.now.node; outcome = Some how.now } else member.now) }
+        (if member.now.node.0 == node.0
+        then record { node = member.now.node; outcome = Some how.now } else member.now) }
 {
     if member.node.0 == node.0 {
         Tried {
@@ -116,7 +117,8 @@ fn named(how: &Retry) -> Option<NodeId>
 /// first.
 pub fn next_target(tried: &[Tried], members: &Members, how: &Retry) -> Option<NodeId>
     ensures { result ≡
-        rows.next_of (rows.named how.now) (filter (λ m. not (rows.was_tried tried.now m)) members.now) }
+        rows.next_of (rows.named how.now)
+        (filter (λ m. not (rows.was_tried tried.now m)) members.now) }
 {
     match named(how) {
         None => first_left(tried, members),

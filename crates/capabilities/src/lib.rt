@@ -155,5 +155,6 @@ pub fn is_stop(key: &[u8], payload: &Payload) -> Result<bool, OutOfMemory>
 
 /// What was sealed has its tag, so that no check under the same key denies it for that.
 pub fn what_is_sealed_has_its_tag()
-    ensures { (key : List ℕ) (capability : Capability) → is_sealed key (sealed key capability) ≡ true }
+    ensures { (key : List ℕ) (capability : Capability) →
+        is_sealed key (sealed key capability) ≡ true }
 {}

@@ -55,7 +55,8 @@ pub fn put_made(made: &mut Option<MadeCall>, call: MadeCall)
 /// The last call is so far.
 pub fn set_stage(made: &mut Option<MadeCall>, stage: Stage)
     requires { IsSome made.old }
-    ensures { (call : MadeCall) → made.old ≡ Some call → made.new ≡ Some (record call { stage = stage }) }
+    ensures { (call : MadeCall) → made.old ≡ Some call →
+        made.new ≡ Some (record call { stage = stage }) }
 {
     let Some(call) = made else { unreachable!() };
     call.stage = stage;
@@ -104,7 +105,8 @@ fn learn(
     held: &mut HeldFiles,
     learnt: &Learnt,
 ) -> Result<(), OutOfMemory>
-    ensures known { OnOk result (replicas.new ≡ record replicas.old { state = rows.knows_learnt replicas.old.state learnt.now }) }
+    ensures known { OnOk result (replicas.new ≡
+        record replicas.old { state = rows.knows_learnt replicas.old.state learnt.now }) }
     ensures held { OnOk result (held.new ≡ rows.holds_learnt held.old learnt.now) }
     ensures err { OnErr result ((replicas.new ≡ replicas.old) × (held.new ≡ held.old)) }
 {
@@ -128,8 +130,10 @@ pub fn given(
     learnt: &Learnt,
     next: &Next,
 ) -> Result<Turned, OutOfMemory>
-    ensures given { IfOk result (λ turned. turned ≡ rows.given replicas.old.node made.now next.now) }
-    ensures known { OnOk result (replicas.new ≡ record replicas.old { state = rows.knows_learnt replicas.old.state learnt.now }) }
+    ensures given { IfOk result (λ turned. turned ≡
+        rows.given replicas.old.node made.now next.now) }
+    ensures known { OnOk result (replicas.new ≡
+        record replicas.old { state = rows.knows_learnt replicas.old.state learnt.now }) }
     ensures held { OnOk result (held.new ≡ rows.holds_learnt held.old learnt.now) }
     ensures err { OnErr result ((replicas.new ≡ replicas.old) × (held.new ≡ held.old)) }
 {
@@ -167,7 +171,8 @@ pub fn start(
     requires clock { now < 2 ^ 62 }
     requires left { replicas.old.state.next < 2 ^ 62 }
     ensures step { IfOk result (λ turned.
-        Starts (rows.starts replicas.old.node replicas.old.times replicas.old.state now call.now request.now)
+        Starts (rows.starts replicas.old.node replicas.old.times replicas.old.state now call.now
+        request.now)
         replicas.old replicas.new turned) }
     ensures err { OnErr result (replicas.new ≡ replicas.old) }
 {
@@ -192,7 +197,8 @@ pub fn start_again(
     requires { now < 2 ^ 62 }
     ensures step { IfOk result (λ turned.
         Starts
-        (rows.starts_again replicas.old.node replicas.old.times replicas.old.state now made.now.number made.now.request)
+        (rows.starts_again replicas.old.node replicas.old.times replicas.old.state now
+        made.now.number made.now.request)
         replicas.old replicas.new turned) }
     ensures err { OnErr result (replicas.new ≡ replicas.old) }
 {

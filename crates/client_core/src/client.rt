@@ -62,7 +62,11 @@ impl Client {
         ensures { result ≡ record {
           node = node;
           times = times;
-          state = record { replicas = record { last = 0; next = first; running = None; files = [] }; held = []; made = None };
+          state = record {
+            replicas = record { last = 0; next = first; running = None; files = [] };
+            held = [];
+            made = None;
+          };
         } }
     {
         Client {
@@ -79,7 +83,8 @@ impl Client {
         requires clock { now < 2 ^ 62 }
         requires held { IsTrue (is_ready self.old.state.held call.now) }
         ensures step { IfOk result (λ turned.
-            Does (rows.called self.old.node self.old.times self.old.state now call.now) self.old self.new turned) }
+            Does (rows.called self.old.node self.old.times self.old.state now call.now) self.old
+            self.new turned) }
         ensures busy { (result ≡ Err CallErr.Busy) ↔ IsTrue (rows.is_busy self.old.state.made) }
         ensures made { (result ≡ Err CallErr.NoCall) → ⊥ }
         ensures err { OnErr result (self.new ≡ self.old) }
@@ -98,10 +103,12 @@ impl Client {
     pub fn again(&mut self, now: u64) -> Result<Turned, CallErr>
         requires { now < 2 ^ 62 }
         ensures step { IfOk result (λ turned.
-            Does (rows.called_again self.old.node self.old.times self.old.state now) self.old self.new turned) }
+            Does (rows.called_again self.old.node self.old.times self.old.state now) self.old
+            self.new turned) }
         ensures busy { (result ≡ Err CallErr.Busy) ↔ IsTrue (rows.is_busy self.old.state.made) }
         ensures none { (result ≡ Err CallErr.NoCall) ↔
-            IsTrue (not (rows.is_busy self.old.state.made) && not (rows.may_repeat self.old.state.made)) }
+            IsTrue (not (rows.is_busy self.old.state.made)
+            && not (rows.may_repeat self.old.state.made)) }
         ensures err { OnErr result (self.new ≡ self.old) }
     {
         if self.is_busy() {
@@ -120,9 +127,11 @@ impl Client {
     pub fn step(&mut self, now: u64, ev: &Event) -> Result<Turned, OutOfMemory>
         requires { now < 2 ^ 62 }
         ensures step { IfOk result (λ turned.
-            Does (rows.stepped self.old.node self.old.times self.old.state now ev.now) self.old self.new turned) }
+            Does (rows.stepped self.old.node self.old.times self.old.state now ev.now) self.old
+            self.new turned) }
         ensures answered { IfOk result (λ turned.
-            IsTrue (is_answered self.old.state ev.now) → IsTrue (is_done (rows.result_in self.new.state.made))) }
+            IsTrue (is_answered self.old.state ev.now) →
+            IsTrue (is_done (rows.result_in self.new.state.made))) }
         ensures err { OnErr result (self.new ≡ self.old) }
     {
         self.go_on(now, ev)
@@ -150,7 +159,8 @@ impl Client {
 
     /// The capability that is held for the file of this number.
     pub fn held(&self, file: u64) -> Option<&Capability>
-        ensures { option_copied result ≡ option_map (λ held. held.capability) (held_of self.now.state.held file) }
+        ensures { option_copied result ≡
+            option_map (λ held. held.capability) (held_of self.now.state.held file) }
     {
         match self.held.get(file) {
             None => None,
@@ -193,7 +203,11 @@ impl Client {
 
     /// Holds a capability for later calls on its file, and joins the mark with what is known of its size.
     pub fn hold(&mut self, capability: &Capability, mark: SizeMark) -> Result<(), OutOfMemory>
-        ensures ok { OnOk result (self.new ≡ record self.old { state = record self.old.state { held = holds self.old.state.held capability.now mark } }) }
+        ensures ok { OnOk result (self.new ≡
+            record self.old {
+              state = record self.old.state
+                  { held = holds self.old.state.held capability.now mark };
+            }) }
         ensures err { OnErr result (self.new ≡ self.old) }
     {
         self.held.hold(capability, mark)
@@ -201,7 +215,11 @@ impl Client {
 
     /// Its first target for a replicated file is this member.
     pub fn aim(&mut self, file: &FileId, node: NodeId) -> Result<(), OutOfMemory>
-        ensures ok { OnOk result (self.new ≡ record self.old { state = record self.old.state { replicas = knows self.old.state.replicas file.now (aimed node) } }) }
+        ensures ok { OnOk result (self.new ≡
+            record self.old {
+              state = record self.old.state
+                  { replicas = knows self.old.state.replicas file.now (aimed node) };
+            }) }
         ensures err { OnErr result (self.new ≡ self.old) }
     {
         self.replicas.aim(file, node)
@@ -209,7 +227,11 @@ impl Client {
 
     /// Its truncate epoch for a file is at least this one.
     pub fn raise(&mut self, file: &FileId, epoch: u64) -> Result<(), OutOfMemory>
-        ensures ok { OnOk result (self.new ≡ record self.old { state = record self.old.state { replicas = knows self.old.state.replicas file.now (raised epoch) } }) }
+        ensures ok { OnOk result (self.new ≡
+            record self.old {
+              state = record self.old.state
+                  { replicas = knows self.old.state.replicas file.now (raised epoch) };
+            }) }
         ensures err { OnErr result (self.new ≡ self.old) }
     {
         self.replicas.raise(file, epoch)
@@ -227,7 +249,8 @@ impl Client {
         requires clock { now < 2 ^ 62 }
         requires made { IsSome self.old.state.made }
         ensures row { IfOk result (λ turned.
-            CallActs (λ site client made. rows.proceeds site client made comes) now self.old self.new turned) }
+            CallActs (λ site client made. rows.proceeds site client made comes) now self.old
+            self.new turned) }
         ensures err { OnErr result (self.new ≡ self.old) }
     {
         let Progress { learnt, next } = comes;
@@ -262,7 +285,8 @@ impl Client {
     fn begin(&mut self, now: u64, call: &Call) -> Result<Turned, OutOfMemory>
         requires { now < 2 ^ 62 }
         ensures step { IfOk result (λ turned.
-            Does (rows.called self.old.node self.old.times self.old.state now call.now) self.old self.new turned) }
+            Does (rows.called self.old.node self.old.times self.old.state now call.now) self.old
+            self.new turned) }
         ensures err { OnErr result (self.new ≡ self.old) }
     {
         if self.replicas.next() >= COUNTS {
@@ -284,7 +308,8 @@ impl Client {
         requires clock { now < 2 ^ 62 }
         requires left { self.old.state.replicas.next < 2 ^ 62 }
         ensures step { IfOk result (λ turned.
-            Does (rows.request_begins self.old.node self.old.times self.old.state now call.now request) self.old self.new turned) }
+            Does (rows.request_begins self.old.node self.old.times self.old.state now call.now
+            request) self.old self.new turned) }
         ensures err { OnErr result (self.new ≡ self.old) }
     {
         let made = MadeCall {
@@ -302,7 +327,8 @@ impl Client {
     fn repeat(&mut self, now: u64) -> Result<Turned, OutOfMemory>
         requires { now < 2 ^ 62 }
         ensures step { IfOk result (λ turned.
-            Does (rows.called_again self.old.node self.old.times self.old.state now) self.old self.new turned) }
+            Does (rows.called_again self.old.node self.old.times self.old.state now) self.old
+            self.new turned) }
         ensures err { OnErr result (self.new ≡ self.old) }
     {
         let Some(made) = &self.made else {
@@ -318,7 +344,8 @@ impl Client {
     fn go_on(&mut self, now: u64, ev: &Event) -> Result<Turned, OutOfMemory>
         requires { now < 2 ^ 62 }
         ensures step { IfOk result (λ turned.
-            Does (rows.goes_on_with self.old.node self.old.times self.old.state now ev.now self.old.state.made)
+            Does (rows.goes_on_with self.old.node self.old.times self.old.state now ev.now
+            self.old.state.made)
             self.old self.new turned) }
         ensures err { OnErr result (self.new ≡ self.old) }
     {
@@ -357,7 +384,9 @@ impl Client {
     /// The call on a replicated file has ended so, and an Ok told this mark.
     fn end_replicated(&mut self, told: SizeMark, outcome: Outcome)
         requires { IsSome self.old.state.made }
-        ensures { self.new ≡ record self.old { state = rows.behind self.old.state self.old.state.made told (Some outcome) } }
+        ensures { self.new ≡
+            record self.old
+            { state = rows.behind self.old.state self.old.state.made told (Some outcome) } }
     {
         let Some(made) = &self.made else {
             unreachable!()

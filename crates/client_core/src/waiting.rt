@@ -83,7 +83,8 @@ fn serve(
     mark: SizeMark,
     bytes: &Octets,
 ) -> Result<Progress, OutOfMemory>
-    ensures { IfOk result (λ comes. comes ≡ rows.served held.now capability.now op.now target count mark bytes.now) }
+    ensures { IfOk result (λ comes. comes ≡
+        rows.served held.now capability.now op.now target count mark bytes.now) }
 {
     let file = capability.file.number;
     let location = &capability.location;
@@ -110,7 +111,8 @@ fn take_reply(
     from: NodeId,
     reply: &Reply,
 ) -> Result<Progress, OutOfMemory>
-    ensures { IfOk result (λ comes. comes ≡ rows.reply_comes held.now capability.now op.now target from reply.now) }
+    ensures { IfOk result (λ comes. comes ≡
+        rows.reply_comes held.now capability.now op.now target from reply.now) }
 {
     match reply {
         Reply::Ok { count, mark, bytes } => {
@@ -171,7 +173,8 @@ fn hear_reply(
     number: u64,
     reply: &Reply,
 ) -> Result<Progress, OutOfMemory>
-    ensures { IfOk result (λ comes. comes ≡ rows.reply_heard held.now made.now target from number reply.now) }
+    ensures { IfOk result (λ comes. comes ≡
+        rows.reply_heard held.now made.now target from number reply.now) }
 {
     if number != made.number {
         return Ok(waits_on());
@@ -207,7 +210,8 @@ fn hear_meta(
     number: u64,
     answer: &MetaAnswer,
 ) -> Result<Progress, OutOfMemory>
-    ensures { IfOk result (λ comes. comes ≡ rows.meta_heard made.now target from number answer.now) }
+    ensures { IfOk result (λ comes. comes ≡
+        rows.meta_heard made.now target from number answer.now) }
 {
     if number != made.number || from.0 != target.0 {
         return Ok(waits_on());
@@ -233,7 +237,8 @@ fn hear_registry(
     number: u64,
     answer: &RegistryAnswer,
 ) -> Result<Progress, OutOfMemory>
-    ensures { IfOk result (λ comes. comes ≡ rows.registry_heard made.now target from number answer.now) }
+    ensures { IfOk result (λ comes. comes ≡
+        rows.registry_heard made.now target from number answer.now) }
 {
     if number != made.number || from.0 != target.0 {
         return Ok(waits_on());
@@ -256,7 +261,8 @@ fn hear(
     from: NodeId,
     payload: &Payload,
 ) -> Result<Progress, OutOfMemory>
-    ensures { IfOk result (λ comes. comes ≡ rows.message_comes held.now made.now target from payload.now) }
+    ensures { IfOk result (λ comes. comes ≡
+        rows.message_comes held.now made.now target from payload.now) }
 {
     match payload {
         Payload::Reply { number, reply, .. } => {
@@ -282,7 +288,8 @@ pub fn handle(
     deadline: u64,
     ev: &Event,
 ) -> Result<Progress, OutOfMemory>
-    ensures { IfOk result (λ comes. comes ≡ rows.event_comes now held.now made.now target deadline ev.now) }
+    ensures { IfOk result (λ comes. comes ≡
+        rows.event_comes now held.now made.now target deadline ev.now) }
 {
     match ev {
         Event::Deliver(msg) => hear(alloc, held, made, target, msg.from, &msg.payload),

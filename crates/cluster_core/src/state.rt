@@ -98,8 +98,14 @@ impl<C: NodeCore, H: Hull> State<C, H> {
 
     /// A line begins: it isn't shown yet, and until it is done the world takes no other.
     pub fn begin(&mut self, line: &Line) -> Result<(), OutOfMemory>
-        ensures begun { OnOk result (self.new ≡ record { doing = begun_with self.old.doing.world line.now; begun = line.now ∷ []; ended = true }) }
-        ensures failed { OnErr result ((self.new.doing.world ≡ self.old.doing.world) × (self.new.ended ≡ true)) }
+        ensures begun { OnOk result (self.new ≡
+            record {
+              doing = begun_with self.old.doing.world line.now;
+              begun = line.now ∷ [];
+              ended = true;
+            }) }
+        ensures failed { OnErr result ((self.new.doing.world ≡ self.old.doing.world)
+            × (self.new.ended ≡ true)) }
     {
         self.ended = true;
         self.stepper.own.lose();
@@ -110,7 +116,14 @@ impl<C: NodeCore, H: Hull> State<C, H> {
 
     /// The line that has begun is shown.
     pub fn show(&mut self)
-        ensures { self.new ≡ record self.old { doing = record self.old.doing { world = record self.old.doing.world { lines = self.old.doing.world.lines ++ self.old.begun } }; begun = [] } }
+        ensures { self.new ≡
+            record self.old {
+              doing = record self.old.doing {
+                world = record self.old.doing.world
+                    { lines = self.old.doing.world.lines ++ self.old.begun };
+              };
+              begun = [];
+            } }
     {
         self.shown = self.lines.len();
     }

@@ -24,7 +24,8 @@ impl<C: NodeCore, H: Hull> Model for World<C, H> {
 
     ghost view = { λ w. record { world = w.state.doing.world; ended = w.state.ended } };
 
-    ghost invariant = { λ w. IsRunSoFar H.overflow (record { world = w.state.doing.world; ended = w.state.ended }) };
+    ghost invariant = { λ w.
+        IsRunSoFar H.overflow (record { world = w.state.doing.world; ended = w.state.ended }) };
 }
 
 impl<C: NodeCore, H: Hull> World<C, H> {

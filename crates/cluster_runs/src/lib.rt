@@ -86,9 +86,12 @@ ghost use Rattle.cluster_runs.specs.Examples.{trace_of, trace_in, rule_behind, r
 pub fn definitions()
     ensures safe { (es : List Entry) → IsSafe es → IsSafe es }
     ensures broken { (b : Break) (es : List Entry) → IsBroken b es → IsBroken b es }
-    ensures parts { (room : Room) (w part : World) (l : Line) → IsPartOf room w l part → IsPartOf room w l part }
-    ensures run { (room : Room) (ls : List Line) (es : List Entry) → IsRun room ls es → IsRun room ls es }
-    ensures into { (room : Room) (ls : List Line) (l : Line) (es : List Entry) → IsRunInto room ls l es → IsRunInto room ls l es }
+    ensures parts { (room : Room) (w part : World) (l : Line) → IsPartOf room w l part →
+        IsPartOf room w l part }
+    ensures run { (room : Room) (ls : List Line) (es : List Entry) → IsRun room ls es →
+        IsRun room ls es }
+    ensures into { (room : Room) (ls : List Line) (l : Line) (es : List Entry) →
+        IsRunInto room ls l es → IsRunInto room ls l es }
     ensures all_safe { (room : Room) → AreRunsSafe room → AreRunsSafe room }
     ensures enough { (room : Room) → IsEnough room → IsEnough room }
 {}

@@ -29,8 +29,13 @@ ghost use Rattle.cluster_safety.specs.Runs.{FilesAreRuns, NextAreRuns, ArePlaced
 
 /// One record more changes what a node keeps of the file that it is of, and of no other file.
 pub fn records_are_of_a_file()
-    ensures own { (file : FileId) (records : List Record) (old state : Option FileState) (rec : Option Record) → IsOf file rec → keeping (kept_seen file records old) state rec ≡ kept_seen file (one_more records rec) state }
-    ensures other { (file : FileId) (records : List Record) (state : Option FileState) (rec : Option Record) → IsNotOf file rec → kept_seen file (one_more records rec) state ≡ kept_seen file records state }
+    ensures own { (file : FileId) (records : List Record) (old state : Option FileState)
+        (rec : Option Record) → IsOf file rec →
+        keeping (kept_seen file records old) state rec ≡
+        kept_seen file (one_more records rec) state }
+    ensures other { (file : FileId) (records : List Record) (state : Option FileState)
+        (rec : Option Record) → IsNotOf file rec →
+        kept_seen file (one_more records rec) state ≡ kept_seen file records state }
 {}
 
 /// A message to an OSD is a step of the file that it concerns, also where the OSD stops in its append and the record is kept; every
@@ -126,20 +131,29 @@ pub fn messages_are_of_their_step()
 /// tales tell, and each message about the file was sent in the run. So it is of each file, after every list of lines, and at each step
 /// of a line more.
 pub fn files_are_runs()
-    ensures whole { (room : Room) (lines : List Line) → AreLines lines → FilesAreRuns (run_of room lines) [] }
-    ensures steps { (room : Room) (lines : List Line) (l : Line) (k : ℕ) → AreLines (lines ++ l ∷ []) → refusal (run_of room lines) l ≡ None → NextAreRuns (steps k room (begins (run_of room lines) l)) }
+    ensures whole { (room : Room) (lines : List Line) → AreLines lines →
+        FilesAreRuns (run_of room lines) [] }
+    ensures steps { (room : Room) (lines : List Line) (l : Line) (k : ℕ) →
+        AreLines (lines ++ l ∷ []) → refusal (run_of room lines) l ≡ None →
+        NextAreRuns (steps k room (begins (run_of room lines) l)) }
 {}
 
 /// The trace tells where each file is declared, within the limits: after every list of lines, and behind some steps of a line more.
 pub fn files_are_placed()
-    ensures whole { (room : Room) (lines : List Line) → AreLines lines → ArePlaced (run_of room lines) }
-    ensures part { (room : Room) (lines : List Line) (l : Line) (part : World) → AreLines (lines ++ l ∷ []) → refusal (run_of room lines) l ≡ None → IsPartOf room (run_of room lines) l part → ArePlaced part }
+    ensures whole { (room : Room) (lines : List Line) → AreLines lines →
+        ArePlaced (run_of room lines) }
+    ensures part { (room : Room) (lines : List Line) (l : Line) (part : World) →
+        AreLines (lines ++ l ∷ []) → refusal (run_of room lines) l ≡ None →
+        IsPartOf room (run_of room lines) l part → ArePlaced part }
 {}
 
 /// What the trace tells of a replicated file fits one order of writes and truncations: each claim is borne out by the order of writes
 /// that the trace gives, no write stands there twice, and each answer shows the order as it was. So it is in every run of any lines,
 /// and behind some steps of a line more.
 pub fn files_are_safe()
-    ensures whole { (room : Room) (lines : List Line) → AreLines lines → FilesAreSafe (run_of room lines).entries }
-    ensures part { (room : Room) (lines : List Line) (l : Line) (entries : List Entry) → AreLines (lines ++ l ∷ []) → refusal (run_of room lines) l ≡ None → IsRunInto room lines l entries → FilesAreSafe entries }
+    ensures whole { (room : Room) (lines : List Line) → AreLines lines →
+        FilesAreSafe (run_of room lines).entries }
+    ensures part { (room : Room) (lines : List Line) (l : Line) (entries : List Entry) →
+        AreLines (lines ++ l ∷ []) → refusal (run_of room lines) l ≡ None →
+        IsRunInto room lines l entries → FilesAreSafe entries }
 {}

@@ -29,7 +29,9 @@ ghost use Rattle.cluster_safety.specs.Examples.{caught_up, caught_up_trace};
 /// The trace of every run is safe, and so is the trace behind each finished step of a line more.
 pub fn runs_are_safe()
     ensures whole { (room : Room) → AreRunsSafe room }
-    ensures part { (room : Room) (lines : List Line) (l : Line) (entries : List Entry) → AreLines (lines ++ l ∷ []) → refusal (run_of room lines) l ≡ None → IsRunInto room lines l entries → IsSafe entries }
+    ensures part { (room : Room) (lines : List Line) (l : Line) (entries : List Entry) →
+        AreLines (lines ++ l ∷ []) → refusal (run_of room lines) l ≡ None →
+        IsRunInto room lines l entries → IsSafe entries }
 {}
 
 /// At no moment two nodes hold a file.
@@ -66,7 +68,8 @@ pub fn ends_are_fresh()
 
 /// A front of a safe trace is safe, so a safe trace is broken nowhere.
 pub fn safe_traces_are_not_broken()
-    ensures fronts { (entries moment : List Entry) → IsMoment moment entries → IsSafe entries → IsSafe moment }
+    ensures fronts { (entries moment : List Entry) → IsMoment moment entries → IsSafe entries →
+        IsSafe moment }
     ensures nowhere { (entries : List Entry) (b : Break) → IsSafe entries → IsBroken b entries → ⊥ }
 {}
 
@@ -74,9 +77,14 @@ pub fn safe_traces_are_not_broken()
 /// file fits one order, and issues each write first, each write stands once in the order and had begun before, and answers show the
 /// file as it stands.
 pub fn what_is_told_has_begun()
-    ensures begun { (file : ℕ) (entries : List Entry) → ActsHaveBegun file entries → HaveBegun (operations_of file entries) file entries }
-    ensures stand_once { (file : ℕ) (entries : List Entry) → ActsHaveBegun file entries → HasOneOrder (stripe_of file entries) (operations_of file entries) file entries → AreOnce file entries }
-    ensures answers_show { (file : ℕ) (entries : List Entry) → ActsHaveBegun file entries → HasOneOrder (stripe_of file entries) (operations_of file entries) file entries → AnswersShow file entries }
+    ensures begun { (file : ℕ) (entries : List Entry) → ActsHaveBegun file entries →
+        HaveBegun (operations_of file entries) file entries }
+    ensures stand_once { (file : ℕ) (entries : List Entry) → ActsHaveBegun file entries →
+        HasOneOrder (stripe_of file entries) (operations_of file entries) file entries →
+        AreOnce file entries }
+    ensures answers_show { (file : ℕ) (entries : List Entry) → ActsHaveBegun file entries →
+        HasOneOrder (stripe_of file entries) (operations_of file entries) file entries →
+        AnswersShow file entries }
 {}
 
 /// None of this is empty. There is a run in which a write reaches one replica but its primary, nobody is told of it, and the next

@@ -39,7 +39,8 @@ impl Model for Dir {
 
     ghost Value = { DirNode };
 
-    ghost view = { λ d. record { secret = d.key; state = record { rows = d.registry; clients = d.clients.kept } } };
+    ghost view = { λ d.
+        record { secret = d.key; state = record { rows = d.registry; clients = d.clients.kept } } };
 
     ghost invariant = { λ d. (1 ≤ length d.key) × (length d.key ≤ 64) };
 }
@@ -63,7 +64,8 @@ fn answer(
     number: u64,
     answer: RegistryAnswer,
 ) -> Result<Turned, OutOfMemory>
-    ensures { IfOk result (λ turned. turned ≡ record { rec = rec; outs = reply_to client number answer ∷ []; marks = [] }) }
+    ensures { IfOk result (λ turned. turned ≡
+        record { rec = rec; outs = reply_to client number answer ∷ []; marks = [] }) }
 {
     let rec = OptionalBox::of(alloc, rec)?;
     let mut outs = Seq::new(alloc);
@@ -115,7 +117,8 @@ impl Dir {
         requires some { 1 ≤ length key.now }
         requires short { length key.now ≤ 64 }
         requires fit { All FitsRecord records.now }
-        ensures { IfOk result (λ dir. dir ≡ record { secret = key.now; state = dir_of records.now }) }
+        ensures { IfOk result (λ dir. dir ≡
+            record { secret = key.now; state = dir_of records.now }) }
     {
         let mut dir = Dir {
             key: Octets::of(alloc, key)?,
@@ -145,8 +148,13 @@ impl Dir {
     /// Handles an event. The service is unchanged if memory runs out.
     #[tactic(auto, unfolding(crate::specs::Steps::step_of_dir))]
     pub fn step(&mut self, alloc: Global, event: &Event) -> Result<Turned, OutOfMemory>
-        ensures turned { IfOk result (λ turned. turned ≡ (step_of_dir self.old.state event.now).turned) }
-        ensures state { OnOk result (self.new ≡ record { secret = self.old.secret; state = (step_of_dir self.old.state event.now).dir }) }
+        ensures turned { IfOk result (λ turned. turned ≡
+            (step_of_dir self.old.state event.now).turned) }
+        ensures state { OnOk result (self.new ≡
+            record {
+              secret = self.old.secret;
+              state = (step_of_dir self.old.state event.now).dir;
+            }) }
         ensures err { OnErr result (self.new ≡ self.old) }
     {
         let Event::Deliver(msg) = event else {
@@ -166,8 +174,13 @@ impl Dir {
         number: u64,
         request: &RegistryReq,
     ) -> Result<Turned, OutOfMemory>
-        ensures turned { IfOk result (λ turned. turned ≡ (requested self.old.state client number request.now).turned) }
-        ensures state { OnOk result (self.new ≡ record { secret = self.old.secret; state = (requested self.old.state client number request.now).dir }) }
+        ensures turned { IfOk result (λ turned. turned ≡
+            (requested self.old.state client number request.now).turned) }
+        ensures state { OnOk result (self.new ≡
+            record {
+              secret = self.old.secret;
+              state = (requested self.old.state client number request.now).dir;
+            }) }
         ensures err { OnErr result (self.new ≡ self.old) }
     {
         match self.clients.standing(alloc, client, number)? {
@@ -185,8 +198,13 @@ impl Dir {
         number: u64,
         request: &RegistryReq,
     ) -> Result<Turned, OutOfMemory>
-        ensures turned { IfOk result (λ turned. turned ≡ (fresh self.old.state client number request.now).turned) }
-        ensures state { OnOk result (self.new ≡ record { secret = self.old.secret; state = (fresh self.old.state client number request.now).dir }) }
+        ensures turned { IfOk result (λ turned. turned ≡
+            (fresh self.old.state client number request.now).turned) }
+        ensures state { OnOk result (self.new ≡
+            record {
+              secret = self.old.secret;
+              state = (fresh self.old.state client number request.now).dir;
+            }) }
         ensures err { OnErr result (self.new ≡ self.old) }
     {
         if self.registry.is_spent(request) {
@@ -208,9 +226,15 @@ impl Dir {
         request: &RegistryReq,
         plan: Plan,
     ) -> Result<Turned, OutOfMemory>
-        requires { record { rows = applied self.old.state.rows plan.change; answer = plan.answer } ≡ outcome_of self.old.state.rows request.now }
-        ensures turned { IfOk result (λ turned. turned ≡ (recorded self.old.state client number request.now).turned) }
-        ensures state { OnOk result (self.new ≡ record { secret = self.old.secret; state = (recorded self.old.state client number request.now).dir }) }
+        requires { record { rows = applied self.old.state.rows plan.change; answer = plan.answer } ≡
+            outcome_of self.old.state.rows request.now }
+        ensures turned { IfOk result (λ turned. turned ≡
+            (recorded self.old.state client number request.now).turned) }
+        ensures state { OnOk result (self.new ≡
+            record {
+              secret = self.old.secret;
+              state = (recorded self.old.state client number request.now).dir;
+            }) }
         ensures err { OnErr result (self.new ≡ self.old) }
     {
         let rec = record_of(alloc, client, number, request)?;
@@ -221,7 +245,14 @@ impl Dir {
 
     /// Makes a planned change, and keeps the number and the answer for the client. Nothing changes if memory runs out.
     fn commit(&mut self, client: NodeId, number: u64, plan: Plan) -> Result<(), OutOfMemory>
-        ensures ok { OnOk result (self.new ≡ record { secret = self.old.secret; state = record { rows = applied self.old.state.rows plan.change; clients = with_answer self.old.state.clients client number plan.answer } }) }
+        ensures ok { OnOk result (self.new ≡
+            record {
+              secret = self.old.secret;
+              state = record {
+                rows = applied self.old.state.rows plan.change;
+                clients = with_answer self.old.state.clients client number plan.answer;
+              };
+            }) }
         ensures err { OnErr result (self.new ≡ self.old) }
     {
         self.clients.reserve()?;
@@ -233,7 +264,8 @@ impl Dir {
     /// Takes what a record tells.
     fn take(&mut self, alloc: Global, rec: &Record) -> Result<(), OutOfMemory>
         requires { FitsRecord rec.now }
-        ensures ok { OnOk result (self.new ≡ record { secret = self.old.secret; state = after_record self.old.state rec.now }) }
+        ensures ok { OnOk result (self.new ≡
+            record { secret = self.old.secret; state = after_record self.old.state rec.now }) }
         ensures err { OnErr result (self.new ≡ self.old) }
     {
         match rec {

@@ -18,5 +18,7 @@ pub use directory::Dir;
 /// The records tell the state: with that of a step behind the earlier ones they tell the state after the step. So a service
 /// that starts from its records goes on where it was.
 pub fn records_tell_the_state()
-    ensures { (records : List Record) (event : Event) → dir_of (records ++ option_to_list (step_of_dir (dir_of records) event).turned.rec) ≡ (step_of_dir (dir_of records) event).dir }
+    ensures { (records : List Record) (event : Event) →
+        dir_of (records ++ option_to_list (step_of_dir (dir_of records) event).turned.rec) ≡
+        (step_of_dir (dir_of records) event).dir }
 {}

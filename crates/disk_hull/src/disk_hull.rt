@@ -65,7 +65,8 @@ impl DiskHull {
 
     /// Puts the node's store in, in place of the one that it has.
     fn put_in(&mut self, node: NodeId, store: NodeStore) -> Result<(), OutOfMemory>
-        ensures ok { OnOk result (node_of self.new ≡ λ n. if n == node.0 then store else node_of self.old n) }
+        ensures ok { OnOk result (node_of self.new ≡ λ n.
+            if n == node.0 then store else node_of self.old n) }
         ensures err { OnErr result (node_of self.new ≡ node_of self.old) }
     {
         self.stores.insert(node.0, store)?;
@@ -83,10 +84,13 @@ impl DiskHull {
         requires fits { FitsRecord rec.now }
         requires place { IsInPlace (fold_of (records_of self.old node.0)) rec.now }
         requires call { IsInAppend stop }
-        ensures own { IfOk result (λ store. store.records ≡ own_after (records_of self.old node.0) rec.now (kept_by stop)) }
-        ensures disk { IfOk result (λ store. IsDiskAfter stop (records_of self.old node.0) rec.now store.disk) }
+        ensures own { IfOk result (λ store. store.records ≡
+            own_after (records_of self.old node.0) rec.now (kept_by stop)) }
+        ensures disk { IfOk result (λ store.
+            IsDiskAfter stop (records_of self.old node.0) rec.now store.disk) }
         ensures others { AreOtherNodesSame self.old self.new node }
-        ensures room { IsFullExactly (journal_overflow (records_of self.old node.0) rec.now) result }
+        ensures room { IsFullExactly (journal_overflow (records_of self.old node.0) rec.now)
+            result }
         ensures error { IfErr result IsFullOrMemory }
     {
         let store = self.take(alloc, node)?;
@@ -116,11 +120,15 @@ impl Hull for DiskHull {
         requires fits { FitsRecord rec.now }
         requires place { IsInPlace (fold_of (records_of self.old node.0)) rec.now }
         requires call { IsInAppend stop }
-        ensures records { IfOk result (λ end. IsAppended (records_of self.old) (records_of self.new) node rec.now stop end) }
-        ensures room { IsFullExactly (journal_overflow (records_of self.old node.0) rec.now) result }
+        ensures records { IfOk result (λ end.
+            IsAppended (records_of self.old) (records_of self.new) node rec.now stop end) }
+        ensures room { IsFullExactly (journal_overflow (records_of self.old node.0) rec.now)
+            result }
         ensures error { IfErr result IsFullOrMemory }
-        ensures others { OnErr result (AreOthersSame (records_of self.old) (records_of self.new) node) }
-        ensures disk { OnOk result (IsDiskAfter stop (records_of self.old node.0) rec.now (disk_of self.new node.0)) }
+        ensures others { OnErr result
+            (AreOthersSame (records_of self.old) (records_of self.new) node) }
+        ensures disk { OnOk result
+            (IsDiskAfter stop (records_of self.old node.0) rec.now (disk_of self.new node.0)) }
         ensures other_disks { AreOtherNodesSame self.old self.new node }
     {
         let store = self.appended(alloc, node, rec, stop)?;
@@ -131,11 +139,14 @@ impl Hull for DiskHull {
     /// As of every hull; and what is found is what a crash leaves of the node's disk, loaded from a new one. The other
     /// nodes' disks are as before.
     fn revive(&mut self, alloc: Global, node: NodeId) -> Result<Vec<Record>, WorldErr>
-        ensures found { IfOk result (λ found. fold_of found.items ≡ fold_of (records_of self.old node.0)) }
-        ensures logged { IfOk result (λ found. logged_of found.items ≡ logged_of (records_of self.old node.0)) }
+        ensures found { IfOk result (λ found. fold_of found.items ≡
+            fold_of (records_of self.old node.0)) }
+        ensures logged { IfOk result (λ found. logged_of found.items ≡
+            logged_of (records_of self.old node.0)) }
         ensures error { IfErr result (λ error. error ≡ WorldErr.OutOfMemory) }
         ensures records { records_of self.new ≡ records_of self.old }
-        ensures read { IfOk result (λ found. IsReadAgain (disk_of self.old node.0) (disk_of self.new node.0) found.items) }
+        ensures read { IfOk result (λ found.
+            IsReadAgain (disk_of self.old node.0) (disk_of self.new node.0) found.items) }
         ensures other_disks { AreOtherNodesSame self.old self.new node }
     {
         match self.stores.get_mut(&node.0) {

@@ -10,8 +10,10 @@ pub fn fill_unsynced(image: &mut [u8], synced_length: usize, notes: &[Note], fil
     requires synced { synced_length ≤ length image.old }
     requires ends { greatest_end (ranges_of notes.now) ≤ length image.old }
     ensures filled { (k : ℕ) → k < length image.old →
-        (synced_length ≤ k) ⊎ (list_any (is_inside k) (ranges_of notes.now) ≡ true) → slice_index image.new k ≡ fill }
-    ensures same { (k : ℕ) → k < synced_length → list_any (is_inside k) (ranges_of notes.now) ≡ false →
+        (synced_length ≤ k) ⊎ (list_any (is_inside k) (ranges_of notes.now) ≡ true) →
+        slice_index image.new k ≡ fill }
+    ensures same { (k : ℕ) → k < synced_length →
+        list_any (is_inside k) (ranges_of notes.now) ≡ false →
         slice_index image.new k ≡ slice_index image.old k }
 {
     let end = image.len();
@@ -25,7 +27,8 @@ pub fn fill_unsynced(image: &mut [u8], synced_length: usize, notes: &[Note], fil
 
 fn fill_note(image: &mut [u8], note: Note, fill: u8)
     requires { greatest_end (ranges_of (note ∷ [])) ≤ length image.old }
-    ensures filled { (k : ℕ) → list_any (is_inside k) (ranges_of (note ∷ [])) ≡ true → slice_index image.new k ≡ fill }
+    ensures filled { (k : ℕ) → list_any (is_inside k) (ranges_of (note ∷ [])) ≡ true →
+        slice_index image.new k ≡ fill }
     ensures same { (k : ℕ) → list_any (is_inside k) (ranges_of (note ∷ [])) ≡ false →
         slice_index image.new k ≡ slice_index image.old k }
 {
@@ -39,7 +42,8 @@ fn fill_range(image: &mut [u8], start: usize, end: usize, fill: u8)
     requires order { start ≤ end }
     requires inside { end ≤ length image.old }
     ensures filled { (k : ℕ) → start ≤ k → k < end → slice_index image.new k ≡ fill }
-    ensures same { (k : ℕ) → (k < start) ⊎ (end ≤ k) → slice_index image.new k ≡ slice_index image.old k }
+    ensures same { (k : ℕ) → (k < start) ⊎ (end ≤ k) →
+        slice_index image.new k ≡ slice_index image.old k }
 {
     image[start..end].fill(fill);
 }

@@ -10,7 +10,9 @@ use crate::note::Note;
 pub fn lay(buf: &mut [u8], at: usize, first: &[u8], notes: &[Note], pieces: &[u8])
     requires { pieces_length notes.now ≡ length pieces.now }
     ensures { (k : ℕ) → k < length buf.old →
-        slice_index buf.new k ≡ slice_index (kept_after (changes_of notes.now pieces.now) (at_rest first.now)).read (at + k) }
+        slice_index buf.new k ≡
+        slice_index (kept_after (changes_of notes.now pieces.now) (at_rest first.now)).read
+        (at + k) }
 {
     buf.fill(0);
     lay_piece(buf, at, 0, first);
@@ -28,9 +30,11 @@ pub fn lay(buf: &mut [u8], at: usize, first: &[u8], notes: &[Note], pieces: &[u8
 
 /// Lays a piece that stands from `place` on: as much of it as falls into a buffer that stands from `at` on.
 fn lay_piece(buf: &mut [u8], at: usize, place: usize, piece: &[u8])
-    ensures laid { (k : ℕ) → k < length buf.old → place ≤ at + k → at + k < place + length piece.now →
+    ensures laid { (k : ℕ) → k < length buf.old → place ≤ at + k →
+        at + k < place + length piece.now →
         slice_index buf.new k ≡ slice_index piece.now (at + k - place) }
-    ensures same { (k : ℕ) → k < length buf.old → (at + k < place) ⊎ (place + length piece.now ≤ at + k) →
+    ensures same { (k : ℕ) → k < length buf.old →
+        (at + k < place) ⊎ (place + length piece.now ≤ at + k) →
         slice_index buf.new k ≡ slice_index buf.old k }
 {
     let before = at.saturating_sub(place).min(piece.len());

@@ -48,7 +48,9 @@ impl Plan {
     }
 
     fn answer(&mut self) -> Result<(), Failed>
-        ensures answer { is_err result ≡ fails_at self.old.failing self.old.stop (counted self.old.calls) (counted self.old.changes) }
+        ensures answer { is_err result ≡
+            fails_at self.old.failing self.old.stop (counted self.old.calls)
+            (counted self.old.changes) }
         ensures count { self.new.faults ≡ fault_count_after (is_err result) self.old.faults }
         ensures failing { self.new.failing ≡ self.old.failing }
         ensures stop { self.new.stop ≡ self.old.stop }
@@ -63,7 +65,9 @@ impl Plan {
     }
 
     fn fails(&self) -> bool
-        ensures { result ≡ fails_at self.now.failing self.now.stop (counted self.now.calls) (counted self.now.changes) }
+        ensures { result ≡
+            fails_at self.now.failing self.now.stop (counted self.now.calls)
+            (counted self.now.changes) }
     {
         let call = self.calls;
         self.failing.as_slice().contains(&call) || self.has_stopped()

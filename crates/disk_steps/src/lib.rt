@@ -29,7 +29,8 @@ pub fn appended(
     requires fits { FitsRecord rec.now }
     requires place { IsInPlace (fold_of store.records) rec.now }
     requires call { IsInAppend stop }
-    ensures own { IfOk result (λ node. node.records ≡ own_after store.records rec.now (kept_by stop)) }
+    ensures own { IfOk result (λ node. node.records ≡
+        own_after store.records rec.now (kept_by stop)) }
     ensures disk { IfOk result (λ node. IsDiskAfter stop store.records rec.now node.disk) }
     ensures room { IsFullExactly (journal_overflow store.records rec.now) result }
     ensures error { IfErr result IsFullOrMemory }

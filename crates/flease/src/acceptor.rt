@@ -80,7 +80,8 @@ impl Acceptor {
     /// Accepts the lease where it is written to this boot by the ballot that was promised last.
     pub fn on_write(&mut self, ballot: Ballot, boot: Boot, lease: Lease) -> WriteAnswer
         ensures state { self.new ≡ (protocol.on_write self.old ballot boot lease).acceptor }
-        ensures answer { result ≡ shown_write (protocol.on_write self.old ballot boot lease).answer }
+        ensures answer { result ≡
+            shown_write (protocol.on_write self.old ballot boot lease).answer }
     {
         if self.boot != boot {
             return WriteAnswer::OtherBoot;

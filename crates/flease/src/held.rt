@@ -133,7 +133,8 @@ impl Held {
         requires turn { IsTrue (protocol.has_turn self.old now) }
         requires clock { now < 2 ^ 62 }
         ensures state { self.new ≡ (protocol.on_renewal self.old now from payload.now).held }
-        ensures answer { result ≡ shown_renewal (protocol.on_renewal self.old now from payload.now).renewal }
+        ensures answer { result ≡
+            shown_renewal (protocol.on_renewal self.old now from payload.now).renewal }
     {
         let Some(round) = self.renewal else {
             return Renewal::Nothing;
@@ -165,8 +166,13 @@ impl Held {
         boot: Boot,
         report: Option<Lease>,
     ) -> Renewal
-        ensures state { self.new ≡ (protocol.renewal_promised (on_promise round now from boot report).took self.old (on_promise round now from boot report).round).held }
-        ensures answer { result ≡ shown_renewal (protocol.renewal_promised (on_promise round now from boot report).took self.old (on_promise round now from boot report).round).renewal }
+        ensures state { self.new ≡
+            (protocol.renewal_promised (on_promise round now from boot report).took self.old
+            (on_promise round now from boot report).round).held }
+        ensures answer { result ≡
+            shown_renewal
+            (protocol.renewal_promised (on_promise round now from boot report).took self.old
+            (on_promise round now from boot report).round).renewal }
     {
         let took = round.promise(now, from, boot, report);
         self.renewal = match took {
@@ -183,7 +189,8 @@ impl Held {
     fn accepted(&mut self, mut round: Round, now: u64, from: NodeId, boot: Boot) -> Renewal
         requires { now < 2 ^ 62 }
         ensures state { self.new ≡ (protocol.renewal_accepted self.old round now from boot).held }
-        ensures answer { result ≡ shown_renewal (protocol.renewal_accepted self.old round now from boot).renewal }
+        ensures answer { result ≡
+            shown_renewal (protocol.renewal_accepted self.old round now from boot).renewal }
     {
         if !round.accepted(from, boot) {
             self.renewal = Some(round);
@@ -250,7 +257,8 @@ impl Held {
 
     /// Ends the renewal where half the lease length has passed since its start.
     pub fn end_overdue_renewal(&mut self, now: u64)
-        ensures { self.new ≡ record self.old { renewal = protocol.renewal_left self.old.renewal now } }
+        ensures { self.new ≡
+            record self.old { renewal = protocol.renewal_left self.old.renewal now } }
     {
         if let Some(round) = self.renewal
             && has_run_out(&round, now)

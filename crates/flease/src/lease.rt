@@ -84,7 +84,8 @@ impl FileLease {
 
     /// Whether a payload is a promise of this node that the running round takes.
     pub fn takes(&self, now: u64, from: NodeId, payload: &Payload) -> bool
-        ensures { result ≡ rows.renewal_takes_under (rows.running_round self.now) now from payload.now }
+        ensures { result ≡
+            rows.renewal_takes_under (rows.running_round self.now) now from payload.now }
     {
         match &self.state {
             State::Free(_) => false,
@@ -277,7 +278,8 @@ fn held_answered(mut held: Held, now: u64, from: NodeId, payload: &Payload) -> (
     requires turn { IsTrue (rows.has_turn held now) }
     requires clock { now < 2 ^ 62 }
     ensures state { shown result.0 ≡ (rows.on_answer (rows.held held) now from payload.now).state }
-    ensures news { result.1 ≡ shown_news (rows.on_answer (rows.held held) now from payload.now).news }
+    ensures news { result.1 ≡
+        shown_news (rows.on_answer (rows.held held) now from payload.now).news }
 {
     let round = held.renewal_round();
     let news = renewal_news(held.renewal(now, from, payload), round);

@@ -22,7 +22,8 @@ impl Model for Proposer {
 
     ghost view = { λ p. record { node = p.node; boot = p.boot; times = p.times; known = p.known } };
 
-    ghost inverse = { λ p. record { node = p.node; boot = p.boot; times = p.times; known = p.known } };
+    ghost inverse = { λ p.
+        record { node = p.node; boot = p.boot; times = p.times; known = p.known } };
 }
 
 /// The greatest count that a ballot may have.

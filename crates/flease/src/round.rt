@@ -68,7 +68,8 @@ impl Round {
     /// Takes a promise of this round, given by a boot of a member at the proposer's clock `now`.
     pub fn promise(&mut self, now: u64, from: NodeId, boot: Boot, report: Option<Lease>) -> Took
         ensures state { self.new ≡ (protocol.on_promise self.old now from boot report).round }
-        ensures took { result ≡ shown_took (protocol.on_promise self.old now from boot report).took }
+        ensures took { result ≡
+            shown_took (protocol.on_promise self.old now from boot report).took }
     {
         if !self.seats.await_promise(from) {
             return Took::Ignored;

@@ -23,7 +23,8 @@ impl Model for Silent {
 
     ghost invariant = { λ s. s.start < 2 ^ 62 };
 
-    ghost inverse = { λ s. record { times = s.times; node = s.node; boot = s.boot; start = s.start } };
+    ghost inverse = { λ s.
+        record { times = s.times; node = s.node; boot = s.boot; start = s.start } };
 }
 
 /// An OSD whose silence is over.
@@ -60,7 +61,8 @@ impl Silent {
 
     /// `None` exactly until the clock has advanced by the lease length and the drift since the start.
     pub fn awake(&self, now: u64) -> Option<Awake>
-        ensures exact { IsNone result ↔ (now < self.now.start + self.now.times.lease + self.now.times.drift) }
+        ensures exact { IsNone result
+            ↔ (now < self.now.start + self.now.times.lease + self.now.times.drift) }
         ensures value { result ≡ protocol.awake_at self.now now }
     {
         if now < self.start + self.times.lease() + self.times.drift() {

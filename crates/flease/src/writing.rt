@@ -53,7 +53,8 @@ impl Writing {
         report: Option<Lease>,
     ) -> (Writing, Option<Targets>)
         ensures round { result.0 ≡ (on_promise self now from boot report).round }
-        ensures targets { result.1 ≡ protocol.targets_of (on_promise self now from boot report).took }
+        ensures targets { result.1 ≡
+            protocol.targets_of (on_promise self now from boot report).took }
     {
         let mut round = self.round;
         let targets = match round.promise(now, from, boot, report) {

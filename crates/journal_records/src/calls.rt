@@ -16,7 +16,8 @@ pub fn write_synced<D: Disk>(disk: &mut D, at: u64, piece: &[u8]) -> Result<(), 
     ensures torn { IsTrue D.is_told → D.kept disk.old ≡ at_rest (D.kept disk.old).read →
         OnErr result (IsTornAt at piece.now (D.kept disk.old).read (D.kept disk.new)) }
     ensures any_moment { IsTrue D.is_told → D.kept disk.old ≡ at_rest (D.kept disk.old).read →
-        LeavesOnly D.moment D.left_since disk.old disk.new (MayBeTorn at piece.now (D.kept disk.old).read) }
+        LeavesOnly D.moment D.left_since disk.old disk.new
+        (MayBeTorn at piece.now (D.kept disk.old).read) }
     ensures reserved { D.reserved disk.new ≡ D.reserved disk.old }
     ensures room { D.room disk.old ≤ D.room disk.new + (length piece.now + 128) }
     ensures count { D.fault_count disk.new ≡

@@ -15,25 +15,31 @@ ghost use Rattle.lease_runs.specs.ActsView.{ShowsActs};
 
 /// In each world that moves lead to at most one node holds the lease, as it was told.
 pub fn one_node_holds()
-    ensures { (g : LeaseSetting) (w : LeaseWorld) (a b : ℕ) → IsReached g w → IsHolding g (w.node a) → IsHolding g (w.node b) → a ≡ b }
+    ensures { (g : LeaseSetting) (w : LeaseWorld) (a b : ℕ) → IsReached g w →
+        IsHolding g (w.node a) → IsHolding g (w.node b) → a ≡ b }
 {}
 
 /// A node that may act on the lease that it has holds it, as it was told.
 pub fn a_turn_is_held()
-    ensures { (g : LeaseSetting) (w : LeaseWorld) (n : ℕ) → IsReached g w → HasTurn (w.node n) (w.node n).row.lease → IsHolding g (w.node n) }
+    ensures { (g : LeaseSetting) (w : LeaseWorld) (n : ℕ) → IsReached g w →
+        HasTurn (w.node n) (w.node n).row.lease → IsHolding g (w.node n) }
 {}
 
 /// The clocks of nodes that run are within the drift of each other.
 pub fn clocks_are_close()
-    ensures { (g : LeaseSetting) (w : LeaseWorld) (a b : ℕ) → IsReached g w → (w.node a).runs ≡ true → (w.node b).runs ≡ true → (w.node a).clock ≤ (w.node b).clock + g.times.drift }
+    ensures { (g : LeaseSetting) (w : LeaseWorld) (a b : ℕ) → IsReached g w →
+        (w.node a).runs ≡ true → (w.node b).runs ≡ true →
+        (w.node a).clock ≤ (w.node b).clock + g.times.drift }
 {}
 
 /// There are worlds in which a node holds the lease: of a file of one member, and of a file of three, two of which take part.
 pub fn a_lease_is_held()
     ensures alone { IsReached alone (worlds_after alone (start_lease_world alone) one_takes_it) }
-    ensures held_alone { IsHolding alone ((worlds_after alone (start_lease_world alone) one_takes_it).node 1) }
+    ensures held_alone { IsHolding alone
+        ((worlds_after alone (start_lease_world alone) one_takes_it).node 1) }
     ensures trio { IsReached trio (worlds_after trio (start_lease_world trio) one_wins) }
-    ensures held_by_two { IsHolding trio ((worlds_after trio (start_lease_world trio) one_wins).node 1) }
+    ensures held_by_two { IsHolding trio
+        ((worlds_after trio (start_lease_world trio) one_wins).node 1) }
 {}
 
 /// The steps of a file show in its lease as rows of the lease.

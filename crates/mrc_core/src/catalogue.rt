@@ -42,7 +42,8 @@ impl Model for Catalogue {
 
     ghost Value = { Known };
 
-    ghost view = { λ c. record { volumes = c.tree; made = c.made.entries; clients = c.clients.kept } };
+    ghost view = { λ c.
+        record { volumes = c.tree; made = c.made.entries; clients = c.clients.kept } };
 }
 
 /// When a file is unlinked that a request makes or unlinks.
@@ -71,7 +72,8 @@ fn note(made: &mut IndexMap<u64, MadeFile>, file: Option<FileId>, unlinked: Opti
 /// What a change came to.
 #[tactic(auto, using(crate::proofs::Calling::call_done, crate::proofs::Calling::call_refused))]
 fn settled(call: &Result<MetaAnswer, TreeErr>) -> Result<Settled, OutOfMemory>
-    ensures { (old new : Volumes) (outcome : Outcome) → Settles old outcome → Comes call.now old new outcome → IsSettled old new outcome result }
+    ensures { (old new : Volumes) (outcome : Outcome) → Settles old outcome →
+        Comes call.now old new outcome → IsSettled old new outcome result }
 {
     match call {
         Ok(_) => Ok(Settled::Done),
@@ -107,7 +109,8 @@ fn set_sizes(tree: &mut Tree, sizes: &NewSizes)
 
 /// What is answered to a request that changes nothing.
 fn told(call: Result<MetaAnswer, TreeErr>) -> Result<MetaAnswer, OutOfMemory>
-    ensures { (volumes : Volumes) (outcome : Outcome) → Comes call volumes volumes outcome → IfOk result (λ told. told ≡ outcome.answer) }
+    ensures { (volumes : Volumes) (outcome : Outcome) → Comes call volumes volumes outcome →
+        IfOk result (λ told. told ≡ outcome.answer) }
 {
     match call {
         Ok(answer) => Ok(answer),
@@ -163,14 +166,16 @@ impl Catalogue {
 
     /// What a List is answered.
     pub fn page(&self, who: Asker, path: &Name, after: &Name) -> Result<MetaAnswer, OutOfMemory>
-        ensures { IfOk result (λ told. told ≡ (applied self.now.volumes who (TooFew 0) (ask.List path.now after.now)).answer) }
+        ensures { IfOk result (λ told. told ≡
+            (applied self.now.volumes who (TooFew 0) (ask.List path.now after.now)).answer) }
     {
         told(self.tree.page(who, path, after))
     }
 
     /// What a Stat is answered.
     pub fn stat(&self, who: Asker, path: &Name) -> Result<MetaAnswer, OutOfMemory>
-        ensures { IfOk result (λ told. told ≡ (applied self.now.volumes who (TooFew 0) (ask.Stat path.now)).answer) }
+        ensures { IfOk result (λ told. told ≡
+            (applied self.now.volumes who (TooFew 0) (ask.Stat path.now)).answer) }
     {
         told(self.tree.stat(who, path))
     }
@@ -182,7 +187,8 @@ impl Catalogue {
         path: &Name,
         want: u8,
     ) -> Result<Result<Granting, MetaRefusal>, OutOfMemory>
-        ensures { IfOk result (λ granted. granted ≡ rows.grant_at self.now.volumes who want path.now) }
+        ensures { IfOk result (λ granted. granted ≡
+            rows.grant_at self.now.volumes who want path.now) }
     {
         match self.tree.grant(who, path, want) {
             Ok(grant) => Ok(Ok(grant)),
@@ -229,9 +235,11 @@ impl Catalogue {
     ) -> Result<Settled, OutOfMemory>
         requires change { IsChange asking.now.request.now }
         requires wants { WantsSome asking.now.request.now }
-        requires left { rows.is_spent self.old.volumes asking.now.who asking.now.request.now ≡ false }
+        requires left { rows.is_spent self.old.volumes asking.now.who asking.now.request.now ≡
+            false }
         ensures ok { OnOk result (self.new ≡ after_asking site.now self.old asking.now nodes.now) }
-        ensures answer { IfOk result (λ settled. answer_of settled ≡ (outcome_at site.now self.old asking.now nodes.now).answer) }
+        ensures answer { IfOk result (λ settled. answer_of settled ≡
+            (outcome_at site.now self.old asking.now nodes.now).answer) }
         ensures err { OnErr result (self.new ≡ self.old) }
     {
         let file = self.subject(alloc, asking.request)?;

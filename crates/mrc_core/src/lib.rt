@@ -63,15 +63,21 @@ pub struct NewSizes {
 /// The records tell what a server knows: with that of a step behind the earlier ones they tell what it knows after the step. The
 /// OSDs and the clock live in memory alone.
 pub fn records_tell_the_catalogue()
-    ensures { (key : List ℕ) (records : List Record) (osds : List NodeId) (last now : ℕ) (event : Event) →
-        let mrc : MrcState = record { catalogue = catalogue_of key records; osds = osds; last = last } in
+    ensures { (key : List ℕ) (records : List Record) (osds : List NodeId) (last now : ℕ)
+        (event : Event) →
+        let mrc : MrcState = record {
+          catalogue = catalogue_of key records;
+          osds = osds;
+          last = last;
+        } in
         let step = step_of_mrc key mrc now event in
         catalogue_of key (records ++ option_to_list step.turned.rec) ≡ step.mrc.catalogue }
 {}
 
 /// A refusal changes what its client was answered last, and nothing else.
 pub fn a_refusal_changes_nothing_else()
-    ensures { (key : List ℕ) (catalogue : Catalogue) (client : NodeId) (number now : ℕ) (nodes : Option (List NodeId)) (who : Asker) (request : MetaReq) (why : MetaRefusal) →
+    ensures { (key : List ℕ) (catalogue : Catalogue) (client : NodeId) (number now : ℕ)
+        (nodes : Option (List NodeId)) (who : Asker) (request : MetaReq) (why : MetaRefusal) →
         (outcome_of key catalogue.volumes who now nodes request).answer ≡ Refused why →
         after_request key catalogue client number now nodes who request
         ≡ record catalogue { clients = with_answer catalogue.clients client number (Refused why) } }
@@ -79,12 +85,14 @@ pub fn a_refusal_changes_nothing_else()
 
 /// The numbers of the files that were ever made rise, from the first one on: no number is given twice.
 pub fn made_files_rise()
-    ensures { (key : List ℕ) (records : List Record) → RiseFrom 1000000 (files_made (catalogue_of key records).made) }
+    ensures { (key : List ℕ) (records : List Record) →
+        RiseFrom 1000000 (files_made (catalogue_of key records).made) }
 {}
 
 /// A request that changes names, rights or files is done, or refused without a change.
 pub fn changes_are_done_or_refused()
-    ensures { (volumes : Volumes) (who : Asker) (pick : Picked) (request : MetaReq) → IsChange request → Settles volumes (applied volumes who pick request) }
+    ensures { (volumes : Volumes) (who : Asker) (pick : Picked) (request : MetaReq) →
+        IsChange request → Settles volumes (applied volumes who pick request) }
 {}
 
 /// What a few messages come to, worked out by hand.
@@ -93,8 +101,12 @@ pub fn examples()
     ensures first_ones { answers_from new_server (numbered 1 first_steps) ≡ one_each first_answers }
     ensures a_file { answers_from new_server file_steps ≡ file_answers }
     ensures made { fates (after new_server file_steps) ≡ (1000000, None) ∷ [] }
-    ensures unlinked { fates (after (after new_server file_steps) unlinking) ≡ (1000000, Some 5001) ∷ [] }
-    ensures sizes { (file : FileId) → marks_reported file (at_epoch 0 0) (at_epoch 2 10 ∷ at_epoch 1 99 ∷ at_epoch 2 7 ∷ at_epoch 2 10 ∷ []) ≡ at_epoch 2 10 ∷ at_epoch 2 10 ∷ at_epoch 2 10 ∷ at_epoch 2 10 ∷ [] }
+    ensures unlinked { fates (after (after new_server file_steps) unlinking) ≡
+        (1000000, Some 5001) ∷ [] }
+    ensures sizes { (file : FileId) →
+        marks_reported file (at_epoch 0 0)
+        (at_epoch 2 10 ∷ at_epoch 1 99 ∷ at_epoch 2 7 ∷ at_epoch 2 10 ∷ []) ≡
+        at_epoch 2 10 ∷ at_epoch 2 10 ∷ at_epoch 2 10 ∷ at_epoch 2 10 ∷ [] }
 {}
 
 /// A message that is within the limits of its fields can be handled, and such a record can be taken.

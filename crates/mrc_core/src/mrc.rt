@@ -51,7 +51,11 @@ impl Model for Mrc {
 
     ghost Value = { MrcNode };
 
-    ghost view = { λ m. record { secret = m.key; state = record { catalogue = m.catalogue; osds = m.osds.items; last = m.last } } };
+    ghost view = { λ m.
+        record {
+          secret = m.key;
+          state = record { catalogue = m.catalogue; osds = m.osds.items; last = m.last };
+        } };
 
     ghost invariant = { λ m. IsServer m.key m.osds.items m.last };
 }
@@ -99,7 +103,8 @@ impl Mrc {
         requires short { length key.now ≤ 64 }
         requires clock { now < 2 ^ 62 }
         requires can { All CanTake records.now }
-        ensures { IfOk result (λ mrc. mrc ≡ record { secret = key.now; state = steps.mrc_of key.now records.now now }) }
+        ensures { IfOk result (λ mrc. mrc ≡
+            record { secret = key.now; state = steps.mrc_of key.now records.now now }) }
     {
         let key_octets = Octets::of(alloc, key)?;
         let mut catalogue = Catalogue::new(alloc);
@@ -144,9 +149,13 @@ impl Mrc {
     fn hear(&mut self, clock: u64, msg: &Msg) -> Result<Turned, OutOfMemory>
         requires clock { clock < 2 ^ 62 }
         requires can { CanHear msg.now.payload }
-        ensures turned { IfOk result (λ turned. turned ≡ (steps.told_by self.old.secret (at_clock clock self.old.state) msg.now.from msg.now.payload).turned) }
+        ensures turned { IfOk result (λ turned. turned ≡
+            (steps.told_by self.old.secret (at_clock clock self.old.state) msg.now.from
+            msg.now.payload).turned) }
         ensures secret { OnOk result (self.new.secret ≡ self.old.secret) }
-        ensures state { OnOk result (at_clock clock self.new.state ≡ (steps.told_by self.old.secret (at_clock clock self.old.state) msg.now.from msg.now.payload).mrc) }
+        ensures state { OnOk result (at_clock clock self.new.state ≡
+            (steps.told_by self.old.secret (at_clock clock self.old.state) msg.now.from
+            msg.now.payload).mrc) }
         ensures err { OnErr result (self.new ≡ self.old) }
     {
         match &msg.payload {
@@ -187,9 +196,11 @@ impl Mrc {
     fn handle(&mut self, clock: u64, event: &Event) -> Result<Turned, OutOfMemory>
         requires clock { clock < 2 ^ 62 }
         requires can { CanHandle event.now }
-        ensures turned { IfOk result (λ turned. turned ≡ (steps.handled self.old.secret (at_clock clock self.old.state) event.now).turned) }
+        ensures turned { IfOk result (λ turned. turned ≡
+            (steps.handled self.old.secret (at_clock clock self.old.state) event.now).turned) }
         ensures secret { OnOk result (self.new.secret ≡ self.old.secret) }
-        ensures state { OnOk result (at_clock clock self.new.state ≡ (steps.handled self.old.secret (at_clock clock self.old.state) event.now).mrc) }
+        ensures state { OnOk result (at_clock clock self.new.state ≡
+            (steps.handled self.old.secret (at_clock clock self.old.state) event.now).mrc) }
         ensures err { OnErr result (self.new ≡ self.old) }
     {
         match event {
@@ -204,8 +215,13 @@ impl Mrc {
     pub fn step(&mut self, now: u64, event: &Event) -> Result<Turned, OutOfMemory>
         requires clock { now < 2 ^ 62 }
         requires can { CanHandle event.now }
-        ensures turned { IfOk result (λ turned. turned ≡ (steps.step_of_mrc self.old.secret self.old.state now event.now).turned) }
-        ensures state { OnOk result (self.new ≡ record { secret = self.old.secret; state = (steps.step_of_mrc self.old.secret self.old.state now event.now).mrc }) }
+        ensures turned { IfOk result (λ turned. turned ≡
+            (steps.step_of_mrc self.old.secret self.old.state now event.now).turned) }
+        ensures state { OnOk result (self.new ≡
+            record {
+              secret = self.old.secret;
+              state = (steps.step_of_mrc self.old.secret self.old.state now event.now).mrc;
+            }) }
         ensures err { OnErr result (self.new ≡ self.old) }
     {
         let clock = now.max(self.last);

@@ -32,7 +32,9 @@ fn record_of(
     asking: &Asking,
     nodes: &Option<Members>,
 ) -> Result<Record, OutOfMemory>
-    ensures { IfOk result (λ rec. rec ≡ steps.record_of asking.now.client asking.now.number site.now.clock nodes.now asking.now.who asking.now.request.now) }
+    ensures { IfOk result (λ rec. rec ≡
+        steps.record_of asking.now.client asking.now.number site.now.clock nodes.now asking.now.who
+        asking.now.request.now) }
 {
     let request = asking.request.copy(alloc)?;
     Ok(Record::Meta {
@@ -88,7 +90,9 @@ impl Prepared {
         nodes: &Option<Members>,
         marks: Marks,
     ) -> Result<Prepared, OutOfMemory>
-        ensures rec { IfOk result (λ made. made.rec ≡ Some (steps.record_of asking.now.client asking.now.number site.now.clock nodes.now asking.now.who asking.now.request.now)) }
+        ensures rec { IfOk result (λ made. made.rec ≡
+            Some (steps.record_of asking.now.client asking.now.number site.now.clock nodes.now
+            asking.now.who asking.now.request.now)) }
         ensures marks { IfOk result (λ made. made.marks ≡ marks) }
         ensures empty { IfOk result (λ made. made.room.items ≡ []) }
         ensures room { IfOk result (λ made. vec_len made.room < vec_capacity made.room) }
@@ -102,7 +106,13 @@ impl Prepared {
     fn turned(self, alloc: Global, asking: &Asking, settled: &Settled) -> Turned
         requires empty { self.room.items ≡ [] }
         requires room { vec_len self.room < vec_capacity self.room }
-        ensures { result ≡ record { rec = self.rec; outs = steps.reply_to asking.now.client asking.now.number (answer_of settled.now) ∷ []; marks = if rows.is_done (answer_of settled.now) then self.marks else [] } }
+        ensures { result ≡
+            record {
+              rec = self.rec;
+              outs = steps.reply_to asking.now.client asking.now.number
+                  (answer_of settled.now) ∷ [];
+              marks = if rows.is_done (answer_of settled.now) then self.marks else [];
+            } }
     {
         let Prepared { rec, marks, room } = self;
         let marks = if settled.is_done() {
@@ -131,8 +141,10 @@ fn changed(
     requires site { IsSite site.now }
     requires wants { WantsSome asking.now.request.now }
     requires plan { Changes site.now catalogue.old.volumes asking.now.who asking.now.request.now }
-    ensures turned { IfOk result (λ turned. turned ≡ (fresh_at site.now catalogue.old asking.now).turned) }
-    ensures state { OnOk result (server_at site.now catalogue.new ≡ (fresh_at site.now catalogue.old asking.now).mrc) }
+    ensures turned { IfOk result (λ turned. turned ≡
+        (fresh_at site.now catalogue.old asking.now).turned) }
+    ensures state { OnOk result (server_at site.now catalogue.new ≡
+        (fresh_at site.now catalogue.old asking.now).mrc) }
     ensures err { OnErr result (catalogue.new ≡ catalogue.old) }
 {
     let next = catalogue.next();
@@ -151,9 +163,12 @@ fn sized(
     asking: &Asking,
     settling: &Settling,
 ) -> Result<Turned, OutOfMemory>
-    requires plan { Sets site.now catalogue.old.volumes asking.now.who asking.now.request.now settling.now }
-    ensures turned { IfOk result (λ turned. turned ≡ (fresh_at site.now catalogue.old asking.now).turned) }
-    ensures state { OnOk result (server_at site.now catalogue.new ≡ (fresh_at site.now catalogue.old asking.now).mrc) }
+    requires plan { Sets site.now catalogue.old.volumes asking.now.who asking.now.request.now
+        settling.now }
+    ensures turned { IfOk result (λ turned. turned ≡
+        (fresh_at site.now catalogue.old asking.now).turned) }
+    ensures state { OnOk result (server_at site.now catalogue.new ≡
+        (fresh_at site.now catalogue.old asking.now).mrc) }
     ensures err { OnErr result (catalogue.new ≡ catalogue.old) }
 {
     let made = Prepared::of(alloc, site, asking, &None, Seq::new(alloc))?;
@@ -170,8 +185,10 @@ fn fresh(
 ) -> Result<Turned, OutOfMemory>
     requires site { IsSite site.now }
     requires wants { WantsSome asking.now.request.now }
-    ensures turned { IfOk result (λ turned. turned ≡ (fresh_at site.now catalogue.old asking.now).turned) }
-    ensures state { OnOk result (server_at site.now catalogue.new ≡ (fresh_at site.now catalogue.old asking.now).mrc) }
+    ensures turned { IfOk result (λ turned. turned ≡
+        (fresh_at site.now catalogue.old asking.now).turned) }
+    ensures state { OnOk result (server_at site.now catalogue.new ≡
+        (fresh_at site.now catalogue.old asking.now).mrc) }
     ensures err { OnErr result (catalogue.new ≡ catalogue.old) }
 {
     match catalogue.plan(alloc, site, asking.who, asking.request)? {
@@ -191,8 +208,10 @@ pub fn requested(
 ) -> Result<Turned, OutOfMemory>
     requires site { IsSite site.now }
     requires wants { WantsSome asking.now.request.now }
-    ensures turned { IfOk result (λ turned. turned ≡ (requested_at site.now catalogue.old asking.now).turned) }
-    ensures state { OnOk result (server_at site.now catalogue.new ≡ (requested_at site.now catalogue.old asking.now).mrc) }
+    ensures turned { IfOk result (λ turned. turned ≡
+        (requested_at site.now catalogue.old asking.now).turned) }
+    ensures state { OnOk result (server_at site.now catalogue.new ≡
+        (requested_at site.now catalogue.old asking.now).mrc) }
     ensures err { OnErr result (catalogue.new ≡ catalogue.old) }
 {
     match catalogue.standing(alloc, asking.client, asking.number)? {

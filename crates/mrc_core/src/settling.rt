@@ -81,7 +81,8 @@ fn capability_of(
     requires some { 1 ≤ length key.now }
     requires short { length key.now ≤ 64 }
     requires clock { now < 2 ^ 62 }
-    ensures { IfOk result (λ capability. capability ≡ rows.capability_of key.now now want grant.now) }
+    ensures { IfOk result (λ capability. capability ≡
+        rows.capability_of key.now now want grant.now) }
 {
     let mut capability = Capability {
         file: grant.file,
@@ -120,7 +121,8 @@ pub fn grant_settled(
     requires some { 1 ≤ length key.now }
     requires short { length key.now ≤ 64 }
     requires clock { now < 2 ^ 62 }
-    ensures { IfOk result (λ settling. settlement_of settling ≡ rows.grant_settled key.now now want granted) }
+    ensures { IfOk result (λ settling. settlement_of settling ≡
+        rows.grant_settled key.now now want granted) }
 {
     match granted {
         Err(why) => Ok(turned_away(why)),
@@ -170,7 +172,9 @@ pub fn report_settled(
 ) -> Result<Settling, OutOfMemory>
     requires some { 1 ≤ length key.now }
     requires short { length key.now ≤ 64 }
-    ensures { IfOk result (λ settling. settlement_of settling ≡ rows.report_settled capability.now.file (denial_of key.now capability.now capability.now.file now true) sizes mark) }
+    ensures { IfOk result (λ settling. settlement_of settling ≡
+        rows.report_settled capability.now.file
+        (denial_of key.now capability.now capability.now.file now true) sizes mark) }
 {
     match check(alloc, key, capability, &capability.file, now, true) {
         Ok(()) => Ok(merged(capability, sizes, mark)),

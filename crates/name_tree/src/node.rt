@@ -81,7 +81,8 @@ impl Node {
     /// The entry at a path below, if there is one; else nothing is below that path either.
     pub fn find(&self, names: &[&str]) -> Option<Entry>
         ensures entry { result ≡ entry_in self.now (map (λ name. name.now) names.now) }
-        ensures none { IfNone result (rows_within (map (λ name. name.now) names.now) self.now ≡ []) }
+        ensures none { IfNone result (rows_within (map (λ name. name.now) names.now) self.now ≡
+            []) }
     {
         let Some((name, rest)) = names.split_first() else {
             return Some(self.entry);
@@ -97,7 +98,8 @@ impl Node {
     pub fn put(&mut self, alloc: Global, names: &[&str], entry: Entry) -> Result<(), OutOfMemory>
         requires place { HasPlace self.old (map (λ name. name.now) names.now) }
         requires kind { SameKind (entry_in self.old (map (λ name. name.now) names.now)) entry }
-        ensures ok { OnOk result (self.new ≡ with_row self.old (record { path = map (λ name. name.now) names.now; entry = entry })) }
+        ensures ok { OnOk result (self.new ≡
+            with_row self.old (record { path = map (λ name. name.now) names.now; entry = entry })) }
         ensures err { OnErr result (self.new ≡ self.old) }
         ensures tree { IsTree self.new }
     {
@@ -117,7 +119,8 @@ impl Node {
     pub fn take(&mut self, names: &[&str]) -> Option<Node>
         requires { 0 < length names.now }
         ensures left { self.new ≡ rows_outside (map (λ name. name.now) names.now) self.old }
-        ensures taken { rows_under (map (λ name. name.now) names.now) result ≡ rows_within (map (λ name. name.now) names.now) self.old }
+        ensures taken { rows_under (map (λ name. name.now) names.now) result ≡
+            rows_within (map (λ name. name.now) names.now) self.old }
         ensures tree { IsTree self.new }
         ensures taken_tree { IfSome result (λ node. IsTree node) }
     {
@@ -138,8 +141,10 @@ impl Node {
         requires there { IsSome (entry_in self.old (map (λ name. name.now) names.now)) }
         requires tree { IsTree node }
         ensures rows { self.new ≡ grafted self.old (map (λ name. name.now) names.now) node }
-        ensures outside { rows_outside (map (λ name. name.now) names.now) self.new ≡ rows_outside (map (λ name. name.now) names.now) self.old }
-        ensures within { rows_within (map (λ name. name.now) names.now) self.new ≡ map (under (map (λ name. name.now) names.now)) node }
+        ensures outside { rows_outside (map (λ name. name.now) names.now) self.new ≡
+            rows_outside (map (λ name. name.now) names.now) self.old }
+        ensures within { rows_within (map (λ name. name.now) names.now) self.new ≡
+            map (under (map (λ name. name.now) names.now)) node }
         ensures tree { IsTree self.new }
     {
         let Some((name, rest)) = names.split_first() else {
@@ -155,11 +160,15 @@ impl Node {
     /// place for it needs memory, so that is made first.
     pub fn rename(&mut self, alloc: Global, from: &[&str], to: &[&str]) -> Result<(), OutOfMemory>
         requires there { IsSome (entry_in self.old (map (λ name. name.now) from.now)) }
-        requires apart { is_within (map (λ name. name.now) from.now) (map (λ name. name.now) to.now) ≡ false }
+        requires apart { is_within (map (λ name. name.now) from.now)
+            (map (λ name. name.now) to.now) ≡ false }
         requires place { HasPlace self.old (map (λ name. name.now) to.now) }
         requires free { rows_within (map (λ name. name.now) to.now) self.old ≡ [] }
-        ensures ok { OnOk result (self.new ≡ renamed self.old (map (λ name. name.now) from.now) (map (λ name. name.now) to.now)) }
-        ensures moved { OnOk result (IsMoved self.old self.new (map (λ name. name.now) from.now) (map (λ name. name.now) to.now)) }
+        ensures ok { OnOk result (self.new ≡
+            renamed self.old (map (λ name. name.now) from.now) (map (λ name. name.now) to.now)) }
+        ensures moved { OnOk result
+            (IsMoved self.old self.new (map (λ name. name.now) from.now)
+            (map (λ name. name.now) to.now)) }
         ensures err { OnErr result (self.new ≡ self.old) }
         ensures tree { IsTree self.new }
     {
@@ -222,7 +231,8 @@ impl Node {
 
     /// The names right in the directory at a path below, a page of those above `after`.
     pub fn page(&self, alloc: Global, names: &[&str], after: &str) -> Result<Names, OutOfMemory>
-        ensures { IfOk result (λ page. page ≡ page_of self.now (map (λ name. name.now) names.now) after.now) }
+        ensures { IfOk result (λ page. page ≡
+            page_of self.now (map (λ name. name.now) names.now) after.now) }
     {
         let Some((name, rest)) = names.split_first() else {
             return self.own_page(alloc, after);

@@ -80,7 +80,8 @@ fn reading_where<C: NodeCore>(host: &Host<C>, test: &ClockTest) -> Option<Readin
 /// The clock of the least running node of which the test holds.
 #[tactic(auto, unfolding(cluster_runs::specs::Rules::least_where))]
 pub fn least_where<C: NodeCore>(hosts: &[Host<C>], test: &ClockTest) -> Option<Reading>
-    ensures { (kept : ℕ → List Record) → reading_of result ≡ least_where (test_of test.now) (nodes_of kept hosts.now) }
+    ensures { (kept : ℕ → List Record) →
+        reading_of result ≡ least_where (test_of test.now) (nodes_of kept hosts.now) }
 {
     let (first, rest) = hosts.split_first()?;
     lesser(reading_where(first, test), least_where(rest, test))

@@ -39,7 +39,10 @@ fn called(
     op: Op,
 ) -> Result<Turned, OutOfMemory>
     requires { clock < 2 ^ 62 }
-    ensures { IfOk result (λ turned. IsCoreStep core_of IsOf (λ host. call_step host clock client.old.state call.now number location.now op) (Core.Client client.old) (Core.Client client.new) turned) }
+    ensures { IfOk result (λ turned.
+        IsCoreStep core_of IsOf (λ host.
+        call_step host clock client.old.state call.now number location.now op)
+        (Core.Client client.old) (Core.Client client.new) turned) }
 {
     let epoch = epoch_of(client, number, call);
     client.raise(&declared_file(number), epoch)?;

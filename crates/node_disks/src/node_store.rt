@@ -50,7 +50,8 @@ impl Model for NodeStore {
 
     ghost view = { λ node. record { records = records_of node.store; disk = disk_of node.store } };
 
-    ghost invariant = { λ node. IsCalm (disk_of node.store) (records_of node.store) (limit_of (journal_of node.store)) };
+    ghost invariant = { λ node.
+        IsCalm (disk_of node.store) (records_of node.store) (limit_of (journal_of node.store)) };
 }
 
 /// The journal on a new disk on which records stand, and its payloads. The disk doesn't fail while it is loaded.
@@ -61,12 +62,15 @@ fn journal_on(
     requires made { disk.changes ≡ [] }
     requires stands { HasRecords (memory_kept disk).read }
     requires passes { FailedCall (planned disk.plan) (memory_kept disk).read → ⊥ }
-    ensures reads { IfOk result (λ found. StandsFor (memory_kept disk).read (payloads_of found.1.items)) }
-    ensures keeps { IfOk result (λ found. KeepsJournal (memory_kept (journal.disk_of found.0)) (payloads_of found.1.items)) }
+    ensures reads { IfOk result (λ found.
+        StandsFor (memory_kept disk).read (payloads_of found.1.items)) }
+    ensures keeps { IfOk result (λ found.
+        KeepsJournal (memory_kept (journal.disk_of found.0)) (payloads_of found.1.items)) }
     ensures ready { IfOk result (λ found. IsReady (memory_kept (journal.disk_of found.0)).read) }
     ensures loaded { IfOk result (λ found. IsLoadedWith disk.first (journal.disk_of found.0)) }
     ensures plan { IfOk result (λ found.
-        MadeCalls (planned disk.plan) (planned (journal.disk_of found.0).plan) (memory_kept disk).read) }
+        MadeCalls (planned disk.plan) (planned (journal.disk_of found.0).plan)
+        (memory_kept disk).read) }
     ensures limit { IfOk result (λ found. journal.limit_of found.0 ≡ JOURNAL) }
 {
     match Journal::load(alloc, disk, JOURNAL) {
@@ -187,7 +191,8 @@ impl NodeStore {
         requires place { IsInPlace (fold_of self.now.records) rec.now }
         requires low { 1 ≤ stop.call }
         requires high { stop.call ≤ 4 }
-        ensures own { IfOk result (λ node. node.records ≡ own_after self.now.records rec.now (kept_by (Some stop))) }
+        ensures own { IfOk result (λ node. node.records ≡
+            own_after self.now.records rec.now (kept_by (Some stop))) }
         ensures left { IfOk result (λ node. IsReadAfter stop self.now.records rec.now node.disk) }
         ensures room { IsFullExactly (journal_overflow self.now.records rec.now) result }
         ensures error { IfErr result IsFullOrMemory }

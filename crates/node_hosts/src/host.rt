@@ -48,14 +48,16 @@ impl<C: NodeCore> Model for Host<C> {
 
     ghost use Rattle.node_hosts.specs.Cores.{up_of, IsUpOf};
 
-    ghost view = { λ host. record { id = host.id; role = host.role; times = host.times; up = up_of C.state host.up } };
+    ghost view = { λ host.
+        record { id = host.id; role = host.role; times = host.times; up = up_of C.state host.up } };
 
     ghost invariant = { λ host. IsUpOf C.is_of host.id host.times host.up };
 }
 
 /// A running node with no plan to stop it.
 fn fresh<C: NodeCore>(boot: Boot, clock: u64, core: C) -> Running<C>
-    ensures { result ≡ record { boot = boot; clock = clock; crash = None; cut = None; core = core } }
+    ensures { result ≡
+        record { boot = boot; clock = clock; crash = None; cut = None; core = core } }
 {
     Running {
         boot,
@@ -82,7 +84,13 @@ impl<C: NodeCore> Host<C> {
     /// A new client, which runs for good.
     pub fn client(alloc: Global, id: NodeId, times: Times, clock: u64) -> Host<C>
         requires { clock < 2 ^ 62 }
-        ensures { result ≡ record { id = id; role = Role.Client; times = times; up = Some (runs first_boot clock (client (new_client clock))) } }
+        ensures { result ≡
+            record {
+              id = id;
+              role = Role.Client;
+              times = times;
+              up = Some (runs first_boot clock (client (new_client clock)));
+            } }
     {
         let core = C::client(alloc, id, times, clock);
         Host {
@@ -143,7 +151,18 @@ impl<C: NodeCore> Host<C> {
     ) -> Result<(), OutOfMemory>
         requires clock { clock < 2 ^ 62 }
         requires records { IsSaid folded }
-        ensures ok { OnOk result (self.new ≡ record self.old { up = Some (runs boot clock (osd (osd_from (record { node = self.old.id; boot = boot; times = self.old.times; start = clock }) folded.files))) }) }
+        ensures ok { OnOk result (self.new ≡
+            record self.old {
+              up = Some
+                  (runs boot clock
+                  (osd
+                  (osd_from (record {
+                    node = self.old.id;
+                    boot = boot;
+                    times = self.old.times;
+                    start = clock;
+                  }) folded.files)));
+            }) }
         ensures err { OnErr result (self.new ≡ self.old) }
     {
         let core = C::osd(alloc, self.id, self.times, folded, boot, clock)?;
@@ -160,7 +179,8 @@ impl<C: NodeCore> Host<C> {
 
     /// Its next append stops so, where it runs.
     pub fn plan_crash(&mut self, stop: Stop)
-        ensures { self.new ≡ record self.old { up = option_map (crashes stop.call stop.fill) self.old.up } }
+        ensures { self.new ≡
+            record self.old { up = option_map (crashes stop.call stop.fill) self.old.up } }
     {
         if let Some(running) = &mut self.up {
             running.crash = Some(stop);
@@ -197,7 +217,8 @@ impl<C: NodeCore> Host<C> {
 
     /// A client's first target for a declared file is this member. Where memory runs out it runs no more.
     pub fn aim(&mut self, number: u64, node: NodeId) -> Result<(), OutOfMemory>
-        ensures ok { OnOk result (self.new ≡ record self.old { up = option_map (aims number node) self.old.up }) }
+        ensures ok { OnOk result (self.new ≡
+            record self.old { up = option_map (aims number node) self.old.up }) }
         ensures err { OnErr result (self.new ≡ record self.old { up = None }) }
     {
         let Some(Running { core, .. }) = &mut self.up else {
@@ -220,7 +241,8 @@ impl<C: NodeCore> Host<C> {
     ) -> Result<Option<Turned>, OutOfMemory>
         requires clock { IfSome self.old.up (λ running. running.clock < 2 ^ 62) }
         requires fits { FitsEvent ev.now }
-        ensures handled { IfOk result (λ turned. Handles (B.records bodies.old) ev.now self.old self.new turned) }
+        ensures handled { IfOk result (λ turned.
+            Handles (B.records bodies.old) ev.now self.old self.new turned) }
         ensures err { OnErr result (self.new ≡ record self.old { up = None }) }
     {
         let Some(running) = &mut self.up else {
@@ -244,7 +266,8 @@ impl<C: NodeCore> Host<C> {
         op: Op,
     ) -> Result<Option<Turned>, OutOfMemory>
         requires { IfSome self.old.up (λ running. running.clock < 2 ^ 62) }
-        ensures called { IfOk result (λ turned. Calls call.now number location.now op self.old self.new turned) }
+        ensures called { IfOk result (λ turned.
+            Calls call.now number location.now op self.old self.new turned) }
         ensures err { OnErr result (self.new ≡ record self.old { up = None }) }
     {
         let Some(running) = &mut self.up else {

@@ -36,7 +36,9 @@ pub trait NodeCore: Drop {
     ) -> Result<Self, OutOfMemory>
         requires clock { now < 2 ^ 62 }
         requires records { IsSaid folded }
-        ensures state { IfOk result (λ core. state core ≡ osd (osd_from (record { node = id; boot = boot; times = times; start = now }) folded.files)) }
+        ensures state { IfOk result (λ core. state core ≡
+            osd (osd_from (record { node = id; boot = boot; times = times; start = now })
+            folded.files)) }
         ensures own { IfOk result (λ core. is_of id times core) };
 
     /// A client's, which has made no call yet.
@@ -54,7 +56,10 @@ pub trait NodeCore: Drop {
     ) -> Result<Turned, OutOfMemory>
         requires clock { clock < 2 ^ 62 }
         requires fits { FitsEvent ev.now }
-        ensures { IfOk result (λ turned. IsCoreStep state is_of (λ host. core_step host.times (node_of (B.records bodies.old) host) (state self.old) clock ev.now) self.old self.new turned) };
+        ensures { IfOk result (λ turned.
+            IsCoreStep state is_of (λ host.
+            core_step host.times (node_of (B.records bodies.old) host) (state self.old) clock
+            ev.now) self.old self.new turned) };
 
     /// A client makes a call on a declared file; an OSD makes none.
     fn call(
@@ -66,7 +71,9 @@ pub trait NodeCore: Drop {
         op: Op,
     ) -> Result<Option<Turned>, OutOfMemory>
         requires { clock < 2 ^ 62 }
-        ensures { IfOk result (λ turned. IsCoreCall state is_of clock call.now number location.now op self.old self.new turned) };
+        ensures { IfOk result (λ turned.
+            IsCoreCall state is_of clock call.now number location.now op self.old self.new
+            turned) };
 
     /// A client's first target for a declared file is this member.
     fn aim(&mut self, number: u64, node: NodeId) -> Result<(), OutOfMemory>

@@ -42,7 +42,8 @@ pub trait Sink {
         ensures plan { IfSome (held self.old)
             (λ bytes. is_err result ≡
             (fails self.old 1 || is_full (room self.old) bytes piece.now)) }
-        ensures later { OnSome (held self.old) ((k : ℕ) → fails self.new k ≡ fails self.old (k + 1)) }
+        ensures later { OnSome (held self.old) ((k : ℕ) →
+            fails self.new k ≡ fails self.old (k + 1)) }
         ensures room { room self.new ≡ room self.old };
 }
 

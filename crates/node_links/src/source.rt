@@ -47,7 +47,8 @@ pub trait Source {
             (λ bytes. length (ahead self.new) ≡ min (block self.old) (length bytes))) }
         ensures same { block self.new ≡ block self.old }
         ensures plan { OnSome (left self.old) (is_err result ≡ fails self.old 1) }
-        ensures later { OnSome (left self.old) ((k : ℕ) → fails self.new k ≡ fails self.old (k + 1)) };
+        ensures later { OnSome (left self.old) ((k : ℕ) →
+            fails self.new k ≡ fails self.old (k + 1)) };
 
     /// Takes so many of the bytes that were read ahead.
     fn consume(&mut self, count: usize)

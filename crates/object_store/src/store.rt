@@ -20,7 +20,9 @@ pub struct Store<D: Disk> {
     pub(crate) journal: Journal<D>,
     pub(crate) log: RecordLog,
     /// The disk keeps the records' bytes.
-    pub ghost keeps: { IsTrue D.is_told → KeepsJournal (D.kept (disk_of journal)) (texts_of (records_in log)) } by { told_keeps_prop D.is_told (D.kept (disk_of journal)) (texts_of (records_in log)) },
+    pub ghost keeps: { IsTrue D.is_told →
+        KeepsJournal (D.kept (disk_of journal)) (texts_of (records_in log)) } by { told_keeps_prop D.is_told
+            (D.kept (disk_of journal)) (texts_of (records_in log)) },
     /// Each record is within its limits, and in its place.
     pub ghost sound: { ∥ AreRecords (records_in log) ∥₁ },
 }
@@ -42,7 +44,8 @@ impl<D: Disk> Store<D> {
         journal: Journal<D>,
         payloads: &[Placed],
     ) -> Result<Store<D>, StoreErr<D>>
-        requires { IsTrue D.is_told → KeepsJournal (D.kept (disk_of journal)) (payloads_of payloads.now) }
+        requires { IsTrue D.is_told →
+            KeepsJournal (D.kept (disk_of journal)) (payloads_of payloads.now) }
         ensures { IsLoadOf journal (payloads_of payloads.now) result }
     {
         match read_all(alloc, payloads) {

@@ -44,7 +44,8 @@ pub fn seen<B: Bodies>(
     object: u64,
     version: &Stamp,
 ) -> Result<Octets, StepErr>
-    ensures value { IfOk result (λ bytes. bytes ≡ body_by (B.records bodies.old) file.now object version.now) }
+    ensures value { IfOk result (λ bytes. bytes ≡
+        body_by (B.records bodies.old) file.now object version.now) }
     ensures reads { ReadsOnly B.records B.fault_count bodies.old bodies.new (fault_of result) }
 {
     match bodies.body(alloc, file, object, version) {

@@ -12,7 +12,12 @@ use xt_messages::{FileHead, HeldSet, ObjectVersion, Session, Update};
 
 /// The session that an update makes its client's last one.
 fn session_made(update: &Update) -> Session
-    ensures { result ≡ record { client = update.now.id.client; number = update.now.id.number; count = update.now.stamp.count } }
+    ensures { result ≡
+        record {
+          client = update.now.id.client;
+          number = update.now.id.number;
+          count = update.now.stamp.count;
+        } }
 {
     Session {
         client: update.id.client,

@@ -52,7 +52,8 @@ fn tell_each(
     asks: &[WaitingAsk],
     reply: &Reply,
 ) -> Result<(), OutOfMemory>
-    ensures { OnOk result (outs.new ≡ outs.old ++ rows.tells_each node file.now asks.now reply.now) }
+    ensures { OnOk result (outs.new ≡ outs.old
+        ++ rows.tells_each node file.now asks.now reply.now) }
 {
     for ask in asks {
         tell(alloc, outs, node, file, ask.id, reply)?;
@@ -69,7 +70,8 @@ fn tell_untold(
     issued: &Option<IssuedAsk>,
     reply: &Reply,
 ) -> Result<(), OutOfMemory>
-    ensures { OnOk result (outs.new ≡ outs.old ++ rows.tells_untold node file.now issued.now reply.now) }
+    ensures { OnOk result (outs.new ≡ outs.old
+        ++ rows.tells_untold node file.now issued.now reply.now) }
 {
     if let Some(issued) = issued
         && !issued.told
@@ -89,7 +91,8 @@ fn tell_due_of(
     now: u64,
     reply: &Reply,
 ) -> Result<(), OutOfMemory>
-    ensures { OnOk result (outs.new ≡ outs.old ++ rows.tells_each node file.now (filter (overdue.is_due now) asks.now) reply.now) }
+    ensures { OnOk result (outs.new ≡ outs.old
+        ++ rows.tells_each node file.now (filter (overdue.is_due now) asks.now) reply.now) }
 {
     for ask in asks {
         if ask.deadline <= now {
@@ -201,7 +204,8 @@ impl OpenAsks {
 
     /// An update was issued for this ask, whose client was told nothing yet.
     pub fn issue(&mut self, ask: WaitingAsk)
-        ensures { self.new ≡ record self.old { issued = Some (record { ask = ask; told = false }) } }
+        ensures { self.new ≡
+            record self.old { issued = Some (record { ask = ask; told = false }) } }
     {
         self.issued = Some(IssuedAsk { ask, told: false });
     }
@@ -243,7 +247,8 @@ impl OpenAsks {
         file: &FileId,
         reply: &Reply,
     ) -> Result<Msgs, OutOfMemory>
-        ensures told { IfOk result (λ outs. outs ≡ rows.tells_each node file.now self.old.waiting reply.now) }
+        ensures told { IfOk result (λ outs. outs ≡
+            rows.tells_each node file.now self.old.waiting reply.now) }
         ensures ok { OnOk result (self.new ≡ record self.old { waiting = [] }) }
         ensures err { OnErr result (self.new ≡ self.old) }
     {
@@ -262,7 +267,8 @@ impl OpenAsks {
         reply: &Reply,
     ) -> Result<Msgs, OutOfMemory>
         ensures told { IfOk result (λ outs. outs ≡
-            rows.tells_untold node file.now self.old.issued reply.now ++ rows.tells_each node file.now self.old.waiting reply.now) }
+            rows.tells_untold node file.now self.old.issued reply.now
+            ++ rows.tells_each node file.now self.old.waiting reply.now) }
         ensures ok { OnOk result (self.new ≡ rows.no_asks) }
         ensures err { OnErr result (self.new ≡ self.old) }
     {
@@ -288,7 +294,10 @@ impl OpenAsks {
             rows.tells_each node file.now (filter (overdue.is_due now) self.old.waiting) reply.now
             ++ rows.tells_untold node file.now (overdue.newly_due now self.old.issued) reply.now) }
         ensures ok { OnOk result (self.new ≡
-            record { waiting = filter (λ w. not (overdue.is_due now w)) self.old.waiting; issued = overdue.issued_due now self.old.issued }) }
+            record {
+              waiting = filter (λ w. not (overdue.is_due now w)) self.old.waiting;
+              issued = overdue.issued_due now self.old.issued;
+            }) }
         ensures err { OnErr result (self.new ≡ self.old) }
     {
         let mut outs = Seq::new(alloc);

@@ -49,7 +49,15 @@ impl Model for Osd {
 
     ghost Value = { OsdView };
 
-    ghost view = { λ o. record { key = o.key; state = record { started = o.silent; last = o.last; files = states_of (awake_of o.silent) o.slots.items } } };
+    ghost view = { λ o.
+        record {
+          key = o.key;
+          state = record {
+            started = o.silent;
+            last = o.last;
+            files = states_of (awake_of o.silent) o.slots.items;
+          };
+        } };
 
     ghost invariant = { λ o. IsOsd o.key o.node o.silent o.last o.slots.items };
 }
@@ -68,7 +76,10 @@ fn handle<B: Bodies>(
     requires slots { AreSlots awake slots.old.items }
     requires clock { now < 2 ^ 62 }
     requires fits { FitsEvent ev.now }
-    ensures step { IfOk result (λ turned. StepsFiles (λ files. event_handled (site_at awake now (sealed_by key.now) (body_by (B.records bodies.old))) awake files ev.now) awake slots.old.items slots.new.items turned) }
+    ensures step { IfOk result (λ turned.
+        StepsFiles (λ files.
+        event_handled (site_at awake now (sealed_by key.now) (body_by (B.records bodies.old))) awake
+        files ev.now) awake slots.old.items slots.new.items turned) }
     ensures reads { ReadsOnly B.records B.fault_count bodies.old bodies.new (fault_of result) }
 {
     match ev {
@@ -96,7 +107,12 @@ impl Osd {
         requires clock { now < 2 ^ 62 }
         requires key { IfSome key FitsKey }
         requires rows { AreRows folded.files }
-        ensures { IfOk result (λ osd. osd ≡ record { key = key; state = osd_from (record { node = node; boot = boot; times = times; start = now }) folded.files }) }
+        ensures { IfOk result (λ osd. osd ≡
+            record {
+              key = key;
+              state = osd_from (record { node = node; boot = boot; times = times; start = now })
+                  folded.files;
+            }) }
     {
         Ok(Osd {
             alloc,
@@ -118,7 +134,9 @@ impl Osd {
     ) -> Result<Turned, StepErr>
         requires clock { now < 2 ^ 62 }
         requires fits { FitsEvent ev.now }
-        ensures step { IfOk result (λ turned. step_of_osd (outside_of self.old.key (B.records bodies.old)) self.old.state now ev.now ≡ record { osd = self.new.state; turned = turned }) }
+        ensures step { IfOk result (λ turned.
+            step_of_osd (outside_of self.old.key (B.records bodies.old)) self.old.state now ev.now ≡
+            record { osd = self.new.state; turned = turned }) }
         ensures key { IfOk result (λ turned. self.new.key ≡ self.old.key) }
         ensures reads { ReadsOnly B.records B.fault_count bodies.old bodies.new (fault_of result) }
     {

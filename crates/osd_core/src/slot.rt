@@ -97,7 +97,10 @@ impl Slot {
         requires clock { now < 2 ^ 62 }
         requires fits { FitsPayload msg.now.payload }
         ensures sound { IfOk result (λ turned. IsSoundSlot awake self.new) }
-        ensures row { IfOk result (λ turned. IsRowOn (λ site s. step_of_file site s msg.now.from msg.now.payload) msg.now.payload sealed now (body_by (B.records bodies.old)) (view_of awake self.old) (view_of awake self.new) turned) }
+        ensures row { IfOk result (λ turned.
+            IsRowOn (λ site s. step_of_file site s msg.now.from msg.now.payload) msg.now.payload
+            sealed now (body_by (B.records bodies.old)) (view_of awake self.old)
+            (view_of awake self.new) turned) }
         ensures reads { ReadsOnly B.records B.fault_count bodies.old bodies.new (fault_of result) }
     {
         self.open(alloc, awake);
@@ -110,7 +113,8 @@ impl Slot {
     /// What a Wake gives at its file: nothing while it is a row. After an error it isn't to be used again.
     pub fn wake(&mut self, alloc: Global, now: u64) -> Result<Woken, OutOfMemory>
         requires { now < 2 ^ 62 }
-        ensures { IfOk result (λ woken. (awake : Awake) → IsSoundSlot awake self.old → WakesSlot now awake self.old self.new woken) }
+        ensures { IfOk result (λ woken. (awake : Awake) → IsSoundSlot awake self.old →
+            WakesSlot now awake self.old self.new woken) }
     {
         match self {
             Slot::Row(_) => Ok(no_news(alloc)),

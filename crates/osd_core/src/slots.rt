@@ -72,7 +72,11 @@ pub fn take<B: Bodies>(
     requires slots { AreSlots awake slots.old.items }
     requires clock { now < 2 ^ 62 }
     requires fits { FitsPayload msg.now.payload }
-    ensures step { IfOk result (λ turned. (test : Capability → Bool) → IsSealedBy test msg.now.payload sealed → StepsFiles (λ files. message_handled (site_at awake now test (body_by (B.records bodies.old))) awake files msg.now (file_concerned msg.now.payload)) awake slots.old.items slots.new.items turned) }
+    ensures step { IfOk result (λ turned. (test : Capability → Bool) →
+        IsSealedBy test msg.now.payload sealed →
+        StepsFiles (λ files.
+        message_handled (site_at awake now test (body_by (B.records bodies.old))) awake files
+        msg.now (file_concerned msg.now.payload)) awake slots.old.items slots.new.items turned) }
     ensures reads { ReadsOnly B.records B.fault_count bodies.old bodies.new (fault_of result) }
 {
     let Some(file) = file_concerned(&msg.payload) else {
@@ -112,7 +116,8 @@ fn wake_all(
     requires clock { now < 2 ^ 62 }
     requires overdue { woken.old.overdue ≡ quiet }
     requires again { woken.old.again ≡ quiet }
-    ensures { OnOk result ((awake : Awake) → AreSound awake slots.old → WakesSlots now awake slots.old slots.new woken.new) }
+    ensures { OnOk result ((awake : Awake) → AreSound awake slots.old →
+        WakesSlots now awake slots.old slots.new woken.new) }
 {
     for slot in slots.iter_mut() {
         wake_more(alloc, slot, woken, now)?;
@@ -123,7 +128,8 @@ fn wake_all(
 /// What a Wake gives at each file, in order: what is overdue, and apart from it the rows of a Wake.
 fn wake_each(alloc: Global, slots: &mut [Slot], now: u64) -> Result<Woken, OutOfMemory>
     requires { now < 2 ^ 62 }
-    ensures { IfOk result (λ woken. (awake : Awake) → AreSound awake slots.old → WakesSlots now awake slots.old slots.new woken) }
+    ensures { IfOk result (λ woken. (awake : Awake) → AreSound awake slots.old →
+        WakesSlots now awake slots.old slots.new woken) }
 {
     let mut woken = no_news(alloc);
     match wake_all(alloc, slots, &mut woken, now) {
@@ -157,7 +163,10 @@ pub fn wake(
 ) -> Result<Turned, OutOfMemory>
     requires slots { AreSlots awake slots.old.items }
     requires clock { now < 2 ^ 62 }
-    ensures { IfOk result (λ turned. (sealed : Capability → Bool) (body : FileId → ℕ → Stamp → List ℕ) → StepsFiles (woken (site_at awake now sealed body)) awake slots.old.items slots.new.items turned) }
+    ensures { IfOk result (λ turned.
+        (sealed : Capability → Bool) (body : FileId → ℕ → Stamp → List ℕ) →
+        StepsFiles (woken (site_at awake now sealed body)) awake slots.old.items slots.new.items
+        turned) }
 {
     let mut turned = sends_one(alloc, asks_dir(awake.node()))?;
     match wake_behind(alloc, slots.as_mut_slice(), &mut turned, now) {
@@ -184,7 +193,8 @@ fn wake_behind(
 
 /// Takes what a Wake gave at the files behind what was asked.
 fn take_files(turned: &mut Turned, woken: &mut Woken) -> Result<(), OutOfMemory>
-    ensures { OnOk result (turned.new ≡ joined turned.old (joined woken.old.overdue woken.old.again)) }
+    ensures { OnOk result (turned.new ≡
+        joined turned.old (joined woken.old.overdue woken.old.again)) }
 {
     extend(&mut woken.overdue, &mut woken.again)?;
     extend(turned, &mut woken.overdue)

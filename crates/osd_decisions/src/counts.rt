@@ -28,7 +28,8 @@ pub fn statuses_counted(peers: &[Peer]) -> usize
 
 /// Whether these are a majority of the members, the own node among them.
 pub fn carries(own: NodeId, peers: &[Peer], acked: &[NodeId]) -> bool
-    ensures { result ≡ (nat_le (rows.majority_among peers.now) (length acked.now) && has_node acked.now own.0) }
+    ensures { result ≡
+        (nat_le (rows.majority_among peers.now) (length acked.now) && has_node acked.now own.0) }
 {
     is_majority(peers, acked.len()) && has_node(acked, own)
 }

@@ -23,7 +23,8 @@ pub fn present_body<B: Bodies>(
     object: u64,
     version: Option<Stamp>,
 ) -> Result<Octets, StepErr>
-    ensures value { IfOk result (λ body. body ≡ plain.present_body (body_by (B.records bodies.old) file.now) version object) }
+    ensures value { IfOk result (λ body. body ≡
+        plain.present_body (body_by (B.records bodies.old) file.now) version object) }
     ensures reads { ReadsOnly B.records B.fault_count bodies.old bodies.new (fault_of result) }
 {
     match version {
@@ -43,7 +44,8 @@ pub fn bytes_shown<B: Bodies>(
     op: &Op,
 ) -> Result<Octets, StepErr>
     requires { HeadRises head.now }
-    ensures value { IfOk result (λ bytes. bytes ≡ rows.bytes_shown stripe (body_by (B.records bodies.old) file.now) head.now op.now) }
+    ensures value { IfOk result (λ bytes. bytes ≡
+        rows.bytes_shown stripe (body_by (B.records bodies.old) file.now) head.now op.now) }
     ensures reads { ReadsOnly B.records B.fault_count bodies.old bodies.new (fault_of result) }
 {
     let Op::Read { object, at, len } = op else {
@@ -65,7 +67,14 @@ pub fn reads_under<B: Bodies>(
     op: &Op,
 ) -> Result<Option<Reply>, StepErr>
     requires { CommittedUnder tenure.now }
-    ensures value { IfOk result (λ answer. (own : FileHead) (held : List ObjectVersion) → answer ≡ reads_under (record { place = place.now; own = own; held = held; body = body_by (B.records bodies.old) place.now.file }) tenure.now op.now) }
+    ensures value { IfOk result (λ answer. (own : FileHead) (held : List ObjectVersion) →
+        answer ≡
+        reads_under (record {
+          place = place.now;
+          own = own;
+          held = held;
+          body = body_by (B.records bodies.old) place.now.file;
+        }) tenure.now op.now) }
     ensures reads { ReadsOnly B.records B.fault_count bodies.old bodies.new (fault_of result) }
 {
     let Some(

@@ -84,7 +84,8 @@ pub fn refusal_of(
     capability: &Capability,
     op: &Op,
 ) -> Option<Reply>
-    ensures { (site : Site) → site.node ≡ node → site.now ≡ now → site.sealed capability.now ≡ sealed →
+    ensures { (site : Site) → site.node ≡ node → site.now ≡ now →
+        site.sealed capability.now ≡ sealed →
         result ≡ rows.refusal_of site stored.now capability.now op.now }
 {
     if let Some(rule) = capability_refused(capability, op, now, sealed) {

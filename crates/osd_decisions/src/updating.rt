@@ -27,7 +27,9 @@ fn written<B: Bodies>(
     requires near { object < 2 ^ 32 }
     requires few { length bytes.now ≤ 131072 }
     requires rising { HeadRises head.now }
-    ensures value { IfOk result (λ update. update ≡ rows.written stripe (body_by (B.records bodies.old) file.now) head.now stamp id object at bytes.now) }
+    ensures value { IfOk result (λ update. update ≡
+        rows.written stripe (body_by (B.records bodies.old) file.now) head.now stamp id object at
+        bytes.now) }
     ensures reads { ReadsOnly B.records B.fault_count bodies.old bodies.new (fault_of result) }
 {
     let version = version_of(head.versions.as_slice(), object);
@@ -73,7 +75,9 @@ fn truncated<B: Bodies>(
 ) -> Result<Update, StepErr>
     requires some { 1024 ≤ stripe }
     requires rising { HeadRises head.now }
-    ensures value { IfOk result (λ update. update ≡ rows.truncated stripe (body_by (B.records bodies.old) file.now) head.now stamp id epoch size) }
+    ensures value { IfOk result (λ update. update ≡
+        rows.truncated stripe (body_by (B.records bodies.old) file.now) head.now stamp id epoch
+        size) }
     ensures reads { ReadsOnly B.records B.fault_count bodies.old bodies.new (fault_of result) }
 {
     let stripe = u64::from(stripe);
@@ -119,7 +123,9 @@ pub fn update_of<B: Bodies>(
     requires some { 1024 ≤ stripe }
     requires fits { FitsOp op.now }
     requires rising { HeadRises head.now }
-    ensures value { IfOk result (λ update. update ≡ rows.update_of stripe (body_by (B.records bodies.old) file.now) head.now stamp id epoch op.now) }
+    ensures value { IfOk result (λ update. update ≡
+        rows.update_of stripe (body_by (B.records bodies.old) file.now) head.now stamp id epoch
+        op.now) }
     ensures reads { ReadsOnly B.records B.fault_count bodies.old bodies.new (fault_of result) }
 {
     match op {

@@ -40,7 +40,8 @@ fn read_answer(
     id: OpId,
     answer: Option<Reply>,
 ) -> Result<Turned, OutOfMemory>
-    ensures { IfOk result (λ turned. (g : Ground) → g.place.node ≡ node → g.place.file ≡ file.now → turned ≡ read_answer g id answer) }
+    ensures { IfOk result (λ turned. (g : Ground) → g.place.node ≡ node → g.place.file ≡ file.now →
+        turned ≡ read_answer g id answer) }
 {
     match answer {
         Some(Reply::Ok { count, mark, bytes }) => {
@@ -59,7 +60,10 @@ pub fn read_served<B: Bodies>(
 ) -> Result<Turned, StepErr>
     requires clock { now < 2 ^ 62 }
     requires turn { HasTurn file.now.lease now }
-    ensures turned { IfOk result (λ turned. (own : FileHead) (held : List ObjectVersion) → turned ≡ read_answer (ground_at (shown file.now) (B.records bodies.old) own held) ask.now.id (reads (ground_at (shown file.now) (B.records bodies.old) own held) file.now.lead.primary ask.now.op)) }
+    ensures turned { IfOk result (λ turned. (own : FileHead) (held : List ObjectVersion) →
+        turned ≡ read_answer (ground_at (shown file.now) (B.records bodies.old) own held) ask.now.id
+        (reads (ground_at (shown file.now) (B.records bodies.old) own held) file.now.lead.primary
+        ask.now.op)) }
     ensures reads { ReadsOnly B.records B.fault_count bodies.old bodies.new (fault_of result) }
 {
     let Some(turn) = file.lease.turn(now) else {
@@ -81,7 +85,8 @@ pub fn mark_issued(asks: &mut OpenAsks, issued: bool, ask: WaitingAsk)
 
 /// The own register has accepted another node's lease, which isn't over: the ask is sent there.
 fn elsewhere(node: NodeId, now: u64, accepted: Option<Lease>) -> Option<Reply>
-    ensures { (site : Site) → site.node ≡ node → site.now ≡ now → result ≡ rows.elsewhere site accepted }
+    ensures { (site : Site) → site.node ≡ node → site.now ≡ now →
+        result ≡ rows.elsewhere site accepted }
 {
     let lease = accepted?;
     if lease.node.0 != node.0 && now < lease.end {
@@ -96,7 +101,8 @@ fn elsewhere(node: NodeId, now: u64, accepted: Option<Lease>) -> Option<Reply>
 
 /// Waits.
 fn ask_waits(file: &mut Parts, ask: WaitingAsk) -> Result<Turned, OutOfMemory>
-    ensures { IfOk result (λ turned. (now : ℕ) → IsRow (λ site s. rows.ask_waits s ask) now (shown file.old) (shown file.new) turned) }
+    ensures { IfOk result (λ turned. (now : ℕ) →
+        IsRow (λ site s. rows.ask_waits s ask) now (shown file.old) (shown file.new) turned) }
 {
     file.asks.wait(ask)?;
     Ok(quiet(file.alloc))
@@ -106,7 +112,9 @@ fn ask_waits(file: &mut Parts, ask: WaitingAsk) -> Result<Turned, OutOfMemory>
 fn round_for(file: &mut Parts, now: u64, ask: WaitingAsk) -> Result<Turned, OutOfMemory>
     requires clock { now < 2 ^ 62 }
     requires stored { IsStored file.old.lead.location }
-    ensures { IfOk result (λ turned. (p : Proposer) → file.old.lease ≡ free p → IsRow (λ site s. rows.round_for site s p ask) now (shown file.old) (shown file.new) turned) }
+    ensures { IfOk result (λ turned. (p : Proposer) → file.old.lease ≡ free p →
+        IsRow (λ site s. rows.round_for site s p ask) now (shown file.old) (shown file.new)
+        turned) }
 {
     let Some(location) = file.lead.location() else {
         unreachable!()
@@ -123,7 +131,9 @@ fn round_for(file: &mut Parts, now: u64, ask: WaitingAsk) -> Result<Turned, OutO
 fn ask_without_lease(file: &mut Parts, now: u64, ask: WaitingAsk) -> Result<Turned, OutOfMemory>
     requires clock { now < 2 ^ 62 }
     requires stored { IsStored file.old.lead.location }
-    ensures { IfOk result (λ turned. (p : Proposer) → file.old.lease ≡ free p → IsRow (λ site s. rows.ask_under site s (free p) ask) now (shown file.old) (shown file.new) turned) }
+    ensures { IfOk result (λ turned. (p : Proposer) → file.old.lease ≡ free p →
+        IsRow (λ site s. rows.ask_under site s (free p) ask) now (shown file.old) (shown file.new)
+        turned) }
 {
     let (alloc, node, id) = (file.alloc, file.awake.node(), file.replica.file());
     match elsewhere(node, now, file.acceptor.lease()) {
@@ -143,7 +153,9 @@ fn write_served<B: Bodies>(
     requires turn { HasTurn file.old.lease now }
     requires stored { IsStored file.old.lead.location }
     requires fits { FitsOp ask.op }
-    ensures row { IfOk result (λ turned. is_read ask.op ≡ false → IsRowBy (λ site s. rows.ask_served site s ask) now (body_by (B.records bodies.old)) (shown file.old) (shown file.new) turned) }
+    ensures row { IfOk result (λ turned. is_read ask.op ≡ false →
+        IsRowBy (λ site s. rows.ask_served site s ask) now (body_by (B.records bodies.old))
+        (shown file.old) (shown file.new) turned) }
     ensures reads { ReadsOnly B.records B.fault_count bodies.old bodies.new (fault_of result) }
 {
     let Some(turn) = file.lease.turn(now) else {
@@ -170,7 +182,9 @@ fn ask_served<B: Bodies>(
     requires turn { HasTurn file.old.lease now }
     requires stored { IsStored file.old.lead.location }
     requires fits { FitsOp ask.op }
-    ensures row { IfOk result (λ turned. IsRowBy (λ site s. rows.ask_served site s ask) now (body_by (B.records bodies.old)) (shown file.old) (shown file.new) turned) }
+    ensures row { IfOk result (λ turned.
+        IsRowBy (λ site s. rows.ask_served site s ask) now (body_by (B.records bodies.old))
+        (shown file.old) (shown file.new) turned) }
     ensures reads { ReadsOnly B.records B.fault_count bodies.old bodies.new (fault_of result) }
 {
     if !is_read(&ask.op) {
@@ -199,7 +213,9 @@ fn ask_rows<B: Bodies>(
     requires settled { IsSettled file.old.lease now }
     requires stored { IsStored file.old.lead.location }
     requires fits { FitsOp ask.op }
-    ensures row { IfOk result (λ turned. IsRowBy (λ site s. rows.ask_rows site s ask) now (body_by (B.records bodies.old)) (shown file.old) (shown file.new) turned) }
+    ensures row { IfOk result (λ turned.
+        IsRowBy (λ site s. rows.ask_rows site s ask) now (body_by (B.records bodies.old))
+        (shown file.old) (shown file.new) turned) }
     ensures reads { ReadsOnly B.records B.fault_count bodies.old bodies.new (fault_of result) }
 {
     if file.asks.has(ask.id) {
@@ -217,7 +233,8 @@ fn ask_rows<B: Bodies>(
 /// An ask that is let in, as it may wait: for half the lease length.
 fn waiting_ask(times: Times, now: u64, id: OpId, epoch: u64, op: Op) -> WaitingAsk
     requires { now < 2 ^ 62 }
-    ensures row { (site : Site) → site.now ≡ now → site.times ≡ times → result ≡ rows.waiting_ask site id epoch op }
+    ensures row { (site : Site) → site.now ≡ now → site.times ≡ times →
+        result ≡ rows.waiting_ask site id epoch op }
     ensures op { result.op ≡ op }
 {
     let _lease = times.lease();
@@ -242,7 +259,9 @@ fn let_in<B: Bodies>(
     requires settled { IsSettled file.old.lease now }
     requires stripe { FitsStripe capability.now.location.stripe }
     requires fits { FitsOp op.now }
-    ensures row { IfOk result (λ turned. IsRowBy (λ site s. rows.ask_let_in site s id capability.now op.now None) now (body_by (B.records bodies.old)) (shown file.old) (shown file.new) turned) }
+    ensures row { IfOk result (λ turned.
+        IsRowBy (λ site s. rows.ask_let_in site s id capability.now op.now None) now
+        (body_by (B.records bodies.old)) (shown file.old) (shown file.new) turned) }
     ensures reads { ReadsOnly B.records B.fault_count bodies.old bodies.new (fault_of result) }
 {
     let asked = op.copy(file.alloc)?;
@@ -267,7 +286,10 @@ pub fn ask_handled<B: Bodies>(
     requires settled { IsSettled file.old.lease now }
     requires stripe { FitsStripe capability.now.location.stripe }
     requires fits { FitsOp op.now }
-    ensures row { IfOk result (λ turned. (test : Capability → Bool) → test capability.now ≡ sealed → IsStep (λ site s. rows.ask_handled site s id capability.now op.now) (site_at file.old.awake now test (body_by (B.records bodies.old))) (shown file.old) (shown file.new) turned) }
+    ensures row { IfOk result (λ turned. (test : Capability → Bool) → test capability.now ≡ sealed →
+        IsStep (λ site s. rows.ask_handled site s id capability.now op.now)
+        (site_at file.old.awake now test (body_by (B.records bodies.old))) (shown file.old)
+        (shown file.new) turned) }
     ensures reads { ReadsOnly B.records B.fault_count bodies.old bodies.new (fault_of result) }
 {
     let (alloc, node, own) = (file.alloc, file.awake.node(), file.replica.file());

@@ -72,7 +72,9 @@ impl OsdFile {
     ) -> Result<Turned, StepErr>
         requires clock { now < 2 ^ 62 }
         requires fits { FitsPayload payload.now }
-        ensures row { IfOk result (λ turned. IsRowOn (λ site s. rows.step_of_file site s from payload.now) payload.now sealed now (body_by (B.records bodies.old)) self.old self.new turned) }
+        ensures row { IfOk result (λ turned.
+            IsRowOn (λ site s. rows.step_of_file site s from payload.now) payload.now sealed now
+            (body_by (B.records bodies.old)) self.old self.new turned) }
         ensures reads { ReadsOnly B.records B.fault_count bodies.old bodies.new (fault_of result) }
     {
         match step_of_file(&mut self.parts, bodies, now, sealed, from, payload) {

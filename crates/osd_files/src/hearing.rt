@@ -41,7 +41,8 @@ fn replica_acts(
     from: NodeId,
     acted: Acted,
 ) -> Result<Turned, OutOfMemory>
-    ensures { IfOk result (λ turned. turned ≡ record { rec = acted.rec; outs = if_any node from acted.answer; marks = [] }) }
+    ensures { IfOk result (λ turned. turned ≡
+        record { rec = acted.rec; outs = if_any node from acted.answer; marks = [] }) }
 {
     let rec = OptionalBox::of(alloc, acted.rec)?;
     let (rec, outs) = both(rec, answered(alloc, node, from, acted.answer))?;
@@ -55,7 +56,8 @@ fn replica_acts(
 /// What the replica makes of a message; nothing of one that isn't to it.
 fn acts(replica: &mut Replica, content: &Payload) -> Result<Acted, OutOfMemory>
     requires { FitsPayload content.now }
-    ensures row { IfOk result (λ acted. acted ≡ acted_on replica.old.file replica.old.head replica.old.held content.now) }
+    ensures row { IfOk result (λ acted. acted ≡
+        acted_on replica.old.file replica.old.head replica.old.held content.now) }
     ensures kept { IfOk result (λ acted. replica.new ≡ kept_after replica.old acted.rec) }
     ensures same { OnErr result (replica.new ≡ replica.old) }
 {
@@ -84,7 +86,9 @@ pub fn replica_comes(
     content: &Payload,
 ) -> Result<Turned, OutOfMemory>
     requires { FitsPayload content.now }
-    ensures { IfOk result (λ turned. is_for_replica content.now ≡ true → (now : ℕ) → IsRow (λ site s. rows.message_comes site s from content.now) now (shown file.old) (shown file.new) turned) }
+    ensures { IfOk result (λ turned. is_for_replica content.now ≡ true → (now : ℕ) →
+        IsRow (λ site s. rows.message_comes site s from content.now) now (shown file.old)
+        (shown file.new) turned) }
 {
     let (alloc, node) = (file.alloc, file.awake.node());
     let acted = acts(&mut file.replica, content)?;
@@ -100,7 +104,9 @@ pub fn fetch_comes<B: Bodies>(
     object: u64,
     version: &Stamp,
 ) -> Result<Turned, StepErr>
-    ensures row { IfOk result (λ turned. (now : ℕ) → IsRowBy (λ site s. fetch_row site s from epoch.now object version.now) now (body_by (B.records bodies.old)) (shown file.now) (shown file.now) turned) }
+    ensures row { IfOk result (λ turned. (now : ℕ) →
+        IsRowBy (λ site s. fetch_row site s from epoch.now object version.now) now
+        (body_by (B.records bodies.old)) (shown file.now) (shown file.now) turned) }
     ensures reads { ReadsOnly B.records B.fault_count bodies.old bodies.new (fault_of result) }
 {
     let (alloc, node, id) = (file.alloc, file.awake.node(), file.replica.file());

@@ -50,7 +50,13 @@ impl Model for Lead {
 
     ghost Value = { LeadView };
 
-    ghost view = { λ l. record { node = l.node; file = l.file; location = location_in l.listed; primary = primary_in l.listed } };
+    ghost view = { λ l.
+        record {
+          node = l.node;
+          file = l.file;
+          location = location_in l.listed;
+          primary = primary_in l.listed;
+        } };
 
     ghost invariant = { λ l. StandsAt l.node l.file l.listed × IsCountedIn l.listed };
 }
@@ -59,7 +65,8 @@ impl Model for Lead {
 fn idle(listed: &mut Option<Listed>)
     ensures location { location_in listed.new ≡ location_in listed.old }
     ensures primary { primary_in listed.new ≡ rows.idle (primary_in listed.old) }
-    ensures stands { (node : NodeId) (file : FileId) → StandsAt node file listed.old → StandsAt node file listed.new }
+    ensures stands { (node : NodeId) (file : FileId) → StandsAt node file listed.old →
+        StandsAt node file listed.new }
     ensures counted { IsCountedIn listed.new }
 {
     if let Some(listed) = listed {
@@ -97,7 +104,8 @@ impl Lead {
     /// A new primary at a node, of a file that is where this list says, if one is stored.
     pub fn new(alloc: Global, node: NodeId, file: FileId, location: Option<Location>) -> Lead
         requires { IfSome location (λ location. FitsStripe location.stripe) }
-        ensures { result ≡ record { node = node; file = file; location = location; primary = rows.new_primary } }
+        ensures { result ≡
+            record { node = node; file = file; location = location; primary = rows.new_primary } }
     {
         let mut lead = Lead {
             alloc,
@@ -198,8 +206,14 @@ impl Lead {
     pub fn begin(&mut self, turn: &Turn<'_>, own: &FileHead) -> Result<Turned, OutOfMemory>
         requires turn { turn.now.node ≡ self.old.node }
         requires stored { IsStored self.old.location }
-        ensures state { IfOk result (λ led. self.new ≡ record self.old { primary = (epoch_drawn (place_of self.old) self.old.primary.learnt own.now (members_of self.old.location)).primary }) }
-        ensures led { IfOk result (λ led. led ≡ (epoch_drawn (place_of self.old) self.old.primary.learnt own.now (members_of self.old.location)).turned) }
+        ensures state { IfOk result (λ led. self.new ≡
+            record self.old {
+              primary = (epoch_drawn (place_of self.old) self.old.primary.learnt own.now
+                  (members_of self.old.location)).primary;
+            }) }
+        ensures led { IfOk result (λ led. led ≡
+            (epoch_drawn (place_of self.old) self.old.primary.learnt own.now
+            (members_of self.old.location)).turned) }
         ensures same { OnErr result (self.new ≡ self.old) }
     {
         match &mut self.listed {
@@ -233,7 +247,9 @@ impl Lead {
         op: &Op,
     ) -> Result<Option<Reply>, StepErr>
         requires { turn.now.node ≡ self.now.node }
-        ensures value { IfOk result (λ answer. (own : FileHead) (held : List ObjectVersion) → answer ≡ reads (ground (place_of self.now) (B.records bodies.old) own held) self.now.primary op.now) }
+        ensures value { IfOk result (λ answer. (own : FileHead) (held : List ObjectVersion) →
+            answer ≡ reads (ground (place_of self.now) (B.records bodies.old) own held)
+            self.now.primary op.now) }
         ensures reads { ReadsOnly B.records B.fault_count bodies.old bodies.new (fault_of result) }
     {
         match &self.listed {
@@ -255,8 +271,12 @@ impl Lead {
         requires turn { turn.now.node ≡ self.old.node }
         requires stored { IsStored self.old.location }
         requires fits { FitsOp op.now }
-        ensures value { IfOk result (λ led. (own : FileHead) (held : List ObjectVersion) → option_map (λ turned. record { primary = self.new.primary; turned = turned }) led ≡ writes (ground (place_of self.old) (B.records bodies.old) own held) self.old.primary id epoch op.now) }
-        ensures kept { IfOk result (λ led. self.new ≡ record self.old { primary = self.new.primary }) }
+        ensures value { IfOk result (λ led. (own : FileHead) (held : List ObjectVersion) →
+            option_map (λ turned. record { primary = self.new.primary; turned = turned }) led ≡
+            writes (ground (place_of self.old) (B.records bodies.old) own held) self.old.primary id
+            epoch op.now) }
+        ensures kept { IfOk result (λ led. self.new ≡
+            record self.old { primary = self.new.primary }) }
         ensures waits { IfOk result (λ led. IfNone led (self.new ≡ self.old)) }
         ensures same { OnErr result (self.new ≡ self.old) }
         ensures reads { ReadsOnly B.records B.fault_count bodies.old bodies.new (fault_of result) }
@@ -281,9 +301,16 @@ impl Lead {
         requires turn { turn.now.node ≡ self.old.node }
         requires stored { IsStored self.old.location }
         requires own { HeadRises own.now }
-        ensures state { IfOk result (λ led. self.new ≡ record self.old { primary = (hears (ground (place_of self.old) (B.records bodies.old) own.now held.now) self.old.primary from payload.now).primary }) }
-        ensures led { IfOk result (λ led. led ≡ (hears (ground (place_of self.old) (B.records bodies.old) own.now held.now) self.old.primary from payload.now).turned) }
-        ensures idle { OnErr result (self.new ≡ record self.old { primary = rows.idle self.old.primary }) }
+        ensures state { IfOk result (λ led. self.new ≡
+            record self.old {
+              primary = (hears (ground (place_of self.old) (B.records bodies.old) own.now held.now)
+                  self.old.primary from payload.now).primary;
+            }) }
+        ensures led { IfOk result (λ led. led ≡
+            (hears (ground (place_of self.old) (B.records bodies.old) own.now held.now)
+            self.old.primary from payload.now).turned) }
+        ensures idle { OnErr result (self.new ≡
+            record self.old { primary = rows.idle self.old.primary }) }
         ensures reads { ReadsOnly B.records B.fault_count bodies.old bodies.new (fault_of result) }
     {
         match &mut self.listed {
@@ -296,7 +323,8 @@ impl Lead {
     pub fn list_once(&mut self, location: &Location) -> Option<Record>
         requires { FitsStripe location.now.stripe }
         ensures rec { result ≡ first_list self.old.file location.now self.old.location }
-        ensures state { self.new ≡ record self.old { location = list_after self.old.location location.now } }
+        ensures state { self.new ≡
+            record self.old { location = list_after self.old.location location.now } }
         ensures stored { IsStored self.new.location }
     {
         if self.listed.is_some() {

@@ -34,7 +34,9 @@ fn primary_led<B: Bodies>(
     requires clock { now < 2 ^ 62 }
     requires turn { HasTurn file.old.lease now }
     requires stored { IsStored file.old.lead.location }
-    ensures row { IfOk result (λ turned. IsRowBy (λ site s. leads_to s (hears (ground_of site s) s.primary from content.now)) now (body_by (B.records bodies.old)) (shown file.old) (shown file.new) turned) }
+    ensures row { IfOk result (λ turned.
+        IsRowBy (λ site s. leads_to s (hears (ground_of site s) s.primary from content.now)) now
+        (body_by (B.records bodies.old)) (shown file.old) (shown file.new) turned) }
     ensures reads { ReadsOnly B.records B.fault_count bodies.old bodies.new (fault_of result) }
 {
     stay_in_range(file.awake.node());
@@ -72,7 +74,9 @@ pub fn primary_hears<B: Bodies>(
     requires settled { IsSettled file.old.lease now }
     requires stored { ListUnder file.old.lease file.old.lead.location }
     requires fits { AllByRecursion IsWithinLimits file.old.asks.waiting }
-    ensures row { IfOk result (λ turned. IsRowBy (λ site s. rows.primary_hears site s s.lease from content.now) now (body_by (B.records bodies.old)) (shown file.old) (shown file.new) turned) }
+    ensures row { IfOk result (λ turned.
+        IsRowBy (λ site s. rows.primary_hears site s s.lease from content.now) now
+        (body_by (B.records bodies.old)) (shown file.old) (shown file.new) turned) }
     ensures reads { ReadsOnly B.records B.fault_count bodies.old bodies.new (fault_of result) }
 {
     if !has_turn(&file.lease, now) {

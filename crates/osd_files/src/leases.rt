@@ -43,7 +43,9 @@ fn answer_to_read(file: FileId, boot: Boot, ballot: Ballot, answer: ReadAnswer) 
 /// A Read comes: promised, or outrun.
 #[tactic(auto, unfolding(xt_protocol::specs::FileLeases::read_comes), using(crate::proofs::News::read_back))]
 fn read_comes(file: &mut Parts, from: NodeId, ballot: Ballot) -> Result<Turned, OutOfMemory>
-    ensures { IfOk result (λ turned. (now : ℕ) → IsRow (λ site s. rows.read_comes site s from ballot) now (shown file.old) (shown file.new) turned) }
+    ensures { IfOk result (λ turned. (now : ℕ) →
+        IsRow (λ site s. rows.read_comes site s from ballot) now (shown file.old) (shown file.new)
+        turned) }
 {
     let (alloc, node, id) = (file.alloc, file.awake.node(), file.replica.file());
     let boot = file.acceptor.boot();
@@ -62,7 +64,8 @@ fn answers_to_write(
     boot: Boot,
     answer: WriteAnswer,
 ) -> Result<Turned, OutOfMemory>
-    ensures { IfOk result (λ turned. turned ≡ answered_write node file from ballot boot (write_answer answer)) }
+    ensures { IfOk result (λ turned. turned ≡
+        answered_write node file from ballot boot (write_answer answer)) }
 {
     match answer {
         WriteAnswer::Accepted => {
@@ -96,7 +99,9 @@ fn write_comes(
     boot: Boot,
     lease: Lease,
 ) -> Result<Turned, OutOfMemory>
-    ensures { IfOk result (λ turned. (now : ℕ) → IsRow (λ site s. rows.write_comes site s from ballot boot lease) now (shown file.old) (shown file.new) turned) }
+    ensures { IfOk result (λ turned. (now : ℕ) →
+        IsRow (λ site s. rows.write_comes site s from ballot boot lease) now (shown file.old)
+        (shown file.new) turned) }
 {
     let (alloc, node, id) = (file.alloc, file.awake.node(), file.replica.file());
     let answer = file.acceptor.on_write(ballot, boot, lease);
@@ -106,7 +111,9 @@ fn write_comes(
 
 /// The asks that wait are told this.
 fn waiting_told(file: &mut Parts, reply: &Reply) -> Result<Turned, OutOfMemory>
-    ensures { IfOk result (λ turned. (now : ℕ) → IsRow (λ site s. rows.waiting_told site s reply.now) now (shown file.old) (shown file.new) turned) }
+    ensures { IfOk result (λ turned. (now : ℕ) →
+        IsRow (λ site s. rows.waiting_told site s reply.now) now (shown file.old) (shown file.new)
+        turned) }
 {
     let (alloc, node, id) = (file.alloc, file.awake.node(), file.replica.file());
     let outs = file.asks.tell_waiting(alloc, node, &id, reply)?;
@@ -115,7 +122,9 @@ fn waiting_told(file: &mut Parts, reply: &Reply) -> Result<Turned, OutOfMemory>
 
 /// Live report: the asks are sent to its holder; where that is an earlier boot of this node there is no lease.
 fn live_lease(file: &mut Parts, lease: Lease) -> Result<Turned, OutOfMemory>
-    ensures { IfOk result (λ turned. (now : ℕ) → IsRow (λ site s. rows.live_lease site s lease) now (shown file.old) (shown file.new) turned) }
+    ensures { IfOk result (λ turned. (now : ℕ) →
+        IsRow (λ site s. rows.live_lease site s lease) now (shown file.old) (shown file.new)
+        turned) }
 {
     if lease.node.0 == file.awake.node().0 {
         let reply = Reply::NoLease { end: file.last_end };
@@ -137,7 +146,9 @@ fn writes_to(
     lease: Lease,
     targets: &[(NodeId, Boot)],
 ) -> Result<Turned, OutOfMemory>
-    ensures { IfOk result (λ turned. turned ≡ sends (map (λ (target : NodeId × Boot). message node target.0 (payload.Write file.now ballot target.1 lease)) targets.now)) }
+    ensures { IfOk result (λ turned. turned ≡
+        sends (map (λ (target : NodeId × Boot).
+        message node target.0 (payload.Write file.now ballot target.1 lease)) targets.now)) }
 {
     let mut outs = Seq::new(alloc);
     for target in targets {
@@ -155,7 +166,9 @@ fn writes_to(
 /// Takes what the primary recorded, if it did, in its own replica.
 fn note(replica: &mut Replica, rec: &OptionalBox<Record>) -> Result<(), OutOfMemory>
     requires { IfSome rec.now (IsNotable replica.old) }
-    ensures ok { OnOk result ((location : Option Location) → record replica.new { location = location } ≡ kept_after (record replica.old { location = location }) rec.now) }
+    ensures ok { OnOk result ((location : Option Location) →
+        record replica.new { location = location } ≡
+        kept_after (record replica.old { location = location }) rec.now) }
     ensures file { replica.new.file ≡ replica.old.file }
 {
     match rec.get() {
@@ -168,7 +181,9 @@ fn note(replica: &mut Replica, rec: &OptionalBox<Record>) -> Result<(), OutOfMem
 pub fn noted(replica: &mut Replica, turned: Turned) -> Result<Turned, OutOfMemory>
     requires { IfSome turned.rec (IsNotable replica.old) }
     ensures turned { IfOk result (λ given. given ≡ turned) }
-    ensures ok { OnOk result ((location : Option Location) → record replica.new { location = location } ≡ kept_after (record replica.old { location = location }) turned.rec) }
+    ensures ok { OnOk result ((location : Option Location) →
+        record replica.new { location = location } ≡
+        kept_after (record replica.old { location = location }) turned.rec) }
     ensures file { replica.new.file ≡ replica.old.file }
 {
     let done = note(replica, &turned.rec);
@@ -188,7 +203,9 @@ fn led_on(file: &mut Parts, now: u64) -> Result<Turned, OutOfMemory>
     requires clock { now < 2 ^ 62 }
     requires turn { HasTurn file.old.lease now }
     requires stored { IsStored file.old.lead.location }
-    ensures { IfOk result (λ turned. IsRow (λ site s. rows.led_on site s s.primary.tenure) now (shown file.old) (shown file.new) turned) }
+    ensures { IfOk result (λ turned.
+        IsRow (λ site s. rows.led_on site s s.primary.tenure) now (shown file.old) (shown file.new)
+        turned) }
 {
     if !file.lead.is_idle() {
         return Ok(quiet(file.alloc));
@@ -206,7 +223,8 @@ fn lease_held(file: &mut Parts, now: u64, end: u64) -> Result<Turned, OutOfMemor
     requires clock { now < 2 ^ 62 }
     requires turn { HasTurn file.old.lease now }
     requires stored { IsStored file.old.lead.location }
-    ensures { IfOk result (λ turned. IsRow (λ site s. rows.lease_held site s end) now (shown file.old) (shown file.new) turned) }
+    ensures { IfOk result (λ turned.
+        IsRow (λ site s. rows.lease_held site s end) now (shown file.old) (shown file.new) turned) }
 {
     let number = file.replica.file().number;
     let marked = shows(file.alloc, Mark::Held { file: number, end })?;
@@ -218,7 +236,9 @@ fn lease_held(file: &mut Parts, now: u64, end: u64) -> Result<Turned, OutOfMemor
 fn lease_news(file: &mut Parts, now: u64, news: News) -> Result<Turned, OutOfMemory>
     requires clock { now < 2 ^ 62 }
     requires hold { HoldBy news file.old.lease now file.old.lead.location }
-    ensures { IfOk result (λ turned. IsRow (λ site s. rows.lease_news site s (news_of news)) now (shown file.old) (shown file.new) turned) }
+    ensures { IfOk result (λ turned.
+        IsRow (λ site s. rows.lease_news site s (news_of news)) now (shown file.old)
+        (shown file.new) turned) }
 {
     match news {
         News::Nothing => Ok(quiet(file.alloc)),
@@ -257,7 +277,9 @@ fn reported_end(end: u64, content: &Payload) -> u64
 
 /// The end that was met last: that of a report is, where the promise is taken.
 fn end_after_answer(lease: &FileLease, end: u64, now: u64, from: NodeId, content: &Payload) -> u64
-    ensures { result ≡ (if renewal_takes_under (running_round lease.now) now from content.now then rows.reported_end end content.now else end) }
+    ensures { result ≡
+        (if renewal_takes_under (running_round lease.now) now from content.now
+        then rows.reported_end end content.now else end) }
 {
     if lease.takes(now, from, content) {
         reported_end(end, content)
@@ -276,7 +298,9 @@ fn answer_comes(
     requires clock { now < 2 ^ 62 }
     requires settled { IsSettled file.old.lease now }
     requires stored { ListUnder file.old.lease file.old.lead.location }
-    ensures { IfOk result (λ turned. IsRow (λ site s. rows.answer_comes site s from content.now) now (shown file.old) (shown file.new) turned) }
+    ensures { IfOk result (λ turned.
+        IsRow (λ site s. rows.answer_comes site s from content.now) now (shown file.old)
+        (shown file.new) turned) }
 {
     file.last_end = end_after_answer(&file.lease, file.last_end, now, from, content);
     let news = file.lease.answer(now, from, content);
@@ -293,7 +317,9 @@ pub fn lease_comes(
     requires clock { now < 2 ^ 62 }
     requires settled { IsSettled file.old.lease now }
     requires stored { ListUnder file.old.lease file.old.lead.location }
-    ensures { IfOk result (λ turned. is_for_lease content.now ≡ true → IsRow (λ site s. message_comes site s from content.now) now (shown file.old) (shown file.new) turned) }
+    ensures { IfOk result (λ turned. is_for_lease content.now ≡ true →
+        IsRow (λ site s. message_comes site s from content.now) now (shown file.old)
+        (shown file.new) turned) }
 {
     match content {
         Payload::Read { ballot, .. } => read_comes(file, from, *ballot),

@@ -12,7 +12,8 @@ use xt_protocol::{Turned, quiet, sends};
 
 /// All asks are told that there is no lease: the issued one unless it was told, then those that wait.
 fn no_lease_for_all(file: &mut Parts) -> Result<Turned, OutOfMemory>
-    ensures { IfOk result (λ turned. (now : ℕ) → IsRow rows.no_lease_for_all now (shown file.old) (shown file.new) turned) }
+    ensures { IfOk result (λ turned. (now : ℕ) →
+        IsRow rows.no_lease_for_all now (shown file.old) (shown file.new) turned) }
 {
     let reply = Reply::NoLease { end: file.last_end };
     let node = file.awake.node();
@@ -23,7 +24,8 @@ fn no_lease_for_all(file: &mut Parts) -> Result<Turned, OutOfMemory>
 
 /// Lease lapses: the primary is idle, and there is no lease for anybody.
 fn lease_lapses(file: &mut Parts) -> Result<Turned, OutOfMemory>
-    ensures { IfOk result (λ turned. (now : ℕ) → IsRow rows.lease_lapses now (shown file.old) (shown file.new) turned) }
+    ensures { IfOk result (λ turned. (now : ℕ) →
+        IsRow rows.lease_lapses now (shown file.old) (shown file.new) turned) }
 {
     file.lead.idle();
     no_lease_for_all(file)
@@ -31,7 +33,9 @@ fn lease_lapses(file: &mut Parts) -> Result<Turned, OutOfMemory>
 
 /// Deadlines come: the asks that are due are told this, those that wait first; the issued write stays.
 fn deadlines_come(file: &mut Parts, now: u64, reply: &Reply) -> Result<Turned, OutOfMemory>
-    ensures { IfOk result (λ turned. IsRow (λ site s. rows.deadlines_come site s reply.now) now (shown file.old) (shown file.new) turned) }
+    ensures { IfOk result (λ turned.
+        IsRow (λ site s. rows.deadlines_come site s reply.now) now (shown file.old) (shown file.new)
+        turned) }
 {
     let (alloc, node, id) = (file.alloc, file.awake.node(), file.replica.file());
     let outs = file.asks.tell_due(alloc, node, &id, now, reply)?;
@@ -40,7 +44,9 @@ fn deadlines_come(file: &mut Parts, now: u64, reply: &Reply) -> Result<Turned, O
 
 /// Where the lease stands, the deadlines of asks may have come; an idle primary has none.
 fn deadlines_under(file: &mut Parts, now: u64) -> Result<Turned, OutOfMemory>
-    ensures { IfOk result (λ turned. IsRow (λ site s. rows.deadlines_under site s s.primary.tenure) now (shown file.old) (shown file.new) turned) }
+    ensures { IfOk result (λ turned.
+        IsRow (λ site s. rows.deadlines_under site s s.primary.tenure) now (shown file.old)
+        (shown file.new) turned) }
 {
     match file.lead.no_majority() {
         Some(reply) => deadlines_come(file, now, &reply),
@@ -51,7 +57,8 @@ fn deadlines_under(file: &mut Parts, now: u64) -> Result<Turned, OutOfMemory>
 /// What is overdue at a file: its lease lapses, a round runs out, or the deadlines of asks come.
 pub fn expire(file: &mut Parts, now: u64) -> Result<Turned, OutOfMemory>
     requires { now < 2 ^ 62 }
-    ensures row { IfOk result (λ turned. IsRow rows.expired now (shown file.old) (shown file.new) turned) }
+    ensures row { IfOk result (λ turned.
+        IsRow rows.expired now (shown file.old) (shown file.new) turned) }
     ensures settled { IfOk result (λ turned. IsSettled file.new.lease now) }
 {
     match file.lease.expire(now) {

@@ -30,7 +30,9 @@ fn waiting_write<B: Bodies>(
     requires turn { HasTurn file.old.lease now }
     requires stored { IsStored file.old.lead.location }
     requires fits { FitsOp ask.op }
-    ensures served { IfOk result (λ turned. is_read ask.op ≡ false → is_some file.old.asks.issued ≡ false → ServesOne ask (B.records bodies.old) (shown file.old) (shown file.new) turned) }
+    ensures served { IfOk result (λ turned. is_read ask.op ≡ false →
+        is_some file.old.asks.issued ≡ false →
+        ServesOne ask (B.records bodies.old) (shown file.old) (shown file.new) turned) }
     ensures reads { ReadsOnly B.records B.fault_count bodies.old bodies.new (fault_of result) }
 {
     let Some(turn) = file.lease.turn(now) else {
@@ -60,7 +62,8 @@ fn serve_one<B: Bodies>(
     requires turn { HasTurn file.old.lease now }
     requires stored { IsStored file.old.lead.location }
     requires fits { FitsOp ask.op }
-    ensures served { IfOk result (λ turned. ServesOne ask (B.records bodies.old) (shown file.old) (shown file.new) turned) }
+    ensures served { IfOk result (λ turned.
+        ServesOne ask (B.records bodies.old) (shown file.old) (shown file.new) turned) }
     ensures reads { ReadsOnly B.records B.fault_count bodies.old bodies.new (fault_of result) }
 {
     if is_read(&ask.op) {
@@ -85,7 +88,8 @@ fn serve_next<B: Bodies>(
     requires turn { HasTurn file.old.lease now }
     requires stored { IsStored file.old.lead.location }
     requires fits { FitsOp ask.op }
-    ensures served { IfOk result (λ turned. ServesNext ask served (B.records bodies.old) (shown file.old) (shown file.new) turned) }
+    ensures served { IfOk result (λ turned.
+        ServesNext ask served (B.records bodies.old) (shown file.old) (shown file.new) turned) }
     ensures reads { ReadsOnly B.records B.fault_count bodies.old bodies.new (fault_of result) }
 {
     let one = serve_one(file, bodies, now, ask);
@@ -98,7 +102,8 @@ fn serve_all<B: Bodies>(file: &mut Parts, bodies: &mut B, now: u64) -> Result<Tu
     requires turn { HasTurn file.old.lease now }
     requires stored { IsStored file.old.lead.location }
     requires fits { AllByRecursion IsWithinLimits file.old.asks.waiting }
-    ensures served { IfOk result (λ turned. ServesAll (B.records bodies.old) (shown file.old) (shown file.new) turned) }
+    ensures served { IfOk result (λ turned.
+        ServesAll (B.records bodies.old) (shown file.old) (shown file.new) turned) }
     ensures reads { ReadsOnly B.records B.fault_count bodies.old bodies.new (fault_of result) }
 {
     let waiting = file.asks.take_waiting(file.alloc);
@@ -138,7 +143,8 @@ pub fn asks_follow<B: Bodies>(
     requires turn { HasTurn file.old.lease now }
     requires stored { IsStored file.old.lead.location }
     requires fits { AllByRecursion IsWithinLimits file.old.asks.waiting }
-    ensures followed { IfOk result (λ turned. AsksFollow was_ready (B.records bodies.old) (shown file.old) (shown file.new) turned) }
+    ensures followed { IfOk result (λ turned.
+        AsksFollow was_ready (B.records bodies.old) (shown file.old) (shown file.new) turned) }
     ensures reads { ReadsOnly B.records B.fault_count bodies.old bodies.new (fault_of result) }
 {
     if becomes_ready(&file.lead, was_ready) {

@@ -35,7 +35,11 @@ fn ask_comes<B: Bodies>(
     requires settled { IsSettled file.old.lease now }
     requires stripe { FitsStripe capability.now.location.stripe }
     requires fits { FitsOp op.now }
-    ensures row { IfOk result (λ turned. (test : Capability → Bool) → test capability.now ≡ sealed → IsStep (λ site s. rows.ask_comes site s capability.now.location.kind id capability.now op.now) (site_at file.old.awake now test (body_by (B.records bodies.old))) (shown file.old) (shown file.new) turned) }
+    ensures row { IfOk result (λ turned. (test : Capability → Bool) → test capability.now ≡ sealed →
+        IsStep (λ site s.
+        rows.ask_comes site s capability.now.location.kind id capability.now op.now)
+        (site_at file.old.awake now test (body_by (B.records bodies.old))) (shown file.old)
+        (shown file.new) turned) }
     ensures reads { ReadsOnly B.records B.fault_count bodies.old bodies.new (fault_of result) }
 {
     match capability.location.kind {
@@ -57,7 +61,9 @@ fn message_comes<B: Bodies>(
     requires settled { IsSettled file.old.lease now }
     requires fits { FitsPayload content.now }
     requires whole { IsWhole (shown file.old) }
-    ensures row { IfOk result (λ turned. IsRowOn (λ site s. rows.message_comes site s from content.now) content.now sealed now (body_by (B.records bodies.old)) (shown file.old) (shown file.new) turned) }
+    ensures row { IfOk result (λ turned.
+        IsRowOn (λ site s. rows.message_comes site s from content.now) content.now sealed now
+        (body_by (B.records bodies.old)) (shown file.old) (shown file.new) turned) }
     ensures reads { ReadsOnly B.records B.fault_count bodies.old bodies.new (fault_of result) }
 {
     match content {
@@ -103,7 +109,9 @@ pub fn step_of_file<B: Bodies>(
     requires clock { now < 2 ^ 62 }
     requires fits { FitsPayload content.now }
     requires whole { IsWhole (shown file.old) }
-    ensures row { IfOk result (λ turned. IsRowOn (λ site s. rows.step_of_file site s from content.now) content.now sealed now (body_by (B.records bodies.old)) (shown file.old) (shown file.new) turned) }
+    ensures row { IfOk result (λ turned.
+        IsRowOn (λ site s. rows.step_of_file site s from content.now) content.now sealed now
+        (body_by (B.records bodies.old)) (shown file.old) (shown file.new) turned) }
     ensures reads { ReadsOnly B.records B.fault_count bodies.old bodies.new (fault_of result) }
 {
     let overdue = expire(file, now)?;

@@ -32,7 +32,8 @@ pub fn reads_of(
     members: &Members,
     ballot: Ballot,
 ) -> Result<Turned, OutOfMemory>
-    ensures { IfOk result (λ turned. turned ≡ sends (to_each node members.now (payload.Read file ballot))) }
+    ensures { IfOk result (λ turned. turned ≡
+        sends (to_each node members.now (payload.Read file ballot))) }
 {
     let read = Payload::Read { file, ballot };
     let outs = to_each(alloc, node, members.as_slice(), &read)?;
@@ -44,7 +45,8 @@ fn renews(file: &mut Parts, now: u64) -> Result<Turned, OutOfMemory>
     requires clock { now < 2 ^ 62 }
     requires settled { IsSettled file.old.lease now }
     requires stored { IsStored file.old.lead.location }
-    ensures { IfOk result (λ turned. (h : Held) → file.old.lease ≡ held h → IsRow (λ site s. rows.renews site s h) now (shown file.old) (shown file.new) turned) }
+    ensures { IfOk result (λ turned. (h : Held) → file.old.lease ≡ held h →
+        IsRow (λ site s. rows.renews site s h) now (shown file.old) (shown file.new) turned) }
 {
     let Some(location) = file.lead.location() else {
         unreachable!()
@@ -61,7 +63,8 @@ fn wake_of_file(file: &mut Parts, now: u64) -> Result<Turned, OutOfMemory>
     requires clock { now < 2 ^ 62 }
     requires settled { IsSettled file.old.lease now }
     requires stored { ListUnder file.old.lease file.old.lead.location }
-    ensures { IfOk result (λ turned. IsRow rows.wake_of_file now (shown file.old) (shown file.new) turned) }
+    ensures { IfOk result (λ turned.
+        IsRow rows.wake_of_file now (shown file.old) (shown file.new) turned) }
 {
     let Some(turn) = file.lease.turn(now) else {
         return Ok(quiet(file.alloc));

@@ -20,10 +20,15 @@ ghost use Rattle.osd_keeping.specs.Keeping.{RunsOn, StepsOn};
 
 /// A step of an OSD on the records that it runs on, at any reading of its clock, on any event within the limits.
 pub fn steps_are_kept()
-    ensures { (records : List Record) (s : OsdState) (reading : ℕ) (happens : Event) → KeptIs records → RunsOn records s → reading < 2 ^ 62 → FitsEvent happens → StepsOn records (step_of_osd (outside_of records) s reading happens) }
+    ensures { (records : List Record) (s : OsdState) (reading : ℕ) (happens : Event) →
+        KeptIs records → RunsOn records s → reading < 2 ^ 62 → FitsEvent happens →
+        StepsOn records (step_of_osd (outside_of records) s reading happens) }
 {}
 
 /// An OSD that starts from what its records say, and keeps the record of that start.
 pub fn starts_run_on_their_records()
-    ensures { (records : List Record) (silent : Silent) → KeptIs records → silent.node.0 < 2 ^ 32 → silent.boot.0 < 2 ^ 62 → AreTimes silent.times.lease silent.times.drift → silent.start < 2 ^ 62 → KeptIs (records ++ kept.Boot silent.boot ∷ []) × RunsOn (records ++ kept.Boot silent.boot ∷ []) (osd_from silent (fold_of records).files) }
+    ensures { (records : List Record) (silent : Silent) → KeptIs records → silent.node.0 < 2 ^ 32 →
+        silent.boot.0 < 2 ^ 62 → AreTimes silent.times.lease silent.times.drift →
+        silent.start < 2 ^ 62 → KeptIs (records ++ kept.Boot silent.boot ∷ [])
+        × RunsOn (records ++ kept.Boot silent.boot ∷ []) (osd_from silent (fold_of records).files) }
 {}

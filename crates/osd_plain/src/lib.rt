@@ -27,5 +27,6 @@ pub struct PlainActed {
 /// The head that a step leaves is the one that its record makes of the head before it, whatever else is kept of the file: so a
 /// member that starts again from its records goes on where it was.
 pub fn head_is_of_record()
-    ensures { (p : PlainFile) (row : FileRow) (rec : Option Record) → row.head ≡ p.head → (kept_after row rec).head ≡ (plain_after p rec).head }
+    ensures { (p : PlainFile) (row : FileRow) (rec : Option Record) → row.head ≡ p.head →
+        (kept_after row rec).head ≡ (plain_after p rec).head }
 {}

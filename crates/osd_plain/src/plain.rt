@@ -74,7 +74,9 @@ impl Plain {
         requires truncation { IsCount epoch }
         requires list { FitsLocation location.now }
         requires operation { FitsOp op.now }
-        ensures row { IfOk result (λ acted. acted ≡ plain_step self.old (body_by (B.records bodies.old) self.old.file) id epoch location.now op.now) }
+        ensures row { IfOk result (λ acted. acted ≡
+            plain_step self.old (body_by (B.records bodies.old) self.old.file) id epoch location.now
+            op.now) }
         ensures kept { IfOk result (λ acted. self.new ≡ plain_after self.old acted.rec) }
         ensures same { OnErr result (self.new ≡ self.old) }
         ensures reads { ReadsOnly B.records B.fault_count bodies.old bodies.new (fault_of result) }
@@ -96,7 +98,9 @@ impl Plain {
     ) -> Result<PlainActed, StepErr>
         requires some { 1024 ≤ location.now.stripe }
         requires operation { FitsOp op.now }
-        ensures row { IfOk result (λ acted. acted ≡ rows.served self.old (body_by (B.records bodies.old) self.old.file) id epoch location.now op.now) }
+        ensures row { IfOk result (λ acted. acted ≡
+            rows.served self.old (body_by (B.records bodies.old) self.old.file) id epoch
+            location.now op.now) }
         ensures kept { IfOk result (λ acted. self.new ≡ plain_after self.old acted.rec) }
         ensures same { OnErr result (self.new ≡ self.old) }
         ensures reads { ReadsOnly B.records B.fault_count bodies.old bodies.new (fault_of result) }
@@ -122,7 +126,9 @@ impl Plain {
     ) -> Result<PlainActed, StepErr>
         requires some { 1024 ≤ location.now.stripe }
         requires operation { FitsOp op.now }
-        ensures row { IfOk result (λ acted. acted ≡ rows.write_served self.old (body_by (B.records bodies.old) self.old.file) id epoch location.now op.now) }
+        ensures row { IfOk result (λ acted. acted ≡
+            rows.write_served self.old (body_by (B.records bodies.old) self.old.file) id epoch
+            location.now op.now) }
         ensures kept { IfOk result (λ acted. self.new ≡ plain_after self.old acted.rec) }
         ensures same { OnErr result (self.new ≡ self.old) }
         ensures reads { ReadsOnly B.records B.fault_count bodies.old bodies.new (fault_of result) }
@@ -151,7 +157,10 @@ impl Plain {
     ) -> Result<PlainActed, StepErr>
         requires some { 1024 ≤ stripe }
         requires operation { FitsOp op.now }
-        ensures row { IfOk result (λ acted. acted ≡ rows.write_kept self.old (rows.next_update stripe (body_by (B.records bodies.old) self.old.file) self.old.head id epoch op.now)) }
+        ensures row { IfOk result (λ acted. acted ≡
+            rows.write_kept self.old
+            (rows.next_update stripe (body_by (B.records bodies.old) self.old.file) self.old.head id
+            epoch op.now)) }
         ensures kept { IfOk result (λ acted. self.new ≡ plain_after self.old acted.rec) }
         ensures same { OnErr result (self.new ≡ self.old) }
         ensures reads { ReadsOnly B.records B.fault_count bodies.old bodies.new (fault_of result) }

@@ -84,7 +84,8 @@ pub fn read_served<B: Bodies>(
     len: u32,
 ) -> Result<Reply, StepErr>
     requires { HeadRises head.now }
-    ensures value { IfOk result (λ answer. answer ≡ rows.read_served (body_by (B.records bodies.old) file.now) head.now object at len) }
+    ensures value { IfOk result (λ answer. answer ≡
+        rows.read_served (body_by (B.records bodies.old) file.now) head.now object at len) }
     ensures reads { ReadsOnly B.records B.fault_count bodies.old bodies.new (fault_of result) }
 {
     let version = version_of(head.versions.as_slice(), object);
@@ -111,7 +112,9 @@ pub fn next_update<B: Bodies>(
     requires some { 1024 ≤ stripe }
     requires fits { FitsOp op.now }
     requires rising { HeadRises head.now }
-    ensures value { IfOk result (λ update. update ≡ rows.next_update stripe (body_by (B.records bodies.old) file.now) head.now id epoch op.now) }
+    ensures value { IfOk result (λ update. update ≡
+        rows.next_update stripe (body_by (B.records bodies.old) file.now) head.now id epoch
+        op.now) }
     ensures reads { ReadsOnly B.records B.fault_count bodies.old bodies.new (fault_of result) }
 {
     if head.stamp.count >= COUNTS - 1 {

@@ -30,7 +30,9 @@ impl Registry {
     /// Works out what comes of a request.
     pub fn plan(&self, alloc: Global, request: &RegistryReq) -> Result<Plan, OutOfMemory>
         requires { HasRoom self.now request.now }
-        ensures { IfOk result (λ plan. record { rows = applied self.now plan.change; answer = plan.answer } ≡ outcome_of self.now request.now) }
+        ensures { IfOk result (λ plan.
+            record { rows = applied self.now plan.change; answer = plan.answer } ≡
+            outcome_of self.now request.now) }
     {
         match request {
             RegistryReq::Set {
@@ -66,7 +68,10 @@ impl Registry {
         expected: u64,
     ) -> Result<Plan, OutOfMemory>
         requires { version_in (row_of self.now node.0) ≡ expected → expected + 1 < 2 ^ 64 }
-        ensures { IfOk result (λ plan. record { rows = applied self.now plan.change; answer = plan.answer } ≡ row_set self.now node.0 kind address.now expected (version_in (row_of self.now node.0))) }
+        ensures { IfOk result (λ plan.
+            record { rows = applied self.now plan.change; answer = plan.answer } ≡
+            row_set self.now node.0 kind address.now expected
+            (version_in (row_of self.now node.0))) }
     {
         let version = self.version(node);
         if expected != version {
@@ -89,7 +94,8 @@ impl Registry {
 
     /// Works out what comes of a Remove.
     fn plan_remove(&self, node: NodeId, expected: u64) -> Plan
-        ensures { record { rows = applied self.now result.change; answer = result.answer } ≡ row_removed self.now node.0 expected (version_in (row_of self.now node.0)) }
+        ensures { record { rows = applied self.now result.change; answer = result.answer } ≡
+            row_removed self.now node.0 expected (version_in (row_of self.now node.0)) }
     {
         let version = self.version(node);
         if version != expected {

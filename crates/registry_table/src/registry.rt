@@ -90,7 +90,8 @@ impl Registry {
 
     /// A node's row as it is told, if there is one.
     pub fn row(&self, alloc: Global, node: NodeId) -> Result<Option<RegistryRow>, OutOfMemory>
-        ensures { IfOk result (λ made. made ≡ option_map (λ row. shown (node.0, row)) (row_of self.now node.0)) }
+        ensures { IfOk result (λ made. made ≡
+            option_map (λ row. shown (node.0, row)) (row_of self.now node.0)) }
     {
         match self.rows.get(&node.0) {
             Some(row) => Ok(Some(shown(alloc, node.0, row)?)),

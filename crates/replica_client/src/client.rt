@@ -89,7 +89,12 @@ impl ReplicaClient {
     pub fn new(alloc: Global, node: NodeId, times: Times, first: u64, now: u64) -> ReplicaClient
         requires { now < 2 ^ 62 }
         ensures { result ≡
-            record { node = node; times = times; state = record { last = now; next = first; running = None; files = [] }; ended = None } }
+            record {
+              node = node;
+              times = times;
+              state = record { last = now; next = first; running = None; files = [] };
+              ended = None;
+            } }
     {
         ReplicaClient {
             alloc,
@@ -114,9 +119,11 @@ impl ReplicaClient {
     ) -> Result<Turned, OutOfMemory>
         requires { now < 2 ^ 62 }
         ensures step { IfOk result (λ turned.
-            rows.call_of_client self.old.node self.old.times self.old.state now capability call.now op
+            rows.call_of_client self.old.node self.old.times self.old.state now capability call.now
+            op
             ≡ record { state = self.new.state; turned = turned }) }
-        ensures same { IfOk result (λ turned. (self.new.node ≡ self.old.node) × (self.new.times ≡ self.old.times)) }
+        ensures same { IfOk result (λ turned. (self.new.node ≡ self.old.node)
+            × (self.new.times ≡ self.old.times)) }
         ensures ended { IfOk result (λ turned. self.new.ended ≡ self.old.ended) }
         ensures err { OnErr result (self.new ≡ self.old) }
     {
@@ -156,8 +163,10 @@ impl ReplicaClient {
         ensures step { IfOk result (λ turned.
             rows.step_of_client self.old.node self.old.times self.old.state now ev.now
             ≡ record { state = self.new.state; turned = turned }) }
-        ensures same { IfOk result (λ turned. (self.new.node ≡ self.old.node) × (self.new.times ≡ self.old.times)) }
-        ensures ended { IfOk result (λ turned. self.new.ended ≡ ended_by self.old.ended turned.marks) }
+        ensures same { IfOk result (λ turned. (self.new.node ≡ self.old.node)
+            × (self.new.times ≡ self.old.times)) }
+        ensures ended { IfOk result (λ turned. self.new.ended ≡
+            ended_by self.old.ended turned.marks) }
         ensures err { OnErr result (self.new ≡ self.old) }
     {
         let now = now.max(self.last);
@@ -166,7 +175,8 @@ impl ReplicaClient {
 
     /// Its truncate epoch for a file is at least this one.
     pub fn raise(&mut self, file: &FileId, epoch: u64) -> Result<(), OutOfMemory>
-        ensures ok { OnOk result (self.new ≡ record self.old { state = rows.knows self.old.state file.now (rows.raised epoch) }) }
+        ensures ok { OnOk result (self.new ≡
+            record self.old { state = rows.knows self.old.state file.now (rows.raised epoch) }) }
         ensures err { OnErr result (self.new ≡ self.old) }
     {
         let known = raised(self.files.file(file), epoch);
@@ -175,7 +185,8 @@ impl ReplicaClient {
 
     /// Its first target for a file is this member.
     pub fn aim(&mut self, file: &FileId, node: NodeId) -> Result<(), OutOfMemory>
-        ensures ok { OnOk result (self.new ≡ record self.old { state = rows.knows self.old.state file.now (rows.aimed node) }) }
+        ensures ok { OnOk result (self.new ≡
+            record self.old { state = rows.knows self.old.state file.now (rows.aimed node) }) }
         ensures err { OnErr result (self.new ≡ self.old) }
     {
         let known = aimed(self.files.file(file), node);
@@ -233,7 +244,8 @@ impl ReplicaClient {
     pub fn take_number(&mut self) -> u64
         requires { self.old.state.next < 2 ^ 62 }
         ensures number { result ≡ self.old.state.next }
-        ensures taken { self.new ≡ record self.old { state = record self.old.state { next = self.old.state.next + 1 } } }
+        ensures taken { self.new ≡
+            record self.old { state = record self.old.state { next = self.old.state.next + 1 } } }
     {
         let number = self.next;
         self.next += 1;
@@ -285,7 +297,8 @@ impl ReplicaClient {
         requires clock { now < 2 ^ 62 }
         requires left { self.old.state.next < 2 ^ 62 }
         ensures row { IfOk result (λ turned.
-            Acts (λ site client. rows.begins_call site client capability call.now op) now self.old self.new turned) }
+            Acts (λ site client. rows.begins_call site client capability call.now op) now self.old
+            self.new turned) }
         ensures err { OnErr result (self.new ≡ self.old) }
     {
         let number = self.next;
@@ -313,7 +326,8 @@ impl ReplicaClient {
     ) -> Result<Msgs, OutOfMemory>
         requires { now < 2 ^ 62 }
         ensures row { IfOk result (λ outs.
-            Acts (λ site client. asks_first site client number capability op) now self.old self.new (turns.sends outs)) }
+            Acts (λ site client. asks_first site client number capability op) now self.old self.new
+            (turns.sends outs)) }
         ensures err { OnErr result (self.new ≡ self.old) }
     {
         let known = self.files.file(&capability.file);
@@ -345,7 +359,9 @@ impl ReplicaClient {
     /// An event is handled.
     fn handle(&mut self, now: u64, ev: &Event) -> Result<Turned, OutOfMemory>
         requires { now < 2 ^ 62 }
-        ensures row { IfOk result (λ turned. Acts (λ site client. rows.event_comes site client ev.now) now self.old self.new turned) }
+        ensures row { IfOk result (λ turned.
+            Acts (λ site client. rows.event_comes site client ev.now) now self.old self.new
+            turned) }
         ensures err { OnErr result (self.new ≡ self.old) }
     {
         match ev {
@@ -359,7 +375,8 @@ impl ReplicaClient {
     fn hear(&mut self, now: u64, from: NodeId, payload: &Payload) -> Result<Turned, OutOfMemory>
         requires { now < 2 ^ 62 }
         ensures row { IfOk result (λ turned.
-            Acts (λ site client. rows.message_comes site client from payload.now) now self.old self.new turned) }
+            Acts (λ site client. rows.message_comes site client from payload.now) now self.old
+            self.new turned) }
         ensures err { OnErr result (self.new ≡ self.old) }
     {
         let Payload::Reply { number, reply, .. } = payload else {
@@ -378,7 +395,8 @@ impl ReplicaClient {
     ) -> Result<Turned, OutOfMemory>
         requires { now < 2 ^ 62 }
         ensures row { IfOk result (λ turned.
-            Acts (λ site client. rows.reply_comes site client client.running from number reply.now) now self.old self.new turned) }
+            Acts (λ site client. rows.reply_comes site client client.running from number reply.now)
+            now self.old self.new turned) }
         ensures err { OnErr result (self.new ≡ self.old) }
     {
         let Some(call) = &self.running else {
@@ -393,7 +411,9 @@ impl ReplicaClient {
     /// Some time has passed: a target whose deadline has come is silent.
     fn wake(&mut self, now: u64) -> Result<Turned, OutOfMemory>
         requires { now < 2 ^ 62 }
-        ensures row { IfOk result (λ turned. Acts (λ site client. rows.wakes site client client.running) now self.old self.new turned) }
+        ensures row { IfOk result (λ turned.
+            Acts (λ site client. rows.wakes site client client.running) now self.old self.new
+            turned) }
         ensures err { OnErr result (self.new ≡ self.old) }
     {
         let Some(call) = &self.running else {
@@ -410,7 +430,8 @@ impl ReplicaClient {
         requires clock { now < 2 ^ 62 }
         requires runs { IsSome self.old.state.running }
         ensures row { IfOk result (λ turned.
-            CallActs (λ site client call. rows.answered site client call from reply.now) now self.old self.new turned) }
+            CallActs (λ site client call. rows.answered site client call from reply.now) now
+            self.old self.new turned) }
         ensures err { OnErr result (self.new ≡ self.old) }
     {
         match reply {
@@ -453,7 +474,8 @@ impl ReplicaClient {
         requires runs { IsSome self.old.state.running }
         ensures row { IfOk result (λ turned.
             CallActs (λ site client call.
-            rows.ends_call (rows.knows client call.capability.file (rows.aimed from)) call (Outcome.Ok count bytes.now))
+            rows.ends_call (rows.knows client call.capability.file (rows.aimed from)) call
+            (Outcome.Ok count bytes.now))
             now self.old self.new turned) }
         ensures err { OnErr result (self.new ≡ self.old) }
     {
@@ -468,7 +490,8 @@ impl ReplicaClient {
         requires clock { now < 2 ^ 62 }
         requires runs { IsSome self.old.state.running }
         ensures row { IfOk result (λ turned.
-            CallActs (λ site client call. rows.ends_call client call (Outcome.Refused refusal)) now self.old self.new turned) }
+            CallActs (λ site client call. rows.ends_call client call (Outcome.Refused refusal)) now
+            self.old self.new turned) }
         ensures err { OnErr result (self.new ≡ self.old) }
     {
         self.end(now, Outcome::Refused { refusal })
@@ -496,7 +519,8 @@ impl ReplicaClient {
         requires clock { now < 2 ^ 62 }
         requires runs { IsSome self.old.state.running }
         ensures row { IfOk result (λ turned.
-            CallActs (λ site client call. rows.turned_away_by site client call from how) now self.old self.new turned) }
+            CallActs (λ site client call. rows.turned_away_by site client call from how) now
+            self.old self.new turned) }
         ensures err { OnErr result (self.new ≡ self.old) }
     {
         let target = self.running().target;
@@ -511,7 +535,8 @@ impl ReplicaClient {
         requires clock { now < 2 ^ 62 }
         requires runs { IsSome self.old.state.running }
         ensures row { IfOk result (λ turned.
-            CallActs (λ site client call. rows.turned_away site client call how) now self.old self.new turned) }
+            CallActs (λ site client call. rows.turned_away site client call how) now self.old
+            self.new turned) }
         ensures err { OnErr result (self.new ≡ self.old) }
     {
         let call = self.running();
@@ -533,7 +558,9 @@ impl ReplicaClient {
         requires clock { now < 2 ^ 62 }
         requires runs { IsSome self.old.state.running }
         ensures row { IfOk result (λ turned.
-            CallActs (λ site client call. rows.asks site client (record call { tried = tried }) target) now self.old self.new turned) }
+            CallActs (λ site client call.
+            rows.asks site client (record call { tried = tried }) target) now self.old self.new
+            turned) }
         ensures err { OnErr result (self.new ≡ self.old) }
     {
         tried.push(Tried {
@@ -561,7 +588,8 @@ impl ReplicaClient {
         requires runs { IsSome self.old.state.running }
         ensures row { IfOk result (λ turned.
             CallActs (λ site client call.
-            rows.ends_call client call (Outcome.Retry (rows.answers_in tried.now call.capability.location.members)))
+            rows.ends_call client call
+            (Outcome.Retry (rows.answers_in tried.now call.capability.location.members)))
             now self.old self.new turned) }
         ensures err { OnErr result (self.new ≡ self.old) }
     {
@@ -575,7 +603,8 @@ impl ReplicaClient {
         requires clock { now < 2 ^ 62 }
         requires runs { IsSome self.old.state.running }
         ensures row { IfOk result (λ turned.
-            CallActs (λ site client call. rows.ends_call client call outcome) now self.old self.new turned) }
+            CallActs (λ site client call. rows.ends_call client call outcome) now self.old self.new
+            turned) }
         ensures err { OnErr result (self.new ≡ self.old) }
     {
         let number = self.running().number;
@@ -599,7 +628,10 @@ impl ReplicaClient {
         requires clock { now < 2 ^ 62 }
         requires runs { IsSome self.old.state.running }
         ensures row { IfOk result (λ turned.
-            CallActs (λ site client call. rows.ends_call (record client { files = rows.with_known client.files call.capability.file known }) call outcome)
+            CallActs (λ site client call.
+            rows.ends_call
+            (record client { files = rows.with_known client.files call.capability.file known }) call
+            outcome)
             now self.old self.new turned) }
         ensures err { OnErr result (self.new ≡ self.old) }
     {

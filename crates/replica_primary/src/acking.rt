@@ -138,7 +138,8 @@ fn acked_by(
     own: &FileHead,
     from: NodeId,
 ) -> Result<Turned, OutOfMemory>
-    ensures { IfOk result (λ turned. (learnt : ℕ) → goes_on learnt tenure.new turned ≡ acked_by place.now own.now learnt tenure.old from) }
+    ensures { IfOk result (λ turned. (learnt : ℕ) →
+        goes_on learnt tenure.new turned ≡ acked_by place.now own.now learnt tenure.old from) }
 {
     count_ack(&mut tenure.progress, from)?;
     if !is_carried(place, tenure) {
@@ -167,7 +168,9 @@ fn sent_to_newly(
     newly: bool,
     update: &Update,
 ) -> Result<Turned, OutOfMemory>
-    ensures { IfOk result (λ turned. turned ≡ (if newly then sends (message place.now.node from (payload.Update place.now.file update.now) ∷ []) else quiet)) }
+    ensures { IfOk result (λ turned. turned ≡
+        (if newly then sends (message place.now.node from (payload.Update place.now.file update.now)
+        ∷ []) else quiet)) }
 {
     if !newly {
         return Ok(quiet(alloc));
@@ -179,7 +182,8 @@ fn sent_to_newly(
 
 /// The update that is issued, if one is.
 fn issued_in(progress: &Progress) -> Option<&IssuedUpdate>
-    ensures { MatchOption result (issued_in progress.now ≡ None) (λ issued. issued_in progress.now ≡ Some issued.now) }
+    ensures { MatchOption result (issued_in progress.now ≡ None) (λ issued. issued_in progress.now ≡
+        Some issued.now) }
 {
     match progress {
         Progress::Active {
@@ -202,7 +206,11 @@ fn active_acked(
     stamp: Stamp,
 ) -> Result<Turned, OutOfMemory>
     requires { IsTrue (is_active_in tenure.old.progress) }
-    ensures { IfOk result (λ turned. (learnt : ℕ) (records : List Record) (held : List ObjectVersion) → goes_on learnt tenure.new turned ≡ rows.hears_ack (ground place.now records own.now held) learnt tenure.old tenure.old.progress from newly stamp) }
+    ensures { IfOk result (λ turned.
+        (learnt : ℕ) (records : List Record) (held : List ObjectVersion) →
+        goes_on learnt tenure.new turned ≡
+        rows.hears_ack (ground place.now records own.now held) learnt tenure.old tenure.old.progress
+        from newly stamp) }
 {
     make_current(&mut tenure.peers, from, newly);
     let Some(issued) = issued_in(&tenure.progress) else {
@@ -224,7 +232,11 @@ fn installing_acked(
     newly: bool,
 ) -> Result<Turned, OutOfMemory>
     requires { IsTrue (is_installing tenure.old.progress) }
-    ensures { IfOk result (λ turned. (learnt : ℕ) (records : List Record) (held : List ObjectVersion) (stamp : Stamp) → goes_on learnt tenure.new turned ≡ rows.hears_ack (ground place.now records own.now held) learnt tenure.old tenure.old.progress from newly stamp) }
+    ensures { IfOk result (λ turned.
+        (learnt : ℕ) (records : List Record) (held : List ObjectVersion) (stamp : Stamp) →
+        goes_on learnt tenure.new turned ≡
+        rows.hears_ack (ground place.now records own.now held) learnt tenure.old tenure.old.progress
+        from newly stamp) }
 {
     if !newly {
         return Ok(quiet(alloc));
@@ -243,7 +255,11 @@ pub fn hears_ack(
     newly: bool,
     stamp: Stamp,
 ) -> Result<Turned, OutOfMemory>
-    ensures { IfOk result (λ turned. (learnt : ℕ) (records : List Record) (held : List ObjectVersion) → goes_on learnt tenure.new turned ≡ rows.hears_ack (ground place.now records own.now held) learnt tenure.old tenure.old.progress from newly stamp) }
+    ensures { IfOk result (λ turned.
+        (learnt : ℕ) (records : List Record) (held : List ObjectVersion) →
+        goes_on learnt tenure.new turned ≡
+        rows.hears_ack (ground place.now records own.now held) learnt tenure.old tenure.old.progress
+        from newly stamp) }
 {
     match &tenure.progress {
         Progress::Installing { .. } => { installing_acked(alloc, place, tenure, own, from, newly) }

@@ -25,7 +25,8 @@ fn gathers(
     epoch: Epoch,
     nodes: &[NodeId],
 ) -> Result<Msgs, OutOfMemory>
-    ensures { IfOk result (λ outs. outs ≡ to_each place.now.node nodes.now (payload.Gather place.now.file epoch)) }
+    ensures { IfOk result (λ outs. outs ≡
+        to_each place.now.node nodes.now (payload.Gather place.now.file epoch)) }
 {
     let gather = Payload::Gather {
         file: place.file,
@@ -43,7 +44,11 @@ pub fn epoch_drawn(
     own: &FileHead,
     members: &[NodeId],
 ) -> Result<Drawn, OutOfMemory>
-    ensures row { IfOk result (λ drawn. record { primary = record { learnt = learnt; tenure = drawn.tenure }; turned = drawn.turned } ≡ rows.epoch_drawn place.now learnt own.now members.now) }
+    ensures row { IfOk result (λ drawn.
+        record {
+          primary = record { learnt = learnt; tenure = drawn.tenure };
+          turned = drawn.turned;
+        } ≡ rows.epoch_drawn place.now learnt own.now members.now) }
     ensures rises { IfOk result (λ drawn. CommittedUnder drawn.tenure) }
 {
     let greatest = own.promised.number.max(learnt);
@@ -97,7 +102,11 @@ pub fn redrawn(
     own: &FileHead,
     peers: &[Peer],
 ) -> Result<Drawn, OutOfMemory>
-    ensures { IfOk result (λ drawn. record { primary = record { learnt = learnt; tenure = drawn.tenure }; turned = drawn.turned } ≡ rows.epoch_drawn place.now learnt own.now (nodes_of peers.now)) }
+    ensures { IfOk result (λ drawn.
+        record {
+          primary = record { learnt = learnt; tenure = drawn.tenure };
+          turned = drawn.turned;
+        } ≡ rows.epoch_drawn place.now learnt own.now (nodes_of peers.now)) }
 {
     let nodes = nodes_of(alloc, peers)?;
     epoch_drawn(alloc, place, learnt, own, nodes.as_slice())

@@ -28,7 +28,8 @@ fn body_seen<B: Bodies>(
     object: u64,
     version: &Stamp,
 ) -> Result<Octets, StepErr>
-    ensures value { IfOk result (λ bytes. bytes ≡ body_seen (B.records bodies.old) file.now fetched.now object version.now) }
+    ensures value { IfOk result (λ bytes. bytes ≡
+        body_seen (B.records bodies.old) file.now fetched.now object version.now) }
     ensures reads { ReadsOnly B.records B.fault_count bodies.old bodies.new (fault_of result) }
 {
     match fetched {
@@ -49,7 +50,8 @@ pub fn fed<B: Bodies>(
     target: &FileHead,
     known: HeldPairs,
 ) -> Result<PeerState, StepErr>
-    ensures value { IfOk result (λ state. state ≡ rows.fed (body_seen (B.records bodies.old) file.now fetched.now) target.now known) }
+    ensures value { IfOk result (λ state. state ≡
+        rows.fed (body_seen (B.records bodies.old) file.now fetched.now) target.now known) }
     ensures reads { ReadsOnly B.records B.fault_count bodies.old bodies.new (fault_of result) }
 {
     match first_unknown(known.as_slice(), target.versions.as_slice()) {
@@ -92,7 +94,8 @@ fn sent_to(
     node: NodeId,
     state: &PeerState,
 ) -> Result<Turned, OutOfMemory>
-    ensures { IfOk result (λ turned. turned ≡ sends (rows.if_any place.now.node node (rows.last_sent place.now.file epoch state.now))) }
+    ensures { IfOk result (λ turned. turned ≡
+        sends (rows.if_any place.now.node node (rows.last_sent place.now.file epoch state.now))) }
 {
     let content = last_sent(alloc, &place.file, epoch, state)?;
     let mut outs = Seq::new(alloc);
@@ -109,7 +112,9 @@ fn peer_sent(
     state: PeerState,
 ) -> Result<Turned, OutOfMemory>
     ensures state { tenure.new ≡ with_state tenure.old node state }
-    ensures sent { IfOk result (λ turned. turned ≡ sends (rows.if_any place.now.node node (rows.last_sent place.now.file tenure.old.epoch state))) }
+    ensures sent { IfOk result (λ turned. turned ≡
+        sends (rows.if_any place.now.node node
+        (rows.last_sent place.now.file tenure.old.epoch state))) }
 {
     let sent = sent_to(alloc, place, tenure.epoch, node, &state);
     set_peer(&mut tenure.peers, node, state);
@@ -126,7 +131,11 @@ pub fn feeds<B: Bodies>(
     target: &FileHead,
     known: HeldPairs,
 ) -> Result<Turned, StepErr>
-    ensures value { IfOk result (λ turned. (learnt : ℕ) (own : FileHead) (held : List ObjectVersion) → goes_on learnt tenure.new turned ≡ feeds (ground place.now (B.records bodies.old) own held) learnt tenure.old node target.now known) }
+    ensures value { IfOk result (λ turned.
+        (learnt : ℕ) (own : FileHead) (held : List ObjectVersion) →
+        goes_on learnt tenure.new turned ≡
+        feeds (ground place.now (B.records bodies.old) own held) learnt tenure.old node target.now
+        known) }
     ensures reads { ReadsOnly B.records B.fault_count bodies.old bodies.new (fault_of result) }
 {
     let state = fed(bodies, alloc, &place.file, &None, target, known)?;
@@ -143,7 +152,10 @@ pub fn feeds_on<B: Bodies>(
     from: NodeId,
     known: HeldPairs,
 ) -> Result<Turned, StepErr>
-    ensures value { IfOk result (λ turned. (learnt : ℕ) (held : List ObjectVersion) → goes_on learnt tenure.new turned ≡ feeds_any (ground place.now (B.records bodies.old) own.now held) learnt tenure.old (target_in own.now tenure.old.epoch tenure.old.progress) from (Some known)) }
+    ensures value { IfOk result (λ turned. (learnt : ℕ) (held : List ObjectVersion) →
+        goes_on learnt tenure.new turned ≡
+        feeds_any (ground place.now (B.records bodies.old) own.now held) learnt tenure.old
+        (target_in own.now tenure.old.epoch tenure.old.progress) from (Some known)) }
     ensures reads { ReadsOnly B.records B.fault_count bodies.old bodies.new (fault_of result) }
 {
     match &tenure.progress {
@@ -173,7 +185,8 @@ pub fn body_staged(
     from: NodeId,
     version: ObjectVersion,
 ) -> Result<Next, OutOfMemory>
-    ensures { IfOk result (λ next. (state : PeerState) → rows.peer_in peers.now from ≡ Some state → next ≡ next_fed (with_any (known_of state) version)) }
+    ensures { IfOk result (λ next. (state : PeerState) → rows.peer_in peers.now from ≡ Some state →
+        next ≡ next_fed (with_any (known_of state) version)) }
 {
     let told = known_told(alloc, peers, from)?;
     let known = with_any(told, version)?;
@@ -187,7 +200,8 @@ pub fn body_missed(
     from: NodeId,
     version: ObjectVersion,
 ) -> Result<Next, OutOfMemory>
-    ensures { IfOk result (λ next. (state : PeerState) → rows.peer_in peers.now from ≡ Some state → next ≡ next_fed (without_any (known_at_head state) version)) }
+    ensures { IfOk result (λ next. (state : PeerState) → rows.peer_in peers.now from ≡ Some state →
+        next ≡ next_fed (without_any (known_at_head state) version)) }
 {
     let told = known_at_head(alloc, peers, from)?;
     Ok(next_fed(alloc, without_any(told, version)))
@@ -218,7 +232,8 @@ fn without_any(known: Option<HeldPairs>, version: ObjectVersion) -> Option<HeldP
 
 /// What is known of this peer, if it was sent a body or a head.
 fn known_told(alloc: Global, peers: &[Peer], from: NodeId) -> Result<Option<HeldPairs>, OutOfMemory>
-    ensures { IfOk result (λ known. (state : PeerState) → rows.peer_in peers.now from ≡ Some state → known ≡ known_of state) }
+    ensures { IfOk result (λ known. (state : PeerState) → rows.peer_in peers.now from ≡ Some state →
+        known ≡ known_of state) }
 {
     match peer_in(peers, from) {
         Some(PeerState::Feeding { known, .. } | PeerState::Heading { known, .. }) => {
@@ -234,7 +249,8 @@ fn known_at_head(
     peers: &[Peer],
     from: NodeId,
 ) -> Result<Option<HeldPairs>, OutOfMemory>
-    ensures { IfOk result (λ known. (state : PeerState) → rows.peer_in peers.now from ≡ Some state → known ≡ known_at_head state) }
+    ensures { IfOk result (λ known. (state : PeerState) → rows.peer_in peers.now from ≡ Some state →
+        known ≡ known_at_head state) }
 {
     match peer_in(peers, from) {
         Some(PeerState::Heading { known, .. }) => Ok(Some(known.copy(alloc)?)),

@@ -25,7 +25,8 @@ use xt_protocol::{Place, Progress, Tenure};
 
 /// A fetched body, unless it is held.
 fn unless_held(held: &HeldSet, body: FetchedBody) -> Option<FetchedBody>
-    ensures { (file : FileId) → kept_of file result ≡ stage_record file held.now body.object body.version body.bytes }
+    ensures { (file : FileId) → kept_of file result ≡
+        stage_record file held.now body.object body.version body.bytes }
 {
     let version = ObjectVersion {
         object: body.object,
@@ -45,7 +46,13 @@ fn body_fetched(
     held: &HeldSet,
     body: FetchedBody,
 ) -> Result<Next, OutOfMemory>
-    ensures { IfOk result (λ next. (learnt : ℕ) (from : NodeId) (records : List Record) (own chosen : FileHead) (source : NodeId) (asked : ObjectVersion) (later : List ObjectVersion) → tenure.old.progress ≡ progress.Fetching chosen source asked later → next_of (ground place.now records own held.now) learnt from tenure.new next ≡ rows.body_fetched (ground place.now records own held.now) learnt tenure.old chosen source later body.object body.version body.bytes) }
+    ensures { IfOk result (λ next.
+        (learnt : ℕ) (from : NodeId) (records : List Record) (own chosen : FileHead)
+        (source : NodeId) (asked : ObjectVersion) (later : List ObjectVersion) →
+        tenure.old.progress ≡ progress.Fetching chosen source asked later →
+        next_of (ground place.now records own held.now) learnt from tenure.new next ≡
+        rows.body_fetched (ground place.now records own held.now) learnt tenure.old chosen source
+        later body.object body.version body.bytes) }
 {
     let fetched = unless_held(held, body);
     match mem::replace(&mut tenure.progress, Progress::Gathering) {
@@ -84,7 +91,10 @@ pub fn hears_object(
     version: ObjectVersion,
     bytes: &Octets,
 ) -> Result<Next, OutOfMemory>
-    ensures { IfOk result (λ next. (learnt : ℕ) (records : List Record) (own : FileHead) → next_of (ground place.now records own held.now) learnt from tenure.new next ≡ rows.hears_object (ground place.now records own held.now) learnt tenure.old tenure.old.progress from version.object version.version bytes.now) }
+    ensures { IfOk result (λ next. (learnt : ℕ) (records : List Record) (own : FileHead) →
+        next_of (ground place.now records own held.now) learnt from tenure.new next ≡
+        rows.hears_object (ground place.now records own held.now) learnt tenure.old
+        tenure.old.progress from version.object version.version bytes.now) }
 {
     if !is_asked(&tenure.progress, from, version) {
         return Ok(unmoved(alloc));
@@ -115,7 +125,12 @@ pub fn hears_missing(
     from: NodeId,
     version: ObjectVersion,
 ) -> Result<Heard, OutOfMemory>
-    ensures { IfOk result (λ heard. (place : Place) (records : List Record) (own : FileHead) (held : List ObjectVersion) (state : PeerState) → peer_in tenure.now.peers from ≡ Some state → led_by (ground place records own held) learnt from tenure.now heard ≡ rows.hears_missing (ground place records own held) learnt tenure.now tenure.now.progress from state version) }
+    ensures { IfOk result (λ heard.
+        (place : Place) (records : List Record) (own : FileHead) (held : List ObjectVersion)
+        (state : PeerState) → peer_in tenure.now.peers from ≡ Some state →
+        led_by (ground place records own held) learnt from tenure.now heard ≡
+        rows.hears_missing (ground place records own held) learnt tenure.now tenure.now.progress
+        from state version) }
 {
     let Some(source) = source_of(&tenure.progress) else {
         let next = body_missed(alloc, tenure.peers.as_slice(), from, version)?;

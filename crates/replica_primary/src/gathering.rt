@@ -82,7 +82,12 @@ fn peer_fed<B: Bodies>(
     target: &FileHead,
     peer: &mut Peer,
 ) -> Result<(), StepErr>
-    ensures value { OnOk result ((own : FileHead) (held : List ObjectVersion) → peer.new ≡ record { node = peer.old.node; state = rows.peer_fed (ground_beyond place.now (B.records bodies.old) fetched.now own held) target.now peer.old.node peer.old.state }) }
+    ensures value { OnOk result ((own : FileHead) (held : List ObjectVersion) →
+        peer.new ≡ record {
+          node = peer.old.node;
+          state = rows.peer_fed (ground_beyond place.now (B.records bodies.old)
+              fetched.now own held) target.now peer.old.node peer.old.state;
+        }) }
     ensures reads { ReadsOnly B.records B.fault_count bodies.old bodies.new (fault_of result) }
 {
     if !is_to_feed(place, peer) {
@@ -102,7 +107,9 @@ fn each_fed<B: Bodies>(
     target: &FileHead,
     peers: &mut [Peer],
 ) -> Result<(), StepErr>
-    ensures value { OnOk result (peers.new ≡ rows.peers_fed (ground_beyond place.now (B.records bodies.old) fetched.now target.now []) target.now peers.old) }
+    ensures value { OnOk result (peers.new ≡
+        rows.peers_fed (ground_beyond place.now (B.records bodies.old) fetched.now target.now [])
+        target.now peers.old) }
     ensures reads { ReadsOnly B.records B.fault_count bodies.old bodies.new (fault_of result) }
 {
     for peer in peers.iter_mut() {
@@ -120,7 +127,9 @@ fn peers_fed<B: Bodies>(
     target: &FileHead,
     peers: &mut Peers,
 ) -> Result<(), StepErr>
-    ensures value { OnOk result (peers.new ≡ rows.peers_fed (ground_beyond place.now (B.records bodies.old) fetched.now target.now []) target.now peers.old) }
+    ensures value { OnOk result (peers.new ≡
+        rows.peers_fed (ground_beyond place.now (B.records bodies.old) fetched.now target.now [])
+        target.now peers.old) }
     ensures reads { ReadsOnly B.records B.fault_count bodies.old bodies.new (fault_of result) }
 {
     let peers = peers.items.as_mut_slice();
@@ -134,7 +143,9 @@ fn head_sent(
     epoch: Epoch,
     head: FileHead,
 ) -> Result<Turned, OutOfMemory>
-    ensures { IfOk result (λ turned. turned ≡ sends (message place.now.node place.now.node (payload.Head place.now.file epoch head) ∷ [])) }
+    ensures { IfOk result (λ turned. turned ≡
+        sends (message place.now.node place.now.node (payload.Head place.now.file epoch head)
+        ∷ [])) }
 {
     let content = Payload::Head {
         file: place.file,
@@ -152,7 +163,9 @@ fn install_sent(
     target: FileHead,
     peers: &[Peer],
 ) -> Result<Turned, OutOfMemory>
-    ensures { IfOk result (λ turned. turned ≡ sends (message place.now.node place.now.node (payload.Head place.now.file epoch target) ∷ last_to_each place.now epoch peers.now)) }
+    ensures { IfOk result (λ turned. turned ≡
+        sends (message place.now.node place.now.node (payload.Head place.now.file epoch target)
+        ∷ last_to_each place.now epoch peers.now)) }
 {
     let others = last_to_each(alloc, place.node, &place.file, epoch, peers)?;
     let own = head_sent(alloc, place, epoch, target)?;
@@ -169,7 +182,10 @@ fn installs<B: Bodies>(
     own: &FileHead,
     chosen: FileHead,
 ) -> Result<Turned, StepErr>
-    ensures value { IfOk result (λ turned. (learnt : ℕ) (held : List ObjectVersion) → goes_on learnt tenure.new turned ≡ rows.installs (ground_beyond place.now (B.records bodies.old) fetched.now own.now held) learnt tenure.old chosen) }
+    ensures value { IfOk result (λ turned. (learnt : ℕ) (held : List ObjectVersion) →
+        goes_on learnt tenure.new turned ≡
+        rows.installs (ground_beyond place.now (B.records bodies.old) fetched.now own.now held)
+        learnt tenure.old chosen) }
     ensures reads { ReadsOnly B.records B.fault_count bodies.old bodies.new (fault_of result) }
 {
     let target = target_of(alloc, own, tenure.epoch, &chosen)?;
@@ -201,7 +217,11 @@ pub fn installs_keeping<B: Bodies>(
     chosen: FileHead,
     fetched: Option<FetchedBody>,
 ) -> Result<Turned, StepErr>
-    ensures value { IfOk result (λ turned. (learnt : ℕ) (held : List ObjectVersion) → goes_on learnt tenure.new turned ≡ after_keeping (kept_of place.now.file fetched) (rows.installs (ground_beyond place.now (B.records bodies.old) fetched own.now held) learnt tenure.old chosen)) }
+    ensures value { IfOk result (λ turned. (learnt : ℕ) (held : List ObjectVersion) →
+        goes_on learnt tenure.new turned ≡
+        after_keeping (kept_of place.now.file fetched)
+        (rows.installs (ground_beyond place.now (B.records bodies.old) fetched own.now held) learnt
+        tenure.old chosen)) }
     ensures reads { ReadsOnly B.records B.fault_count bodies.old bodies.new (fault_of result) }
 {
     let turned = installs(bodies, alloc, place, &fetched, tenure, own, chosen)?;
@@ -219,7 +239,13 @@ fn fetch_sent(
     asked: ObjectVersion,
     fetched: Option<FetchedBody>,
 ) -> Result<Turned, OutOfMemory>
-    ensures { IfOk result (λ turned. turned ≡ record { rec = kept_of place.now.file fetched; outs = message place.now.node source (payload.Fetch place.now.file epoch asked.object asked.version) ∷ []; marks = [] }) }
+    ensures { IfOk result (λ turned. turned ≡
+        record {
+          rec = kept_of place.now.file fetched;
+          outs = message place.now.node source
+              (payload.Fetch place.now.file epoch asked.object asked.version) ∷ [];
+          marks = [];
+        }) }
 {
     let fetch = Payload::Fetch {
         file: place.file,
@@ -246,7 +272,13 @@ pub fn fetches(
     wanted: Versions,
     fetched: Option<FetchedBody>,
 ) -> Result<Next, OutOfMemory>
-    ensures { IfOk result (λ next. (learnt : ℕ) (from : NodeId) (records : List Record) (own : FileHead) (held : List ObjectVersion) → next_of (ground place.now records own held) learnt from tenure.new next ≡ after_keeping (kept_of place.now.file fetched) (rows.fetches (ground_beyond place.now records fetched own held) learnt tenure.old chosen source wanted)) }
+    ensures { IfOk result (λ next.
+        (learnt : ℕ) (from : NodeId) (records : List Record) (own : FileHead)
+        (held : List ObjectVersion) →
+        next_of (ground place.now records own held) learnt from tenure.new next ≡
+        after_keeping (kept_of place.now.file fetched)
+        (rows.fetches (ground_beyond place.now records fetched own held) learnt tenure.old chosen
+        source wanted)) }
 {
     let Some((asked, later)) = split(wanted) else {
         return Ok(Next::Installs { chosen, fetched });
@@ -272,7 +304,11 @@ fn head_chosen(
     source: NodeId,
     chosen: FileHead,
 ) -> Result<Next, OutOfMemory>
-    ensures { IfOk result (λ next. (learnt : ℕ) (from : NodeId) (records : List Record) (own : FileHead) (held : List ObjectVersion) → next_of (ground place.now records own held) learnt from tenure.new next ≡ rows.head_chosen (ground place.now records own held) learnt tenure.old (source, chosen)) }
+    ensures { IfOk result (λ next.
+        (learnt : ℕ) (from : NodeId) (records : List Record) (own : FileHead)
+        (held : List ObjectVersion) →
+        next_of (ground place.now records own held) learnt from tenure.new next ≡
+        rows.head_chosen (ground place.now records own held) learnt tenure.old (source, chosen)) }
 {
     if source.0 == place.node.0 {
         return Ok(Next::Installs {
@@ -291,7 +327,11 @@ fn chooses(
     tenure: &mut Tenure,
     reports: &[(NodeId, FileHead)],
 ) -> Result<Next, OutOfMemory>
-    ensures { IfOk result (λ next. (learnt : ℕ) (from : NodeId) (records : List Record) (own : FileHead) (held : List ObjectVersion) → next_of (ground place.now records own held) learnt from tenure.new next ≡ rows.chooses (ground place.now records own held) learnt tenure.old reports.now) }
+    ensures { IfOk result (λ next.
+        (learnt : ℕ) (from : NodeId) (records : List Record) (own : FileHead)
+        (held : List ObjectVersion) →
+        next_of (ground place.now records own held) learnt from tenure.new next ≡
+        rows.chooses (ground place.now records own held) learnt tenure.old reports.now) }
 {
     if reports.is_empty() {
         return Ok(unmoved(alloc));
@@ -303,7 +343,11 @@ fn chooses(
 
 /// Status counted: at a majority a head is chosen.
 fn status_counted(alloc: Global, place: &Place, tenure: &mut Tenure) -> Result<Next, OutOfMemory>
-    ensures { IfOk result (λ next. (learnt : ℕ) (from : NodeId) (records : List Record) (own : FileHead) (held : List ObjectVersion) → next_of (ground place.now records own held) learnt from tenure.new next ≡ rows.status_counted (ground place.now records own held) learnt tenure.old) }
+    ensures { IfOk result (λ next.
+        (learnt : ℕ) (from : NodeId) (records : List Record) (own : FileHead)
+        (held : List ObjectVersion) →
+        next_of (ground place.now records own held) learnt from tenure.new next ≡
+        rows.status_counted (ground place.now records own held) learnt tenure.old) }
 {
     let peers = tenure.peers.as_slice();
     if !is_majority(peers, statuses_counted(peers)) {
@@ -335,7 +379,11 @@ pub fn status_told(
     from: NodeId,
     head: &FileHead,
 ) -> Result<Next, OutOfMemory>
-    ensures { IfOk result (λ next. (learnt : ℕ) (records : List Record) (own : FileHead) (held : List ObjectVersion) → next_of (ground place.now records own held) learnt from tenure.new next ≡ rows.status_told (ground place.now records own held) learnt tenure.old tenure.old.progress from head.now) }
+    ensures { IfOk result (λ next.
+        (learnt : ℕ) (records : List Record) (own : FileHead) (held : List ObjectVersion) →
+        next_of (ground place.now records own held) learnt from tenure.new next ≡
+        rows.status_told (ground place.now records own held) learnt tenure.old tenure.old.progress
+        from head.now) }
 {
     match &tenure.progress {
         Progress::Gathering => {

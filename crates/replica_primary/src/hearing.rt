@@ -34,7 +34,8 @@ use xt_protocol::{
 
 /// Whether nothing is known of this peer.
 fn is_unknown(peers: &[Peer], from: NodeId) -> bool
-    ensures { (state : PeerState) → peer_in peers.now from ≡ Some state → result ≡ is_unknown state }
+    ensures { (state : PeerState) → peer_in peers.now from ≡ Some state →
+        result ≡ is_unknown state }
 {
     match peer_in(peers, from) {
         Some(PeerState::Unknown) => true,
@@ -50,7 +51,12 @@ fn hears_status(
     from: NodeId,
     head: &FileHead,
 ) -> Result<Next, OutOfMemory>
-    ensures { IfOk result (λ next. (learnt : ℕ) (records : List Record) (own : FileHead) (held : List ObjectVersion) (state : PeerState) → peer_in tenure.old.peers from ≡ Some state → next_of (ground place.now records own held) learnt from tenure.new next ≡ rows.hears_status (ground place.now records own held) learnt tenure.old from state head.now) }
+    ensures { IfOk result (λ next.
+        (learnt : ℕ) (records : List Record) (own : FileHead) (held : List ObjectVersion)
+        (state : PeerState) → peer_in tenure.old.peers from ≡ Some state →
+        next_of (ground place.now records own held) learnt from tenure.new next ≡
+        rows.hears_status (ground place.now records own held) learnt tenure.old from state
+        head.now) }
 {
     if !is_unknown(tenure.peers.as_slice(), from) {
         return Ok(unmoved(alloc));
@@ -60,7 +66,8 @@ fn hears_status(
 
 /// Whether an acknowledgement makes this peer current.
 fn newly_current(place: &Place, peers: &[Peer], from: NodeId, stamp: Stamp) -> bool
-    ensures { (state : PeerState) → peer_in peers.now from ≡ Some state → result ≡ rows.makes_current place.now from state stamp }
+    ensures { (state : PeerState) → peer_in peers.now from ≡ Some state →
+        result ≡ rows.makes_current place.now from state stamp }
 {
     match peer_in(peers, from) {
         Some(state) => makes_current(place, from, state, stamp),
@@ -70,7 +77,8 @@ fn newly_current(place: &Place, peers: &[Peer], from: NodeId, stamp: Stamp) -> b
 
 /// Whether this peer has reported, and is still to be fed.
 fn is_reported(peers: &[Peer], from: NodeId) -> bool
-    ensures { (state : PeerState) → peer_in peers.now from ≡ Some state → result ≡ is_reported state }
+    ensures { (state : PeerState) → peer_in peers.now from ≡ Some state →
+        result ≡ is_reported state }
 {
     match peer_in(peers, from) {
         Some(PeerState::Reported { .. }) => true,
@@ -80,7 +88,8 @@ fn is_reported(peers: &[Peer], from: NodeId) -> bool
 
 /// Of a peer nothing is known any more; one that is still to be fed stays reported.
 fn forget(peers: &mut Peers, from: NodeId)
-    ensures { (state : PeerState) → peer_in peers.old from ≡ Some state → peers.new ≡ with_peer peers.old from (rows.forgotten state) }
+    ensures { (state : PeerState) → peer_in peers.old from ≡ Some state →
+        peers.new ≡ with_peer peers.old from (rows.forgotten state) }
 {
     if is_reported(peers.as_slice(), from) {
         return;
@@ -95,7 +104,11 @@ fn peer_behind(
     tenure: &mut Tenure,
     from: NodeId,
 ) -> Result<Turned, OutOfMemory>
-    ensures { IfOk result (λ turned. (learnt : ℕ) (records : List Record) (own : FileHead) (held : List ObjectVersion) (state : PeerState) → peer_in tenure.old.peers from ≡ Some state → goes_on learnt tenure.new turned ≡ rows.peer_behind (ground place.now records own held) learnt tenure.old from state) }
+    ensures { IfOk result (λ turned.
+        (learnt : ℕ) (records : List Record) (own : FileHead) (held : List ObjectVersion)
+        (state : PeerState) → peer_in tenure.old.peers from ≡ Some state →
+        goes_on learnt tenure.new turned ≡
+        rows.peer_behind (ground place.now records own held) learnt tenure.old from state) }
 {
     forget(&mut tenure.peers, from);
     let gather = Payload::Gather {
@@ -160,7 +173,11 @@ fn goes_on_hearing(
     payload: &Payload,
 ) -> Result<Next, OutOfMemory>
     requires { IsTrue (keeps_tenure payload.now) }
-    ensures { IfOk result (λ next. (learnt : ℕ) (records : List Record) (state : PeerState) → peer_in tenure.old.peers from ≡ Some state → next_of (ground place.now records own.now held.now) learnt from tenure.new next ≡ rows.hears_peer (ground place.now records own.now held.now) learnt tenure.old from state payload.now) }
+    ensures { IfOk result (λ next. (learnt : ℕ) (records : List Record) (state : PeerState) →
+        peer_in tenure.old.peers from ≡ Some state →
+        next_of (ground place.now records own.now held.now) learnt from tenure.new next ≡
+        rows.hears_peer (ground place.now records own.now held.now) learnt tenure.old from state
+        payload.now) }
 {
     match payload {
         Payload::Status { head, .. } => hears_status(alloc, place, tenure, from, head),
@@ -205,7 +222,11 @@ fn hears_peer(
     from: NodeId,
     payload: &Payload,
 ) -> Result<Heard, OutOfMemory>
-    ensures { IfOk result (λ heard. (records : List Record) (state : PeerState) → peer_in tenure.old.peers from ≡ Some state → led_by (ground place.now records own.now held.now) learnt from tenure.new heard ≡ rows.hears_peer (ground place.now records own.now held.now) learnt tenure.old from state payload.now) }
+    ensures { IfOk result (λ heard. (records : List Record) (state : PeerState) →
+        peer_in tenure.old.peers from ≡ Some state →
+        led_by (ground place.now records own.now held.now) learnt from tenure.new heard ≡
+        rows.hears_peer (ground place.now records own.now held.now) learnt tenure.old from state
+        payload.now) }
 {
     match payload {
         Payload::Missing {
@@ -234,7 +255,10 @@ fn hears_in(
     from: NodeId,
     payload: &Payload,
 ) -> Result<Heard, OutOfMemory>
-    ensures { IfOk result (λ heard. (records : List Record) → led_by (ground place.now records own.now held.now) learnt from tenure.new heard ≡ rows.hears_in (ground place.now records own.now held.now) learnt (Some tenure.old) from payload.now) }
+    ensures { IfOk result (λ heard. (records : List Record) →
+        led_by (ground place.now records own.now held.now) learnt from tenure.new heard ≡
+        rows.hears_in (ground place.now records own.now held.now) learnt (Some tenure.old) from
+        payload.now) }
 {
     let Some(epoch) = epoch_told(payload) else {
         return Ok(unheard(alloc));
@@ -258,7 +282,10 @@ fn proceeds<B: Bodies>(
     from: NodeId,
     next: Next,
 ) -> Result<Turned, StepErr>
-    ensures value { IfOk result (λ turned. (learnt : ℕ) (held : List ObjectVersion) → goes_on learnt tenure.new turned ≡ next_of (ground place.now (B.records bodies.old) own.now held) learnt from tenure.old next) }
+    ensures value { IfOk result (λ turned. (learnt : ℕ) (held : List ObjectVersion) →
+        goes_on learnt tenure.new turned ≡
+        next_of (ground place.now (B.records bodies.old) own.now held) learnt from tenure.old
+        next) }
     ensures reads { ReadsOnly B.records B.fault_count bodies.old bodies.new (fault_of result) }
 {
     match next {
@@ -288,7 +315,8 @@ fn redraws(
     own: &FileHead,
     above: u64,
 ) -> Result<Turned, OutOfMemory>
-    ensures row { IfOk result (λ turned. record { primary = primary.new; turned = turned } ≡ rows.epoch_drawn place.now above own.now (nodes_of (peers_under primary.old.tenure))) }
+    ensures row { IfOk result (λ turned. record { primary = primary.new; turned = turned } ≡
+        rows.epoch_drawn place.now above own.now (nodes_of (peers_under primary.old.tenure))) }
     ensures kept { OnErr result (primary.new ≡ primary.old) }
 {
     let drawn = redrawn(alloc, place, above, own, peers_under(&primary.tenure))?;
@@ -309,8 +337,11 @@ pub fn hears<B: Bodies>(
     from: NodeId,
     payload: &Payload,
 ) -> Result<Turned, StepErr>
-    ensures row { IfOk result (λ turned. record { primary = primary.new; turned = turned } ≡ rows.hears (ground place.now (B.records bodies.old) own.now held.now) primary.old from payload.now) }
-    ensures rises { OnOk result (HeadRises own.now → CommittedUnder primary.old.tenure → CommittedUnder primary.new.tenure) }
+    ensures row { IfOk result (λ turned. record { primary = primary.new; turned = turned } ≡
+        rows.hears (ground place.now (B.records bodies.old) own.now held.now) primary.old from
+        payload.now) }
+    ensures rises { OnOk result (HeadRises own.now → CommittedUnder primary.old.tenure →
+        CommittedUnder primary.new.tenure) }
     ensures kept { OnErr result (primary.new.learnt ≡ primary.old.learnt) }
     ensures reads { ReadsOnly B.records B.fault_count bodies.old bodies.new (fault_of result) }
 {

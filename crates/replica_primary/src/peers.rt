@@ -9,7 +9,8 @@ use xt_protocol::{Peer, PeerState, Peers};
 /// How far a node is, where it is a peer.
 #[tactic(auto, unfolding(xt_protocol::specs::Primaries::peer_in))]
 pub fn peer_in(peers: &[Peer], node: NodeId) -> Option<&PeerState>
-    ensures { MatchOption result (rows.peer_in peers.now node ≡ None) (λ state. rows.peer_in peers.now node ≡ Some state.now) }
+    ensures { MatchOption result (rows.peer_in peers.now node ≡ None) (λ state.
+        rows.peer_in peers.now node ≡ Some state.now) }
 {
     for peer in peers {
         if peer.node == node {

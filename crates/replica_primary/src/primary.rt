@@ -61,7 +61,11 @@ impl Primary {
     /// An idle primary, of a file with objects of `stripe` bytes, that has learnt no epoch.
     pub fn new(alloc: Global, file: FileId, node: NodeId, stripe: u32) -> Primary
         requires { FitsStripe stripe }
-        ensures { result ≡ record { place = record { node = node; file = file; stripe = stripe }; state = rows.new_primary } }
+        ensures { result ≡
+            record {
+              place = record { node = node; file = file; stripe = stripe };
+              state = rows.new_primary;
+            } }
     {
         Primary {
             alloc,
@@ -88,8 +92,13 @@ impl Primary {
         members: &Members,
     ) -> Result<Turned, OutOfMemory>
         requires { turn.now.node ≡ self.old.place.node }
-        ensures state { IfOk result (λ led. self.new ≡ record self.old { state = (epoch_drawn self.old.place self.old.state.learnt own.now members.now).primary }) }
-        ensures led { IfOk result (λ led. led ≡ (epoch_drawn self.old.place self.old.state.learnt own.now members.now).turned) }
+        ensures state { IfOk result (λ led. self.new ≡
+            record self.old {
+              state = (epoch_drawn self.old.place self.old.state.learnt own.now
+                  members.now).primary;
+            }) }
+        ensures led { IfOk result (λ led. led ≡
+            (epoch_drawn self.old.place self.old.state.learnt own.now members.now).turned) }
         ensures same { OnErr result (self.new ≡ self.old) }
     {
         let _turn = turn;
@@ -122,7 +131,9 @@ impl Primary {
         op: &Op,
     ) -> Result<Option<Reply>, StepErr>
         requires { turn.now.node ≡ self.now.place.node }
-        ensures value { IfOk result (λ answer. (own : FileHead) (held : List ObjectVersion) → answer ≡ reads (ground self.now.place (B.records bodies.old) own held) self.now.state op.now) }
+        ensures value { IfOk result (λ answer. (own : FileHead) (held : List ObjectVersion) →
+            answer ≡ reads (ground self.now.place (B.records bodies.old) own held) self.now.state
+            op.now) }
         ensures reads { ReadsOnly B.records B.fault_count bodies.old bodies.new (fault_of result) }
     {
         let _turn = turn;
@@ -141,7 +152,10 @@ impl Primary {
     ) -> Result<Option<Turned>, StepErr>
         requires turn { turn.now.node ≡ self.old.place.node }
         requires fits { FitsOp op.now }
-        ensures value { IfOk result (λ led. (own : FileHead) (held : List ObjectVersion) → option_map (λ turned. record { primary = self.new.state; turned = turned }) led ≡ writes (ground self.old.place (B.records bodies.old) own held) self.old.state id epoch op.now) }
+        ensures value { IfOk result (λ led. (own : FileHead) (held : List ObjectVersion) →
+            option_map (λ turned. record { primary = self.new.state; turned = turned }) led ≡
+            writes (ground self.old.place (B.records bodies.old) own held) self.old.state id epoch
+            op.now) }
         ensures place { IfOk result (λ led. self.new.place ≡ self.old.place) }
         ensures waits { IfOk result (λ led. IfNone led (self.new ≡ self.old)) }
         ensures same { OnErr result (self.new ≡ self.old) }
@@ -171,9 +185,16 @@ impl Primary {
     ) -> Result<Turned, StepErr>
         requires turn { turn.now.node ≡ self.old.place.node }
         requires own { HeadRises own.now }
-        ensures state { IfOk result (λ led. self.new ≡ record self.old { state = (hears (ground self.old.place (B.records bodies.old) own.now held.now) self.old.state from payload.now).primary }) }
-        ensures led { IfOk result (λ led. led ≡ (hears (ground self.old.place (B.records bodies.old) own.now held.now) self.old.state from payload.now).turned) }
-        ensures idle { OnErr result (self.new ≡ record self.old { state = rows.idle self.old.state }) }
+        ensures state { IfOk result (λ led. self.new ≡
+            record self.old {
+              state = (hears (ground self.old.place (B.records bodies.old) own.now held.now)
+                  self.old.state from payload.now).primary;
+            }) }
+        ensures led { IfOk result (λ led. led ≡
+            (hears (ground self.old.place (B.records bodies.old) own.now held.now) self.old.state
+            from payload.now).turned) }
+        ensures idle { OnErr result (self.new ≡
+            record self.old { state = rows.idle self.old.state }) }
         ensures reads { ReadsOnly B.records B.fault_count bodies.old bodies.new (fault_of result) }
     {
         let _turn = turn;

@@ -46,7 +46,8 @@ fn is_current_other(node: NodeId, peer: &Peer) -> bool
 
 /// To whom an update goes: the node itself, and then each current peer.
 fn receivers(alloc: Global, place: &Place, peers: &[Peer]) -> Result<Nodes, OutOfMemory>
-    ensures { IfOk result (λ nodes. nodes ≡ place.now.node ∷ rows.current_others place.now peers.now) }
+    ensures { IfOk result (λ nodes. nodes ≡
+        place.now.node ∷ rows.current_others place.now peers.now) }
 {
     let mut nodes = one(alloc, place.node)?;
     for peer in peers {
@@ -65,7 +66,8 @@ pub fn send_update(
     to: NodeId,
     update: &Update,
 ) -> Result<(), OutOfMemory>
-    ensures { OnOk result (outs.new ≡ outs.old ++ message place.now.node to (payload.Update place.now.file update.now) ∷ []) }
+    ensures { OnOk result (outs.new ≡ outs.old
+        ++ message place.now.node to (payload.Update place.now.file update.now) ∷ []) }
 {
     let content = Payload::Update {
         file: place.file,
@@ -81,7 +83,8 @@ fn update_to_each(
     nodes: &[NodeId],
     update: &Update,
 ) -> Result<Msgs, OutOfMemory>
-    ensures { IfOk result (λ outs. outs ≡ to_each place.now.node nodes.now (payload.Update place.now.file update.now)) }
+    ensures { IfOk result (λ outs. outs ≡
+        to_each place.now.node nodes.now (payload.Update place.now.file update.now)) }
 {
     let mut outs = Seq::new(alloc);
     for to in nodes {
@@ -97,7 +100,9 @@ fn issue_sent(
     peers: &[Peer],
     update: &Update,
 ) -> Result<Msgs, OutOfMemory>
-    ensures { IfOk result (λ outs. outs ≡ to_each place.now.node (place.now.node ∷ rows.current_others place.now peers.now) (payload.Update place.now.file update.now)) }
+    ensures { IfOk result (λ outs. outs ≡
+        to_each place.now.node (place.now.node ∷ rows.current_others place.now peers.now)
+        (payload.Update place.now.file update.now)) }
 {
     let nodes = receivers(alloc, place, peers)?;
     update_to_each(alloc, place, nodes.as_slice(), update)
@@ -110,7 +115,13 @@ fn issue_told(
     peers: &[Peer],
     update: &Update,
 ) -> Result<Turned, OutOfMemory>
-    ensures { IfOk result (λ turned. turned ≡ record { rec = None; outs = to_each place.now.node (place.now.node ∷ rows.current_others place.now peers.now) (payload.Update place.now.file update.now); marks = mark.Issue place.now.file.number update.now.stamp.count update.now.id ∷ [] }) }
+    ensures { IfOk result (λ turned. turned ≡
+        record {
+          rec = None;
+          outs = to_each place.now.node (place.now.node ∷ rows.current_others place.now peers.now)
+              (payload.Update place.now.file update.now);
+          marks = mark.Issue place.now.file.number update.now.stamp.count update.now.id ∷ [];
+        }) }
 {
     let mark = Mark::Issue {
         file: place.file.number,
@@ -136,7 +147,9 @@ fn next_update<B: Bodies>(
     requires some { 1024 ≤ place.now.stripe }
     requires fits { FitsOp op.now }
     requires rising { HeadRises head.now }
-    ensures value { IfOk result (λ update. (own : FileHead) (held : List ObjectVersion) → update ≡ rows.next_update_of (ground place.now (B.records bodies.old) own held) tenure.now head.now id epoch op.now) }
+    ensures value { IfOk result (λ update. (own : FileHead) (held : List ObjectVersion) →
+        update ≡ rows.next_update_of (ground place.now (B.records bodies.old) own held) tenure.now
+        head.now id epoch op.now) }
     ensures reads { ReadsOnly B.records B.fault_count bodies.old bodies.new (fault_of result) }
 {
     if head.stamp.count >= COUNTS - 1 {
@@ -166,7 +179,11 @@ fn issues(
     tenure: &Tenure,
     update: Option<Update>,
 ) -> Result<Written, OutOfMemory>
-    ensures { IfOk result (λ written. (records : List Record) (learnt : ℕ) (own head : FileHead) (held : List ObjectVersion) → tenure.now.progress ≡ progress.Active head None → goes_on learnt (tenure_after tenure.now written.issued) written.turned ≡ rows.issues (ground place.now records own held) learnt tenure.now head update) }
+    ensures { IfOk result (λ written.
+        (records : List Record) (learnt : ℕ) (own head : FileHead) (held : List ObjectVersion) →
+        tenure.now.progress ≡ progress.Active head None →
+        goes_on learnt (tenure_after tenure.now written.issued) written.turned ≡
+        rows.issues (ground place.now records own held) learnt tenure.now head update) }
 {
     match update {
         None => Ok(Written {
@@ -209,7 +226,11 @@ fn fresh_write<B: Bodies>(
     requires fits { FitsOp op.now }
     requires rising { HeadRises head.now }
     requires active { tenure.now.progress ≡ progress.Active head.now issued.now }
-    ensures value { IfOk result (λ written. (learnt : ℕ) (own : FileHead) (held : List ObjectVersion) → led_of learnt tenure.now written ≡ rows.issues_unless (ground place.now (B.records bodies.old) own held) learnt tenure.now head.now issued.now id epoch op.now) }
+    ensures value { IfOk result (λ written.
+        (learnt : ℕ) (own : FileHead) (held : List ObjectVersion) →
+        led_of learnt tenure.now written ≡
+        rows.issues_unless (ground place.now (B.records bodies.old) own held) learnt tenure.now
+        head.now issued.now id epoch op.now) }
     ensures reads { ReadsOnly B.records B.fault_count bodies.old bodies.new (fault_of result) }
 {
     if issued.is_some() {
@@ -235,7 +256,12 @@ fn write_stands<B: Bodies>(
     requires fits { FitsOp op.now }
     requires rising { HeadRises head.now }
     requires active { tenure.now.progress ≡ progress.Active head.now issued.now }
-    ensures value { IfOk result (λ written. (learnt : ℕ) (own : FileHead) (held : List ObjectVersion) → led_of learnt tenure.now written ≡ rows.write_stands (ground place.now (B.records bodies.old) own held) learnt tenure.now head.now issued.now id epoch op.now (standing OBJECTS place.now.stripe head.now id epoch op.now)) }
+    ensures value { IfOk result (λ written.
+        (learnt : ℕ) (own : FileHead) (held : List ObjectVersion) →
+        led_of learnt tenure.now written ≡
+        rows.write_stands (ground place.now (B.records bodies.old) own held) learnt tenure.now
+        head.now issued.now id epoch op.now
+        (standing OBJECTS place.now.stripe head.now id epoch op.now)) }
     ensures reads { ReadsOnly B.records B.fault_count bodies.old bodies.new (fault_of result) }
 {
     let (node, file) = (place.node, &place.file);
@@ -267,7 +293,10 @@ pub fn writes<B: Bodies>(
     requires some { 1024 ≤ place.now.stripe }
     requires fits { FitsOp op.now }
     requires rising { CommittedUnder primary.now.tenure }
-    ensures value { IfOk result (λ written. (own : FileHead) (held : List ObjectVersion) → led_under primary.now.learnt primary.now.tenure written ≡ rows.writes (ground place.now (B.records bodies.old) own held) primary.now id epoch op.now) }
+    ensures value { IfOk result (λ written. (own : FileHead) (held : List ObjectVersion) →
+        led_under primary.now.learnt primary.now.tenure written ≡
+        rows.writes (ground place.now (B.records bodies.old) own held) primary.now id epoch
+        op.now) }
     ensures reads { ReadsOnly B.records B.fault_count bodies.old bodies.new (fault_of result) }
 {
     let Some(tenure) = &primary.tenure else {

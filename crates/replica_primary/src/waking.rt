@@ -54,7 +54,8 @@ fn sent_again(
     issued: &Option<IssuedUpdate>,
     peer: &Peer,
 ) -> Result<Option<Payload>, OutOfMemory>
-    ensures { IfOk result (λ content. content ≡ rows.sent_again place.now epoch issued.now peer.now.node peer.now.state) }
+    ensures { IfOk result (λ content. content ≡
+        rows.sent_again place.now epoch issued.now peer.now.node peer.now.state) }
 {
     match &peer.state {
         PeerState::Unknown => Ok(Some(Payload::Gather {
@@ -73,7 +74,11 @@ fn gathers(
     epoch: Epoch,
     peers: &[Peer],
 ) -> Result<Turned, OutOfMemory>
-    ensures { IfOk result (λ turned. turned ≡ sends (flat_map (λ p. if_any place.now.node p.node (rows.gather_unknown place.now epoch p.node p.state)) peers.now)) }
+    ensures { IfOk result (λ turned. turned ≡
+        sends
+        (flat_map (λ p.
+        if_any place.now.node p.node (rows.gather_unknown place.now epoch p.node p.state))
+        peers.now)) }
 {
     let mut outs = Seq::new(alloc);
     for peer in peers {
@@ -91,7 +96,11 @@ fn again_to_each(
     issued: &Option<IssuedUpdate>,
     peers: &[Peer],
 ) -> Result<Turned, OutOfMemory>
-    ensures { IfOk result (λ turned. turned ≡ sends (flat_map (λ p. if_any place.now.node p.node (rows.sent_again place.now epoch issued.now p.node p.state)) peers.now)) }
+    ensures { IfOk result (λ turned. turned ≡
+        sends
+        (flat_map (λ p.
+        if_any place.now.node p.node (rows.sent_again place.now epoch issued.now p.node p.state))
+        peers.now)) }
 {
     let mut outs = Seq::new(alloc);
     for peer in peers {
@@ -103,7 +112,8 @@ fn again_to_each(
 
 /// What a primary in a tenure sends again.
 fn wakes_in(alloc: Global, place: &Place, tenure: &Tenure) -> Result<Turned, OutOfMemory>
-    ensures { IfOk result (λ turned. turned ≡ rows.wakes_in place.now tenure.now tenure.now.progress) }
+    ensures { IfOk result (λ turned. turned ≡
+        rows.wakes_in place.now tenure.now tenure.now.progress) }
 {
     let (epoch, peers) = (tenure.epoch, tenure.peers.as_slice());
     match &tenure.progress {

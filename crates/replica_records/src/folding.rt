@@ -63,7 +63,11 @@ fn take_update(
     within: bool,
 ) -> Result<(), OutOfMemory>
     requires { IsSoundRow within row.old }
-    ensures ok { OnOk result (row.new ≡ record row.old { head = head_after row.old.head update.now; held = held_after row.old.held update.now }) }
+    ensures ok { OnOk result (row.new ≡
+        record row.old {
+          head = head_after row.old.head update.now;
+          held = held_after row.old.held update.now;
+        }) }
     ensures err { OnErr result (row.new ≡ row.old) }
 {
     if within {
@@ -123,7 +127,8 @@ fn change_rows(
     within: bool,
 ) -> Result<(), OutOfMemory>
     requires { AreSoundRows within rows.old }
-    ensures after { OnOk result (rows.new ≡ with_row rows.old (row_after (row_in rows.old file.now) rec.now)) }
+    ensures after { OnOk result (rows.new ≡
+        with_row rows.old (row_after (row_in rows.old file.now) rec.now)) }
     ensures err { OnErr result (rows.new ≡ rows.old) }
 {
     match file_place(rows.as_slice(), file) {
@@ -164,7 +169,8 @@ fn stays_within(within: bool, rec: &Record) -> bool
 /// The row of a file, none where no record is of it.
 fn row_of<'a>(rows: &'a [FileRow], file: &FileId) -> Option<&'a FileRow>
     requires { FilesRise rows.now }
-    ensures row { MatchOption result (row_in rows.now file.now ≡ new_row file.now) (λ row. row_in rows.now file.now ≡ row.now) }
+    ensures row { MatchOption result (row_in rows.now file.now ≡ new_row file.now) (λ row.
+        row_in rows.now file.now ≡ row.now) }
     ensures among { IfSome result (λ row. Contains rows.now row.now) }
 {
     match file_place(rows, file) {
@@ -175,7 +181,8 @@ fn row_of<'a>(rows: &'a [FileRow], file: &FileId) -> Option<&'a FileRow>
 
 /// The file that a record is of, if any.
 fn file_of(rec: &Record) -> Option<&FileId>
-    ensures { MatchOption result (file_of rec.now ≡ None) (λ file. file_of rec.now ≡ Some file.now) }
+    ensures { MatchOption result (file_of rec.now ≡ None) (λ file. file_of rec.now ≡
+        Some file.now) }
 {
     match rec {
         Record::Promise { file, .. }
@@ -240,7 +247,8 @@ impl Folding {
         update: &Update,
     ) -> Result<bool, OutOfMemory>
         requires { FitsUpdate update.now }
-        ensures { IfOk result (λ answer. IsTrue answer ↔ FollowsHead (row_in self.now.files file.now).head update.now) }
+        ensures { IfOk result (λ answer. IsTrue answer
+            ↔ FollowsHead (row_in self.now.files file.now).head update.now) }
     {
         match row_of(self.folded.files.as_slice(), file) {
             Some(row) if self.within => Ok(follows_fitting(&row.head, update)),
@@ -251,7 +259,8 @@ impl Folding {
 
     /// Whether this head may come next.
     fn allows_head(&self, file: &FileId, head: &FileHead) -> bool
-        ensures { IsTrue result ↔ All (Contains (row_in self.now.files file.now).held) head.now.versions }
+        ensures { IsTrue result
+            ↔ All (Contains (row_in self.now.files file.now).held) head.now.versions }
     {
         match row_of(self.folded.files.as_slice(), file) {
             Some(row) => are_held(&row.held, head.versions.as_slice()),

@@ -110,7 +110,9 @@ fn fits_sessions(sessions: &[Session]) -> bool
 
 /// Whether the parts of a head without its lists are within their limits.
 fn fits_places(head: &FileHead) -> bool
-    ensures { IsTrue result ↔ (FitsEpoch head.now.promised × FitsStamp head.now.stamp × FitsOpId head.now.last × FitsMark head.now.mark × IsTrue (is_at_most head.now.stamp.epoch head.now.promised)) }
+    ensures { IsTrue result
+        ↔ (FitsEpoch head.now.promised × FitsStamp head.now.stamp × FitsOpId head.now.last
+        × FitsMark head.now.mark × IsTrue (is_at_most head.now.stamp.epoch head.now.promised)) }
 {
     fits_epoch(head.promised)
         && fits_stamp(head.stamp)
@@ -130,7 +132,9 @@ fn fits_head(head: &FileHead) -> bool
 
 /// Whether an update's epoch is the promised one or the one before any primary, and its count the next one.
 fn is_next(head: &FileHead, update: &Update) -> bool
-    ensures { IsTrue result ↔ (((update.now.stamp.epoch ≡ head.now.promised) ⊎ (update.now.stamp.epoch ≡ first_epoch)) × (update.now.stamp.count ≡ head.now.stamp.count + 1)) }
+    ensures { IsTrue result
+        ↔ (((update.now.stamp.epoch ≡ head.now.promised) ⊎ (update.now.stamp.epoch ≡ first_epoch))
+        × (update.now.stamp.count ≡ head.now.stamp.count + 1)) }
 {
     let Stamp { epoch, count } = update.stamp;
     let is_known = epoch == head.promised || epoch == plain_stamp(0).epoch;

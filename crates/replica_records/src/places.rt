@@ -80,7 +80,8 @@ impl Places {
     /// Makes room for the place of the body that the record puts.
     pub fn make_room(&mut self, rec: &Record) -> Result<(), OutOfMemory>
         ensures room { OnOk result (HasRoomFor self.new rec.now) }
-        ensures same { (records : List Record) → ArePlacesIn self.old records → ArePlacesIn self.new records }
+        ensures same { (records : List Record) → ArePlacesIn self.old records →
+            ArePlacesIn self.new records }
     {
         if let Some(key) = BodyKey::of(rec) {
             if !self.places.contains_key(&key) {
@@ -93,7 +94,8 @@ impl Places {
     /// Takes the record at the end of the list, which is this place.
     pub fn put(&mut self, rec: &Record, place: usize)
         requires { HasRoomFor self.old rec.now }
-        ensures { (records : List Record) → place ≡ length records → ArePlacesIn self.old records → ArePlacesIn self.new (records ++ rec.now ∷ []) }
+        ensures { (records : List Record) → place ≡ length records → ArePlacesIn self.old records →
+            ArePlacesIn self.new (records ++ rec.now ∷ []) }
     {
         if let Some(key) = BodyKey::of(rec) {
             let put: Result<_, _> = self.places.insert(key, Some(place));

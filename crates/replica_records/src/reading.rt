@@ -117,7 +117,8 @@ fn meta_record(reader: &mut FieldReader<'_>, alloc: Global) -> Result<Record, Fi
 /// So many nodes, at most nine, in the first places.
 fn node_list(reader: &mut FieldReader<'_>, count: u8) -> Result<[NodeId; 9], FieldErr>
     requires { count ≤ 9 }
-    ensures ok { IfOk result (λ nodes. list_at node_at count reader.old ≡ Ok (take count nodes, reader.new)) }
+    ensures ok { IfOk result (λ nodes. list_at node_at count reader.old ≡
+        Ok (take count nodes, reader.new)) }
     ensures err { IfErr result (λ e. Fails e (list_at node_at count reader.old)) }
 {
     let mut nodes = [NodeId(0); 9];

@@ -48,7 +48,8 @@ fn put_boot(writer: &mut FieldWriter, boot: Boot) -> Result<(), OutOfMemory>
 
 /// A replica's promise.
 fn put_promise(writer: &mut FieldWriter, file: FileId, epoch: Epoch) -> Result<(), OutOfMemory>
-    ensures { OnOk result (writer.new ≡ writer.old ++ (byte_bytes 2 ++ (file_bytes file ++ epoch_bytes epoch))) }
+    ensures { OnOk result (writer.new ≡ writer.old
+        ++ (byte_bytes 2 ++ (file_bytes file ++ epoch_bytes epoch))) }
 {
     writer.byte(2)?;
     writer.file(file)?;
@@ -58,7 +59,8 @@ fn put_promise(writer: &mut FieldWriter, file: FileId, epoch: Epoch) -> Result<(
 /// A write or truncation.
 fn put_update(writer: &mut FieldWriter, file: FileId, update: &Update) -> Result<(), OutOfMemory>
     requires { FitsUpdate update.now }
-    ensures { OnOk result (writer.new ≡ writer.old ++ (byte_bytes 3 ++ (file_bytes file ++ update_bytes update.now))) }
+    ensures { OnOk result (writer.new ≡ writer.old
+        ++ (byte_bytes 3 ++ (file_bytes file ++ update_bytes update.now))) }
 {
     writer.byte(3)?;
     writer.file(file)?;
@@ -75,7 +77,10 @@ fn put_stage(
 ) -> Result<(), OutOfMemory>
     requires object_fits { IsObject object }
     requires bytes_fits { length bytes.now < 2 ^ 32 }
-    ensures { OnOk result (writer.new ≡ writer.old ++ (byte_bytes 4 ++ (file_bytes file ++ word_bytes object ++ stamp_bytes version ++ octets_bytes bytes.now))) }
+    ensures { OnOk result (writer.new ≡ writer.old
+        ++ (byte_bytes 4
+        ++ (file_bytes file ++ word_bytes object ++ stamp_bytes version
+        ++ octets_bytes bytes.now))) }
 {
     writer.byte(4)?;
     writer.file(file)?;
@@ -87,7 +92,8 @@ fn put_stage(
 /// A head that is taken.
 fn put_head(writer: &mut FieldWriter, file: FileId, head: &FileHead) -> Result<(), OutOfMemory>
     requires { FitsHead head.now }
-    ensures { OnOk result (writer.new ≡ writer.old ++ (byte_bytes 5 ++ (file_bytes file ++ head_bytes head.now))) }
+    ensures { OnOk result (writer.new ≡ writer.old
+        ++ (byte_bytes 5 ++ (file_bytes file ++ head_bytes head.now))) }
 {
     writer.byte(5)?;
     writer.file(file)?;
@@ -96,7 +102,8 @@ fn put_head(writer: &mut FieldWriter, file: FileId, head: &FileHead) -> Result<(
 
 /// Where a file's content is kept.
 fn put_view(writer: &mut FieldWriter, file: FileId, location: Location) -> Result<(), OutOfMemory>
-    ensures { OnOk result (writer.new ≡ writer.old ++ (byte_bytes 6 ++ (file_bytes file ++ location_bytes location))) }
+    ensures { OnOk result (writer.new ≡ writer.old
+        ++ (byte_bytes 6 ++ (file_bytes file ++ location_bytes location))) }
 {
     writer.byte(6)?;
     writer.file(file)?;
@@ -113,7 +120,10 @@ fn put_meta(
     request: &Logged,
 ) -> Result<(), OutOfMemory>
     requires { FitsLogged request.now }
-    ensures { OnOk result (writer.new ≡ writer.old ++ (byte_bytes 7 ++ (node_bytes from ++ long_bytes number ++ long_bytes now ++ nodes_bytes nodes ++ logged_bytes request.now))) }
+    ensures { OnOk result (writer.new ≡ writer.old
+        ++ (byte_bytes 7
+        ++ (node_bytes from ++ long_bytes number ++ long_bytes now ++ nodes_bytes nodes
+        ++ logged_bytes request.now))) }
 {
     writer.byte(7)?;
     writer.node(from)?;
@@ -156,7 +166,8 @@ fn put_meta_logged(
     request: &MetaReq,
 ) -> Result<(), OutOfMemory>
     requires { FitsMetaReq request.now }
-    ensures { OnOk result (writer.new ≡ writer.old ++ (byte_bytes 20 ++ (word_bytes user ++ word_bytes group ++ meta_req_bytes request.now))) }
+    ensures { OnOk result (writer.new ≡ writer.old
+        ++ (byte_bytes 20 ++ (word_bytes user ++ word_bytes group ++ meta_req_bytes request.now))) }
 {
     writer.byte(20)?;
     writer.word(user)?;
@@ -167,7 +178,8 @@ fn put_meta_logged(
 /// A request to the directory service.
 fn put_registry_logged(writer: &mut FieldWriter, request: &RegistryReq) -> Result<(), OutOfMemory>
     requires { FitsRegistryReq request.now }
-    ensures { OnOk result (writer.new ≡ writer.old ++ (byte_bytes 22 ++ registry_req_bytes request.now)) }
+    ensures { OnOk result (writer.new ≡ writer.old
+        ++ (byte_bytes 22 ++ registry_req_bytes request.now)) }
 {
     writer.byte(22)?;
     writer.registry_req(request)

@@ -39,9 +39,12 @@ pub fn runs_are_on_one_line()
 /// order has no write twice, and each read shows the content of all its writes. What stands in it are writes and truncations, each
 /// issued before it was put there, or there or open at the start.
 pub fn rows_are_on_one_order()
-    ensures one_order { AlwaysOfHeads (λ stripe ops start entries. AreOnOneOrder stripe ops (order_at start) entries) }
-    ensures issued { AlwaysOfHeads (λ stripe ops start entries. IssuesComeFirst (known_at start) (order_at start) entries) }
-    ensures changes { AlwaysOfHeads (λ stripe ops start entries. AreChanges ops (order_of (order_at start) entries)) }
+    ensures one_order { AlwaysOfHeads (λ stripe ops start entries.
+        AreOnOneOrder stripe ops (order_at start) entries) }
+    ensures issued { AlwaysOfHeads (λ stripe ops start entries.
+        IssuesComeFirst (known_at start) (order_at start) entries) }
+    ensures changes { AlwaysOfHeads (λ stripe ops start entries.
+        AreChanges ops (order_of (order_at start) entries)) }
 {}
 
 /// Such runs come to something: a byte is written, committed by two of three, and read.

@@ -84,7 +84,8 @@ pub fn promised_status(
     own: &FileHead,
     epoch: Epoch,
 ) -> Result<Payload, OutOfMemory>
-    ensures { IfOk result (λ made. made ≡ payload.Status file.now epoch (record own.now { promised = epoch })) }
+    ensures { IfOk result (λ made. made ≡
+        payload.Status file.now epoch (record own.now { promised = epoch })) }
 {
     let mut head = own.copy(alloc)?;
     head.promised = epoch;
@@ -156,7 +157,9 @@ fn head_declined(
     epoch: Epoch,
     head: &FileHead,
 ) -> Option<Acted>
-    ensures row { head_offered file.now own.now held.now epoch head.now ≡ unwrap_or result (after_record (kept.Head file.now head.now) (payload.Ack file.now head.now.stamp)) }
+    ensures row { head_offered file.now own.now held.now epoch head.now ≡
+        unwrap_or result
+        (after_record (kept.Head file.now head.now) (payload.Ack file.now head.now.stamp)) }
     ensures unkept { IfSome result (λ acted. acted.rec ≡ None) }
 {
     if !is_below(own.stamp, head.stamp) {
@@ -180,7 +183,9 @@ pub fn head_turned_away(
     epoch: Epoch,
     head: &FileHead,
 ) -> Option<Acted>
-    ensures row { headed file.now own.now held.now epoch head.now ≡ unwrap_or result (after_record (kept.Head file.now head.now) (payload.Ack file.now head.now.stamp)) }
+    ensures row { headed file.now own.now held.now epoch head.now ≡
+        unwrap_or result
+        (after_record (kept.Head file.now head.now) (payload.Ack file.now head.now.stamp)) }
     ensures unkept { IfSome result (λ acted. acted.rec ≡ None) }
 {
     if !is_epoch(head.promised, epoch) || !is_epoch(head.stamp.epoch, epoch) {
@@ -196,7 +201,9 @@ pub fn head_turned_away(
 /// would pass the limits.
 fn update_declined(file: &FileId, own: &FileHead, update: &Update) -> Option<Acted>
     requires { HeadRises own.now }
-    ensures row { update_offered file.now own.now update.now ≡ unwrap_or result (after_record (kept.Update file.now update.now) (payload.Ack file.now update.now.stamp)) }
+    ensures row { update_offered file.now own.now update.now ≡
+        unwrap_or result
+        (after_record (kept.Update file.now update.now) (payload.Ack file.now update.now.stamp)) }
     ensures fits { IfNone result (IsTrue (head_fits (head_after own.now update.now))) }
     ensures unkept { IfSome result (λ acted. acted.rec ≡ None) }
 {
@@ -220,7 +227,9 @@ fn update_declined(file: &FileId, own: &FileHead, update: &Update) -> Option<Act
 #[tactic(auto, unfolding(xt_protocol::specs::ReplicaRows::updated))]
 pub fn update_turned_away(file: &FileId, own: &FileHead, update: &Update) -> Option<Acted>
     requires { HeadRises own.now }
-    ensures row { updated file.now own.now update.now ≡ unwrap_or result (after_record (kept.Update file.now update.now) (payload.Ack file.now update.now.stamp)) }
+    ensures row { updated file.now own.now update.now ≡
+        unwrap_or result
+        (after_record (kept.Update file.now update.now) (payload.Ack file.now update.now.stamp)) }
     ensures promised { IfNone result (IsTrue (is_at_most update.now.stamp.epoch own.now.promised)) }
     ensures fits { IfNone result (IsTrue (head_fits (head_after own.now update.now))) }
     ensures unkept { IfSome result (λ acted. acted.rec ≡ None) }
@@ -234,7 +243,13 @@ pub fn update_turned_away(file: &FileId, own: &FileHead, update: &Update) -> Opt
 /// What a body gets whose epoch isn't the promised one.
 #[tactic(auto, unfolding(xt_protocol::specs::ReplicaRows::staged))]
 pub fn body_turned_away(file: &FileId, own: &FileHead, epoch: Epoch) -> Option<Acted>
-    ensures row { (held : List ObjectVersion) (object : ℕ) (version : Stamp) (bytes : List ℕ) → staged file.now own.now held epoch object version bytes ≡ unwrap_or result (record { rec = stage_record file.now held object version bytes; answer = Some (payload.Staged file.now epoch object version) }) }
+    ensures row { (held : List ObjectVersion) (object : ℕ) (version : Stamp) (bytes : List ℕ) →
+        staged file.now own.now held epoch object version bytes ≡
+        unwrap_or result
+        (record {
+          rec = stage_record file.now held object version bytes;
+          answer = Some (payload.Staged file.now epoch object version);
+        }) }
     ensures unkept { IfSome result (λ acted. acted.rec ≡ None) }
 {
     turned_away(file, own, epoch)
@@ -248,8 +263,10 @@ pub fn hold_body(
     body: ObjectVersion,
     bytes: &Octets,
 ) -> Result<Option<Record>, OutOfMemory>
-    ensures rec { IfOk result (λ rec. rec ≡ stage_record file.now held.old body.object body.version bytes.now) }
-    ensures held { IfOk result (λ rec. MatchOption rec (held.new ≡ held.old) (λ _. held.new ≡ with_held held.old body)) }
+    ensures rec { IfOk result (λ rec. rec ≡
+        stage_record file.now held.old body.object body.version bytes.now) }
+    ensures held { IfOk result (λ rec.
+        MatchOption rec (held.new ≡ held.old) (λ _. held.new ≡ with_held held.old body)) }
     ensures same { OnErr result (held.new ≡ held.old) }
 {
     if holds(held, body) {

@@ -19,7 +19,9 @@ pub fn fetched_from<B: Bodies>(
     object: u64,
     version: &Stamp,
 ) -> Result<Payload, StepErr>
-    ensures row { IfOk result (λ answer. answer ≡ fetched_from file.now held.now (body_by (B.records bodies.old) file.now) epoch.now object version.now) }
+    ensures row { IfOk result (λ answer. answer ≡
+        fetched_from file.now held.now (body_by (B.records bodies.old) file.now) epoch.now object
+        version.now) }
     ensures reads { ReadsOnly B.records B.fault_count bodies.old bodies.new (fault_of result) }
 {
     let (file, epoch, version) = (*file, *epoch, *version);

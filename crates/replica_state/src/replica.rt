@@ -76,7 +76,8 @@ impl Replica {
     #[tactic(auto, unfolding(xt_protocol::specs::ReplicaRows::gathered), using(crate::proofs::HeadFits::promised_fits, crate::proofs::HeadFits::earlier_at_most))]
     pub fn on_gather(&mut self, epoch: &Epoch) -> Result<Acted, OutOfMemory>
         requires { FitsEpoch epoch.now }
-        ensures row { IfOk result (λ acted. acted ≡ gathered self.old.file self.old.head epoch.now) }
+        ensures row { IfOk result (λ acted. acted ≡
+            gathered self.old.file self.old.head epoch.now) }
         ensures kept { IfOk result (λ acted. self.new ≡ kept_after self.old acted.rec) }
         ensures same { OnErr result (self.new ≡ self.old) }
     {
@@ -100,7 +101,9 @@ impl Replica {
         version: &Stamp,
         bytes: &Octets,
     ) -> Result<Acted, OutOfMemory>
-        ensures row { IfOk result (λ acted. acted ≡ staged self.old.file self.old.head self.old.held epoch.now object version.now bytes.now) }
+        ensures row { IfOk result (λ acted. acted ≡
+            staged self.old.file self.old.head self.old.held epoch.now object version.now
+            bytes.now) }
         ensures kept { IfOk result (λ acted. self.new ≡ kept_after self.old acted.rec) }
         ensures same { OnErr result (self.new ≡ self.old) }
     {
@@ -127,7 +130,8 @@ impl Replica {
     /// is held.
     pub fn on_head(&mut self, epoch: &Epoch, head: &FileHead) -> Result<Acted, OutOfMemory>
         requires { FitsHead head.now }
-        ensures row { IfOk result (λ acted. acted ≡ headed self.old.file self.old.head self.old.held epoch.now head.now) }
+        ensures row { IfOk result (λ acted. acted ≡
+            headed self.old.file self.old.head self.old.held epoch.now head.now) }
         ensures kept { IfOk result (λ acted. self.new ≡ kept_after self.old acted.rec) }
         ensures same { OnErr result (self.new ≡ self.old) }
     {
@@ -149,7 +153,8 @@ impl Replica {
     #[tactic(auto, using(crate::proofs::HeadFits::update_fits))]
     pub fn on_update(&mut self, update: &Update) -> Result<Acted, OutOfMemory>
         requires { FitsUpdate update.now }
-        ensures row { IfOk result (λ acted. acted ≡ updated self.old.file self.old.head update.now) }
+        ensures row { IfOk result (λ acted. acted ≡
+            updated self.old.file self.old.head update.now) }
         ensures kept { IfOk result (λ acted. self.new ≡ kept_after self.old acted.rec) }
         ensures same { OnErr result (self.new ≡ self.old) }
     {

@@ -66,7 +66,8 @@ pub fn take_byte<S: Source>(src: &mut S) -> Result<Option<u8>, Failed>
 fn take_piece<S: Source>(src: &mut S, line: &mut Vec<u8>, room: usize) -> Result<bool, OutOfMemory>
     requires some { 1 ≤ length (S.ahead src.old) }
     requires room { 1 ≤ room }
-    ensures piece { IfOk result (λ whole. IsPiece room (S.left src.old) (S.left src.new) line.old.items line.new.items whole) }
+    ensures piece { IfOk result (λ whole.
+        IsPiece room (S.left src.old) (S.left src.new) line.old.items line.new.items whole) }
     ensures err { OnErr result (Takes (S.left src.old) (S.left src.new) []) }
     ensures sound { S.fault_count src.new ≡ S.fault_count src.old }
 {
@@ -91,7 +92,8 @@ fn take_piece<S: Source>(src: &mut S, line: &mut Vec<u8>, room: usize) -> Result
 pub fn read_raw<S: Source>(src: &mut S, line: &mut Vec<u8>) -> RawLine
     ensures line { IsRawLine (S.left src.old) (S.left src.new) line.new.items result }
     ensures sound { result ≢ RawLine.Failed → S.fault_count src.new ≡ S.fault_count src.old }
-    ensures failed { result ≡ RawLine.Failed → Rose (S.fault_count src.old) (S.fault_count src.new) }
+    ensures failed { result ≡ RawLine.Failed →
+        Rose (S.fault_count src.old) (S.fault_count src.new) }
 {
     line.clear();
     while line.len() < MOST {

@@ -207,7 +207,8 @@ fn push_named_names(out: &mut Vec<u8>, names: &[Name]) -> Result<(), OutOfMemory
 /// Appends the MRC's answer.
 #[tactic(auto, unfolding(crate::specs::OutcomeText::meta_outcome_words))]
 fn push_meta_outcome(out: &mut Vec<u8>, answer: &MetaOutcome) -> Result<(), OutOfMemory>
-    ensures { OnOk result (out.new.items ≡ out.old.items ++ behind (meta_outcome_words answer.now)) }
+    ensures { OnOk result (out.new.items ≡
+        out.old.items ++ behind (meta_outcome_words answer.now)) }
 {
     match answer {
         MetaOutcome::Done => push_lone(out, b"ok"),

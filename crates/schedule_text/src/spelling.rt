@@ -164,7 +164,8 @@ pub(crate) fn push_lone(out: &mut Vec<u8>, name: &[u8]) -> Result<(), OutOfMemor
 
 /// Appends a name and a number, a space before each.
 pub(crate) fn push_counted(out: &mut Vec<u8>, name: &[u8], number: u64) -> Result<(), OutOfMemory>
-    ensures { OnOk result (out.new.items ≡ out.old.items ++ behind (name.now ∷ decimal number ∷ [])) }
+    ensures { OnOk result (out.new.items ≡
+        out.old.items ++ behind (name.now ∷ decimal number ∷ [])) }
 {
     push_words(out, &[Word::Text(name), Word::Number(number)])
 }
@@ -231,7 +232,8 @@ pub(crate) fn push_nodes(out: &mut Vec<u8>, nodes: &[NodeId]) -> Result<(), OutO
 
 /// Appends ` F rep STRIPE NODE .. NODE`.
 fn push_file(out: &mut Vec<u8>, number: u64, location: &Location) -> Result<(), OutOfMemory>
-    ensures { OnOk result (out.new.items ≡ out.old.items ++ behind (file_words number location.now)) }
+    ensures { OnOk result (out.new.items ≡
+        out.old.items ++ behind (file_words number location.now)) }
 {
     push_words(
         out,
@@ -271,7 +273,8 @@ pub(crate) fn push_named_node(
     name: &[u8],
     node: NodeId,
 ) -> Result<(), OutOfMemory>
-    ensures { OnOk result (out.new.items ≡ out.old.items ++ spaced (name.now ∷ decimal node.0 ∷ [])) }
+    ensures { OnOk result (out.new.items ≡
+        out.old.items ++ spaced (name.now ∷ decimal node.0 ∷ [])) }
 {
     push_named_words(out, name, &[Word::Node(node)])
 }
@@ -291,7 +294,8 @@ pub(crate) fn push_clock(
 
 /// Appends a name and a number.
 pub(crate) fn push_named(out: &mut Vec<u8>, name: &[u8], number: u128) -> Result<(), OutOfMemory>
-    ensures { OnOk result (out.new.items ≡ out.old.items ++ spaced (name.now ∷ decimal number ∷ [])) }
+    ensures { OnOk result (out.new.items ≡
+        out.old.items ++ spaced (name.now ∷ decimal number ∷ [])) }
 {
     push_named_words(out, name, &[Word::Wide(number)])
 }

@@ -84,7 +84,8 @@ pub fn entries_to_cut(
     clock: u64,
     marks: Marks,
 ) -> Result<Vec<Entry>, OutOfMemory>
-    ensures { IfOk result (λ entries. entries.items ≡ map (entry_of node) marks ++ Entry.Down node clock Halt.Cut ∷ []) }
+    ensures { IfOk result (λ entries. entries.items ≡
+        map (entry_of node) marks ++ Entry.Down node clock Halt.Cut ∷ []) }
 {
     let how = Halt::Cut;
     let mut entries = entries_of(alloc, node, marks)?;

@@ -43,7 +43,8 @@ fn send_one<C: NodeCore, H: Hull>(
     message: &Msg,
 ) -> Result<(), WorldErr>
     requires { FitsMessage message.now }
-    ensures sent { OnOk result (sent.new ≡ sent.old ++ numbered nodes.old.nodes node (message.now ∷ [])) }
+    ensures sent { OnOk result (sent.new ≡
+        sent.old ++ numbered nodes.old.nodes node (message.now ∷ [])) }
     ensures same { nodes.new ≡ nodes.old }
     ensures error { IfErr result (λ error. error ≡ WorldErr.OutOfMemory) }
 {
@@ -87,7 +88,8 @@ impl<C: NodeCore, H: Hull> Stepper<C, H> {
     /// The node at a place stops: its messages to itself are lost.
     pub fn halt(&mut self, place: usize)
         requires { place < length self.old.nodes.nodes }
-        ensures { (around : Around) → Halts (working around self.old) place (working around self.new) }
+        ensures { (around : Around) →
+            Halts (working around self.old) place (working around self.new) }
     {
         self.nodes.stop(place);
         self.own.lose();
@@ -102,9 +104,12 @@ impl<C: NodeCore, H: Hull> Stepper<C, H> {
         outs: &[Msg],
     ) -> Result<(), WorldErr>
         requires inside { place < length self.old.nodes.nodes }
-        requires fits { (node : Node) → IsAt self.old.nodes.nodes place node → FitsNext node.kept rec.now }
+        requires fits { (node : Node) → IsAt self.old.nodes.nodes place node →
+            FitsNext node.kept rec.now }
         requires messages { AllByRecursion FitsMessage outs.now }
-        ensures { (around : Around) (node : Node) → IsAt self.old.nodes.nodes place node → IsGiven H.overflow (working around self.old) node rec.now outs.now (working around self.new) result }
+        ensures { (around : Around) (node : Node) → IsAt self.old.nodes.nodes place node →
+            IsGiven H.overflow (working around self.old) node rec.now outs.now
+            (working around self.new) result }
     {
         let node = self.nodes.id(place);
         self.nodes.keep(alloc, place, rec)?;
@@ -122,8 +127,13 @@ impl<C: NodeCore, H: Hull> Stepper<C, H> {
         marks: &mut Marks,
     ) -> Result<(), WorldErr>
         requires inside { place < length self.old.nodes.nodes }
-        requires fits { (node : Node) → IsAt self.old.nodes.nodes place node → FitsTurned node.kept (given_by rec.now outs.old marks.old) }
-        ensures { (around : Around) (node : Node) (running : Running) → IsAt self.old.nodes.nodes place node → node.up ≡ Some running → IsStepped (working around self.old) (ended_whole H.overflow (working around self.old).doing node running (given_by rec.now outs.old marks.old)) (working around self.new) result }
+        requires fits { (node : Node) → IsAt self.old.nodes.nodes place node →
+            FitsTurned node.kept (given_by rec.now outs.old marks.old) }
+        ensures { (around : Around) (node : Node) (running : Running) →
+            IsAt self.old.nodes.nodes place node → node.up ≡ Some running →
+            IsStepped (working around self.old)
+            (ended_whole H.overflow (working around self.old).doing node running
+            (given_by rec.now outs.old marks.old)) (working around self.new) result }
     {
         let node = self.nodes.id(place);
         let mut made = entries_of(alloc, node, replace(marks, Marks::new(alloc)))?;
@@ -145,8 +155,13 @@ impl<C: NodeCore, H: Hull> Stepper<C, H> {
         marks: &mut Marks,
     ) -> Result<(), WorldErr>
         requires inside { place < length self.old.nodes.nodes }
-        requires fits { (node : Node) → IsAt self.old.nodes.nodes place node → FitsTurned node.kept (given_by rec.now outs.now marks.old) }
-        ensures { (around : Around) (node : Node) (running : Running) → IsAt self.old.nodes.nodes place node → node.up ≡ Some running → running.clock ≡ clock → IsStepped (working around self.old) (ended_sending H.overflow (working around self.old).doing node running count (given_by rec.now outs.now marks.old)) (working around self.new) result }
+        requires fits { (node : Node) → IsAt self.old.nodes.nodes place node →
+            FitsTurned node.kept (given_by rec.now outs.now marks.old) }
+        ensures { (around : Around) (node : Node) (running : Running) →
+            IsAt self.old.nodes.nodes place node → node.up ≡ Some running → running.clock ≡ clock →
+            IsStepped (working around self.old)
+            (ended_sending H.overflow (working around self.old).doing node running count
+            (given_by rec.now outs.now marks.old)) (working around self.new) result }
     {
         let node = self.nodes.id(place);
         let told = replace(marks, Marks::new(alloc));
@@ -167,9 +182,14 @@ impl<C: NodeCore, H: Hull> Stepper<C, H> {
         rec: &Record,
     ) -> Result<(), WorldErr>
         requires inside { place < length self.old.nodes.nodes }
-        requires fits { (node : Node) → IsAt self.old.nodes.nodes place node → FitsNext node.kept (Some rec.now) }
+        requires fits { (node : Node) → IsAt self.old.nodes.nodes place node →
+            FitsNext node.kept (Some rec.now) }
         requires plan { FitsPlan (Some stop) }
-        ensures { (around : Around) (node : Node) (running : Running) → IsAt self.old.nodes.nodes place node → node.up ≡ Some running → running.clock ≡ clock → IsStepped (working around self.old) (ended_in_append H.overflow (working around self.old).doing node running stop rec.now) (working around self.new) result }
+        ensures { (around : Around) (node : Node) (running : Running) →
+            IsAt self.old.nodes.nodes place node → node.up ≡ Some running → running.clock ≡ clock →
+            IsStepped (working around self.old)
+            (ended_in_append H.overflow (working around self.old).doing node running stop rec.now)
+            (working around self.new) result }
     {
         let node = self.nodes.id(place);
         self.entries.reserve(1)?;
@@ -191,8 +211,15 @@ impl<C: NodeCore, H: Hull> Stepper<C, H> {
         marks: &mut Marks,
     ) -> Result<(), WorldErr>
         requires inside { place < length self.old.nodes.nodes }
-        requires fits { (node : Node) → IsAt self.old.nodes.nodes place node → FitsTurned node.kept (given_by rec.now outs.old marks.old) × IfSome node.up FitsRunning }
-        ensures { (around : Around) (node : Node) (running : Running) → IsAt self.old.nodes.nodes place node → node.up ≡ Some running → IsStepped (working around self.old) (end_of_step H.overflow (working around self.old).doing node running (record { state = running.core; turned = given_by rec.now outs.old marks.old })) (working around self.new) result }
+        requires fits { (node : Node) → IsAt self.old.nodes.nodes place node →
+            FitsTurned node.kept (given_by rec.now outs.old marks.old)
+            × IfSome node.up FitsRunning }
+        ensures { (around : Around) (node : Node) (running : Running) →
+            IsAt self.old.nodes.nodes place node → node.up ≡ Some running →
+            IsStepped (working around self.old)
+            (end_of_step H.overflow (working around self.old).doing node running
+            (record { state = running.core; turned = given_by rec.now outs.old marks.old }))
+            (working around self.new) result }
     {
         let Some(moment) = self.nodes.moment(place) else {
             return Ok(());
@@ -217,8 +244,13 @@ impl<C: NodeCore, H: Hull> Stepper<C, H> {
         turned: Turned,
     ) -> Result<(), WorldErr>
         requires inside { place < length self.old.nodes.nodes }
-        requires fits { (node : Node) → IsAt self.old.nodes.nodes place node → FitsTurned node.kept turned × IfSome node.up FitsRunning }
-        ensures { (around : Around) (node : Node) (running : Running) → IsAt self.old.nodes.nodes place node → node.up ≡ Some running → IsStepped (working around self.old) (end_of_step H.overflow (working around self.old).doing node running (record { state = running.core; turned = turned })) (working around self.new) result }
+        requires fits { (node : Node) → IsAt self.old.nodes.nodes place node →
+            FitsTurned node.kept turned × IfSome node.up FitsRunning }
+        ensures { (around : Around) (node : Node) (running : Running) →
+            IsAt self.old.nodes.nodes place node → node.up ≡ Some running →
+            IsStepped (working around self.old)
+            (end_of_step H.overflow (working around self.old).doing node running
+            (record { state = running.core; turned = turned })) (working around self.new) result }
     {
         let (rec, mut outs, mut marks) = turned.into_parts();
         self.end_by_plans(alloc, place, &rec, &mut outs, &mut marks)

@@ -26,5 +26,6 @@ pub fn merging_is_a_join()
 
 /// The same reports give the same mark, in every order and however often each comes.
 pub fn order_of_reports_is_free()
-    ensures { (mark : SizeMark) (one other : List SizeMark) → SameReports one other → joined mark one ≡ joined mark other }
+    ensures { (mark : SizeMark) (one other : List SizeMark) → SameReports one other →
+        joined mark one ≡ joined mark other }
 {}

@@ -53,7 +53,8 @@ fn parts_of<'a>(alloc: Global, text: &'a str) -> Result<Vec<&'a str>, OutOfMemor
 
 /// The names of the path that a text spells, if it spells one.
 pub fn path_in<'a>(alloc: Global, text: &'a str) -> Result<Option<Vec<&'a str>>, OutOfMemory>
-    ensures { IfOk result (λ path. option_map (λ names. map (λ name. name.now) names.items) path ≡ path_in text.now) }
+    ensures { IfOk result (λ path. option_map (λ names. map (λ name. name.now) names.items) path ≡
+        path_in text.now) }
 {
     let Some(rest) = text.strip_prefix('/') else {
         return Ok(None);

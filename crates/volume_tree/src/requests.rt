@@ -20,7 +20,8 @@ use xt_messages::{MetaAnswer, MetaRefusal, RowKind};
 
 /// The names of the path that a text spells, at least so many.
 pub fn names_of<'a>(alloc: Global, path: &'a Name, least: usize) -> Result<Vec<&'a str>, TreeErr>
-    ensures ok { IfOk result (λ names. Some (map (λ name. name.now) names.items) ≡ has_names least (path_in path.now)) }
+    ensures ok { IfOk result (λ names. Some (map (λ name. name.now) names.items) ≡
+        has_names least (path_in path.now)) }
     ensures enough { IfOk result (λ names. least ≤ length names.items) }
     ensures err { IfErr result (λ why. IsBadPath why (has_names least (path_in path.now))) }
 {
@@ -34,7 +35,8 @@ pub fn names_of<'a>(alloc: Global, path: &'a Name, least: usize) -> Result<Vec<&
 
 /// What an asker makes.
 fn made(who: Asker, mode: u16, content: Content) -> Entry
-    ensures { result ≡ record { owner = who.user; group = who.group; mode = mode; content = content } }
+    ensures { result ≡
+        record { owner = who.user; group = who.group; mode = mode; content = content } }
 {
     Entry {
         owner: who.user,
@@ -66,7 +68,8 @@ fn mark(content: &Content) -> SizeMark
 
 /// Whether two paths are below one volume.
 fn are_in_one_volume(from: &[&str], to: &[&str]) -> bool
-    ensures { same_volume (map (λ name. name.now) from.now) (map (λ name. name.now) to.now) ≡ unless result OtherVolume }
+    ensures { same_volume (map (λ name. name.now) from.now) (map (λ name. name.now) to.now) ≡
+        unless result OtherVolume }
 {
     1 < from.len() && 1 < to.len() && from[0] == to[0]
 }
@@ -134,7 +137,9 @@ fn no_write(table: &Table, who: Asker, names: &[&str]) -> Option<MetaRefusal>
 
 /// Why nothing is made at a path, if nothing is: its ancestors, what is there already, its directory.
 fn no_making(table: &Table, who: Asker, names: &[&str]) -> Option<MetaRefusal>
-    ensures { let path = map (λ name. name.now) names.now in result ≡ first_of (ancestors who table.now.rows path ∷ absent (entry_at table.now.rows path) ∷ parent_writable who table.now.rows path ∷ []) }
+    ensures { let path = map (λ name. name.now) names.now in result ≡
+        first_of (ancestors who table.now.rows path ∷ absent (entry_at table.now.rows path)
+        ∷ parent_writable who table.now.rows path ∷ []) }
 {
     let refusal = table.ancestors(who, names);
     if refusal.is_some() {
@@ -154,7 +159,8 @@ pub fn make_directory(
     names: &[&str],
 ) -> Result<MetaAnswer, TreeErr>
     requires { 0 < length names.now }
-    ensures { Comes result table.old table.new (directory_made table.old who mode (map (λ name. name.now) names.now)) }
+    ensures { Comes result table.old table.new
+        (directory_made table.old who mode (map (λ name. name.now) names.now)) }
 {
     if let Some(why) = no_making(table, who, names) {
         return Err(TreeErr::Refused { why });
@@ -173,7 +179,8 @@ pub fn make_file(
 ) -> Result<MetaAnswer, TreeErr>
     requires below { 0 < length names.now }
     requires number { table.old.next < 2 ^ 62 }
-    ensures { Comes result table.old table.new (file_made table.old who mode pick.now (map (λ name. name.now) names.now)) }
+    ensures { Comes result table.old table.new
+        (file_made table.old who mode pick.now (map (λ name. name.now) names.now)) }
 {
     if let Some(why) = no_making(table, who, names) {
         return Err(TreeErr::Refused { why });
@@ -197,7 +204,8 @@ pub fn set_mode(
     names: &[&str],
 ) -> Result<MetaAnswer, TreeErr>
     requires { 0 < length names.now }
-    ensures { Comes result table.old table.new (mode_set table.old who mode (map (λ name. name.now) names.now)) }
+    ensures { Comes result table.old table.new
+        (mode_set table.old who mode (map (λ name. name.now) names.now)) }
 {
     if let Some(why) = table.ancestors(who, names) {
         return Err(TreeErr::Refused { why });
@@ -216,7 +224,8 @@ pub fn set_mode(
 
 /// Stat.
 pub fn tell(table: &Table, who: Asker, names: &[&str]) -> Result<MetaAnswer, TreeErr>
-    ensures { Comes result table.now table.now (entry_told table.now who (map (λ name. name.now) names.now)) }
+    ensures { Comes result table.now table.now
+        (entry_told table.now who (map (λ name. name.now) names.now)) }
 {
     if let Some(why) = table.ancestors(who, names) {
         return Err(TreeErr::Refused { why });
@@ -237,7 +246,8 @@ pub fn tell(table: &Table, who: Asker, names: &[&str]) -> Result<MetaAnswer, Tre
 
 /// List: a page of the names right in a directory, above `after`.
 pub fn list(table: &Table, who: Asker, after: &str, names: &[&str]) -> Result<MetaAnswer, TreeErr>
-    ensures { Comes result table.now table.now (names_listed table.now who after.now (map (λ name. name.now) names.now)) }
+    ensures { Comes result table.now table.now
+        (names_listed table.now who after.now (map (λ name. name.now) names.now)) }
 {
     if let Some(why) = table.ancestors(who, names) {
         return Err(TreeErr::Refused { why });
@@ -257,7 +267,8 @@ pub fn list(table: &Table, who: Asker, after: &str, names: &[&str]) -> Result<Me
 /// Unlink.
 pub fn unlink_file(table: &mut Table, who: Asker, names: &[&str]) -> Result<MetaAnswer, TreeErr>
     requires { 0 < length names.now }
-    ensures { Comes result table.old table.new (file_unlinked table.old who (map (λ name. name.now) names.now)) }
+    ensures { Comes result table.old table.new
+        (file_unlinked table.old who (map (λ name. name.now) names.now)) }
 {
     if let Some(why) = table.ancestors(who, names) {
         return Err(TreeErr::Refused { why });
@@ -286,7 +297,8 @@ pub fn remove_directory(
     names: &[&str],
 ) -> Result<MetaAnswer, TreeErr>
     requires { 0 < length names.now }
-    ensures { Comes result table.old table.new (directory_removed table.old who (map (λ name. name.now) names.now)) }
+    ensures { Comes result table.old table.new
+        (directory_removed table.old who (map (λ name. name.now) names.now)) }
 {
     if let Some(why) = table.ancestors(who, names) {
         return Err(TreeErr::Refused { why });
@@ -316,7 +328,10 @@ pub fn remove_directory(
 /// Why what is at a path can't be moved to another one, if it can't, as far as the path itself says: its ancestors, another
 /// volume, nothing there, a target that is the path or below it.
 fn no_source(table: &Table, who: Asker, from: &[&str], to: &[&str]) -> Option<MetaRefusal>
-    ensures { let source = map (λ name. name.now) from.now in let target = map (λ name. name.now) to.now in result ≡ first_of (ancestors who table.now.rows source ∷ same_volume source target ∷ there (entry_at table.now.rows source) ∷ outside source target ∷ []) }
+    ensures { let source = map (λ name. name.now) from.now in
+        let target = map (λ name. name.now) to.now in result ≡
+        first_of (ancestors who table.now.rows source ∷ same_volume source target
+        ∷ there (entry_at table.now.rows source) ∷ outside source target ∷ []) }
 {
     let refusal = table.ancestors(who, from);
     if refusal.is_some() {
@@ -336,7 +351,11 @@ fn no_source(table: &Table, who: Asker, from: &[&str], to: &[&str]) -> Option<Me
 
 /// Why nothing can be moved there, if it can't: the target's ancestors, what is there already, either directory.
 fn no_target(table: &Table, who: Asker, from: &[&str], to: &[&str]) -> Option<MetaRefusal>
-    ensures why { let source = map (λ name. name.now) from.now in let target = map (λ name. name.now) to.now in result ≡ first_of (ancestors who table.now.rows target ∷ absent (entry_at table.now.rows target) ∷ parent_writable who table.now.rows source ∷ parent_writable who table.now.rows target ∷ []) }
+    ensures why { let source = map (λ name. name.now) from.now in
+        let target = map (λ name. name.now) to.now in result ≡
+        first_of (ancestors who table.now.rows target ∷ absent (entry_at table.now.rows target)
+        ∷ parent_writable who table.now.rows source ∷ parent_writable who table.now.rows target
+        ∷ []) }
     ensures free { IfNone result (rows_within (map (λ name. name.now) to.now) table.now.rows ≡ []) }
 {
     let refusal = table.ancestors(who, to);
@@ -360,7 +379,9 @@ pub fn move_path(
     from: &[&str],
     to: &[&str],
 ) -> Result<MetaAnswer, TreeErr>
-    ensures { Comes result table.old table.new (path_renamed table.old who (map (λ name. name.now) from.now) (map (λ name. name.now) to.now)) }
+    ensures { Comes result table.old table.new
+        (path_renamed table.old who (map (λ name. name.now) from.now)
+        (map (λ name. name.now) to.now)) }
 {
     if let Some(why) = no_source(table, who, from, to) {
         return Err(TreeErr::Refused { why });

@@ -99,7 +99,13 @@ fn sized(sizes: &BTreeMap<u64, Sizes>, entry: Entry) -> Entry
 
 /// What an asker makes of a new file, with nothing issued and no size.
 fn new_file(who: Asker, mode: u16, number: u64, location: Location) -> Entry
-    ensures { result ≡ record { owner = who.user; group = who.group; mode = mode; content = new_file number location } }
+    ensures { result ≡
+        record {
+          owner = who.user;
+          group = who.group;
+          mode = mode;
+          content = new_file number location;
+        } }
 {
     Entry {
         owner: who.user,
@@ -139,7 +145,8 @@ impl Table {
     /// The entry at a path, the root's too. Where none is, nothing is below the path either.
     pub fn find(&self, names: &[&str]) -> Option<Entry>
         ensures entry { result ≡ entry_at self.now.rows (map (λ name. name.now) names.now) }
-        ensures none { IfNone result (rows_within (map (λ name. name.now) names.now) self.now.rows ≡ []) }
+        ensures none { IfNone result (rows_within (map (λ name. name.now) names.now) self.now.rows ≡
+            []) }
     {
         match self.top.find(names) {
             Some(entry) => Some(sized(&self.sizes, entry)),
@@ -173,7 +180,8 @@ impl Table {
 
     /// A page of the names right in the directory at a path: the first 512 above `after`.
     pub fn page(&self, names: &[&str], after: &str) -> Result<Names, OutOfMemory>
-        ensures { IfOk result (λ page. page ≡ page_of self.now.rows (map (λ name. name.now) names.now) after.now) }
+        ensures { IfOk result (λ page. page ≡
+            page_of self.now.rows (map (λ name. name.now) names.now) after.now) }
     {
         self.top.page(self.alloc, names, after)
     }
@@ -182,9 +190,15 @@ impl Table {
     /// changes if memory runs out.
     pub fn put(&mut self, names: &[&str], entry: Entry) -> Result<(), OutOfMemory>
         requires below { 0 < length names.now }
-        requires place { IsDirectory (entry_at self.old.rows (parent_of (map (λ name. name.now) names.now))) }
-        requires content { SameContent (entry_at self.old.rows (map (λ name. name.now) names.now)) entry }
-        ensures ok { OnOk result (self.new ≡ record self.old { rows = with_row self.old.rows (record { path = map (λ name. name.now) names.now; entry = entry }) }) }
+        requires place { IsDirectory
+            (entry_at self.old.rows (parent_of (map (λ name. name.now) names.now))) }
+        requires content { SameContent (entry_at self.old.rows (map (λ name. name.now) names.now))
+            entry }
+        ensures ok { OnOk result (self.new ≡
+            record self.old {
+              rows = with_row self.old.rows
+                  (record { path = map (λ name. name.now) names.now; entry = entry });
+            }) }
         ensures err { OnErr result (self.new ≡ self.old) }
     {
         self.top.put(self.alloc, names, entry)
@@ -200,10 +214,12 @@ impl Table {
         names: &[&str],
     ) -> Result<(), OutOfMemory>
         requires below { 0 < length names.now }
-        requires place { IsDirectory (entry_at self.old.rows (parent_of (map (λ name. name.now) names.now))) }
+        requires place { IsDirectory
+            (entry_at self.old.rows (parent_of (map (λ name. name.now) names.now))) }
         requires free { entry_at self.old.rows (map (λ name. name.now) names.now) ≡ None }
         requires number { self.old.next < 2 ^ 62 }
-        ensures ok { OnOk result (self.new ≡ file_added self.old who mode location (map (λ name. name.now) names.now)) }
+        ensures ok { OnOk result (self.new ≡
+            file_added self.old who mode location (map (λ name. name.now) names.now)) }
         ensures err { OnErr result (self.new ≡ self.old) }
     {
         let number = self.next;
@@ -225,8 +241,11 @@ impl Table {
     /// Takes out what is at a path, which has nothing below it.
     pub fn cut(&mut self, names: &[&str])
         requires below { 0 < length names.now }
-        requires bare { let path = map (λ name. name.now) names.now in HasNothing (entry_at self.old.rows path) (names_in self.old.rows path) }
-        ensures { self.new ≡ record self.old { rows = without_row self.old.rows (map (λ name. name.now) names.now) } }
+        requires bare { let path = map (λ name. name.now) names.now in
+            HasNothing (entry_at self.old.rows path) (names_in self.old.rows path) }
+        ensures { self.new ≡
+            record self.old
+            { rows = without_row self.old.rows (map (λ name. name.now) names.now) } }
     {
         let Some(node) = self.top.take(names) else {
             return;
@@ -243,11 +262,18 @@ impl Table {
     /// Nothing changes if memory runs out.
     pub fn rename(&mut self, from: &[&str], to: &[&str]) -> Result<(), OutOfMemory>
         requires there { IsSome (entry_at self.old.rows (map (λ name. name.now) from.now)) }
-        requires volume { same_volume (map (λ name. name.now) from.now) (map (λ name. name.now) to.now) ≡ None }
-        requires apart { is_within (map (λ name. name.now) from.now) (map (λ name. name.now) to.now) ≡ false }
-        requires place { IsDirectory (entry_at self.old.rows (parent_of (map (λ name. name.now) to.now))) }
+        requires volume { same_volume (map (λ name. name.now) from.now)
+            (map (λ name. name.now) to.now) ≡ None }
+        requires apart { is_within (map (λ name. name.now) from.now)
+            (map (λ name. name.now) to.now) ≡ false }
+        requires place { IsDirectory
+            (entry_at self.old.rows (parent_of (map (λ name. name.now) to.now))) }
         requires free { rows_within (map (λ name. name.now) to.now) self.old.rows ≡ [] }
-        ensures ok { OnOk result (self.new ≡ record self.old { rows = renamed self.old.rows (map (λ name. name.now) from.now) (map (λ name. name.now) to.now) }) }
+        ensures ok { OnOk result (self.new ≡
+            record self.old {
+              rows = renamed self.old.rows (map (λ name. name.now) from.now)
+                  (map (λ name. name.now) to.now);
+            }) }
         ensures err { OnErr result (self.new ≡ self.old) }
     {
         self.top.rename(self.alloc, from, to)
@@ -266,7 +292,8 @@ impl Table {
     /// Sets them, of a file that is there.
     pub fn set_sizes(&mut self, file: &FileId, epoch: u64, mark: SizeMark)
         requires { IsSome (sizes_in self.old.rows file.now) }
-        ensures { self.new ≡ record self.old { rows = sizes_set file.now epoch mark self.old.rows } }
+        ensures { self.new ≡
+            record self.old { rows = sizes_set file.now epoch mark self.old.rows } }
     {
         let Some(kept) = self.sizes.get_mut(&file.number) else {
             return;

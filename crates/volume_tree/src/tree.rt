@@ -52,7 +52,8 @@ impl Tree {
 
     /// Mkdir, on the text of a path.
     pub fn mkdir(&mut self, who: Asker, path: &Name, mode: u16) -> Result<MetaAnswer, TreeErr>
-        ensures { Comes result self.old self.new (on_path self.old (has_names 1 (path_in path.now)) (directory_made self.old who mode)) }
+        ensures { Comes result self.old self.new
+            (on_path self.old (has_names 1 (path_in path.now)) (directory_made self.old who mode)) }
     {
         match names_of(self.alloc, path, 1) {
             Ok(names) => make_directory(&mut self.table, who, mode, names.as_slice()),
@@ -69,7 +70,9 @@ impl Tree {
         pick: &Picked,
     ) -> Result<MetaAnswer, TreeErr>
         requires { self.old.next < 2 ^ 62 }
-        ensures { Comes result self.old self.new (on_path self.old (has_names 2 (path_in path.now)) (file_made self.old who mode pick.now)) }
+        ensures { Comes result self.old self.new
+            (on_path self.old (has_names 2 (path_in path.now))
+            (file_made self.old who mode pick.now)) }
     {
         match names_of(self.alloc, path, 2) {
             Ok(names) => make_file(&mut self.table, who, mode, pick, names.as_slice()),
@@ -79,7 +82,8 @@ impl Tree {
 
     /// Chmod, on the text of a path.
     pub fn chmod(&mut self, who: Asker, path: &Name, mode: u16) -> Result<MetaAnswer, TreeErr>
-        ensures { Comes result self.old self.new (on_path self.old (has_names 1 (path_in path.now)) (mode_set self.old who mode)) }
+        ensures { Comes result self.old self.new
+            (on_path self.old (has_names 1 (path_in path.now)) (mode_set self.old who mode)) }
     {
         match names_of(self.alloc, path, 1) {
             Ok(names) => set_mode(&mut self.table, who, mode, names.as_slice()),
@@ -89,7 +93,8 @@ impl Tree {
 
     /// Stat, on the text of a path.
     pub fn stat(&self, who: Asker, path: &Name) -> Result<MetaAnswer, TreeErr>
-        ensures { Comes result self.now self.now (on_path self.now (has_names 1 (path_in path.now)) (entry_told self.now who)) }
+        ensures { Comes result self.now self.now
+            (on_path self.now (has_names 1 (path_in path.now)) (entry_told self.now who)) }
     {
         match names_of(self.alloc, path, 1) {
             Ok(names) => tell(&self.table, who, names.as_slice()),
@@ -99,7 +104,9 @@ impl Tree {
 
     /// List, on the text of a path: the root is listed too.
     pub fn page(&self, who: Asker, path: &Name, after: &Name) -> Result<MetaAnswer, TreeErr>
-        ensures { Comes result self.now self.now (on_path self.now (has_names 0 (path_in path.now)) (names_listed self.now who after.now)) }
+        ensures { Comes result self.now self.now
+            (on_path self.now (has_names 0 (path_in path.now))
+            (names_listed self.now who after.now)) }
     {
         match names_of(self.alloc, path, 0) {
             Ok(names) => list(&self.table, who, after.as_str(), names.as_slice()),
@@ -109,7 +116,8 @@ impl Tree {
 
     /// Unlink, on the text of a path.
     pub fn unlink(&mut self, who: Asker, path: &Name) -> Result<MetaAnswer, TreeErr>
-        ensures { Comes result self.old self.new (on_path self.old (has_names 1 (path_in path.now)) (file_unlinked self.old who)) }
+        ensures { Comes result self.old self.new
+            (on_path self.old (has_names 1 (path_in path.now)) (file_unlinked self.old who)) }
     {
         match names_of(self.alloc, path, 1) {
             Ok(names) => unlink_file(&mut self.table, who, names.as_slice()),
@@ -119,7 +127,8 @@ impl Tree {
 
     /// Rmdir, on the text of a path.
     pub fn rmdir(&mut self, who: Asker, path: &Name) -> Result<MetaAnswer, TreeErr>
-        ensures { Comes result self.old self.new (on_path self.old (has_names 1 (path_in path.now)) (directory_removed self.old who)) }
+        ensures { Comes result self.old self.new
+            (on_path self.old (has_names 1 (path_in path.now)) (directory_removed self.old who)) }
     {
         match names_of(self.alloc, path, 1) {
             Ok(names) => remove_directory(&mut self.table, who, names.as_slice()),
@@ -129,7 +138,9 @@ impl Tree {
 
     /// Rename, on the texts of two paths. A directory goes with all that is in it, without a walk over it.
     pub fn rename(&mut self, who: Asker, from: &Name, to: &Name) -> Result<MetaAnswer, TreeErr>
-        ensures { Comes result self.old self.new (on_paths self.old (has_names 1 (path_in from.now)) (has_names 1 (path_in to.now)) (path_renamed self.old who)) }
+        ensures { Comes result self.old self.new
+            (on_paths self.old (has_names 1 (path_in from.now)) (has_names 1 (path_in to.now))
+            (path_renamed self.old who)) }
     {
         let from = match names_of(self.alloc, from, 1) {
             Ok(names) => names,
@@ -192,7 +203,8 @@ impl Tree {
     /// Sets them, of a file that is there.
     pub fn set_sizes(&mut self, file: &FileId, epoch: u64, mark: SizeMark)
         requires { IsSome (sizes_in self.old.rows file.now) }
-        ensures { self.new ≡ record self.old { rows = sizes_set file.now epoch mark self.old.rows } }
+        ensures { self.new ≡
+            record self.old { rows = sizes_set file.now epoch mark self.old.rows } }
     {
         self.table.set_sizes(file, epoch, mark);
     }

@@ -32,14 +32,16 @@ pub fn frames_have_bytes()
     ensures written { frame_of gather ≡ frames.bytes }
     ensures read { decoded frames.bytes ≡ Ok (gather, 50) }
     ensures fronts { map decoded (fronts_of frames.bytes) ≡ replicate 50 (Err Truncated) }
-    ensures changed { map (λ row. length_of (decoded (changed row))) rows ≡ map (λ row. row.3) rows }
+    ensures changed { map (λ row. length_of (decoded (changed row))) rows ≡
+        map (λ row. row.3) rows }
 {}
 
 /// Entries have their lines, and of the journal of another program its first eight bytes are told.
 #[tactic(auto, unfolding(crate::specs::Texts::texts))]
 pub fn entries_have_lines()
     ensures entries { map (λ row. entry_text row.0) entries ≡ map (λ row. row.1) entries }
-    ensures foreign { last_line (NotOurs (codes "abcdefgh")) ≡ codes "! notours 6162636465666768" ++ 10 ∷ [] }
+    ensures foreign { last_line (NotOurs (codes "abcdefgh")) ≡
+        codes "! notours 6162636465666768" ++ 10 ∷ [] }
 {}
 
 /// Each kind of record has its bytes and is read from them. No front of them is a record, and other bytes are none.
@@ -57,5 +59,6 @@ pub fn records_are_folded()
     ensures start { fold_of (start ∷ []) ≡ record { boot = record { 0 = 1 }; files = [] } }
     ensures again { IsInPlace promised promise }
     ensures lower { IsInPlace promised lower → ⊥ }
-    ensures bodies { map (λ row. body_kept puts (file 1) row.0 (stamp 0 0 row.1)) found ≡ map (λ row. row.2) found }
+    ensures bodies { map (λ row. body_kept puts (file 1) row.0 (stamp 0 0 row.1)) found ≡
+        map (λ row. row.2) found }
 {}

@@ -19,7 +19,8 @@ pub fn calls_fail_as_planned()
 
 /// What a read gives behind two writes, and what a crash leaves that puts its byte at each place that isn't synced.
 pub fn a_stop_leaves_its_byte()
-    ensures reads { (four_after (one_byte ∷ Sync ∷ three_bytes ∷ Sync ∷ [])).read ≡ 1 ∷ 9 ∷ 3 ∷ 8 ∷ 8 ∷ 8 ∷ [] }
+    ensures reads { (four_after (one_byte ∷ Sync ∷ three_bytes ∷ Sync ∷ [])).read ≡
+        1 ∷ 9 ∷ 3 ∷ 8 ∷ 8 ∷ 8 ∷ [] }
     ensures early { IsFilled 0x37 unsynced (1 ∷ 0x37 ∷ 3 ∷ 0x37 ∷ 0x37 ∷ 0x37 ∷ []) }
     ensures late { IsFilled 0x37 half_synced (1 ∷ 9 ∷ 3 ∷ 0x37 ∷ 0x37 ∷ 0x37 ∷ []) }
 {}
@@ -67,7 +68,8 @@ pub fn records_are_placed()
 #[tactic(auto, unfolding(xt_protocol::specs::Folds::body_kept))]
 pub fn the_last_body_is_kept()
     ensures none { body (boot 1 ∷ boot 2 ∷ []) ≡ None }
-    ensures last { body (stage abc ∷ stage (110 ∷ 101 ∷ 119 ∷ []) ∷ []) ≡ Some (110 ∷ 101 ∷ 119 ∷ []) }
+    ensures last { body (stage abc ∷ stage (110 ∷ 101 ∷ 119 ∷ []) ∷ []) ≡
+        Some (110 ∷ 101 ∷ 119 ∷ []) }
 {}
 
 /// How an append ends that stops, and what its node finds: a start, or a promise that was torn.

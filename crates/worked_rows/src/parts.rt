@@ -20,7 +20,8 @@ pub fn other_bytes_are_no_part()
 
 /// What parts give to one joiner, in whatever order they come.
 pub fn parts_are_taken()
-    ensures lengths { map parts.lengths_in (map parts.size parts.sizes) ≡ map parts.lengths parts.sizes }
+    ensures lengths { map parts.lengths_in (map parts.size parts.sizes) ≡
+        map parts.lengths parts.sizes }
     ensures given { parts.given_after [] parts.rows ≡ map parts.wanted parts.rows }
 {}
 

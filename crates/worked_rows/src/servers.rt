@@ -13,7 +13,8 @@ ghost use Rattle.worked_rows.specs.Registry as registry;
 /// Requests to a metadata server get their answers, and what may change something is recorded. At a Wake the server asks for
 /// the OSDs.
 pub fn requests_are_answered()
-    ensures answers { requests.seen (steps_from new_server (comings requests.rows)) ≡ (map wanted_of requests.rows, requests.places) }
+    ensures answers { requests.seen (steps_from new_server (comings requests.rows)) ≡
+        (map wanted_of requests.rows, requests.places) }
     ensures wake { step_of_mrc key new_server 0 Wake ≡ requests.awake }
 {}
 
@@ -27,7 +28,8 @@ pub fn numbers_are_kept()
 #[tactic(auto, unfolding(mrc_core::specs::Steps::step_of_mrc))]
 pub fn files_are_made()
     ensures answers { map seen_in (steps_from new_server (comings files)) ≡ map wanted_of files }
-    ensures places { flat_map (λ step. step.turned.marks) (steps_from new_server (comings files)) ≡ places }
+    ensures places { flat_map (λ step. step.turned.marks) (steps_from new_server (comings files)) ≡
+        places }
     ensures fates { map (λ row. made_after row.0) fates ≡ map (λ row. row.1) fates }
 {}
 
@@ -40,5 +42,6 @@ pub fn volumes_have_uuids()
 /// Requests to a directory service get their answers, and what may change the registry is recorded.
 #[tactic(auto, unfolding(dir_core::specs::Steps::step_of_dir))]
 pub fn registrations_are_answered()
-    ensures { map registry.seen_in (registry.steps_from empty_dir registry.rows) ≡ map registry.wanted_of registry.rows }
+    ensures { map registry.seen_in (registry.steps_from empty_dir registry.rows) ≡
+        map registry.wanted_of registry.rows }
 {}

@@ -70,7 +70,8 @@ pub trait Hull: Drop {
         requires fits { FitsRecord rec.now }
         requires place { IsInPlace (fold_of (kept self.old node.0)) rec.now }
         requires call { IsInAppend stop }
-        ensures records { IfOk result (λ end. IsAppended (kept self.old) (kept self.new) node rec.now stop end) }
+        ensures records { IfOk result (λ end.
+            IsAppended (kept self.old) (kept self.new) node rec.now stop end) }
         ensures room { IsFullExactly (overflow (kept self.old node.0) rec.now) result }
         ensures error { IfErr result IsFullOrMemory }
         ensures others { OnErr result (AreOthersSame (kept self.old) (kept self.new) node) };
@@ -78,8 +79,10 @@ pub trait Hull: Drop {
     /// What the node that starts again finds: records that say what its records say, with its requests in their order.
     /// Only memory may run out.
     fn revive(&mut self, alloc: Global, node: NodeId) -> Result<Vec<Record>, WorldErr>
-        ensures found { IfOk result (λ found. fold_of found.items ≡ fold_of (kept self.old node.0)) }
-        ensures logged { IfOk result (λ found. logged_of found.items ≡ logged_of (kept self.old node.0)) }
+        ensures found { IfOk result (λ found. fold_of found.items ≡
+            fold_of (kept self.old node.0)) }
+        ensures logged { IfOk result (λ found. logged_of found.items ≡
+            logged_of (kept self.old node.0)) }
         ensures error { IfErr result (λ error. error ≡ WorldErr.OutOfMemory) }
         ensures records { kept self.new ≡ kept self.old };
 

@@ -31,7 +31,8 @@ impl ListHull {
 
     /// Keeps the node's record.
     fn keep(&mut self, alloc: Global, node: NodeId, rec: Record) -> Result<(), OutOfMemory>
-        ensures ok { OnOk result (records_of self.new ≡ with_record (records_of self.old) node rec) }
+        ensures ok { OnOk result (records_of self.new ≡
+            with_record (records_of self.old) node rec) }
         ensures err { OnErr result (records_of self.new ≡ records_of self.old) }
     {
         match self.logs.get_mut(&node.0) {

@@ -28,7 +28,8 @@ impl<C: NodeCore, H: Hull> Model for Nodes<C, H> {
 
     ghost Value = { NodesView };
 
-    ghost view = { λ n. record { times = n.times; nodes = nodes_of (H.kept n.hull) n.hosts.items } };
+    ghost view = { λ n.
+        record { times = n.times; nodes = nodes_of (H.kept n.hull) n.hosts.items } };
 
     ghost invariant = { λ n. AreHosts (H.kept n.hull) n.times n.hosts.items };
 }
@@ -87,7 +88,8 @@ impl<C: NodeCore, H: Hull> Nodes<C, H> {
     /// What the clock of the node at a place reads, and what is planned for it, where it runs.
     pub fn moment(&self, place: usize) -> Option<Moment>
         requires { place < length self.now.nodes }
-        ensures moment { (node : Node) → IsAt self.now.nodes place node → result ≡ option_map moment_of node.up }
+        ensures moment { (node : Node) → IsAt self.now.nodes place node →
+            result ≡ option_map moment_of node.up }
         ensures there { (node : Node) × IsAt self.now.nodes place node }
     {
         self.hosts[place].moment()

@@ -22,22 +22,31 @@ ghost use Rattle.world_runs.specs.Asks.{AsksHaveBegun, NextHasBegun};
 
 /// At no moment of a run of any lines do two nodes hold a file; nor behind some steps of a line more.
 pub fn nodes_are_apart()
-    ensures whole { (room : Room) (lines : List Line) (file : ℕ) → AreLines lines → AreApart file (run_of room lines).entries }
-    ensures part { (room : Room) (lines : List Line) (l : Line) (file : ℕ) (entries : List Entry) → AreLines (lines ++ l ∷ []) → refusal (run_of room lines) l ≡ None → IsRunInto room lines l entries → AreApart file entries }
+    ensures whole { (room : Room) (lines : List Line) (file : ℕ) → AreLines lines →
+        AreApart file (run_of room lines).entries }
+    ensures part { (room : Room) (lines : List Line) (l : Line) (file : ℕ) (entries : List Entry) →
+        AreLines (lines ++ l ∷ []) → refusal (run_of room lines) l ≡ None →
+        IsRunInto room lines l entries → AreApart file entries }
 {}
 
 /// A node that becomes active as a file's primary, issues, commits or answers holds the file at that moment.
 pub fn holders_act()
-    ensures whole { (room : Room) (lines : List Line) (file : ℕ) → AreLines lines → HoldersAct file (run_of room lines).entries }
-    ensures part { (room : Room) (lines : List Line) (l : Line) (file : ℕ) (entries : List Entry) → AreLines (lines ++ l ∷ []) → refusal (run_of room lines) l ≡ None → IsRunInto room lines l entries → HoldersAct file entries }
+    ensures whole { (room : Room) (lines : List Line) (file : ℕ) → AreLines lines →
+        HoldersAct file (run_of room lines).entries }
+    ensures part { (room : Room) (lines : List Line) (l : Line) (file : ℕ) (entries : List Entry) →
+        AreLines (lines ++ l ∷ []) → refusal (run_of room lines) l ≡ None →
+        IsRunInto room lines l entries → HoldersAct file entries }
 {}
 
 /// What holds of the world at every moment of a run, also in the midst of a line: what an OSD has of a file is what its records
 /// say, and is sound; lists and asks are those that are declared; nodes stand in the trace as they run; who has a lease holds
 /// its file by the trace; and no two nodes lead a file.
 pub fn worlds_are_in_order()
-    ensures whole { (room : Room) (lines : List Line) → AreLines lines → IsInOrder (run_of room lines) [] }
-    ensures steps { (room : Room) (lines : List Line) (l : Line) (k : ℕ) → AreLines (lines ++ l ∷ []) → refusal (run_of room lines) l ≡ None → IsNextInOrder (steps k room (begins (run_of room lines) l)) }
+    ensures whole { (room : Room) (lines : List Line) → AreLines lines →
+        IsInOrder (run_of room lines) [] }
+    ensures steps { (room : Room) (lines : List Line) (l : Line) (k : ℕ) →
+        AreLines (lines ++ l ∷ []) → refusal (run_of room lines) l ≡ None →
+        IsNextInOrder (steps k room (begins (run_of room lines) l)) }
 {}
 
 /// Leases are held, and pass on: in a run of three replicas one holds the file, and when its lease is over another does.
@@ -50,27 +59,37 @@ pub fn a_lease_passes_on()
 /// Every ask that was ever sent is of a call that has begun on its file: it asks what that call does, within its limits. So it is in
 /// every run of any lines, and behind each step of a line more.
 pub fn asks_have_begun()
-    ensures whole { (room : Room) (lines : List Line) → AreLines lines → AsksHaveBegun (run_of room lines) [] }
-    ensures steps { (room : Room) (lines : List Line) (l : Line) (k : ℕ) → AreLines (lines ++ l ∷ []) → refusal (run_of room lines) l ≡ None → NextHasBegun (steps k room (begins (run_of room lines) l)) }
+    ensures whole { (room : Room) (lines : List Line) → AreLines lines →
+        AsksHaveBegun (run_of room lines) [] }
+    ensures steps { (room : Room) (lines : List Line) (l : Line) (k : ℕ) →
+        AreLines (lines ++ l ∷ []) → refusal (run_of room lines) l ≡ None →
+        NextHasBegun (steps k room (begins (run_of room lines) l)) }
 {}
 
 /// A write that is issued or committed on a file, and a call that is answered on it, had begun on that file before: in every run of any
 /// lines, and behind some steps of a line more.
 pub fn acts_have_begun()
-    ensures whole { (room : Room) (lines : List Line) (file : ℕ) → AreLines lines → ActsHaveBegun file (run_of room lines).entries }
-    ensures part { (room : Room) (lines : List Line) (l : Line) (file : ℕ) (entries : List Entry) → AreLines (lines ++ l ∷ []) → refusal (run_of room lines) l ≡ None → IsRunInto room lines l entries → ActsHaveBegun file entries }
+    ensures whole { (room : Room) (lines : List Line) (file : ℕ) → AreLines lines →
+        ActsHaveBegun file (run_of room lines).entries }
+    ensures part { (room : Room) (lines : List Line) (l : Line) (file : ℕ) (entries : List Entry) →
+        AreLines (lines ++ l ∷ []) → refusal (run_of room lines) l ≡ None →
+        IsRunInto room lines l entries → ActsHaveBegun file entries }
 {}
 
 /// A call on a file that ends well, with a count and bytes, was answered so on that file before, and had begun on it before that
 /// answer: in every run of any lines, and behind some steps of a line more.
 pub fn ends_are_answered()
-    ensures whole { (room : Room) (lines : List Line) (file : ℕ) → AreLines lines → EndsAreAnswered file (run_of room lines).entries }
-    ensures part { (room : Room) (lines : List Line) (l : Line) (file : ℕ) (entries : List Entry) → AreLines (lines ++ l ∷ []) → refusal (run_of room lines) l ≡ None → IsRunInto room lines l entries → EndsAreAnswered file entries }
+    ensures whole { (room : Room) (lines : List Line) (file : ℕ) → AreLines lines →
+        EndsAreAnswered file (run_of room lines).entries }
+    ensures part { (room : Room) (lines : List Line) (l : Line) (file : ℕ) (entries : List Entry) →
+        AreLines (lines ++ l ∷ []) → refusal (run_of room lines) l ≡ None →
+        IsRunInto room lines l entries → EndsAreAnswered file entries }
 {}
 
 /// Where the ends of calls on a file were answered, each write stands once in the order, and answers show the file, the ends are
 /// fresh: a read counts the writes that had ended well before it began, and no fewer than an earlier read; and writes keep the
 /// order in which they were made.
 pub fn answered_ends_are_fresh()
-    ensures { (file : ℕ) (entries : List Entry) → EndsAreAnswered file entries → AreOnce file entries → AnswersShow file entries → AreFresh file entries }
+    ensures { (file : ℕ) (entries : List Entry) → EndsAreAnswered file entries →
+        AreOnce file entries → AnswersShow file entries → AreFresh file entries }
 {}

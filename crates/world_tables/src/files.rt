@@ -57,7 +57,8 @@ impl DeclaredFiles {
     /// Declares a file whose number isn't declared yet.
     pub fn declare(&mut self, number: u64, location: &Location) -> Result<(), OutOfMemory>
         requires { file_in self.old number ≡ None }
-        ensures ok { OnOk result (self.new ≡ self.old ++ record { number = number; location = location.now } ∷ []) }
+        ensures ok { OnOk result (self.new ≡
+            self.old ++ record { number = number; location = location.now } ∷ []) }
         ensures err { OnErr result (self.new ≡ self.old) }
     {
         self.list.push(DeclaredFile {

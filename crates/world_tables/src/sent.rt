@@ -118,7 +118,8 @@ impl SentMessages {
     /// The message of this number.
     pub fn message(&self, number: u128) -> Option<&Msg>
         requires { 1 ≤ number }
-        ensures { MatchOption result (slice_get self.now (number - 1) ≡ None) (λ message. IsSentAs self.now number message.now) }
+        ensures { MatchOption result (slice_get self.now (number - 1) ≡ None) (λ message.
+            IsSentAs self.now number message.now) }
     {
         if number <= self.list.len() as u128 {
             Some(&self.list[(number - 1) as usize].message)

@@ -350,7 +350,9 @@ fn put_row_answer(
     mode: u16,
     mark: SizeMark,
 ) -> Result<(), OutOfMemory>
-    ensures { OnOk result (fields.new ≡ fields.old ++ (byte_bytes 13 ++ row_kind_bytes kind ++ word_bytes owner ++ word_bytes group ++ half_bytes mode ++ mark_bytes mark)) }
+    ensures { OnOk result (fields.new ≡ fields.old
+        ++ (byte_bytes 13 ++ row_kind_bytes kind ++ word_bytes owner ++ word_bytes group
+        ++ half_bytes mode ++ mark_bytes mark)) }
 {
     fields.byte(13)?;
     put_row_kind(fields, kind)?;
@@ -366,7 +368,8 @@ fn put_granted(
     capability: &Capability,
     mark: SizeMark,
 ) -> Result<(), OutOfMemory>
-    ensures { OnOk result (fields.new ≡ fields.old ++ (byte_bytes 14 ++ capability_bytes capability.now ++ mark_bytes mark)) }
+    ensures { OnOk result (fields.new ≡ fields.old
+        ++ (byte_bytes 14 ++ capability_bytes capability.now ++ mark_bytes mark)) }
 {
     fields.byte(14)?;
     fields.capability(capability)?;

@@ -84,9 +84,11 @@ fn first_frame(alloc: Global, bytes: &[u8]) -> Result<(Msg, usize), FrameErr>
 /// `Truncated`, `TooLong`, `Version`, `Kind` and `Field` are given exactly as `decoded` says, in its order.
 pub fn decode(alloc: Global, bytes: &[u8]) -> Result<(Msg, usize), FrameErr>
     // What is read is a message within its limits, whose frame stands at the front.
-    ensures found { IfOk result (λ x. FitsMessage x.0 × (x.1 ≡ length (frame_of x.0)) × ((rest : List ℕ) × (bytes.now ≡ frame_of x.0 ++ rest))) }
+    ensures found { IfOk result (λ x. FitsMessage x.0 × (x.1 ≡ length (frame_of x.0))
+        × ((rest : List ℕ) × (bytes.now ≡ frame_of x.0 ++ rest))) }
     // A frame at the front is read, whatever follows it, unless memory runs out.
-    ensures only { (msg : Msg) (rest : List ℕ) → FitsMessage msg → bytes.now ≡ frame_of msg ++ rest → Gives (λ x. x) result (Ok (msg, length (frame_of msg))) }
+    ensures only { (msg : Msg) (rest : List ℕ) → FitsMessage msg →
+        bytes.now ≡ frame_of msg ++ rest → Gives (λ x. x) result (Ok (msg, length (frame_of msg))) }
     // Which fault it is.
     ensures exact { Gives (λ x. x) result (decoded bytes.now) }
 {

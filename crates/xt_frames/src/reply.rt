@@ -141,7 +141,8 @@ fn put_ok_reply(
     bytes: &[u8],
 ) -> Result<(), OutOfMemory>
     requires { length bytes.now < 2 ^ 32 }
-    ensures { OnOk result (fields.new ≡ fields.old ++ (byte_bytes 1 ++ long_bytes count ++ mark_bytes mark ++ octets_bytes bytes.now)) }
+    ensures { OnOk result (fields.new ≡ fields.old
+        ++ (byte_bytes 1 ++ long_bytes count ++ mark_bytes mark ++ octets_bytes bytes.now)) }
 {
     fields.byte(1)?;
     fields.long(count)?;
@@ -159,7 +160,8 @@ pub(crate) fn put_long(fields: &mut FieldWriter, number: u8, value: u64) -> Resu
 
 /// That too few acknowledgements came in time.
 fn put_no_majority(fields: &mut FieldWriter, have: u8, need: u8) -> Result<(), OutOfMemory>
-    ensures { OnOk result (fields.new ≡ fields.old ++ (byte_bytes 3 ++ byte_bytes have ++ byte_bytes need)) }
+    ensures { OnOk result (fields.new ≡ fields.old
+        ++ (byte_bytes 3 ++ byte_bytes have ++ byte_bytes need)) }
 {
     fields.byte(3)?;
     fields.byte(have)?;
@@ -168,7 +170,8 @@ fn put_no_majority(fields: &mut FieldWriter, have: u8, need: u8) -> Result<(), O
 
 /// That another node holds the lease.
 fn put_elsewhere(fields: &mut FieldWriter, node: NodeId, end: u64) -> Result<(), OutOfMemory>
-    ensures { OnOk result (fields.new ≡ fields.old ++ (byte_bytes 4 ++ node_bytes node ++ long_bytes end)) }
+    ensures { OnOk result (fields.new ≡ fields.old
+        ++ (byte_bytes 4 ++ node_bytes node ++ long_bytes end)) }
 {
     fields.byte(4)?;
     fields.node(node)?;

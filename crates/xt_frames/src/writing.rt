@@ -155,7 +155,8 @@ fn put_boot(
     ballot: Ballot,
     boot: Boot,
 ) -> Result<(), OutOfMemory>
-    ensures { OnOk result (writer.new ≡ writer.old ++ (file_bytes file ++ ballot_bytes ballot ++ boot_bytes boot)) }
+    ensures { OnOk result (writer.new ≡ writer.old
+        ++ (file_bytes file ++ ballot_bytes ballot ++ boot_bytes boot)) }
 {
     put_ballot(writer, file, ballot)?;
     writer.boot(boot)
@@ -169,7 +170,8 @@ fn put_promise(
     boot: Boot,
     report: Option<Lease>,
 ) -> Result<(), OutOfMemory>
-    ensures { OnOk result (writer.new ≡ writer.old ++ (file_bytes file ++ ballot_bytes ballot ++ boot_bytes boot ++ report_bytes report)) }
+    ensures { OnOk result (writer.new ≡ writer.old
+        ++ (file_bytes file ++ ballot_bytes ballot ++ boot_bytes boot ++ report_bytes report)) }
 {
     put_boot(writer, file, ballot, boot)?;
     writer.report(report)
@@ -183,7 +185,8 @@ fn put_write(
     boot: Boot,
     lease: Lease,
 ) -> Result<(), OutOfMemory>
-    ensures { OnOk result (writer.new ≡ writer.old ++ (file_bytes file ++ ballot_bytes ballot ++ boot_bytes boot ++ lease_bytes lease)) }
+    ensures { OnOk result (writer.new ≡ writer.old
+        ++ (file_bytes file ++ ballot_bytes ballot ++ boot_bytes boot ++ lease_bytes lease)) }
 {
     put_boot(writer, file, ballot, boot)?;
     writer.lease(lease)
@@ -196,7 +199,8 @@ fn put_outrun(
     ballot: Ballot,
     seen: Ballot,
 ) -> Result<(), OutOfMemory>
-    ensures { OnOk result (writer.new ≡ writer.old ++ (file_bytes file ++ ballot_bytes ballot ++ ballot_bytes seen)) }
+    ensures { OnOk result (writer.new ≡ writer.old
+        ++ (file_bytes file ++ ballot_bytes ballot ++ ballot_bytes seen)) }
 {
     put_ballot(writer, file, ballot)?;
     writer.ballot(seen)
@@ -218,7 +222,8 @@ fn put_head(
     head: &FileHead,
 ) -> Result<(), OutOfMemory>
     requires { FitsHead head.now }
-    ensures { OnOk result (writer.new ≡ writer.old ++ (file_bytes file ++ epoch_bytes epoch ++ head_bytes head.now)) }
+    ensures { OnOk result (writer.new ≡ writer.old
+        ++ (file_bytes file ++ epoch_bytes epoch ++ head_bytes head.now)) }
 {
     put_epoch(writer, file, epoch)?;
     writer.head(head)
@@ -233,7 +238,8 @@ fn put_version(
     version: Stamp,
 ) -> Result<(), OutOfMemory>
     requires { IsObject object }
-    ensures { OnOk result (writer.new ≡ writer.old ++ (file_bytes file ++ epoch_bytes epoch ++ word_bytes object ++ stamp_bytes version)) }
+    ensures { OnOk result (writer.new ≡ writer.old
+        ++ (file_bytes file ++ epoch_bytes epoch ++ word_bytes object ++ stamp_bytes version)) }
 {
     put_epoch(writer, file, epoch)?;
     writer.object(object)?;
@@ -251,7 +257,9 @@ fn put_bytes(
 ) -> Result<(), OutOfMemory>
     requires object_fits { IsObject object }
     requires bytes_fits { length bytes.now < 2 ^ 32 }
-    ensures { OnOk result (writer.new ≡ writer.old ++ (file_bytes file ++ epoch_bytes epoch ++ word_bytes object ++ stamp_bytes version ++ octets_bytes bytes.now)) }
+    ensures { OnOk result (writer.new ≡ writer.old
+        ++ (file_bytes file ++ epoch_bytes epoch ++ word_bytes object ++ stamp_bytes version
+        ++ octets_bytes bytes.now)) }
 {
     put_version(writer, file, epoch, object, version)?;
     writer.octets(bytes)
@@ -260,7 +268,8 @@ fn put_bytes(
 /// An update that is to be taken.
 fn put_update(writer: &mut FieldWriter, file: FileId, update: &Update) -> Result<(), OutOfMemory>
     requires { FitsUpdate update.now }
-    ensures { OnOk result (writer.new ≡ writer.old ++ (file_bytes file ++ update_bytes update.now)) }
+    ensures { OnOk result (writer.new ≡ writer.old
+        ++ (file_bytes file ++ update_bytes update.now)) }
 {
     writer.file(file)?;
     writer.update(update)
@@ -281,7 +290,8 @@ fn put_refused(
     epoch: Epoch,
     promised: Epoch,
 ) -> Result<(), OutOfMemory>
-    ensures { OnOk result (writer.new ≡ writer.old ++ (file_bytes file ++ epoch_bytes epoch ++ epoch_bytes promised)) }
+    ensures { OnOk result (writer.new ≡ writer.old
+        ++ (file_bytes file ++ epoch_bytes epoch ++ epoch_bytes promised)) }
 {
     put_epoch(writer, file, epoch)?;
     writer.epoch(promised)
@@ -294,7 +304,8 @@ fn put_behind(
     epoch: Epoch,
     stamp: Stamp,
 ) -> Result<(), OutOfMemory>
-    ensures { OnOk result (writer.new ≡ writer.old ++ (file_bytes file ++ epoch_bytes epoch ++ stamp_bytes stamp)) }
+    ensures { OnOk result (writer.new ≡ writer.old
+        ++ (file_bytes file ++ epoch_bytes epoch ++ stamp_bytes stamp)) }
 {
     put_epoch(writer, file, epoch)?;
     writer.stamp(stamp)
@@ -308,7 +319,8 @@ fn put_ask(
     op: &Op,
 ) -> Result<(), OutOfMemory>
     requires { FitsOp op.now }
-    ensures { OnOk result (writer.new ≡ writer.old ++ (long_bytes number ++ capability_bytes capability.now ++ op_bytes op.now)) }
+    ensures { OnOk result (writer.new ≡ writer.old
+        ++ (long_bytes number ++ capability_bytes capability.now ++ op_bytes op.now)) }
 {
     writer.long(number)?;
     writer.capability(capability)?;
@@ -323,7 +335,8 @@ fn put_reply(
     reply: &Reply,
 ) -> Result<(), OutOfMemory>
     requires { FitsReply reply.now }
-    ensures { OnOk result (writer.new ≡ writer.old ++ (long_bytes number ++ file_bytes file ++ reply_bytes reply.now)) }
+    ensures { OnOk result (writer.new ≡ writer.old
+        ++ (long_bytes number ++ file_bytes file ++ reply_bytes reply.now)) }
 {
     writer.long(number)?;
     writer.file(file)?;
@@ -339,7 +352,9 @@ fn put_meta(
     request: &MetaReq,
 ) -> Result<(), OutOfMemory>
     requires { FitsMetaReq request.now }
-    ensures { OnOk result (writer.new ≡ writer.old ++ (long_bytes number ++ word_bytes user ++ word_bytes group ++ meta_req_bytes request.now)) }
+    ensures { OnOk result (writer.new ≡ writer.old
+        ++ (long_bytes number ++ word_bytes user ++ word_bytes group
+        ++ meta_req_bytes request.now)) }
 {
     writer.long(number)?;
     writer.word(user)?;
@@ -354,7 +369,8 @@ fn put_meta_reply(
     answer: &MetaAnswer,
 ) -> Result<(), OutOfMemory>
     requires { FitsMetaAnswer answer.now }
-    ensures { OnOk result (writer.new ≡ writer.old ++ (long_bytes number ++ meta_answer_bytes answer.now)) }
+    ensures { OnOk result (writer.new ≡ writer.old
+        ++ (long_bytes number ++ meta_answer_bytes answer.now)) }
 {
     writer.long(number)?;
     writer.meta_answer(answer)
@@ -367,7 +383,8 @@ fn put_registry(
     request: &RegistryReq,
 ) -> Result<(), OutOfMemory>
     requires { FitsRegistryReq request.now }
-    ensures { OnOk result (writer.new ≡ writer.old ++ (long_bytes number ++ registry_req_bytes request.now)) }
+    ensures { OnOk result (writer.new ≡ writer.old
+        ++ (long_bytes number ++ registry_req_bytes request.now)) }
 {
     writer.long(number)?;
     writer.registry_req(request)
@@ -380,7 +397,8 @@ fn put_registry_reply(
     answer: &RegistryAnswer,
 ) -> Result<(), OutOfMemory>
     requires { FitsRegistryAnswer answer.now }
-    ensures { OnOk result (writer.new ≡ writer.old ++ (long_bytes number ++ registry_answer_bytes answer.now)) }
+    ensures { OnOk result (writer.new ≡ writer.old
+        ++ (long_bytes number ++ registry_answer_bytes answer.now)) }
 {
     writer.long(number)?;
     writer.registry_answer(answer)

@@ -52,12 +52,14 @@ impl<D: Disk> Journal<D> {
         // A crash at any moment leaves what it might have left before. Where a short disk is made a journal, it may leave
         // any bytes in the place of those 13 that it has, and of those up to 13 that it gets.
         ensures any_moment { IsTrue D.is_told →
-            LeavesOnly D.moment D.left_since disk (disk_after_load result) (LeavesAsBefore (D.kept disk)) }
+            LeavesOnly D.moment D.left_since disk (disk_after_load result)
+            (LeavesAsBefore (D.kept disk)) }
 
         // It doesn't give up by itself.
         ensures count { D.fault_count (disk_after_load result) ≡
             fault_count_after (is_some (load_fault result)) (D.fault_count disk) }
-        ensures fault { IfSome (load_fault result) (λ count. count ≡ D.fault_count (disk_after_load result)) }
+        ensures fault { IfSome (load_fault result) (λ count. count ≡
+            D.fault_count (disk_after_load result)) }
         ensures failed { IsTrue D.is_told →
             IsSome (load_fault result) → FailedCall (D.fails disk) (D.kept disk).read }
         ensures plan { IsTrue D.is_told → OnOk result
@@ -86,12 +88,14 @@ impl<D: Disk> Journal<D> {
         requires fits { length payload.now < 2 ^ 32 }
         ensures done { IsTrue D.is_told → (payloads : List (List ℕ)) →
             KeepsJournal (D.kept (disk_of self)) payloads →
-            IfOk result (λ journal. KeepsJournal (D.kept (disk_of journal)) (payloads ++ payload.now ∷ [])) }
+            IfOk result (λ journal.
+            KeepsJournal (D.kept (disk_of journal)) (payloads ++ payload.now ∷ [])) }
         ensures acknowledged { IsTrue D.is_told → (payloads : List (List ℕ)) →
             KeepsJournal (D.kept (disk_of self)) payloads →
             IfOk result (λ journal. (image : List ℕ) → IsImage (D.kept (disk_of journal)) image →
             StandsFor image (payloads ++ payload.now ∷ [])) }
-        ensures place { IfOk result (λ journal. place_of journal ≡ place_of self + (5 + length payload.now)) }
+        ensures place { IfOk result (λ journal. place_of journal ≡
+            place_of self + (5 + length payload.now)) }
         ensures limit { IfOk result (λ journal. limit_of journal ≡ limit_of self) }
 
         // A crash at any moment leaves the payloads from before the call, with the new one or without.
@@ -109,13 +113,15 @@ impl<D: Disk> Journal<D> {
         ensures stopped { IsTrue D.is_told → (payloads : List (List ℕ)) →
             KeepsJournal (D.kept (disk_of self)) payloads →
             IsSome (append_fault result) →
-            IsStopped (D.fails (disk_of self)) (D.kept (disk_after_append result)) payloads payload.now }
+            IsStopped (D.fails (disk_of self)) (D.kept (disk_after_append result)) payloads
+            payload.now }
         ensures succeeded { IsTrue D.is_told → OnOk result (AllSucceed (D.fails (disk_of self)) 4) }
         ensures plan { IsTrue D.is_told →
             OnOk result (GoesOn 0 4 (D.fails (disk_of self)) (D.fails (disk_after_append result))) }
         ensures count { D.fault_count (disk_after_append result) ≡
             fault_count_after (is_some (append_fault result)) (D.fault_count (disk_of self)) }
-        ensures fault { IfSome (append_fault result) (λ count. count ≡ D.fault_count (disk_after_append result)) }
+        ensures fault { IfSome (append_fault result) (λ count. count ≡
+            D.fault_count (disk_after_append result)) }
 
         ensures full { IsFullExactly self (place_of self + (6 + length payload.now)) result }
         ensures memory { IfSome (without_memory result) (λ journal.

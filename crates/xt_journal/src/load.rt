@@ -66,7 +66,8 @@ fn make_ready<D: Disk>(disk: &mut D, len: u64) -> Result<(), Failed>
     requires inside { 13 ≤ D.reserved disk.old }
     requires noted { 200 ≤ D.room disk.old }
     ensures ready { IsTrue D.is_told → OnOk result (D.kept disk.new ≡ at_rest (journal_of [])) }
-    ensures left { IsTrue D.is_told → OnErr result (LeavesDisk (D.kept disk.old) (D.kept disk.new)) }
+    ensures left { IsTrue D.is_told →
+        OnErr result (LeavesDisk (D.kept disk.old) (D.kept disk.new)) }
     ensures any_moment { IsTrue D.is_told →
         LeavesOnly D.moment D.left_since disk.old disk.new (LeavesAsBefore (D.kept disk.old)) }
     ensures plan { IsTrue D.is_told → OnOk result ((changes : ℕ) × (changes ≤ 2)
@@ -103,7 +104,8 @@ pub fn load_from<D: Disk>(alloc: Global, disk: &mut D) -> Result<(u64, Vec<Place
         IfOk result (λ found. D.kept disk.new ≡ at_rest (journal_of [])) }
     ensures same { IsTrue D.is_told → 13 < length (D.kept disk.old).read →
         (D.kept disk.new).read ≡ (D.kept disk.old).read }
-    ensures left { IsTrue D.is_told → OnErr result (LeavesDisk (D.kept disk.old) (D.kept disk.new)) }
+    ensures left { IsTrue D.is_told →
+        OnErr result (LeavesDisk (D.kept disk.old) (D.kept disk.new)) }
     ensures any_moment { IsTrue D.is_told →
         LeavesOnly D.moment D.left_since disk.old disk.new (LeavesAsBefore (D.kept disk.old)) }
     ensures plan { IsTrue D.is_told →
@@ -131,7 +133,8 @@ fn read_journal<D: Disk>(alloc: Global, disk: &mut D) -> Result<(u64, Vec<Placed
         OnOk result (D.kept disk.new ≡ at_rest (journal_of [])) }
     ensures same { IsTrue D.is_told → 13 < length (D.kept disk.old).read →
         (D.kept disk.new).read ≡ (D.kept disk.old).read }
-    ensures left { IsTrue D.is_told → OnErr result (LeavesDisk (D.kept disk.old) (D.kept disk.new)) }
+    ensures left { IsTrue D.is_told →
+        OnErr result (LeavesDisk (D.kept disk.old) (D.kept disk.new)) }
     ensures any_moment { IsTrue D.is_told →
         LeavesOnly D.moment D.left_since disk.old disk.new (LeavesAsBefore (D.kept disk.old)) }
     ensures plan { IsTrue D.is_told →

@@ -91,7 +91,8 @@ impl Model for Half {
 fn overwrite(bytes: &mut Vec<u8>, start: usize, payload: &[u8])
     requires { start + length payload.now ≤ length bytes.old.items }
     ensures written { bytes.new.items ≡
-        take start bytes.old.items ++ (payload.now ++ drop (start + length payload.now) bytes.old.items) }
+        take start bytes.old.items
+        ++ (payload.now ++ drop (start + length payload.now) bytes.old.items) }
     ensures long { length bytes.new.items ≡ length bytes.old.items }
 {
     bytes.as_mut_slice()[start..start + payload.len()].copy_from_slice(payload);
@@ -110,7 +111,11 @@ impl Half {
     fn new(alloc: Global, header: &Header) -> Result<Half, AllocError>
         requires { header.now.size ≤ FRAME }
         ensures { IfOk result (λ half. half ≡
-            record { id = header.now.id; size = header.now.size; taken = none_taken header.now.size }) }
+            record {
+              id = header.now.id;
+              size = header.now.size;
+              taken = none_taken header.now.size;
+            }) }
     {
         let size = header.size as usize;
         Ok(Half {
@@ -148,7 +153,8 @@ impl Half {
     fn add(&mut self, index: usize, payload: &[u8])
         requires index { index < parts_in self.old.size }
         requires long { length payload.now ≡ bytes_in self.old.size index }
-        ensures { self.new ≡ record self.old { taken = slice_set self.old.taken index (Some payload.now) } }
+        ensures { self.new ≡
+            record self.old { taken = slice_set self.old.taken index (Some payload.now) } }
     {
         overwrite(&mut self.bytes, index * PAYLOAD, payload);
         self.taken[index] = true;
@@ -194,7 +200,8 @@ fn position_of(halves: &[Half], id: &MessageId) -> Option<usize>
 /// Where in the list the message with this id is.
 #[tactic(auto, using(crate::proofs::Places::found))]
 fn place_of(halves: &[Half], id: &MessageId) -> Option<usize>
-    ensures { MatchOption result (half_of halves.now id.now ≡ None) (λ place. StandsAt halves.now id.now place) }
+    ensures { MatchOption result (half_of halves.now id.now ≡ None) (λ place.
+        StandsAt halves.now id.now place) }
 {
     position_of(halves, id)
 }
@@ -294,11 +301,13 @@ impl Joiner {
     /// Adds a new payload to the half joined message at this place, and gives the message where it is whole with it.
     fn add_to(&mut self, place: usize, header: &Header, payload: &[u8]) -> Option<Whole>
         requires found { StandsAt self.old header.now.id place }
-        requires size { (other : HalfJoined) → (slice_index_or self.old place other).size ≡ header.now.size }
+        requires size { (other : HalfJoined) →
+            (slice_index_or self.old place other).size ≡ header.now.size }
         requires index { header.now.index < parts_in header.now.size }
         requires long { length payload.now ≡ bytes_in header.now.size header.now.index }
         ensures { (other : HalfJoined) →
-            added self.old (slice_index_or self.old place other) header.now payload.now ≡ record { held = self.new; whole = result } }
+            added self.old (slice_index_or self.old place other) header.now payload.now ≡
+            record { held = self.new; whole = result } }
     {
         let half = &mut self.halves[place];
         half.add(header.index as usize, payload);

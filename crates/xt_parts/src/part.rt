@@ -104,7 +104,8 @@ fn is_cut(bytes: &[u8], size: usize) -> bool
 #[tactic(auto, unfolding(crate::specs::Part::is_part, crate::specs::Part::header_of))]
 pub(crate) fn read(bytes: &[u8]) -> Option<(Header, &[u8])>
     ensures exact { option_map (λ part. (part.0, part.1.now)) result ≡ read_part bytes.now }
-    ensures limits { IfSome result (λ part. (part.0.size ≤ FRAME) × (part.0.index < parts_in part.0.size)
+    ensures limits { IfSome result (λ part. (part.0.size ≤ FRAME)
+        × (part.0.index < parts_in part.0.size)
         × (length part.1.now ≡ bytes_in part.0.size part.0.index)) }
 {
     if bytes.len() < HEADER || bytes[0] != VERSION || !is_cut(bytes, word(bytes, 23) as usize) {

@@ -28,7 +28,9 @@ pub use turned::{
 
 /// In its silence nothing comes of an event.
 pub fn silence_is_kept()
-    ensures { (outside : Outside) (osd : OsdState) (reading : ℕ) (happens : Event) → awake_at osd.started (max reading osd.last) ≡ None → (step_of_osd outside osd reading happens).osd ≡ osd }
+    ensures { (outside : Outside) (osd : OsdState) (reading : ℕ) (happens : Event) →
+        awake_at osd.started (max reading osd.last) ≡ None →
+        (step_of_osd outside osd reading happens).osd ≡ osd }
 {}
 
 /// What a few nodes do by these rows.
@@ -46,7 +48,8 @@ pub fn examples()
     ensures issued { marks_of 0 trio behind_issued ≡ behind_issued_marks }
     ensures untested { told_to 11 0 trio behind_issued ≡ [] }
     ensures tested { told_to 11 0 trio committed_then ≡ too_far_reply }
-    ensures took { headed file_1 ahead (body_of 0 (stamp_of 1 1 1) ∷ []) (epoch_of 2 2) shorter ≡ taken }
+    ensures took { headed file_1 ahead (body_of 0 (stamp_of 1 1 1) ∷ []) (epoch_of 2 2) shorter ≡
+        taken }
     ensures misses { headed file_1 ahead [] (epoch_of 2 2) shorter ≡ missed }
     ensures promised { gathered file_1 new_head (epoch_of 2 3) ≡ promises }
     ensures stands { gathered file_1 promised_head (epoch_of 1 1) ≡ refuses }

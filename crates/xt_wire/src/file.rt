@@ -143,7 +143,8 @@ fn kind_arm(fields: &mut FieldReader<'_>, number: u8) -> Result<Kind, FieldErr>
 /// So many nodes, at most nine, in the first places.
 fn node_list(fields: &mut FieldReader<'_>, count: u8) -> Result<[NodeId; 9], FieldErr>
     requires { count ≤ 9 }
-    ensures ok { IfOk result (λ nodes. list_at node_at count fields.old ≡ Ok (take count nodes, fields.new)) }
+    ensures ok { IfOk result (λ nodes. list_at node_at count fields.old ≡
+        Ok (take count nodes, fields.new)) }
     ensures err { IfErr result (λ e. Fails e (list_at node_at count fields.old)) }
     ensures never { IfErr result (λ e. e ≢ OutOfMemory) }
 {
@@ -527,7 +528,8 @@ fn put_slot(fields: &mut FieldWriter, object: u64) -> Result<(), OutOfMemory>
 /// A read.
 fn put_read_op(fields: &mut FieldWriter, object: u64, at: u32, len: u32) -> Result<(), OutOfMemory>
     requires { IsObject object }
-    ensures { OnOk result (fields.new ≡ fields.old ++ (byte_bytes 1 ++ word_bytes object ++ word_bytes at ++ word_bytes len)) }
+    ensures { OnOk result (fields.new ≡ fields.old
+        ++ (byte_bytes 1 ++ word_bytes object ++ word_bytes at ++ word_bytes len)) }
 {
     fields.byte(1)?;
     fields.object(object)?;
@@ -544,7 +546,8 @@ fn put_write_op(
 ) -> Result<(), OutOfMemory>
     requires object_fits { IsObject object }
     requires bytes_fits { length bytes.now < 2 ^ 32 }
-    ensures { OnOk result (fields.new ≡ fields.old ++ (byte_bytes 2 ++ word_bytes object ++ word_bytes at ++ octets_bytes bytes.now)) }
+    ensures { OnOk result (fields.new ≡ fields.old
+        ++ (byte_bytes 2 ++ word_bytes object ++ word_bytes at ++ octets_bytes bytes.now)) }
 {
     fields.byte(2)?;
     fields.object(object)?;

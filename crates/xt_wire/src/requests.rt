@@ -244,7 +244,8 @@ fn put_path_and_mode(
     mode: u16,
 ) -> Result<(), OutOfMemory>
     requires { length path.now < 2 ^ 16 }
-    ensures { OnOk result (fields.new ≡ fields.old ++ (byte_bytes number ++ text_bytes path.now ++ half_bytes mode)) }
+    ensures { OnOk result (fields.new ≡ fields.old
+        ++ (byte_bytes number ++ text_bytes path.now ++ half_bytes mode)) }
 {
     put_path(fields, number, path)?;
     fields.half(mode)
@@ -259,7 +260,8 @@ fn put_paths(
 ) -> Result<(), OutOfMemory>
     requires first_fits { length first.now < 2 ^ 16 }
     requires second_fits { length second.now < 2 ^ 16 }
-    ensures { OnOk result (fields.new ≡ fields.old ++ (byte_bytes number ++ text_bytes first.now ++ text_bytes second.now)) }
+    ensures { OnOk result (fields.new ≡ fields.old
+        ++ (byte_bytes number ++ text_bytes first.now ++ text_bytes second.now)) }
 {
     put_path(fields, number, first)?;
     fields.text(second)
@@ -275,7 +277,9 @@ fn put_create(
     stripe: u32,
 ) -> Result<(), OutOfMemory>
     requires { length path.now < 2 ^ 16 }
-    ensures { OnOk result (fields.new ≡ fields.old ++ (byte_bytes 2 ++ text_bytes path.now ++ half_bytes mode ++ kind_bytes kind ++ byte_bytes n ++ word_bytes stripe)) }
+    ensures { OnOk result (fields.new ≡ fields.old
+        ++ (byte_bytes 2 ++ text_bytes path.now ++ half_bytes mode ++ kind_bytes kind
+        ++ byte_bytes n ++ word_bytes stripe)) }
 {
     put_path_and_mode(fields, 2, path, mode)?;
     fields.kind(kind)?;
@@ -286,7 +290,8 @@ fn put_create(
 /// A capability that is wanted.
 fn put_grant(fields: &mut FieldWriter, path: &str, want: u8) -> Result<(), OutOfMemory>
     requires { length path.now < 2 ^ 16 }
-    ensures { OnOk result (fields.new ≡ fields.old ++ (byte_bytes 9 ++ text_bytes path.now ++ byte_bytes want)) }
+    ensures { OnOk result (fields.new ≡ fields.old
+        ++ (byte_bytes 9 ++ text_bytes path.now ++ byte_bytes want)) }
 {
     put_path(fields, 9, path)?;
     fields.byte(want)
@@ -298,7 +303,8 @@ fn put_size_report(
     capability: &Capability,
     mark: SizeMark,
 ) -> Result<(), OutOfMemory>
-    ensures { OnOk result (fields.new ≡ fields.old ++ (byte_bytes 10 ++ capability_bytes capability.now ++ mark_bytes mark)) }
+    ensures { OnOk result (fields.new ≡ fields.old
+        ++ (byte_bytes 10 ++ capability_bytes capability.now ++ mark_bytes mark)) }
 {
     fields.byte(10)?;
     fields.capability(capability)?;
@@ -314,7 +320,9 @@ fn put_set_row(
     expected: u64,
 ) -> Result<(), OutOfMemory>
     requires { length address.now < 2 ^ 16 }
-    ensures { OnOk result (fields.new ≡ fields.old ++ (byte_bytes 1 ++ node_bytes node ++ byte_bytes kind ++ text_bytes address.now ++ long_bytes expected)) }
+    ensures { OnOk result (fields.new ≡ fields.old
+        ++ (byte_bytes 1 ++ node_bytes node ++ byte_bytes kind ++ text_bytes address.now
+        ++ long_bytes expected)) }
 {
     fields.byte(1)?;
     fields.node(node)?;
@@ -333,7 +341,8 @@ fn put_get_row(fields: &mut FieldWriter, node: NodeId) -> Result<(), OutOfMemory
 
 /// Rows to be listed.
 fn put_list_rows(fields: &mut FieldWriter, kind: u8, after: NodeId) -> Result<(), OutOfMemory>
-    ensures { OnOk result (fields.new ≡ fields.old ++ (byte_bytes 3 ++ byte_bytes kind ++ node_bytes after)) }
+    ensures { OnOk result (fields.new ≡ fields.old
+        ++ (byte_bytes 3 ++ byte_bytes kind ++ node_bytes after)) }
 {
     fields.byte(3)?;
     fields.byte(kind)?;
@@ -342,7 +351,8 @@ fn put_list_rows(fields: &mut FieldWriter, kind: u8, after: NodeId) -> Result<()
 
 /// A node to be removed.
 fn put_remove_row(fields: &mut FieldWriter, node: NodeId, expected: u64) -> Result<(), OutOfMemory>
-    ensures { OnOk result (fields.new ≡ fields.old ++ (byte_bytes 4 ++ node_bytes node ++ long_bytes expected)) }
+    ensures { OnOk result (fields.new ≡ fields.old
+        ++ (byte_bytes 4 ++ node_bytes node ++ long_bytes expected)) }
 {
     fields.byte(4)?;
     fields.node(node)?;

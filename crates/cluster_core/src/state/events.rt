@@ -17,7 +17,8 @@ impl<C: NodeCore, H: Hull> State<C, H> {
     /// An event comes to the node of this id. At one that doesn't run nothing comes of it.
     pub fn event_comes(&mut self, id: NodeId, ev: &Event) -> Result<(), WorldErr>
         requires { FitsComing self.old.doing.world id ev.now }
-        ensures { IsStepped self.old (event_comes H.overflow self.old.doing id ev.now) self.new result }
+        ensures { IsStepped self.old (event_comes H.overflow self.old.doing id ev.now) self.new
+            result }
     {
         let Some(place) = self.stepper.nodes.find(id) else {
             return Ok(());
@@ -31,7 +32,9 @@ impl<C: NodeCore, H: Hull> State<C, H> {
     /// A client makes a call. On what is no declared file nothing comes of it.
     pub fn call(&mut self, client: NodeId, call: &Call) -> Result<(), WorldErr>
         requires { FitsCalling self.old.doing.world client call.now }
-        ensures { IsStepped self.old (calls H.overflow self.old.doing (node_in self.old.doing.world.nodes client.0) call.now) self.new result }
+        ensures { IsStepped self.old
+            (calls H.overflow self.old.doing (node_in self.old.doing.world.nodes client.0) call.now)
+            self.new result }
     {
         let Some(place) = self.stepper.nodes.find(client) else {
             return Ok(());
@@ -54,7 +57,9 @@ impl<C: NodeCore, H: Hull> State<C, H> {
     /// A message comes to its node.
     pub fn hand(&mut self, message: Msg) -> Result<(), WorldErr>
         requires { FitsComing self.old.doing.world message.to (Event.Deliver message) }
-        ensures { IsStepped self.old (event_comes H.overflow self.old.doing message.to (Event.Deliver message)) self.new result }
+        ensures { IsStepped self.old
+            (event_comes H.overflow self.old.doing message.to (Event.Deliver message)) self.new
+            result }
     {
         self.event_comes(message.to, &Event::Deliver(message))
     }

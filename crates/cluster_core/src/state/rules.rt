@@ -56,7 +56,9 @@ fn no_message(sent: &SentMessages, number: u128) -> Option<Rule>
 impl<C: NodeCore, H: Hull> State<C, H> {
     /// A file that is declared already, or not of declared OSDs.
     fn file_rule(&self, number: u64, location: &Location) -> Option<Rule>
-        ensures { result ≡ option_or (file_twice self.now.doing.world.files number) (first_stranger self.now.doing.world.nodes location.now.members) }
+        ensures { result ≡
+            option_or (file_twice self.now.doing.world.files number)
+            (first_stranger self.now.doing.world.nodes location.now.members) }
     {
         match self.files.find(number) {
             Some(_) => Some(Rule::Declared { number }),

@@ -23,7 +23,8 @@ impl<C: NodeCore, H: Hull> State<C, H> {
         requires values { MayStand self.old.doing.world line.now }
         requires own { self.old.doing.own ≡ [] }
         requires fits { FitsWorld self.old.doing.world [] }
-        ensures { IsStepped self.old (first_step H.overflow self.old.doing line.now) self.new result }
+        ensures { IsStepped self.old (first_step H.overflow self.old.doing line.now) self.new
+            result }
     {
         match line {
             Line::Times { lease, drift } => self.set_times(*lease, *drift),
@@ -58,7 +59,8 @@ impl<C: NodeCore, H: Hull> State<C, H> {
     fn settle(&mut self) -> Result<bool, WorldErr>
         requires own { self.old.doing.own ≡ [] }
         requires fits { FitsWorld self.old.doing.world [] }
-        ensures { IsTurned self.old (settles H.overflow self.old.doing self.old.doing.left) self.new result }
+        ensures { IsTurned self.old (settles H.overflow self.old.doing self.old.doing.left) self.new
+            result }
     {
         if self.left == 0 {
             return Ok(true);
@@ -74,7 +76,8 @@ impl<C: NodeCore, H: Hull> State<C, H> {
     /// One step of a line at work. True where the line is done.
     fn turn(&mut self) -> Result<bool, WorldErr>
         requires { FitsWorld self.old.doing.world self.old.doing.own }
-        ensures { IsTurned self.old (next_step H.overflow (goes_on self.old.doing)) self.new result }
+        ensures { IsTurned self.old (next_step H.overflow (goes_on self.old.doing)) self.new
+            result }
     {
         let Some(message) = self.stepper.own.take() else {
             return self.settle();

@@ -23,7 +23,11 @@ impl<C: NodeCore, H: Hull> Nodes<C, H> {
     /// Declares an OSD of an id of its own, which doesn't run.
     pub fn declare_osd(&mut self, id: NodeId) -> Result<(), OutOfMemory>
         requires { node_in self.old.nodes id.0 ≡ None }
-        ensures { OnOk result (self.new ≡ record self.old { nodes = self.old.nodes ++ record { id = id; role = role.Osd; kept = []; up = None } ∷ [] }) }
+        ensures { OnOk result (self.new ≡
+            record self.old {
+              nodes = self.old.nodes
+                  ++ record { id = id; role = role.Osd; kept = []; up = None } ∷ [];
+            }) }
     {
         self.hosts.push(Host::osd(id, self.times))?;
         Ok(())
@@ -38,7 +42,16 @@ impl<C: NodeCore, H: Hull> Nodes<C, H> {
     ) -> Result<(), OutOfMemory>
         requires own { node_in self.old.nodes id.0 ≡ None }
         requires clock { clock < 2 ^ 62 }
-        ensures { OnOk result (self.new ≡ record self.old { nodes = self.old.nodes ++ record { id = id; role = role.Client; kept = []; up = Some (runs first_boot clock (client (new_client clock))) } ∷ [] }) }
+        ensures { OnOk result (self.new ≡
+            record self.old {
+              nodes = self.old.nodes
+                  ++ record {
+                    id = id;
+                    role = role.Client;
+                    kept = [];
+                    up = Some (runs first_boot clock (client (new_client clock)));
+                  } ∷ [];
+            }) }
     {
         self.hosts.push(Host::client(alloc, id, self.times, clock))?;
         Ok(())
@@ -95,9 +108,11 @@ impl<C: NodeCore, H: Hull> Nodes<C, H> {
     /// An event comes to the node at a place. None where it doesn't run.
     pub fn handle(&mut self, place: usize, ev: &Event) -> Result<Option<Turned>, OutOfMemory>
         requires inside { place < length self.old.nodes }
-        requires running { (node : Node) → IsAt self.old.nodes place node → IfSome node.up (λ running. running.clock < 2 ^ 62) }
+        requires running { (node : Node) → IsAt self.old.nodes place node →
+            IfSome node.up (λ running. running.clock < 2 ^ 62) }
         requires fits { FitsEvent ev.now }
-        ensures { IfOk result (λ turned. (node : Node) → IsAt self.old.nodes place node → NodeHandles ev.now self.old node self.new turned) }
+        ensures { IfOk result (λ turned. (node : Node) → IsAt self.old.nodes place node →
+            NodeHandles ev.now self.old node self.new turned) }
     {
         handle(&mut self.hosts[place], &self.hull, ev)
     }
@@ -112,8 +127,10 @@ impl<C: NodeCore, H: Hull> Nodes<C, H> {
         op: Op,
     ) -> Result<Option<Turned>, OutOfMemory>
         requires inside { place < length self.old.nodes }
-        requires running { (node : Node) → IsAt self.old.nodes place node → IfSome node.up (λ running. running.clock < 2 ^ 62) }
-        ensures { IfOk result (λ turned. (node : Node) → IsAt self.old.nodes place node → NodeCalls call.now number location.now op self.old node self.new turned) }
+        requires running { (node : Node) → IsAt self.old.nodes place node →
+            IfSome node.up (λ running. running.clock < 2 ^ 62) }
+        ensures { IfOk result (λ turned. (node : Node) → IsAt self.old.nodes place node →
+            NodeCalls call.now number location.now op self.old node self.new turned) }
     {
         self.hosts[place].call(call, number, location, op)
     }
@@ -127,7 +144,8 @@ fn handle<C: NodeCore, H: Hull>(
 ) -> Result<Option<Turned>, OutOfMemory>
     requires running { IfSome host.old.up (λ running. running.clock < 2 ^ 62) }
     requires fits { FitsEvent ev.now }
-    ensures handled { IfOk result (λ turned. Handles (H.kept hull.now host.old.id.0) ev.now host.old host.new turned) }
+    ensures handled { IfOk result (λ turned.
+        Handles (H.kept hull.now host.old.id.0) ev.now host.old host.new turned) }
     ensures err { OnErr result (host.new ≡ record host.old { up = None }) }
 {
     let node = host.id();

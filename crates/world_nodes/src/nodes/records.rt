@@ -24,7 +24,8 @@ impl<C: NodeCore, H: Hull> Nodes<C, H> {
     /// What the records of the node at a place say.
     pub fn said(&mut self, alloc: Global, place: usize) -> Result<Folded, OutOfMemory>
         requires { place < length self.old.nodes }
-        ensures said { IfOk result (λ folded. (node : Node) → IsAt self.old.nodes place node → folded ≡ fold_of node.kept) }
+        ensures said { IfOk result (λ folded. (node : Node) → IsAt self.old.nodes place node →
+            folded ≡ fold_of node.kept) }
         ensures same { self.new ≡ self.old }
     {
         let node = self.hosts[place].id();
@@ -46,7 +47,16 @@ impl<C: NodeCore, H: Hull> Nodes<C, H> {
         requires inside { place < length self.old.nodes }
         requires clock { clock < 2 ^ 62 }
         requires records { IsSaid folded }
-        ensures { OnOk result ((node : Node) → IsAt self.old.nodes place node → folded ≡ fold_of node.kept → self.new ≡ record self.old { nodes = with_node self.old.nodes (record node { up = Some (runs boot clock (osd (osd_starting self.old.times node boot clock))) }) }) }
+        ensures { OnOk result ((node : Node) → IsAt self.old.nodes place node →
+            folded ≡ fold_of node.kept →
+            self.new ≡
+            record self.old {
+              nodes = with_node self.old.nodes
+                  (record node {
+                    up = Some
+                        (runs boot clock (osd (osd_starting self.old.times node boot clock)));
+                  });
+            }) }
     {
         self.hosts[place].start(alloc, folded, boot, clock)
     }
@@ -60,10 +70,14 @@ impl<C: NodeCore, H: Hull> Nodes<C, H> {
         stop: Option<Stop>,
     ) -> Result<Kept, WorldErr>
         requires inside { place < length self.old.nodes }
-        requires fits { (node : Node) → IsAt self.old.nodes place node → FitsRecord rec.now × IsInPlace (fold_of node.kept) rec.now }
+        requires fits { (node : Node) → IsAt self.old.nodes place node →
+            FitsRecord rec.now × IsInPlace (fold_of node.kept) rec.now }
         requires call { IsInAppend stop }
-        ensures done { IfOk result (λ end. (end ≡ kept_by stop) × Changes self.old place (λ node. record node { kept = kept_when node.kept rec.now end }) self.new) }
-        ensures room { (node : Node) → IsAt self.old.nodes place node → IsFullExactly (H.overflow node.kept rec.now) result }
+        ensures done { IfOk result (λ end. (end ≡ kept_by stop)
+            × Changes self.old place (λ node.
+            record node { kept = kept_when node.kept rec.now end }) self.new) }
+        ensures room { (node : Node) → IsAt self.old.nodes place node →
+            IsFullExactly (H.overflow node.kept rec.now) result }
         ensures error { IfErr result IsFullOrMemory }
     {
         let node = self.hosts[place].id();
@@ -78,9 +92,13 @@ impl<C: NodeCore, H: Hull> Nodes<C, H> {
         rec: &OptionalBox<Record>,
     ) -> Result<(), WorldErr>
         requires inside { place < length self.old.nodes }
-        requires fits { (node : Node) → IsAt self.old.nodes place node → FitsNext node.kept rec.now }
-        ensures done { OnOk result (Changes self.old place (λ node. record node { kept = one_more node.kept rec.now }) self.new) }
-        ensures room { (node : Node) → IsAt self.old.nodes place node → IsFullExactly (overflow_of H.overflow node.kept rec.now) result }
+        requires fits { (node : Node) → IsAt self.old.nodes place node →
+            FitsNext node.kept rec.now }
+        ensures done { OnOk result
+            (Changes self.old place (λ node. record node { kept = one_more node.kept rec.now })
+            self.new) }
+        ensures room { (node : Node) → IsAt self.old.nodes place node →
+            IsFullExactly (overflow_of H.overflow node.kept rec.now) result }
         ensures error { IfErr result IsFullOrMemory }
     {
         match rec.get() {

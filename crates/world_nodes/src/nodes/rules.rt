@@ -57,7 +57,8 @@ impl<C: NodeCore, H: Hull> Nodes<C, H> {
 
     /// What the clock of the node of this id reads, where it runs.
     fn clock_of(&self, id: NodeId) -> Option<u64>
-        ensures { result ≡ option_map (λ running. running.clock) (up_of (node_in self.now.nodes id.0)) }
+        ensures { result ≡
+            option_map (λ running. running.clock) (up_of (node_in self.now.nodes id.0)) }
     {
         let place = self.find(id)?;
         Some(self.moment(place)?.clock)
