@@ -28,7 +28,8 @@ use Rattle.xt_protocol.specs.Asks.{Served, WAITING, no_asks, waits, stays, is_re
 use Rattle.replica_runs.specs.Seen.{nodes_in, acked_by}
 use Rattle.object_versions.proofs.HeadLimits.{either}
 use Rattle.cluster_fits.proofs.Lists.{all_append}
-use Rattle.cluster_fits.proofs.States.{AreSent, sent, ProgressIs, PrimaryIs, AskIs, AsksAre}
+use Rattle.cluster_fits.specs.States.{AreSent, ProgressIs, PrimaryIs, AskIs, AsksAre}
+use Rattle.cluster_fits.proofs.States.{sent}
 use Rattle.cluster_fits.proofs.Primary.{LedRec, LedIs, GroundIs}
 use Rattle.cluster_fits.proofs.Serving.{reads_is, writes_is}
 

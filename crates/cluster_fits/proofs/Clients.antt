@@ -45,7 +45,8 @@ use Rattle.cluster_runs.specs.Steps.{Step, stays}
 use Rattle.object_versions.proofs.HeadLimits.{either, when}
 use Rattle.cluster_fits.proofs.Lists.{all_filter}
 use Rattle.cluster_fits.proofs.Bytes.{are_bytes, each-zeros}
-use Rattle.cluster_fits.proofs.States.{AreSent, sent}
+use Rattle.cluster_fits.specs.States.{AreSent}
+use Rattle.cluster_fits.proofs.States.{sent}
 
 pub record CallIs (c : RunningCall) : Type 0 where
   pub number_fits : IsCount c.number

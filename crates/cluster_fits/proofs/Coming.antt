@@ -18,7 +18,7 @@ use Rattle.cluster_runs.specs.Rules.{if_so, busy, has_call}
 use Rattle.time_line.specs.Bounds.{FitsCall}
 use Rattle.world_runs.specs.View.{messages}
 use Rattle.world_runs.proofs.Tables.{node_in-id}
-use Rattle.cluster_fits.specs.Fits.{FitsKept, FitsRunning, FitsNode, FitsComing, FitsCalling, FitsDelivery, FitsWorld, Comes}
+use Rattle.cluster_fits.specs.Fits.{FitsKept, FitsRunning, FitsComing, FitsCalling, FitsDelivery, FitsWorld, Comes}
 
 each : {A : Type 0} (P : A → Type 0) (xs : List A) (x : A) → AllByRecursion P xs → Has x xs → P x
 each P [] x all has = absurd (has)

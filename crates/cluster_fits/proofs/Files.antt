@@ -53,7 +53,8 @@ use Rattle.osd_invariants.proofs.SoundSteps.{expired_so}
 use Rattle.lease_runs.proofs.LeaseSteps.{expired_keeps}
 use Rattle.object_versions.proofs.HeadLimits.{either, when}
 use Rattle.cluster_fits.proofs.Lists.{all_append, all_filter}
-use Rattle.cluster_fits.proofs.States.{AreSent, sent, AcceptorIs, ProposerIs, LeaseIs, TargetIs, TenureIs, AskIs, AsksAre, IsInside, RowIs, FileIs, NextIs, SiteIs, StepIs}
+use Rattle.cluster_fits.specs.States.{AreSent, AcceptorIs, ProposerIs, LeaseIs, TargetIs, TenureIs, AskIs, AsksAre, IsInside, RowIs, FileIs, NextIs, SiteIs, StepIs}
+use Rattle.cluster_fits.proofs.States.{sent}
 use Rattle.cluster_fits.proofs.Lease.{answer_is, NewsIs, starts_is, renewing_is, expires_is}
 use Rattle.cluster_fits.proofs.Replica.{kept_is, ActedIs, gathers, fetches_from, stages, takes_head, takes_update}
 use Rattle.cluster_fits.proofs.Primary.{each_sent, any_sent, LedRec, GroundIs, drawn_is, hears_is}
@@ -102,13 +103,13 @@ led_next row (Some (kept.View file location)) is next = absurd next
 led_next row (Some (kept.Boot boot)) is next = absurd next
 led_next row (Some (kept.Meta from number now nodes request)) is next = absurd next
 
--- a file that keeps this record
-keeping_is : (s : FileState) (rec : Option Record) → FileIs s → NextIs s.kept rec → FileIs (record s { kept = kept_after s.kept rec })
-keeping_is s rec is next = record { row = kept_is s.kept rec is.row next; register = is.register; leases = is.leases; clock = is.clock; leads = is.leads; waits = is.waits }
-
 -- a step that leaves this state
 steps_is : (s : FileState) (turned : Turned) → FileIs s → NextIs s.kept turned.rec → AreSent turned.outs → StepIs s.kept (steps_to s turned)
-steps_is s turned is next outs = record { state = keeping_is s turned.rec is next; next = next; outs = outs }
+steps_is s turned is next outs = record {
+  state = record { row = kept_is s.kept turned.rec is.row next; register = is.register; leases = is.leases; clock = is.clock; leads = is.leads; waits = is.waits };
+  next = next;
+  outs = outs;
+}
 
 still_is : (s : FileState) → FileIs s → StepIs s.kept (nothing s)
 still_is s is = record { state = is; next = tt; outs = tt }

@@ -1,5 +1,5 @@
 -- what a node keeps: records within the limits, each in its place, and what they say of each file and each body
-use Rattle.std.proofs.Common.{◌≡◌, ◌==◌, ◌&&◌, ℕ, List, [], ◌∷◌, ◌++◌, refl, sym, ap, subst, Option, Some, None, true, unwrap_or, arith}
+use Rattle.std.proofs.Common.{◌≡◌, ◌==◌, ◌&&◌, ◌∙◌, ℕ, List, [], ◌∷◌, ◌++◌, refl, sym, ap, subst, Option, Some, None, true, unwrap_or, arith}
 use Rattle.std.specs.Option.{IfSome}
 use Rattle.std.specs.List.{All, AllByRecursion, fold}
 use Rattle.std.specs.Prelude.{Contains}
@@ -19,17 +19,11 @@ use Rattle.xt_protocol.specs.SeenBodies.{body_by}
 use Rattle.xt_protocol.specs.Stamps.{is_stamp}
 use Rattle.xt_protocol.proofs.Folds.{fold_of-push, row_in-file}
 use Rattle.object_versions.proofs.HeadLimits.{either}
-use Rattle.cluster_fits.specs.Fits.{FitsNext}
+use Rattle.cluster_fits.specs.Fits.{FitsNext, FitsKept}
 use Rattle.cluster_fits.proofs.Lists.{all_append}
-use Rattle.cluster_fits.proofs.States.{RowIs, RecordIs, AreBodies}
+use Rattle.cluster_fits.specs.States.{RowIs, RecordIs, PlacedOn, AreBodies, KeptIs}
 use Rattle.cluster_fits.proofs.Replica.{row_is}
 use Rattle.cluster_fits.proofs.Updates.{no_bytes}
-
--- what a node keeps, and the rows that it says
-pub record KeptIs (records : List Record) : Type 0 where
-  pub limits : AllByRecursion FitsRecord records
-  pub places : AreInPlace nothing_kept records
-  pub rows : AllByRecursion RowIs (fold_of records).files
 
 -- a record more: it is of a file, and in its place on the file's row
 abbrev pub NextOf : List Record → Option Record → Type 0
@@ -133,6 +127,38 @@ start_is records boot is fits = record {
   places = in_place records (kept.Boot boot) is.places tt;
   rows = subst (λ (f : Folded). AllByRecursion RowIs f.files) (sym (fold_of-push records (kept.Boot boot))) is.rows;
 }
+
+-- ---- records from outside
+
+-- A record within its limits, in its place: the rows behind it are within theirs.
+rows_more : (folded : Folded) (rec : Record) → AllByRecursion RowIs folded.files → FitsRecord rec → IsInPlace folded rec → AllByRecursion RowIs (folded_after folded rec).files
+rows_more folded rec rows limits place = at (file_of rec) refl
+  where
+    on_row : (file : FileId) (rec : Record) → file_of rec ≡ Some file → IsInPlace folded rec → PlacedOn (row_in folded.files file) rec
+    on_row file (kept.Promise f epoch) own place = subst (λ (g : FileId). is_at_most (row_in folded.files g).head.promised epoch ≡ true) (same_file f file own) place
+    on_row file (kept.Update f update) own place = subst (λ (g : FileId). FollowsHead (row_in folded.files g).head update) (same_file f file own) place
+    on_row file (kept.Head f head) own place = subst (λ (g : FileId). All (Contains (row_in folded.files g).held) head.versions) (same_file f file own) place
+    on_row file (kept.Stage f object version bytes) own place = tt
+    on_row file (kept.View f location) own place = tt
+    on_row file (kept.Boot boot) own place = tt
+    on_row file (kept.Meta from number now nodes request) own place = tt
+
+    at : (o : Option FileId) → file_of rec ≡ o → AllByRecursion RowIs (rows_after folded.files rec o)
+    at None own = rows
+    at (Some file) own =
+        let row = row_in folded.files file in
+        let which : FitsFile file = subst (λ (o : Option FileId). IfSome o FitsFile) own (record_file rec limits) in
+        put_row folded.files (row_after row rec) rows
+        (row_is row rec (row_known folded.files file which rows) (record { limits = limits; own = own ∙ ap (λ (f : FileId). Some f) (sym (row_in-file folded.files file)); place = on_row file rec own place }))
+
+all_rows : (records : List Record) (folded : Folded) → AllByRecursion RowIs folded.files → AllByRecursion FitsRecord records → AreInPlace folded records → AllByRecursion RowIs (fold folded_after folded records).files
+all_rows [] folded rows limits places = rows
+all_rows (r ∷ rs) folded rows limits places = all_rows rs (folded_after folded r) (rows_more folded r rows limits.0 places.0) limits.1 places.1
+
+-- Records within their limits, each in its place.
+pub kept_so : (records : List Record) → FitsKept records → KeptIs records
+unfolding fold_of
+kept_so records fits = record { limits = fits.limits; places = fits.places; rows = all_rows records nothing_kept tt fits.limits fits.places }
 
 -- ---- bodies
 

@@ -16,7 +16,7 @@ use Rattle.xt_protocol.specs.LeaseRows.{Proposer, Held, LeaseState, free, asking
 use Rattle.xt_protocol.specs.LeaseRows as lease
 use Rattle.object_versions.proofs.HeadLimits.{either}
 use Rattle.cluster_fits.proofs.Lists.{all_map, all_weaker}
-use Rattle.cluster_fits.proofs.States.{ProposerIs, SeatIs, RoundIs, HeldIs, LeaseIs, TargetIs}
+use Rattle.cluster_fits.specs.States.{ProposerIs, SeatIs, RoundIs, HeldIs, LeaseIs, TargetIs}
 
 -- ---- rounds
 

@@ -11,5 +11,7 @@ pub mod Asks
 pub mod Files
 pub mod Kept
 pub mod Osd
+pub mod Keeping
+pub mod Rewritten
 pub mod Clients
 pub mod Worlds

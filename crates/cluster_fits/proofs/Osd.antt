@@ -1,5 +1,5 @@
 -- a step of an OSD: its state, its record and its messages are within the limits
-use Rattle.std.proofs.Common.{◌≡◌, ◌<◌, ◌^◌, max, ℕ, List, [], ◌∷◌, sym, subst, Option, Some, None, arith}
+use Rattle.std.proofs.Common.{◌≡◌, ◌<◌, ◌^◌, max, ℕ, Bool, List, [], ◌∷◌, sym, subst, Option, Some, None, arith}
 use Rattle.std.specs.Option.{IfSome}
 use Rattle.std.specs.List.{AllByRecursion}
 use Rattle.xt_base.specs.declared.ids.FileId.{FileId}
@@ -20,23 +20,17 @@ use Rattle.xt_protocol.specs.FileSteps.{step_of_file, wake_of_file}
 use Rattle.xt_protocol.specs.OsdSteps.{OsdState, OsdStep, FilesStep, osd_from, file_at, with_file, each_file, file_concerned, message_handled, woken, event_handled, handled_awake, step_of_osd}
 use Rattle.osd_invariants.specs.Sound.{IsSound}
 use Rattle.lease_runs.proofs.ActSteps.{woken_quiet}
-use Rattle.cluster_runs.specs.NodeSteps.{outside_of}
+use Rattle.xt_messages.specs.declared.file.Capability.{Capability}
 use Rattle.world_runs.specs.View.{awake_as}
 use Rattle.world_runs.specs.Worlds.{Agrees}
 use Rattle.object_versions.proofs.HeadLimits.{either}
 use Rattle.cluster_fits.proofs.Lists.{all_append, all_map, all_weaker}
-use Rattle.cluster_fits.proofs.States.{AreSent, sent, RowIs, FileIs, NextIs, SiteIs, StepIs}
+use Rattle.cluster_fits.specs.States.{AreSent, RowIs, FileIs, NextIs, SiteIs, StepIs, OsdIs, outside_by}
+use Rattle.cluster_fits.proofs.States.{sent}
 use Rattle.cluster_fits.proofs.Files.{expired_is, step_is, wake_is}
 use Rattle.cluster_fits.proofs.Asks.{none_are}
-use Rattle.cluster_fits.proofs.Kept.{KeptIs, NextOf, new_row_is, bodies_are}
-
--- the state of an OSD
-pub record OsdIs (s : OsdState) : Type 0 where
-  pub who : FitsNode s.started.node
-  pub start : FitsBoot s.started.boot
-  pub short : s.started.times.lease < 2 ^ 40
-  pub clock : s.last < 2 ^ 62
-  pub each : AllByRecursion FileIs s.files
+use Rattle.cluster_fits.specs.States.{KeptIs}
+use Rattle.cluster_fits.proofs.Kept.{NextOf, new_row_is, bodies_are}
 
 -- what a step of the files of an OSD owes that keeps these records
 pub record FilesAre (records : List Record) (step : FilesStep) : Type 0 where
@@ -165,16 +159,16 @@ module _ (records : List Record) (site : Site) (here : SiteIs site) (awake : Awa
 
 -- ---- any event
 
-pub osd_step_is : (records : List Record) (s : OsdState) (reading : ℕ) (happens : Event) → KeptIs records → OsdIs s → reading < 2 ^ 62 → Agrees records s → ((file : FileId) → IsSound (file_at (awake_as s.started) s.files file)) → FitsEvent happens
-    → OsdStepIs records (step_of_osd (outside_of records) s reading happens)
+pub osd_step_is : (sealed : Capability → Bool) (records : List Record) (s : OsdState) (reading : ℕ) (happens : Event) → KeptIs records → OsdIs s → reading < 2 ^ 62 → Agrees records s → ((file : FileId) → IsSound (file_at (awake_as s.started) s.files file)) → FitsEvent happens
+    → OsdStepIs records (step_of_osd (outside_by sealed records) s reading happens)
 unfolding step_of_osd
-osd_step_is records s reading happens kept is read agrees sound fits =
+osd_step_is sealed records s reading happens kept is read agrees sound fits =
     let now = max reading s.last in
     let clock : now < 2 ^ 62 = both reading s.last read is.clock in
-    let site : Site = record { node = s.started.node; times = s.started.times; now = now; sealed = (outside_of records).sealed; body = (outside_of records).body } in
+    let site : Site = record { node = s.started.node; times = s.started.times; now = now; sealed = (outside_by sealed records).sealed; body = (outside_by sealed records).body } in
     let here : SiteIs site = record { who = is.who; short = is.short; clock = clock; bodies = λ file. bodies_are records file kept.limits } in
     let step = handled_is records site here (awake_as s.started) (is.who, is.start, is.short) s.files is.each agrees sound happens fits in
-    either (λ (a : Option Awake). OsdStepIs records (handled_awake (outside_of records) s now happens a)) (is_silent s.started now) None (Some (awake_as s.started))
+    either (λ (a : Option Awake). OsdStepIs records (handled_awake (outside_by sealed records) s now happens a)) (is_silent s.started now) None (Some (awake_as s.started))
     (record { state = is; next = tt; outs = tt })
     (record { state = record { who = is.who; start = is.start; short = is.short; clock = clock; each = step.each }; next = step.next; outs = step.outs })
   where

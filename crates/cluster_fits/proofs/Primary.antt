@@ -41,7 +41,8 @@ use Rattle.replica_runs.proofs.Counts.{acked_fits}
 use Rattle.replica_runs.proofs.Peers.{peer_found, peer_listed, nodes_with}
 use Rattle.object_versions.proofs.HeadLimits.{either, when}
 use Rattle.cluster_fits.proofs.Lists.{each_in, all_filter, all_flat, all_weaker, found_is}
-use Rattle.cluster_fits.proofs.States.{AreSent, sent, PeerStateIs, PeerIs, AckedIs, IssuedIs, ProgressIs, TenureIs, PrimaryIs, AreBodies}
+use Rattle.cluster_fits.specs.States.{AreSent, PeerStateIs, PeerIs, AckedIs, IssuedIs, ProgressIs, TenureIs, PrimaryIs, AreBodies}
+use Rattle.cluster_fits.proofs.States.{sent}
 use Rattle.cluster_fits.proofs.Updates.{no_bytes}
 
 -- ---- messages

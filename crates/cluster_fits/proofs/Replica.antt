@@ -28,7 +28,7 @@ use Rattle.replica_records.proofs.AfterUpdate.{follows}
 use Rattle.replica_records.proofs.Held.{is_among}
 use Rattle.replica_safety.proofs.Orders.{is_one}
 use Rattle.object_versions.proofs.HeadLimits.{either, when}
-use Rattle.cluster_fits.proofs.States.{RowIs, RecordIs, NextIs, AreBodies}
+use Rattle.cluster_fits.specs.States.{RowIs, RecordIs, NextIs, AreBodies}
 
 -- ---- epochs
 

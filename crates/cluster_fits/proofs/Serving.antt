@@ -31,7 +31,8 @@ use Rattle.xt_protocol.specs.Primaries.{Ground, Led, is_current, if_any}
 use Rattle.xt_protocol.specs.Serving.{reads_in, reads_under, reads, current_others, issues, next_update_of, issues_unless, write_stands, writes_in, writes_under, writes, gather_unknown, unacked, sent_again, to_peers, wakes_in, wakes_under, wakes}
 use Rattle.object_versions.proofs.HeadLimits.{either, when}
 use Rattle.cluster_fits.proofs.Lists.{all_filter, all_flat, all_weaker}
-use Rattle.cluster_fits.proofs.States.{AreSent, sent, PeerStateIs, PeerIs, IssuedIs, ProgressIs, TenureIs, PrimaryIs, AskIs, IsInside}
+use Rattle.cluster_fits.specs.States.{AreSent, PeerStateIs, PeerIs, IssuedIs, ProgressIs, TenureIs, PrimaryIs, AskIs, IsInside}
+use Rattle.cluster_fits.proofs.States.{sent}
 use Rattle.cluster_fits.proofs.Updates.{no_bytes, shown_is, StandingIs, standing_is, update_is}
 use Rattle.cluster_fits.proofs.Primary.{each_sent, any_sent, last_is, nodes_are, LedIs, GroundIs}
 

@@ -24,7 +24,7 @@ use Rattle.xt_protocol.specs.Objects.{present_body, readable}
 use Rattle.xt_protocol.specs.Writes.{bytes_shown, Standing, repeated, older, turned_away, fresh, is_old_epoch, too_far, room_for_client, reach, judged, by_session, standing, written, objects_of, cuts_body, truncated, update_of}
 use Rattle.object_versions.proofs.HeadLimits.{either}
 use Rattle.cluster_fits.proofs.Bytes.{each_byte, are_bytes, each-take, each-drop, each-overlay, each-filled, length-filled, length-overlay}
-use Rattle.cluster_fits.proofs.States.{AreBodies, IsInside}
+use Rattle.cluster_fits.specs.States.{AreBodies, IsInside}
 
 pub no_bytes : FitsBytes []
 no_bytes = record { all = λ i. omega arith; few = omega arith }

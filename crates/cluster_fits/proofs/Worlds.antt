@@ -19,6 +19,7 @@ use Rattle.xt_messages.specs.Limits.{FitsLocation, FitsMessage, FitsEvent}
 use Rattle.xt_messages.specs.Limits as limits
 use Rattle.xt_protocol.specs.declared.turned.Turned.{Turned}
 use Rattle.xt_protocol.specs.Folds.{fold_of}
+use Rattle.xt_protocol.specs.Forgetting.{keep_of}
 use Rattle.lease_safety.specs.State.{Has}
 use Rattle.xt_protocol.specs.OsdSteps.{OsdState, step_of_osd}
 use Rattle.cluster_runs.specs.declared.ClientState.{ClientState}
@@ -27,9 +28,9 @@ use Rattle.cluster_runs.specs.declared.Role.TheVariants as role
 use Rattle.cluster_runs.specs.declared.Sent.{Sent}
 use Rattle.time_line.specs.Bounds.{FitsCall}
 use Rattle.cluster_runs.specs.Clients.{new_client, knows, aimed, step_of_client}
-use Rattle.cluster_runs.specs.World.{World, Node, Running, Core, osd, client, node_in, with_node, file_in}
+use Rattle.cluster_runs.specs.World.{World, Node, Running, Core, osd, client, node_in, with_node, file_in, loads, puts}
 use Rattle.cluster_runs.specs.Rules.{called_file, clock_ends}
-use Rattle.cluster_runs.specs.NodeSteps.{Room, outside_of, one_more, core_step}
+use Rattle.cluster_runs.specs.NodeSteps.{Room, outside_of, one_more, core_step, one_put, rewritten_at}
 use Rattle.cluster_runs.specs.Lines.{Next, finished, opens, goes_on, ends, begins, steps, runs, first_boot, next_boot, osd_starting, declared_file, operation_of, ticked, no_longer_pending}
 use Rattle.cluster_runs.specs.Runs.{run_of}
 use Rattle.world_runs.specs.View.{messages, awake_as}
@@ -40,12 +41,14 @@ use Rattle.world_runs.proofs.Fit.{IsFit, replaced, sent_then}
 use Rattle.world_runs.proofs.LineSteps.{fits_kept}
 use Rattle.world_runs.proofs.Lists.{has_in, has_left, has_right}
 use Rattle.world_runs.proofs.Tables.{same, nobody, node_in-last, node_in-before, node_in-ticked}
-use Rattle.world_runs.proofs.Walk.{IsKept, call_step, NodeStep, of_osd, of_client, of_call, Reaches, StopsAs, NextIs, steps_into, same_messages}
-use Rattle.cluster_fits.specs.Fits.{FitsPlan, FitsRunning, FitsNode, FitsTurned, FitsWorld, FitsAt, Comes, DoStepsFit, call_of}
+use Rattle.world_runs.proofs.Walk.{IsKept, call_step, NodeStep, of_osd, of_client, of_call, Reaches, StopsAs, NextIs, steps_into, same_messages, left_within}
+use Rattle.cluster_fits.specs.Fits.{FitsPlan, FitsRunning, FitsNode, FitsTurned, MayForget, FitsStep, FitsWorld, FitsAt, Comes, DoStepsFit, call_of}
 use Rattle.cluster_fits.proofs.Lists.{all_of, each_of}
-use Rattle.cluster_fits.proofs.States.{AreSent}
-use Rattle.cluster_fits.proofs.Kept.{KeptIs, NextOf, none_is, more_is, start_is, next_is}
-use Rattle.cluster_fits.proofs.Osd.{OsdIs, started_is, osd_step_is}
+use Rattle.cluster_fits.specs.States.{AreSent, KeptIs, OsdIs}
+use Rattle.cluster_fits.proofs.Kept.{NextOf, none_is, more_is, start_is, next_is}
+use Rattle.cluster_fits.proofs.Osd.{started_is, osd_step_is}
+use Rattle.cluster_fits.proofs.Keeping.{event_keeps}
+use Rattle.cluster_fits.proofs.Rewritten.{rewritten_is, osd_then}
 use Rattle.cluster_fits.proofs.Clients.{ClientIs, new_is, learns_is, client_step_is, call_is}
 
 -- ---- nodes and worlds
@@ -83,6 +86,11 @@ core_is r core is_core up = subst CoreIs is_core up.state
 
 -- ---- the step of a node
 
+-- what is kept after a step
+kept_then : (records : List Record) (rec : Option Record) → KeptIs records → NextOf records rec → KeptIs (one_more records rec)
+kept_then records None is next = is
+kept_then records (Some rec) is next = more_is records rec is next
+
 -- what a step of a node owes
 pub record TurnIs (node : Node) (next : Core) (turned : Turned) : Type 0 where
   pub state : CoreIs next
@@ -103,7 +111,7 @@ module _ (w : World) (own : List Msg) (p : Stage w own) (node : Node) (r : Runni
       → (let step = step_of_osd (outside_of node.kept) s r.clock happens in TurnIs node (osd step.osd) step.turned)
   osd_turn s happens is_osd fits =
       let core : CoreFits w.times w.files node.id node.kept r (osd s) = subst (CoreFits w.times w.files node.id node.kept r) is_osd (subst (UpFits w.times w.files node.id node.kept) is_up (p.fit.shape.nodes node.id.0 node found).up) in
-      let step = osd_step_is node.kept s r.clock happens here.records (core_is r (osd s) is_osd up) up.bounds.clock core.2 (λ file. (at_fits w.files (awake_as s.started) s.files file core.0.fits).sound) fits in
+      let step = osd_step_is (λ capability. true) node.kept s r.clock happens here.records (core_is r (osd s) is_osd up) up.bounds.clock core.2 (λ file. (at_fits w.files (awake_as s.started) s.files file core.0.fits).sound) fits in
       record { state = step.state; record_next = step.next; outs = step.outs }
 
   client_event : (c : ClientState) (happens : Event) → r.core ≡ client c → FitsEvent happens
@@ -134,11 +142,21 @@ module _ (w : World) (own : List Msg) (p : Stage w own) (node : Node) (r : Runni
   turned_fits : (next : Core) (turned : Turned) → TurnIs node next turned → FitsTurned node.kept turned
   turned_fits next turned is = record { record_next = next_is node.kept turned.rec is.record_next; messages = is.outs }
 
-  event_fits : (core : Core) (happens : Event) → r.core ≡ core → FitsEvent happens → FitsTurned node.kept (core_step w.times node core r.clock happens).turned
-  event_fits (osd s) happens is_osd fits = turned_fits _ _ (osd_turn s happens is_osd fits)
-  event_fits (client c) happens is_client fits = turned_fits _ _ (client_event c happens is_client fits)
+  -- its rewritten records are within the limits, and in their places
+  osd_forgets : (s : OsdState) (happens : Event) → r.core ≡ osd s → FitsEvent happens
+      → (let step = step_of_osd (outside_of node.kept) s r.clock happens in MayForget (one_more node.kept step.turned.rec) (osd step.osd))
+  osd_forgets s happens is_osd fits =
+      let core : CoreFits w.times w.files node.id node.kept r (osd s) = subst (CoreFits w.times w.files node.id node.kept r) is_osd (subst (UpFits w.times w.files node.id node.kept) is_up (p.fit.shape.nodes node.id.0 node found).up) in
+      let step = step_of_osd (outside_of node.kept) s r.clock happens in
+      let keeps = event_keeps (λ capability. true) node.kept s r.clock core.2 (λ file. (at_fits w.files (awake_as s.started) s.files file core.0.fits).sound) happens in
+      let is = rewritten_is (one_more node.kept step.turned.rec) step.osd (kept_then node.kept step.turned.rec here.records (osd_turn s happens is_osd fits).record_next) keeps.agrees in
+      record { limits = is.limits; places = is.places }
 
-  pub handled_fits : (happens : Event) → Comes w own node.id happens → FitsTurned node.kept (core_step w.times node r.core r.clock happens).turned
+  event_fits : (core : Core) (happens : Event) → r.core ≡ core → FitsEvent happens → FitsStep node.kept (core_step w.times node core r.clock happens)
+  event_fits (osd s) happens is_osd fits = record { turned = turned_fits _ _ (osd_turn s happens is_osd fits); forgetting = osd_forgets s happens is_osd fits }
+  event_fits (client c) happens is_client fits = record { turned = turned_fits _ _ (client_event c happens is_client fits); forgetting = tt }
+
+  pub handled_fits : (happens : Event) → Comes w own node.id happens → FitsStep node.kept (core_step w.times node r.core r.clock happens)
   handled_fits happens comes = event_fits r.core happens refl (content happens comes)
     where
       content : (happens : Event) → Comes w own node.id happens → FitsEvent happens
@@ -240,11 +258,6 @@ none_lost w own each m h = each m (has_right m own (messages w) h)
 boot_is : (boot : ℕ) → nat_lt boot COUNTS ≡ true → boot < 2 ^ 62
 boot_is boot few = grind (arith, nat_tests)
 
--- what is kept behind a step
-kept_then : (records : List Record) (rec : Option Record) → KeptIs records → NextOf records rec → KeptIs (one_more records rec)
-kept_then records None is next = is
-kept_then records (Some rec) is next = more_is records rec is next
-
 stage_kept : IsKept Stage
 stage_kept = record {
   begins = record {
@@ -260,7 +273,7 @@ stage_kept = record {
     is = record {
       short = p.is.short;
       places = p.is.places;
-      each = added_is w.nodes (record { id = id; role = role.Osd; kept = []; up = None }) free (record { who = bound; records = none_is; running = tt }) p.is.each;
+      each = added_is w.nodes (record { id = id; role = role.Osd; kept = []; past = []; up = None }) free (record { who = bound; records = none_is; running = tt }) p.is.each;
       sent = p.is.sent;
     };
   };
@@ -269,7 +282,7 @@ stage_kept = record {
     is = record {
       short = p.is.short;
       places = p.is.places;
-      each = added_is w.nodes (record { id = id; role = role.Client; kept = []; up = Some (runs first_boot clock (client (new_client clock))) }) free
+      each = added_is w.nodes (record { id = id; role = role.Client; kept = []; past = []; up = Some (runs first_boot clock (client (new_client clock))) }) free
           (record { who = bound.0; records = none_is; running = record { bounds = record { clock = bound.1; plan = tt }; state = new_is clock } }) p.is.each;
       sent = p.is.sent;
     };
@@ -287,7 +300,7 @@ stage_kept = record {
       let boot = next_boot node.kept in
       let old = p.is.each node.id.0 node found in
       let few = boot_is boot.0 bound.1 in
-      let there : Node = record node { kept = node.kept ++ kept.Boot boot ∷ []; up = Some (runs boot clock (osd (osd_starting w.times node boot clock))) } in
+      let there : Node = record node { kept = node.kept ++ kept.Boot boot ∷ []; past = node.past ++ loads ∷ puts (kept.Boot boot) ∷ []; up = Some (runs boot clock (osd (osd_starting w.times node boot clock))) } in
       record {
         fit = fits_kept.started w node clock bound found down close p.fit;
         is = record {
@@ -385,27 +398,27 @@ stage_kept = record {
       ];
     };
   };
-  lost = λ w own left within p. record {
-    fit = fits_kept.lost w own left within p.fit;
-    is = record { short = p.is.short; places = p.is.places; each = p.is.each; sent = lost_sent w own left within p.is.sent };
+  lost = λ w own left part p. record {
+    fit = fits_kept.lost w own left part p.fit;
+    is = record { short = p.is.short; places = p.is.places; each = p.is.each; sent = lost_sent w own left (left_within left own part) p.is.sent };
   };
-  stepped = λ w was own node r next turned outs rest within found is_up step split p.
+  stepped = λ w was own node r next turned outs rest part found is_up step split p.
       let turn = turn_is w was p node r found is_up next turned step in
       let old = p.is.each node.id.0 node found in
       let ran = up_is node r is_up old in
       record {
-        fit = fits_kept.stepped w was own node r next turned outs rest within found is_up step split p.fit;
+        fit = fits_kept.stepped w was own node r next turned outs rest part found is_up step split p.fit;
         is = record {
           short = p.is.short;
           places = p.is.places;
-          each = put_is w was (record node { kept = one_more node.kept turned.rec; up = Some (record r { core = next }) }) node found (record {
+          each = put_is w was (record node { kept = one_more node.kept turned.rec; past = one_put node.past turned.rec; up = Some (record r { core = next }) }) node found (record {
             who = old.who;
             records = kept_then node.kept turned.rec old.records turn.record_next;
             running = record { bounds = record { clock = ran.bounds.clock; plan = ran.bounds.plan }; state = turn.state };
           }) p.is;
           sent = λ m h. elim (sent_then w own node.id outs m h) [
             | inl new ↦ each_of FitsMessage turned.outs m turn.outs (subst (Has m) (sym split) (has_left m outs rest new))
-            | inr old_one ↦ lost_sent w was own within p.is.sent m old_one
+            | inr old_one ↦ lost_sent w was own (left_within own was part) p.is.sent m old_one
           ];
         };
       };
@@ -417,12 +430,29 @@ stage_kept = record {
         is = record {
           short = p.is.short;
           places = p.is.places;
-          each = put_is w own (record node { kept = node.kept ++ rec ∷ []; up = None }) node found (record {
+          each = put_is w own (record node { kept = node.kept ++ rec ∷ []; past = node.past ++ puts rec ∷ []; up = None }) node found (record {
             who = old.who;
             records = more_is node.kept rec old.records (subst (NextOf node.kept) is_rec turn.record_next);
             running = tt;
           }) p.is;
           sent = none_lost w own p.is.sent;
+        };
+      };
+  forgotten = λ w own node r s found is_up is_osd p.
+      let old = p.is.each node.id.0 node found in
+      let ran = up_is node r is_up old in
+      record {
+        fit = fits_kept.forgotten w own node r s found is_up is_osd p.fit;
+        is = record {
+          short = p.is.short;
+          places = p.is.places;
+          each = put_is w own (rewritten_at node r s) node found (record {
+            who = old.who;
+            records = rewritten_is node.kept s old.records
+                (subst (CoreFits w.times w.files node.id node.kept r) is_osd (subst (UpFits w.times w.files node.id node.kept) is_up (p.fit.shape.nodes node.id.0 node found).up)).2;
+            running = record { bounds = record { clock = ran.bounds.clock; plan = ran.bounds.plan }; state = osd_then (keep_of s) s (core_is r (osd s) is_osd ran) };
+          }) p.is;
+          sent = p.is.sent;
         };
       };
   lined = λ w l p. record {

@@ -14,14 +14,15 @@ use Rattle.xt_messages.specs.declared.event.Event.TheVariants as event
 use Rattle.xt_messages.specs.declared.record.Record.{Record}
 use Rattle.xt_protocol.specs.declared.turned.Turned.{Turned}
 use Rattle.xt_protocol.specs.Folds.{nothing_kept, fold_of, IsInPlace, AreInPlace}
+use Rattle.xt_protocol.specs.Forgetting.{keep_of, rewritten}
 use Rattle.time_line.specs.declared.line.Line.{Line}
 use Rattle.cluster_runs.specs.declared.Sent.{Sent}
 use Rattle.cluster_runs.specs.declared.ClientState.{ClientState}
 use Rattle.cluster_runs.specs.Steps.{Step}
-use Rattle.cluster_runs.specs.World.{World, Node, Running, Core, client, node_in, file_in}
+use Rattle.cluster_runs.specs.World.{World, Node, Running, Core, osd, client, node_in, file_in}
 use Rattle.cluster_runs.specs.Clients.{call_of_client}
 use Rattle.cluster_runs.specs.Rules.{refusal, called_file, has_call}
-use Rattle.cluster_runs.specs.NodeSteps.{Room, core_step, client_steps}
+use Rattle.cluster_runs.specs.NodeSteps.{Room, one_more, core_step, client_steps}
 use Rattle.cluster_runs.specs.Lines.{Next, finished, opens, goes_on, ends, begins, steps, declared_capability, declared_file, epoch_of, uses, operation_of}
 use Rattle.time_line.specs.Bounds.{AreLines, FitsCall}
 use Rattle.cluster_runs.specs.Runs.{run_of}
@@ -59,6 +60,16 @@ pub record FitsTurned (kept : List Record) (turned : Turned) : Type 0 where
   pub record_next : FitsNext kept turned.rec
   pub messages : AllByRecursion FitsMessage turned.outs
 
+-- the records of an OSD may be rewritten with the bodies that it needs: the rewritten ones are kept as these are
+abbrev pub MayForget : List Record → Core → Type 0
+MayForget kept (osd state) = FitsKept (rewritten (keep_of state) kept)
+MayForget kept (client state) = Unit {0}
+
+-- what the step of a node that keeps these records gives can be kept and sent; and then it may forget
+pub record FitsStep (kept : List Record) (step : Step Core) : Type 0 where
+  pub turned : FitsTurned kept step.turned
+  pub forgetting : MayForget (one_more kept step.turned.rec) step.state
+
 -- an event comes to a node: a message that was sent or is the node's to itself, or time that has passed
 abbrev pub Comes : World → List Msg → NodeId → Event → Type 0
 Comes w own id (event.Deliver msg) = (msg.to ≡ id) × Has msg (own ++ messages w)
@@ -71,11 +82,11 @@ call_of w node running c k number location asked =
     let capability = declared_capability number location (epoch_of c (declared_file number) k) in
     client_steps (call_of_client node.id w.times (uses c capability) running.clock capability k asked)
 
--- an event within its limits comes to the node of this id, and what its step gives can be kept and sent
+-- an event within its limits comes to the node of this id, and what its step gives fits
 pub record FitsComing (w : World) (id : NodeId) (happens : Event) : Type 0 where
   pub message : FitsEvent happens
   pub step : (node : Node) (running : Running) → node_in w.nodes id.0 ≡ Some node → node.up ≡ Some running
-      → FitsRunning running × FitsTurned node.kept (core_step w.times node running.core running.clock happens).turned
+      → FitsRunning running × FitsStep node.kept (core_step w.times node running.core running.clock happens)
 
 -- ---- a world, with the messages of a node to itself that it hasn't handled
 
@@ -83,9 +94,9 @@ pub record FitsWorld (w : World) (own : List Msg) : Type 0 where
   pub nodes : (node : Node) → node_in w.nodes node.id.0 ≡ Some node → FitsNode node
   pub sent : AllByRecursion (λ (s : Sent). FitsMessage s.message) w.sent
   pub queued : AllByRecursion FitsMessage own
-  -- every step that may come next gives what can be kept and sent
+  -- every step that may come next gives what can be kept and sent, and an OSD may forget then
   pub handled : (node : Node) (running : Running) (happens : Event) → node_in w.nodes node.id.0 ≡ Some node → node.up ≡ Some running
-      → Comes w own node.id happens → FitsTurned node.kept (core_step w.times node running.core running.clock happens).turned
+      → Comes w own node.id happens → FitsStep node.kept (core_step w.times node running.core running.clock happens)
   pub called : (node : Node) (running : Running) (c : ClientState) (k : Call) (number : ℕ) (location : Location) (asked : Op)
       → node_in w.nodes node.id.0 ≡ Some node → node.up ≡ Some running → running.core ≡ client c → has_call (Some running) ≡ false
       → FitsCall k → called_file k ≡ Some number → file_in w.files number ≡ Some location → operation_of k ≡ Some asked

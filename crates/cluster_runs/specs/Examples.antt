@@ -1,17 +1,20 @@
--- Examples of runs, with ample room.
-use Rattle.std.specs.Prelude.{ℕ, Option, None, List, [], ◌∷◌, ◌++◌, map, nat_lt, ◌+◌, if◌then◌else◌, length, Some}
+-- Examples of runs, with ample room, and with one where all that may be forgotten is.
+use Rattle.std.specs.Prelude.{ℕ, Option, None, List, [], ◌∷◌, ◌++◌, map, nat_lt, ◌+◌, if◌then◌else◌, Some, Bool, true, false, count_by}
 use Rattle.xt_base.specs.declared.ids.NodeId.{NodeId}
 use Rattle.xt_base.specs.declared.ids.OpId.{OpId}
 use Rattle.xt_messages.specs.declared.file.Kind.TheVariants as kind
 use Rattle.xt_messages.specs.declared.file.Location.{Location}
 use Rattle.xt_messages.specs.declared.event.Call.TheVariants as call
 use Rattle.xt_messages.specs.declared.event.Outcome.TheVariants as outcome
+use Rattle.xt_messages.specs.declared.message.Payload.{Payload}
+use Rattle.xt_messages.specs.declared.message.Payload.TheVariants as payload
 use Rattle.xt_messages.specs.declared.reply.Retry.TheVariants as retry
 use Rattle.xt_messages.specs.declared.status.AskRefusal.TheVariants as ask_refusal
 use Rattle.xt_messages.specs.declared.status.Rule.{Rule}
 use Rattle.time_line.specs.declared.entry.Halt.TheVariants as halt
 use Rattle.xt_protocol.specs.Stamps.{with_held}
-use Rattle.xt_protocol.specs.Folds.{body_kept, fold_of, row_in, with_row}
+use Rattle.xt_protocol.specs.Forgetting.{keep_of, osd_without, rewritten}
+use Rattle.xt_protocol.specs.Folds.{logged_of, body_kept, fold_of, row_in, with_row}
 use Rattle.xt_protocol.specs.Choice.{chosen_of, difference}
 use Rattle.xt_protocol.specs.Writes.{standing}
 use Rattle.xt_protocol.specs.ReplicaRows.{gathered, fetched_from, staged, headed, updated}
@@ -29,23 +32,35 @@ use Rattle.time_line.specs.declared.line.Line.TheVariants as line
 use Rattle.time_line.specs.declared.entry.Entry.{Entry}
 use Rattle.time_line.specs.declared.entry.Entry.TheVariants as entry
 use Rattle.cluster_runs.specs.Clients.{outcome_in, call_of_client, step_of_client}
-use Rattle.cluster_runs.specs.World.{World, node_in, with_node, file_in}
+use Rattle.cluster_runs.specs.World.{World, Deed, puts, node_in, with_node, file_in}
 use Rattle.cluster_runs.specs.Rules.{refusal, first_stranger, least_where}
 use Rattle.cluster_runs.specs.NodeSteps.{Room, event_comes}
 use Rattle.cluster_runs.specs.Lines.{least_pending, first_step, next_step, steps, done}
 use Rattle.cluster_runs.specs.Runs.{after, run_of}
 
--- there is always room
+-- there is always room, and nothing is forgotten
 abbrev pub ample : Room
-ample kept rec = None
+ample = record { overflow = λ past rec. None; rewrites_now = λ past keep. false }
+
+-- there is always room, and all that may be forgotten is, after each record
+abbrev pub eager : Room
+eager = record { overflow = λ past rec. None; rewrites_now = λ past keep. true }
+
+-- how many records were put
+abbrev pub is_put : Deed → Bool
+is_put (puts rec) = true
+is_put _ = false
 
 -- there is room for so many records
 abbrev pub room_for : ℕ → Room
-room_for count kept rec = if nat_lt (length kept) count then None else Some (record { need = length kept + 1; limit = count })
+room_for count = record {
+  overflow = λ past rec. if nat_lt (count_by is_put past) count then None else Some (record { need = count_by is_put past + 1; limit = count });
+  rewrites_now = λ past keep. false;
+}
 
 -- the world after these lines
 unfoldable pub world_in : Room → List Line → World
-unfolding run_of after refusal first_stranger least_where done steps next_step first_step least_pending event_comes node_in with_node file_in outcome_in call_of_client step_of_client step_of_osd step_of_file wake_of_file expired ask_handled refusal_of read_comes write_comes answer_comes serves_all epoch_drawn hears reads writes wakes peer_in with_peer fed chosen_of difference gathered fetched_from staged headed updated standing file_at with_file each_file body_kept fold_of row_in with_row with_held
+unfolding run_of after refusal first_stranger least_where done steps next_step first_step least_pending event_comes node_in with_node file_in outcome_in call_of_client step_of_client step_of_osd step_of_file wake_of_file expired ask_handled refusal_of read_comes write_comes answer_comes serves_all epoch_drawn hears reads writes wakes peer_in with_peer fed chosen_of difference gathered fetched_from staged headed updated standing file_at with_file each_file body_kept fold_of logged_of row_in with_row with_held keep_of osd_without rewritten
 world_in room lines = run_of room lines
 
 -- the trace of these lines
@@ -294,3 +309,61 @@ none_answers_trace =
     (record { node = node 1; outcome = retry.Silent } ∷ record { node = node 2; outcome = retry.Silent }
     ∷ record { node = node 3; outcome = retry.Silent } ∷ []))
     ∷ []
+
+-- ---- with a room that forgets after each record
+
+-- a write of file 2
+abbrev pub writes_second : ℕ → Line
+writes_second id = line.Call (node id) (call.Write 2 0 0 (122 ∷ []))
+
+-- OSD 3 is fed the body of a write, and starts again before its head comes: no record since that start says that the body is
+-- needed. A write of another file has it forgotten. So the head that comes late finds it missing, the body is staged anew, and OSD 3
+-- counts for the next write, when OSD 2 has stopped.
+abbrev pub fed_again : List Line
+fed_again =
+    short_times ∷ osd_is 1 ∷ osd_is 2 ∷ osd_is 3 ∷ client_at 10 0 ∷ start_at 1 0 ∷ start_at 2 0 ∷ start_at 3 0
+    ∷ file_on trio ∷ line.File 2 (list_of trio) ∷ line.Tick 1100 ∷ write_at 10 0 (97 ∷ [])
+    ∷ line.Deliver 1 ∷ line.Deliver 2 ∷ line.Drop 3 ∷ line.Deliver 4 ∷ line.Deliver 5 ∷ line.Deliver 6 ∷ line.Deliver 7 ∷ line.Drop 8
+    ∷ line.Deliver 9 ∷ line.Deliver 10 ∷ line.Deliver 11 ∷ line.Deliver 12 ∷ line.Deliver 13 ∷ line.Deliver 14
+    ∷ line.Wake (node 1) ∷ line.Deliver 15 ∷ line.Deliver 16 ∷ line.Deliver 17 ∷ line.Deliver 18 ∷ line.Drop 19
+    ∷ line.Stop (node 3) ∷ start_at 3 1100 ∷ line.Tick 500 ∷ line.Wake (node 1) ∷ line.Settle 100
+    ∷ line.Tick 600 ∷ writes_second 10 ∷ line.Settle 100
+    ∷ line.Deliver 19 ∷ line.Settle 100 ∷ line.Stop (node 2) ∷ write_at 10 1 (98 ∷ []) ∷ line.Settle 100 ∷ []
+
+abbrev pub fed_again_trace : List Entry
+fed_again_trace =
+    entry.Times 1000 100 ∷ is_up 10 1 0 ∷ is_up 1 1 0 ∷ is_up 2 1 0 ∷ is_up 3 1 0
+    ∷ entry.File 1 (list_of trio) ∷ entry.File 2 (list_of trio) ∷ entry.Tick 1100
+    ∷ writes_at 10 1 0 (97 ∷ []) ∷ is_held 1 2100 ∷ is_active 1 0 0 0 ∷ is_issued 1 1 10 1 ∷ is_committed 1 1 10 1
+    ∷ is_answered 1 10 1 1 [] ∷ is_done 10 1 1 []
+    ∷ entry.Down (node 3) 1100 halt.Idle ∷ is_up 3 2 1100 ∷ entry.Tick 500 ∷ is_held 1 2600 ∷ entry.Tick 600
+    ∷ entry.Begin (node 10) 2 (call.Write 2 0 0 (122 ∷ [])) ∷ entry.Held (node 1) 2 3200 ∷ entry.Active (node 1) 2 0 (id_of 0 0)
+    ∷ entry.Issue (node 1) 2 1 (id_of 10 2) ∷ entry.Commit (node 1) 2 1 (id_of 10 2) ∷ entry.Answer (node 1) 2 (id_of 10 2) 1 [] ∷ is_done 10 2 1 []
+    ∷ entry.Down (node 2) 2200 halt.Idle
+    ∷ writes_at 10 3 1 (98 ∷ []) ∷ is_issued 1 2 10 3 ∷ is_committed 1 2 10 3 ∷ is_answered 1 10 3 2 [] ∷ is_done 10 3 2 [] ∷ []
+
+-- how many messages of these lines tell that a body is missing
+abbrev pub tells_missing : Payload → Bool
+tells_missing (payload.Missing file epoch object version) = true
+tells_missing _ = false
+
+unfoldable pub missing_in : Room → List Line → ℕ
+unfolding world_in
+missing_in room lines = count_by (λ s. tells_missing s.message.payload) (world_in room lines).sent
+
+-- The holder changes, and changes back. Each time the new one has drawn an epoch and told itself where it stands, and its records
+-- are rewritten before it counts that.
+abbrev pub held_in_turn : List Line
+held_in_turn =
+    trio_at 0
+    ++ write_at 10 0 (97 ∷ []) ∷ line.Settle 100 ∷ line.Tick 1100 ∷ aims_at 10 2 ∷ write_at 10 0 (98 ∷ []) ∷ line.Settle 100
+    ∷ line.Tick 1100 ∷ aims_at 10 1 ∷ read_byte 10 ∷ line.Settle 100 ∷ []
+
+abbrev pub held_in_turn_trace : List Entry
+held_in_turn_trace =
+    trio_opens 0
+    ++ writes_at 10 1 0 (97 ∷ []) ∷ is_held 1 2100 ∷ is_active 1 0 0 0 ∷ is_issued 1 1 10 1 ∷ is_committed 1 1 10 1
+    ∷ is_answered 1 10 1 1 [] ∷ is_done 10 1 1 [] ∷ entry.Tick 1100
+    ∷ writes_at 10 2 0 (98 ∷ []) ∷ is_held 2 3200 ∷ is_active 2 1 10 1 ∷ is_issued 2 2 10 2 ∷ is_committed 2 2 10 2
+    ∷ is_answered 2 10 2 2 [] ∷ is_done 10 2 2 [] ∷ entry.Tick 1100
+    ∷ reads_byte 10 3 ∷ is_held 1 4300 ∷ is_active 1 2 10 2 ∷ is_answered 1 10 3 2 (98 ∷ []) ∷ is_done 10 3 2 (98 ∷ []) ∷ []

@@ -8,6 +8,7 @@ use Rattle.xt_messages.specs.declared.event.Event.{Event}
 use Rattle.xt_messages.specs.declared.event.Mark.{Mark}
 use Rattle.xt_messages.specs.declared.event.Mark.TheVariants as mark
 use Rattle.xt_messages.specs.declared.message.Msg.{Msg}
+use Rattle.xt_messages.specs.declared.record.KeepBody.{KeepBody}
 use Rattle.xt_messages.specs.declared.record.Record.{Record}
 use Rattle.xt_messages.specs.declared.status.Limited.{Limited}
 use Rattle.xt_messages.specs.declared.status.Limited.TheVariants as limited
@@ -16,7 +17,8 @@ use Rattle.xt_messages.specs.FrameLength.{frame_length}
 use Rattle.xt_protocol.specs.SeenBodies.{body_by}
 use Rattle.time_line.specs.declared.entry.Halt.{Halt}
 use Rattle.time_line.specs.declared.entry.Halt.TheVariants as halt
-use Rattle.xt_protocol.specs.OsdSteps.{OsdStep, Outside, step_of_osd}
+use Rattle.xt_protocol.specs.Forgetting.{keep_of, osd_without, rewritten}
+use Rattle.xt_protocol.specs.OsdSteps.{OsdState, OsdStep, Outside, step_of_osd}
 use Rattle.time_line.specs.declared.entry.Entry.{Entry}
 use Rattle.time_line.specs.declared.entry.Entry.TheVariants as entry
 use Rattle.cluster_runs.specs.declared.TheConstants.{MESSAGES, MESSAGE_BYTES}
@@ -24,16 +26,18 @@ use Rattle.cluster_runs.specs.declared.Sent.{Sent}
 use Rattle.cluster_runs.specs.declared.ClientState.{ClientState}
 use Rattle.cluster_runs.specs.Steps.{Step}
 use Rattle.cluster_runs.specs.Clients.{step_of_client}
-use Rattle.cluster_runs.specs.World.{World, Node, Running, Core, osd, client, node_in, with_node}
+use Rattle.cluster_runs.specs.World.{World, Node, Deed, puts, rewrites, Running, Core, osd, client, node_in, with_node}
 
 -- a record that has no room: how long its node's journal would have to be, and how long it may be, in bytes
 pub record Overflow : Type 0 where
   pub need : ℕ
   pub limit : ℕ
 
--- whether a record has no room behind these of its node
-abbrev pub Room : Type 0
-Room = List Record → Record → Option Overflow
+-- What a hull decides by what was done to the records of a node: whether one more has no room, and whether they are rewritten now
+-- with these bodies.
+pub record Room : Type 0 where
+  pub overflow : List Deed → Record → Option Overflow
+  pub rewrites_now : List Deed → List KeepBody → Bool
 
 -- why a line ends before its last step
 pub data Cause : Type 0 where
@@ -85,11 +89,15 @@ abbrev pub one_more : List Record → Option Record → List Record
 one_more kept None = kept
 one_more kept (Some rec) = kept ++ rec ∷ []
 
+abbrev pub one_put : List Deed → Option Record → List Deed
+one_put past None = past
+one_put past (Some rec) = past ++ puts rec ∷ []
+
 -- the record of a step is kept, its marks become entries, its messages are numbered
 abbrev pub after_turn : World → Node → Running → Turned → World
 after_turn w node running turned =
     record w {
-      nodes = with_node w.nodes (record node { kept = one_more node.kept turned.rec; up = Some running });
+      nodes = with_node w.nodes (record node { kept = one_more node.kept turned.rec; past = one_put node.past turned.rec; up = Some running });
       entries = w.entries ++ map (entry_of node.id) turned.marks;
       sent = w.sent ++ numbered w.nodes node.id turned.outs;
     }
@@ -111,14 +119,14 @@ keeps_record stop = nat_le 3 stop.call && (stop.fill == open_gate)
 -- the append of a step is stopped: its record is kept or lost, and nothing else comes of it
 abbrev pub stopped_in_append : World → Node → Running → Stop → Record → World
 stopped_in_append w node running stop rec =
-    if keeps_record stop then halted w (record node { kept = node.kept ++ rec ∷ [] }) running halt.Kept
+    if keeps_record stop then halted w (record node { kept = node.kept ++ rec ∷ []; past = node.past ++ puts rec ∷ [] }) running halt.Kept
     else halted w node running halt.Lost
 
 -- the sending of a step is cut: all comes of it but the later messages, and the node stops
 abbrev pub cut_in_sending : World → Node → Running → ℕ → Turned → World
 cut_in_sending w node running count turned =
     halted (after_turn w node running (record turned { outs = take count turned.outs }))
-    (record node { kept = one_more node.kept turned.rec }) running halt.Cut
+    (record node { kept = one_more node.kept turned.rec; past = one_put node.past turned.rec }) running halt.Cut
 
 -- A line at work: the world so far, the messages of the stepping node to itself that it hasn't handled, first in first out,
 -- and how many deliveries are left.
@@ -153,16 +161,43 @@ within_limits d =
     else Ok d
 
 -- a record that has no room
-abbrev pub overflow_of : Room → List Record → Option Record → Option Overflow
-overflow_of room kept None = None
-overflow_of room kept (Some rec) = room kept rec
+abbrev pub overflow_of : Room → List Deed → Option Record → Option Overflow
+overflow_of room past None = None
+overflow_of room past (Some rec) = room.overflow past rec
 
--- The end of a step of a running node: its record must have room, and then its messages must be within the limits.
+-- Forgetting.
+
+-- an OSD whose records are rewritten keeps the bodies that it needs, in memory and in its records
+abbrev pub rewritten_at : Node → Running → OsdState → Node
+rewritten_at node running s =
+    record node {
+      kept = rewritten (keep_of s) node.kept;
+      past = node.past ++ rewrites (keep_of s) ∷ [];
+      up = Some (record running { core = osd (osd_without (keep_of s) s) });
+    }
+
+-- a running OSD forgets where its hull rewrites its records now
+abbrev pub forgets_at : Room → World → Node → Running → Core → World
+forgets_at room w node running (client c) = w
+forgets_at room w node running (osd s) =
+    if room.rewrites_now node.past (keep_of s) then record w { nodes = with_node w.nodes (rewritten_at node running s) } else w
+
+abbrev pub forgets_in : Room → World → Option Node → World
+forgets_in room w None = w
+forgets_in room w (Some node) = elim node.up [ None ↦ w | Some running ↦ forgets_at room w node running running.core ]
+
+-- behind a step that put a record and left its node running, before the node's messages to itself
+abbrev pub forgets_if : Room → NodeId → Option Record → Result Doing Cause → Result Doing Cause
+forgets_if room id (Some rec) (Ok d) = Ok (record d { world = forgets_in room d.world (node_in d.world.nodes id.0) })
+forgets_if room id _ result = result
+
+-- The end of a step of a running node: its record must have room, and then its messages must be within the limits. Then it may forget.
 abbrev pub end_of_step : Room → Doing → Node → Running → Step Core → Result Doing Cause
 end_of_step room d node running step =
-    elim (overflow_of room node.kept step.turned.rec) [
+    elim (overflow_of room node.past step.turned.rec) [
       | Some overflow ↦ Err (has_no_room overflow)
-      | None ↦ within_limits (appends d node (record running { core = step.state }) running.crash step.turned.rec step.turned)
+      | None ↦ forgets_if room node.id step.turned.rec
+          (within_limits (appends d node (record running { core = step.state }) running.crash step.turned.rec step.turned))
     ]
 
 -- an event comes to a node; at one that isn't running nothing comes of it

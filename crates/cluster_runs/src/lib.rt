@@ -80,7 +80,7 @@ ghost use Rattle.cluster_runs.specs.World.{World};
 ghost use Rattle.cluster_runs.specs.NodeSteps.{Room};
 ghost use Rattle.cluster_runs.specs.Runs.{IsPartOf, IsEnough, IsRun, IsRunInto, AreRunsSafe};
 ghost use Rattle.time_line.specs.Verdicts.{IsSafe, IsBroken, Break};
-ghost use Rattle.cluster_runs.specs.Examples.{trace_of, trace_in, rule_behind, room_for, taught, taught_trace, full, full_trace, fuller_trace, alone, alone_trace, turns_edge, turns_edge_trace, silence, silence_trace, drifting, clock_set, repeats, repeats_trace, vanished, vanished_trace, found, found_trace, third_answers, third_answers_trace, none_answers, none_answers_trace};
+ghost use Rattle.cluster_runs.specs.Examples.{missing_in, ample, trace_of, trace_in, rule_behind, room_for, eager, taught, taught_trace, full, full_trace, fuller_trace, alone, alone_trace, turns_edge, turns_edge_trace, silence, silence_trace, drifting, clock_set, repeats, repeats_trace, vanished, vanished_trace, found, found_trace, third_answers, third_answers_trace, none_answers, none_answers_trace, fed_again, fed_again_trace, held_in_turn, held_in_turn_trace};
 
 /// The definitions are read.
 pub fn definitions()
@@ -104,6 +104,13 @@ pub fn examples()
     ensures full { trace_in (room_for 2) full ≡ full_trace }
     ensures fuller { trace_in (room_for 4) full ≡ fuller_trace }
     ensures taught { trace_of taught ≡ taught_trace }
+    ensures forgetful { trace_in eager repeats ≡ repeats_trace }
+    ensures forgetful_lost { trace_in eager vanished ≡ vanished_trace }
+    ensures forgetful_there { trace_in eager found ≡ found_trace }
+    ensures forgetful_fed { trace_in eager fed_again ≡ fed_again_trace }
+    ensures forgotten_body { missing_in eager fed_again ≡ 1 }
+    ensures kept_body { missing_in ample fed_again ≡ 0 }
+    ensures forgetful_turns { trace_in eager held_in_turn ≡ held_in_turn_trace }
     ensures drifts { rule_behind drifting clock_set ≡ Some (rule.Drift 101 0) }
     ensures again { trace_of repeats ≡ repeats_trace }
     ensures lost { trace_of vanished ≡ vanished_trace }

@@ -9,11 +9,11 @@ use Rattle.xt_protocol.specs.LeaseRows.{lease_expired}
 use Rattle.time_line.specs.declared.entry.Halt.{Halt}
 use Rattle.xt_protocol.specs.OsdSteps.{OsdState, file_concerned}
 use Rattle.osd_invariants.specs.Sound.{IsHeld}
-use Rattle.file_runs.specs.FileRuns.{FileWorld, Sent, Tale, Event, Happening, message, wake, Ending, stops_kept, stops_lost, acts, step_on, Comes, MayEnd, May, after, after_all}
+use Rattle.file_runs.specs.FileRuns.{FileWorld, Sent, Tale, Event, Happening, message, wake, Ending, stops_kept, stops_lost, acts, step_on, Comes, OwnComes, MayEnd, May, after, after_all}
 use Rattle.time_line.specs.declared.entry.Entry.TheVariants as entry
 use Rattle.time_line.specs.Clauses.{AreApart}
-use Rattle.cluster_runs.specs.World.{World, Node, Running, osd}
-use Rattle.cluster_runs.specs.NodeSteps.{halted, one_more}
+use Rattle.cluster_runs.specs.World.{World, Node, Running, osd, puts}
+use Rattle.cluster_runs.specs.NodeSteps.{halted, one_more, one_put}
 use Rattle.world_runs.specs.View.{messages}
 use Rattle.world_runs.specs.Worlds.{IsInOrder, Leads, CoreFits, UpFits}
 use Rattle.world_runs.proofs.Lists.{has_right}
@@ -38,10 +38,10 @@ module _ (stripe : ℕ) (ops : ℕ × ℕ → Op) (members : List ℕ) (file : F
       → (let after_it = halted w there q halt in (u : FileWorld) → LeadersHold file w u → LeadersHold file after_it (after u (acts node.id.0 (file_seen file s) (site_at node r s) happens how)))
       → ((u : FileWorld) → (after u (acts node.id.0 (file_seen file s) (site_at node r s) happens how)).sent ≡ u.sent)
       → ((u : FileWorld) → (after u (acts node.id.0 (file_seen file s) (site_at node r s) happens how)).tales ≡ u.tales)
-      → Comes stripe ops members v happens → MayEnd (step_on (site_at node r s) (file_seen file s) happens) how
+      → Comes stripe ops members v happens → OwnComes node.id.0 (file_seen file s) happens → MayEnd (step_on (site_at node r s) (file_seen file s) happens) how
       → (IsHeld (step_on (site_at node r s) (file_seen file s) happens).state.lease → (m : ℕ) → Leads w file m → m ≡ node.id.0)
       → IsShownBy stripe ops file w own v → LeadsTo stripe ops members file (halted w there q halt) [] v
-  ended happens how there q halt v sees leads sent tales comes ends alone is =
+  ended happens how there q halt v sees leads sent tales comes mine ends alone is =
       record {
         events = room.lost ++ acts_now ∷ [];
         may = may_append stripe ops members v room.lost (acts_now ∷ []) room.may (may, tt);
@@ -58,7 +58,7 @@ module _ (stripe : ℕ) (ops : ℕ × ℕ → Op) (members : List ℕ) (file : F
       u = after_all v room.lost
 
       may : May stripe ops members u acts_now
-      may = steps_may stripe ops members file w own node r s u happens how order its room.sees room.leaders (subst (λ (k : List Sent). Comes stripe ops members (record v { sent = k }) happens) (sym room.same_sent) comes) room.free ends
+      may = steps_may stripe ops members file w own node r s u happens how order its room.sees room.leaders (subst (λ (k : List Sent). Comes stripe ops members (record v { sent = k }) happens) (sym room.same_sent) comes) mine room.free ends
 
       shown_then : IsShownBy stripe ops file (halted w there q halt) [] (after u acts_now)
       shown_then =
@@ -79,26 +79,26 @@ module _ (stripe : ℕ) (ops : ℕ × ℕ → Op) (members : List ℕ) (file : F
 
   -- It stops, and keeps no record of the file in doing so.
   pub stopped : AreApart file.number w.entries → (rec : Option Record) (q : Running) (halt : Halt) → IsNotOf file rec → (v : FileWorld) → IsShownBy stripe ops file w own v
-      → LeadsTo stripe ops members file (halted w (record node { kept = one_more node.kept rec }) q halt) [] v
+      → LeadsTo stripe ops members file (halted w (record node { kept = one_more node.kept rec; past = one_put node.past rec }) q halt) [] v
   stopped apart rec q halt away v is =
-      let down : Node = record node { kept = one_more node.kept rec; up = None } in
-      ended wake stops_lost (record node { kept = one_more node.kept rec }) q halt v
+      let down : Node = record node { kept = one_more node.kept rec; past = one_put node.past rec; up = None } in
+      ended wake stops_lost (record node { kept = one_more node.kept rec; past = one_put node.past rec }) q halt v
       (λ u sees. lost file w node its.found u sees rec away)
-      (λ u leaders. leaders_stop file w (halted w (record node { kept = one_more node.kept rec }) q halt) down u (step_on (site_at node r s) (file_seen file s) wake) refl
+      (λ u leaders. leaders_stop file w (halted w (record node { kept = one_more node.kept rec; past = one_put node.past rec }) q halt) down u (step_on (site_at node r s) (file_seen file s) wake) refl
       (node_in-new w.nodes down node its.found) refl leaders)
-      (λ u. refl) (λ u. refl) tt tt (wake_alone apart) is
+      (λ u. refl) (λ u. refl) tt tt tt (wake_alone apart) is
 
   -- It stops in the append of the file's step, and the record is kept.
   pub stopped_kept : (msg : Msg) (rec : Record) (halt : Halt) → IsAwake r s → file_concerned msg.payload ≡ Some file → (step_at node r s (event.Deliver msg)).turned.rec ≡ Some rec
       → (IsHeld (step_on (site_at node r s) (file_seen file s) (message msg.from msg.payload)).state.lease → (m : ℕ) → Leads w file m → m ≡ node.id.0)
-      → (v : FileWorld) → Comes stripe ops members v (message msg.from msg.payload) → IsShownBy stripe ops file w own v
+      → (v : FileWorld) → Comes stripe ops members v (message msg.from msg.payload) → OwnComes node.id.0 (file_seen file s) (message msg.from msg.payload) → IsShownBy stripe ops file w own v
       → LeadsTo stripe ops members file (stopped_with w node r s (event.Deliver msg) rec halt) [] v
-  stopped_kept msg rec halt awake concerns is_rec alone v comes is =
-      let there : Node = record node { kept = node.kept ++ rec ∷ [] } in
+  stopped_kept msg rec halt awake concerns is_rec alone v comes mine is =
+      let there : Node = record node { kept = node.kept ++ rec ∷ []; past = node.past ++ puts rec ∷ [] } in
       let q : Running = record r { core = osd (step_at node r s (event.Deliver msg)).osd } in
-      let down : Node = record node { kept = node.kept ++ rec ∷ []; up = None } in
+      let down : Node = record node { kept = node.kept ++ rec ∷ []; past = node.past ++ puts rec ∷ []; up = None } in
       ended (message msg.from msg.payload) stops_kept there q halt v
       (λ u sees. (messages_show file w node r s msg u its awake concerns sees).keeps rec halt is_rec)
       (λ u leaders. leaders_stop file w (halted w there q halt) down u (step_on (site_at node r s) (file_seen file s) (message msg.from msg.payload)) refl
       (node_in-new w.nodes down node its.found) refl leaders)
-      (λ u. refl) (λ u. refl) comes (rec, sym (same_rec file node r s msg awake concerns) ∙ is_rec) alone is
+      (λ u. refl) (λ u. refl) comes mine (rec, sym (same_rec file node r s msg awake concerns) ∙ is_rec) alone is

@@ -25,8 +25,8 @@ use Rattle.lease_runs.specs.OsdView.{wake_step}
 use Rattle.lease_runs.proofs.OsdLeases.{file_at-with_file, at_file, step_keeps, message_step, put_here, put_there, woken_step, wake_shows, handled, woke_all}
 use Rattle.lease_runs.proofs.ActSteps.{step_rec, wake_step_rec, wake_step_kept, woken_quiet}
 use Rattle.file_runs.specs.FileRuns.{FileNode, FileWorld, Happening, wake, goes_on, stops_kept, stops_lost, acts, starts, after, acted, keeping}
-use Rattle.cluster_runs.specs.World.{World, Node, Running, osd, node_in}
-use Rattle.cluster_runs.specs.NodeSteps.{outside_of, after_turn, halted, one_more}
+use Rattle.cluster_runs.specs.World.{World, Node, Running, osd, node_in, loads, puts}
+use Rattle.cluster_runs.specs.NodeSteps.{outside_of, after_turn, halted, one_more, one_put}
 use Rattle.cluster_runs.specs.Lines.{starts_as, next_boot, osd_starting, runs}
 use Rattle.world_runs.specs.View.{awake_as}
 use Rattle.world_runs.proofs.Woken.{AtMap, found_at, found_nowhere, at_map}
@@ -69,15 +69,15 @@ module _ (file : FileId) (w : World) (node : Node) (r : Running) (s : OsdState) 
   took next turned step is rec of =
       let n = node.id.0 in
       let up : Option Running = Some (record r { core = osd next }) in
-      subst (λ (k : Option Record). at_node n (keeping (v.nodes n) (Some step.state) step.turned.rec) v.nodes ≡ nodes_seen file (put w (record node { kept = one_more node.kept k; up = up })))
+      subst (λ (k : Option Record). at_node n (keeping (v.nodes n) (Some step.state) step.turned.rec) v.nodes ≡ nodes_seen file (put w (record node { kept = one_more node.kept k; past = one_put node.past k; up = up })))
       (sym rec) (own file w node its.found v sees up (Some step.state) step.turned.rec (ap (λ (x : FileState). Some x) is) of)
 
   -- it stops, and its record is kept
   kept_it : (q : Running) (how : Halt) (rec : Record) (step : FileStep) → step.turned.rec ≡ Some rec → IsOf file step.turned.rec
-      → Sees file (halted w (record node { kept = node.kept ++ rec ∷ [] }) q how) (acted v node.id.0 step stops_kept)
+      → Sees file (halted w (record node { kept = node.kept ++ rec ∷ []; past = node.past ++ puts rec ∷ [] }) q how) (acted v node.id.0 step stops_kept)
   kept_it q how rec step is of =
       let n = node.id.0 in
-      subst (λ (k : Option Record). at_node n (keeping (v.nodes n) None step.turned.rec) v.nodes ≡ nodes_seen file (put w (record node { kept = one_more node.kept k; up = None })))
+      subst (λ (k : Option Record). at_node n (keeping (v.nodes n) None step.turned.rec) v.nodes ≡ nodes_seen file (put w (record node { kept = one_more node.kept k; past = one_put node.past k; up = None })))
       is (own file w node its.found v sees None None step.turned.rec refl of)
 
   -- it leaves the file
@@ -259,4 +259,4 @@ starts_show file w node clock v found down sees =
     ∙ (ap (λ (nodes : ℕ → FileNode). at_node n (kept_seen file node.kept begun) nodes) sees
     ∙ (ap (λ (x : FileNode). at_node n x (nodes_seen file w)) (sym (keeps_other file node.kept begun (Some (kept.Boot boot)) tt))
     ∙ (ap (λ (x : FileState). at_node n (kept_seen file (one_more node.kept (Some (kept.Boot boot))) (Some x)) (nodes_seen file w)) (sym (started_at awake (fold_of node.kept).files file))
-    ∙ sym (put_seen file w (record node { kept = node.kept ++ kept.Boot boot ∷ []; up = up }) node found))))
+    ∙ sym (put_seen file w (record node { kept = node.kept ++ kept.Boot boot ∷ []; past = node.past ++ loads ∷ puts (kept.Boot boot) ∷ []; up = up }) node found))))

@@ -12,7 +12,7 @@ use Rattle.xt_protocol.specs.declared.states.Tenure.{Tenure}
 use Rattle.replica_runs.specs.FileView.{IsFree, settled}
 use Rattle.replica_runs.proofs.Files.{expired_tenure}
 use Rattle.replica_runs.specs.Steps.{without}
-use Rattle.file_runs.specs.FileRuns.{FileWorld, Happening, Ending, goes_on, stops_lost, acts, step_on, acted, holder_after, Comes, MayEnd, May}
+use Rattle.file_runs.specs.FileRuns.{FileWorld, Happening, Ending, goes_on, stops_lost, acts, step_on, acted, holder_after, Comes, OwnComes, MayEnd, May}
 use Rattle.cluster_runs.specs.World.{World, Node, Running, osd, node_in, with_node}
 use Rattle.cluster_runs.specs.NodeSteps.{outside_of}
 use Rattle.world_runs.specs.View.{awake_as}
@@ -25,13 +25,13 @@ use Rattle.cluster_safety.proofs.Nodes.{same_number, other_number}
 use Rattle.cluster_safety.proofs.May.{steps_stand}
 
 pub steps_may : (stripe : ℕ) (ops : ℕ × ℕ → Op) (members : List ℕ) (file : FileId) (w : World) (own : List Msg) (node : Node) (r : Running) (s : OsdState) (v : FileWorld)
-    (happens : Happening) (how : Ending) → IsInOrder w own → RunsAs w node r s → Sees file w v → LeadersHold file w v → Comes stripe ops members v happens
+    (happens : Happening) (how : Ending) → IsInOrder w own → RunsAs w node r s → Sees file w v → LeadersHold file w v → Comes stripe ops members v happens → OwnComes node.id.0 (file_seen file s) happens
     → (IsHeld (step_on (site_at node r s) (file_seen file s) happens).state.lease → IsFree node.id.0 v.holder)
     → MayEnd (step_on (site_at node r s) (file_seen file s) happens) how
     → May stripe ops members v (acts node.id.0 (file_seen file s) (site_at node r s) happens how)
-steps_may stripe ops members file w own node r s v happens how order its sees leaders comes alone ends =
+steps_may stripe ops members file w own node r s v happens how order its sees leaders comes mine alone ends =
     let stand = steps_stand file w own node r s v order its sees in
-    record { runs = stand.runs; here = stand.here; bodies = stand.bodies; comes = comes; holds = λ t is. leaders node.id.0 (stand.leads t is); alone = alone; ends = ends }
+    record { runs = stand.runs; here = stand.here; bodies = stand.bodies; comes = comes; own = mine; holds = λ t is. leaders node.id.0 (stand.leads t is); alone = alone; ends = ends }
 
 pub same_node : (a b : Node) → Some a ≡ Some b → a ≡ b
 same_node a b is = cc

@@ -56,7 +56,7 @@ still_held (held h) early late before is = at (has_turn h late) refl is
     at false over is = absurd is
 
 -- a tenure stays where the lease does
-tenure_stays : (site : Site) (s : FileState) → IsHeld (lease_expired s.lease site.now) → (settled site s).primary.tenure ≡ s.primary.tenure
+pub tenure_stays : (site : Site) (s : FileState) → IsHeld (lease_expired s.lease site.now) → (settled site s).primary.tenure ≡ s.primary.tenure
 unfolding expired
 tenure_stays site s is = became s.lease (lease_expired s.lease site.now) is
   where
@@ -77,7 +77,7 @@ tenure_stays site s is = became s.lease (lease_expired s.lease site.now) is
     became (writing q) (held k) is = under s.primary.tenure
 
 -- who leads is in a tenure
-in_tenure : (w : World) (own : List Msg) (file : FileId) (n : ℕ) → IsInOrder w own → (lead : Leads w file n) → (file_seen file lead.state).primary.tenure ≡ Some lead.tenure
+pub in_tenure : (w : World) (own : List Msg) (file : FileId) (n : ℕ) → IsInOrder w own → (lead : Leads w file n) → (file_seen file lead.state).primary.tenure ≡ Some lead.tenure
 in_tenure w own file n order lead =
     sym (tenure_stays (site_of (outside_of lead.node.kept) (awake_as lead.state.started) lead.running.clock) (file_seen file lead.state) (leader_held w own file n order lead)) ∙ lead.leads
 
@@ -103,12 +103,12 @@ led_then file w after own_after n order lead node r s found is_up is_osd has clo
     }
 
 -- a node that leads runs as it does
-leads_as : (file : FileId) (w : World) (n : ℕ) (lead : Leads w file n) (node : Node) (r : Running) → node_in w.nodes n ≡ Some node → node.up ≡ Some r → lead.running ≡ r
+pub leads_as : (file : FileId) (w : World) (n : ℕ) (lead : Leads w file n) (node : Node) (r : Running) → node_in w.nodes n ≡ Some node → node.up ≡ Some r → lead.running ≡ r
 leads_as file w n lead node r found is_up =
     let is_node = same_node lead.node node (sym lead.found ∙ found) in
     same_running lead.running r (sym lead.up ∙ (ap (λ (x : Node). x.up) is_node ∙ is_up))
 
-leads_in : (file : FileId) (w : World) (n : ℕ) (lead : Leads w file n) (node : Node) (r : Running) (s : OsdState) → node_in w.nodes n ≡ Some node → node.up ≡ Some r → r.core ≡ osd s → lead.state ≡ s
+pub leads_in : (file : FileId) (w : World) (n : ℕ) (lead : Leads w file n) (node : Node) (r : Running) (s : OsdState) → node_in w.nodes n ≡ Some node → node.up ≡ Some r → r.core ≡ osd s → lead.state ≡ s
 leads_in file w n lead node r s found is_up is_osd =
     same_state lead.state s (sym lead.core ∙ (ap (λ (q : Running). q.core) (leads_as file w n lead node r found is_up) ∙ is_osd))
 

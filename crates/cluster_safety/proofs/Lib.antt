@@ -18,6 +18,7 @@ pub mod Shown
 pub mod OsdFiles
 pub mod Endings
 pub mod Places
+pub mod Forgotten
 pub mod OsdRuns
 pub mod Walk
 pub mod Runs

@@ -10,7 +10,7 @@ use Rattle.replica_safety.specs.Epochs.{at_node}
 use Rattle.xt_protocol.specs.FileStates.{FileState}
 use Rattle.file_runs.specs.FileRuns.{FileNode, FileWorld, keeping}
 use Rattle.cluster_runs.specs.World.{World, Node, Running, node_in, with_node}
-use Rattle.cluster_runs.specs.NodeSteps.{one_more}
+use Rattle.cluster_runs.specs.NodeSteps.{one_more, one_put}
 use Rattle.cluster_runs.specs.Lines.{ticked}
 use Rattle.world_runs.proofs.Tables.{node_in-new, node_in-other, node_in-last, node_in-before, node_in-ticked}
 use Rattle.cluster_safety.specs.Seen.{core_state, up_state, kept_seen, node_seen, nodes_seen, Sees, IsOf, IsNotOf}
@@ -45,35 +45,35 @@ module _ (file : FileId) (w : World) (node : Node) (found : node_in w.nodes node
 
   -- it keeps a record of the file, or none
   pub own : (up : Option Running) (state : Option FileState) (rec : Option Record) → up_state file up ≡ state → IsOf file rec
-      → at_node node.id.0 (keeping (v.nodes node.id.0) state rec) v.nodes ≡ nodes_seen file (put w (record node { kept = one_more node.kept rec; up = up }))
+      → at_node node.id.0 (keeping (v.nodes node.id.0) state rec) v.nodes ≡ nodes_seen file (put w (record node { kept = one_more node.kept rec; past = one_put node.past rec; up = up }))
   own up state rec is of_file =
       let n = node.id.0 in
       ap (λ (x : FileNode). at_node n (keeping x state rec) v.nodes) here
       ∙ (ap (λ (x : FileNode). at_node n x v.nodes) (keeps_own file node.kept (up_state file node.up) state rec of_file)
       ∙ (ap (λ (nodes : ℕ → FileNode). at_node n (kept_seen file (one_more node.kept rec) state) nodes) sees
       ∙ (ap (λ (s : Option FileState). at_node n (kept_seen file (one_more node.kept rec) s) (nodes_seen file w)) (sym is)
-      ∙ sym (put_seen file w (record node { kept = one_more node.kept rec; up = up }) node found))))
+      ∙ sym (put_seen file w (record node { kept = one_more node.kept rec; past = one_put node.past rec; up = up }) node found))))
 
   -- it keeps a record that isn't of the file, or none, and has of the file what it had
   pub other : (up : Option Running) (rec : Option Record) → up_state file up ≡ up_state file node.up → IsNotOf file rec
-      → v.nodes ≡ nodes_seen file (put w (record node { kept = one_more node.kept rec; up = up }))
+      → v.nodes ≡ nodes_seen file (put w (record node { kept = one_more node.kept rec; past = one_put node.past rec; up = up }))
   other up rec is away =
       let n = node.id.0 in
       sees
       ∙ (sym (at_node-same (nodes_seen file w) n)
       ∙ (ap (λ (x : FileNode). at_node n x (nodes_seen file w)) (ap (node_seen file) found ∙ sym (keeps_other file node.kept (up_state file node.up) rec away))
       ∙ (ap (λ (s : Option FileState). at_node n (kept_seen file (one_more node.kept rec) s) (nodes_seen file w)) (sym is)
-      ∙ sym (put_seen file w (record node { kept = one_more node.kept rec; up = up }) node found))))
+      ∙ sym (put_seen file w (record node { kept = one_more node.kept rec; past = one_put node.past rec; up = up }) node found))))
 
   -- it stops, and keeps a record that isn't of the file, or none
   pub lost : (rec : Option Record) → IsNotOf file rec
-      → at_node node.id.0 (keeping (v.nodes node.id.0) None None) v.nodes ≡ nodes_seen file (put w (record node { kept = one_more node.kept rec; up = None }))
+      → at_node node.id.0 (keeping (v.nodes node.id.0) None None) v.nodes ≡ nodes_seen file (put w (record node { kept = one_more node.kept rec; past = one_put node.past rec; up = None }))
   lost rec away =
       let n = node.id.0 in
       own None None None refl tt
       ∙ (put_seen file w (record node { up = None }) node found
       ∙ (ap (λ (x : FileNode). at_node n x (nodes_seen file w)) (sym (keeps_other file node.kept None rec away))
-      ∙ sym (put_seen file w (record node { kept = one_more node.kept rec; up = None }) node found)))
+      ∙ sym (put_seen file w (record node { kept = one_more node.kept rec; past = one_put node.past rec; up = None }) node found)))
 
 -- ---- all nodes
 

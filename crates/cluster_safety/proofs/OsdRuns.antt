@@ -10,6 +10,8 @@ use Rattle.xt_messages.specs.declared.event.Event.TheVariants as event
 use Rattle.xt_messages.specs.declared.event.Mark.{Mark}
 use Rattle.xt_messages.specs.declared.file.Op.{Op}
 use Rattle.xt_messages.specs.declared.message.Msg.{Msg}
+use Rattle.xt_messages.specs.declared.file.FileHead.{FileHead}
+use Rattle.xt_messages.specs.declared.message.Payload.{Payload}
 use Rattle.xt_messages.specs.declared.message.Payload.TheVariants as payload
 use Rattle.xt_messages.specs.declared.record.Record.{Record}
 use Rattle.xt_protocol.specs.LeaseRows.{Silent}
@@ -23,10 +25,11 @@ use Rattle.lease_runs.proofs.OsdLeases.{at_file, handled, woken_step}
 use Rattle.lease_runs.proofs.ActSteps.{wake_step_marks, woken_quiet}
 use Rattle.replica_runs.specs.FileView.{AskComes}
 use Rattle.replica_runs.specs.HeadWorld.{shown}
-use Rattle.file_runs.specs.FileRuns.{FileWorld, Sent, Tale, Happening, message, wake, step_on, sent_by}
+use Rattle.file_runs.specs.FileRuns.{FileWorld, Sent, Tale, Happening, message, wake, step_on, sent_by, OwnComes, OwnTells}
+use Rattle.own_messages_wait.proofs.Waiting.{Waiting, TellsOwn, own_status}
 use Rattle.cluster_runs.specs.World.{World, Node, Running, osd}
 use Rattle.cluster_runs.specs.Lines.{declared_file}
-use Rattle.cluster_runs.specs.NodeSteps.{entry_of, outside_of, one_more, to_itself}
+use Rattle.cluster_runs.specs.NodeSteps.{entry_of, outside_of, one_more, to_itself, one_put}
 use Rattle.world_runs.specs.View.{awake_as, messages}
 use Rattle.world_runs.specs.Worlds.{IsInOrder, CoreFits, UpFits}
 use Rattle.world_runs.proofs.Fit.{IsFit}
@@ -109,6 +112,7 @@ pub record At (w : World) (was own : List Msg) (node : Node) (r : Running) (s : 
   pub fit_after : IsFit (stepped w node r s happens outs) (own ++ to_itself node.id outs)
   pub its : RunsAs w node r s
   pub reaches : Reaches w was node.id happens
+  pub waiting : Waiting w was
 
 core_fits : (w : World) (was : List Msg) (node : Node) (r : Running) (s : OsdState) → IsFit w was → RunsAs w node r s → CoreFits w.times w.files node.id node.kept r (osd s)
 core_fits w was node r s fit its =
@@ -143,7 +147,7 @@ module _ (stripe : ℕ) (ops : ℕ × ℕ → Op) (members : List ℕ) (number :
       let after = stepped w node r s happens outs in
       let own_after = own ++ to_itself node.id outs in
       let running : Running = record r { core = osd whole.osd } in
-      let there : Node = record node { kept = one_more node.kept whole.turned.rec; up = Some running } in
+      let there : Node = record node { kept = one_more node.kept whole.turned.rec; past = one_put node.past whole.turned.rec; up = Some running } in
       rests stripe ops members (declared_file number) w after was own_after (map (entry_of node.id) whole.turned.marks) refl l.marks
       (λ u sees. rested (declared_file number) w node r s u x.its sees whole.osd (record whole.turned { outs = outs }) l.state l.rec)
       (led_back (declared_file number) w after own_after there node r running s whole.osd (in_order after own_after x.fit_after) refl x.its.found x.its.up x.its.core
@@ -162,6 +166,21 @@ module _ (stripe : ℕ) (ops : ℕ × ℕ → Op) (members : List ℕ) (number :
   told_now happens v how same told =
       subst (λ (ms : List Mark). TellsAs stripe ops number (w.entries ++ map (entry_of node.id) ms) (record { node = node.id.0; marks = (step_on site f how).turned.marks } ∷ v.tales)) (sym same)
       ((telling stripe ops number).step w.entries v.tales node.id site f how its_number told)
+
+  -- a status that the OSD told itself is of the head that it has
+  told_so : (from : NodeId) (content : Payload) → s.started.node.0 ≡ node.id.0 → TellsOwn s from content → file_concerned content ≡ Some (declared_file number) → OwnTells node.id.0 f.kept.head from content
+  told_so from (payload.Status file epoch head) mine tells concerns = λ is v h.
+      let same = tells (is ∙ sym mine) ∙ ap (λ (g : FileId). (file_seen g s).kept.head) (one_file file (declared_file number) concerns) in
+      subst (λ (k : FileHead). Has v k.versions) same h
+    where
+      one_file : (a b : FileId) → Some a ≡ Some b → a ≡ b
+      one_file a b e = cc e
+  told_so from _ mine tells concerns = tt
+
+  own_comes : (msg : Msg) (happens : NodeEvent.Event) (outs : List Msg) → At w was own node r s happens outs → happens ≡ event.Deliver msg → file_concerned msg.payload ≡ Some (declared_file number) → OwnComes node.id.0 f (message msg.from msg.payload)
+  own_comes msg happens outs x is concerns =
+      told_so msg.from msg.payload (here x.fit x.its)
+      (own_status w node r s x.its.found x.its.up x.its.core was msg (subst (Reaches w was node.id) is x.reaches) x.waiting) concerns
 
   -- an ask may come, or it asks for what leaves the object
   come_or_outside : (msg : Msg) → file_concerned msg.payload ≡ Some (declared_file number) → IsFit w was → Fits w was → Has msg (was ++ messages w) → DeclaredList w.files number stripe members → AreOperations ops number w.entries
@@ -205,7 +224,7 @@ module _ (stripe : ℕ) (ops : ℕ × ℕ → Op) (members : List ℕ) (number :
       at (inl come) =
           ran stripe ops members (declared_file number) w (stepped w node r s (event.Deliver msg) outs) was (own ++ to_itself node.id outs) node.id.0 v (step_of_file site f msg.from msg.payload)
           (messages_run stripe ops members (declared_file number) w was (own ++ to_itself node.id outs) outs node r s msg v order order_after (x.fit.safe number).0 (x.fit_after.safe number).0 x.its awake concerns
-          (is.sent msg x.reaches.1 concerns, come) is.sees is.leaders)
+          (is.sent msg x.reaches.1 concerns, come) (own_comes msg (event.Deliver msg) outs x refl concerns) is.sees is.leaders)
           (λ m h about. inside_now m (came own was outs w node.id w.nodes m x.within h))
           (told_now (event.Deliver msg) v (message msg.from msg.payload) (ap (λ (o : OsdStep). o.turned.marks) whole) is.told) is
       at (inr outside) =
@@ -265,7 +284,7 @@ module _ (stripe : ℕ) (ops : ℕ × ℕ → Op) (members : List ℕ) (number :
       at (inl come) =
           stopped_kept stripe ops members (declared_file number) w was node r s (in_order w was x.fit) x.its msg rec halt awake concerns is_rec
           (message_alone stripe ops members (declared_file number) w was (own ++ to_itself node.id []) [] node r s msg (in_order w was x.fit) (in_order (stepped w node r s (event.Deliver msg) []) (own ++ to_itself node.id []) x.fit_after)
-          (x.fit.safe number).0 (x.fit_after.safe number).0 x.its awake concerns) v (is.sent msg x.reaches.1 concerns, come) is
+          (x.fit.safe number).0 (x.fit_after.safe number).0 x.its awake concerns) v (is.sent msg x.reaches.1 concerns, come) (own_comes msg (event.Deliver msg) [] x refl concerns) is
       at (inr outside) = absurd (no_record rec (sym (same_rec (declared_file number) node r s msg awake concerns ∙ outside_none site f msg.from msg.payload outside) ∙ is_rec))
   kept_by_file _ rec halt v x is_rec listed are is (woken_up awake met) =
       absurd (no_record rec (sym (ap (λ (o : OsdStep). o.turned.rec) (woken_step (outside_of node.kept) s r.clock (awake_as s.started) awake) ∙ (woken_quiet site s.files).1) ∙ is_rec))

@@ -26,10 +26,10 @@ use Rattle.xt_protocol.specs.FileStates.{FileState, Site, FileStep}
 use Rattle.xt_protocol.specs.OsdSteps.{OsdState, file_concerned}
 use Rattle.xt_protocol.specs.declared.states.Tenure.{Tenure}
 use Rattle.replica_runs.specs.FileView.{IsFree}
-use Rattle.file_runs.specs.FileRuns.{FileWorld, Event, Happening, Sent, Tale, message, wake, goes_on, acts, step_on, sent_by, Comes, May, after, after_all}
+use Rattle.file_runs.specs.FileRuns.{FileWorld, Event, Happening, Sent, Tale, message, wake, goes_on, acts, step_on, sent_by, Comes, OwnComes, May, after, after_all}
 use Rattle.time_line.specs.Clauses.{AreApart}
 use Rattle.cluster_runs.specs.World.{World, Node, Running, osd}
-use Rattle.cluster_runs.specs.NodeSteps.{one_more}
+use Rattle.cluster_runs.specs.NodeSteps.{one_more, one_put}
 use Rattle.world_runs.specs.View.{awake_as}
 use Rattle.world_runs.specs.Worlds.{IsInOrder, Leads, CoreFits, UpFits}
 use Rattle.world_runs.proofs.Files.{at_fits}
@@ -71,7 +71,7 @@ module _ (stripe : ℕ) (ops : ℕ × ℕ → Op) (members : List ℕ) (file : F
   running = record r { core = osd next }
 
   abbrev node_after : Node
-  node_after = record node { kept = one_more node.kept (step_at node r s comes_in).turned.rec; up = Some running }
+  node_after = record node { kept = one_more node.kept (step_at node r s comes_in).turned.rec; past = one_put node.past (step_at node r s comes_in).turned.rec; up = Some running }
 
   its_after : RunsAs behind node_after running next
   its_after = record { found = node_in-new w.nodes node_after node its.found; up = refl; core = refl }
@@ -108,10 +108,10 @@ module _ (stripe : ℕ) (ops : ℕ × ℕ → Op) (members : List ℕ) (file : F
       at true same = same_number m n same
       at false differs = alone_before (led_held step.state.lease step.state.primary.tenure t is sound.led) m (led_before file w behind node_after m refl (other_number m n differs) lead)
 
-  acting : (v : FileWorld) → Comes stripe ops members v happens → Sees file w v → LeadersHold file w v → (IsHeld step.state.lease → IsFree n v.holder)
+  acting : (v : FileWorld) → Comes stripe ops members v happens → OwnComes node.id.0 (file_seen file s) happens → Sees file w v → LeadersHold file w v → (IsHeld step.state.lease → IsFree n v.holder)
       → (May stripe ops members v (acts n (file_seen file s) site happens goes_on)) × Sees file behind (after v (acts n (file_seen file s) site happens goes_on)) × LeadersHold file behind (after v (acts n (file_seen file s) site happens goes_on))
-  acting v comes sees leaders alone = (
-    steps_may stripe ops members file w own node r s v happens goes_on order its sees leaders comes alone tt,
+  acting v comes mine sees leaders alone = (
+    steps_may stripe ops members file w own node r s v happens goes_on order its sees leaders comes mine alone tt,
     shows v sees,
     leaders_go_on file w behind node_after running next v step refl its_after is_state alone_behind leaders,
   )
@@ -119,11 +119,11 @@ module _ (stripe : ℕ) (ops : ℕ × ℕ → Op) (members : List ℕ) (file : F
   abbrev acts_now : Event
   acts_now = acts n (file_seen file s) site happens goes_on
 
-  ran : (v : FileWorld) → Comes stripe ops members v happens → Sees file w v → LeadersHold file w v → IsRun stripe ops members file behind n v step
-  ran v comes sees leaders =
+  ran : (v : FileWorld) → Comes stripe ops members v happens → OwnComes node.id.0 (file_seen file s) happens → Sees file w v → LeadersHold file w v → IsRun stripe ops members file behind n v step
+  ran v comes mine sees leaders =
       let room = makes_room stripe ops members file w n step.state.lease v sees leaders alone_before in
       let comes_then = subst (λ (k : List Sent). Comes stripe ops members (record v { sent = k }) happens) (sym room.same_sent) comes in
-      let p = acting (after_all v room.lost) comes_then room.sees room.leaders room.free in
+      let p = acting (after_all v room.lost) comes_then mine room.sees room.leaders room.free in
       let same = after_append v room.lost (acts_now ∷ []) in
       record {
         events = room.lost ++ acts_now ∷ [];
@@ -138,12 +138,13 @@ pub messages_run : (stripe : ℕ) (ops : ℕ × ℕ → Op) (members : List ℕ)
     → IsInOrder w own → IsInOrder (stepped w node r s (event.Deliver msg) outs) own_after
     → AreApart file.number w.entries → AreApart file.number (stepped w node r s (event.Deliver msg) outs).entries
     → RunsAs w node r s → IsAwake r s → file_concerned msg.payload ≡ Some file → Comes stripe ops members v (message msg.from msg.payload)
+    → OwnComes node.id.0 (file_seen file s) (message msg.from msg.payload)
     → Sees file w v → LeadersHold file w v
     → IsRun stripe ops members file (stepped w node r s (event.Deliver msg) outs) node.id.0 v (step_on (site_at node r s) (file_seen file s) (message msg.from msg.payload))
-messages_run stripe ops members file w own own_after outs node r s msg v order order_after apart apart_after its awake concerns comes sees leaders =
+messages_run stripe ops members file w own own_after outs node r s msg v order order_after apart apart_after its awake concerns comes mine sees leaders =
     ran stripe ops members file w own own_after outs node r s (event.Deliver msg) (message msg.from msg.payload) order order_after apart apart_after its
     (message_leaves file node r s msg awake concerns) (λ v sees. (messages_show file w node r s msg v its awake concerns sees).takes outs)
-    (SoundSteps.step_so (site_at node r s) (file_seen file s) msg.from msg.payload) v comes sees leaders
+    (SoundSteps.step_so (site_at node r s) (file_seen file s) msg.from msg.payload) v comes mine sees leaders
 
 -- nobody else leads where a message leaves the lease held
 pub message_alone : (stripe : ℕ) (ops : ℕ × ℕ → Op) (members : List ℕ) (file : FileId) (w : World) (own own_after outs : List Msg) (node : Node) (r : Running) (s : OsdState) (msg : Msg)
@@ -164,7 +165,7 @@ pub wakes_run : (stripe : ℕ) (ops : ℕ × ℕ → Op) (members : List ℕ) (f
 wakes_run stripe ops members file w own own_after outs node r s v order order_after apart apart_after its awake met sees leaders =
     ran stripe ops members file w own own_after outs node r s event.Wake wake order order_after apart apart_after its
     (wake_leaves file node r s awake met) (λ v sees. wake_taken file w node r s outs v its awake met sees)
-    (λ sound. SoundSteps.wake_so (site_at node r s) (expired (site_at node r s) (file_seen file s)).state (SoundSteps.expired_so (site_at node r s) (file_seen file s) sound)) v tt sees leaders
+    (λ sound. SoundSteps.wake_so (site_at node r s) (expired (site_at node r s) (file_seen file s)).state (SoundSteps.expired_so (site_at node r s) (file_seen file s) sound)) v tt tt sees leaders
 
 -- ---- what leaves the object
 
@@ -188,4 +189,4 @@ outside_runs stripe ops members file w own own_after outs node r s msg v epoch o
     (message_leaves file node r s msg awake concerns ∙ same.state)
     (λ v sees. same_nodes_after file (stepped w node r s (event.Deliver msg) outs) v node.id.0 (step_of_file site (file_seen file s) msg.from msg.payload) (step_of_file site (file_seen file s) msg.from fetch)
     same.state same.rec ((messages_show file w node r s msg v its awake concerns sees).takes outs))
-    (SoundSteps.step_so site (file_seen file s) msg.from fetch) v (inr refl, tt) sees leaders
+    (SoundSteps.step_so site (file_seen file s) msg.from fetch) v (inr refl, tt) tt sees leaders

@@ -27,9 +27,9 @@ use Rattle.time_line.specs.declared.entry.Entry.TheVariants as entry
 use Rattle.cluster_runs.specs.declared.Role.TheVariants as role
 use Rattle.cluster_runs.specs.Clients.{new_client, knows, aimed, step_of_client}
 use Rattle.cluster_runs.specs.Steps.{Step}
-use Rattle.cluster_runs.specs.World.{World, start_world, Node, Running, Core, osd, client, node_in, with_node, file_in}
+use Rattle.cluster_runs.specs.World.{World, start_world, Node, Running, Core, osd, client, node_in, with_node, file_in, loads, puts}
 use Rattle.cluster_runs.specs.Lines.{declared_file, declared_capability, epoch_of, uses, tells, runs, first_boot, next_boot, osd_starting, starts_as, ticked, no_longer_pending}
-use Rattle.cluster_runs.specs.NodeSteps.{entry_of, outside_of, one_more, to_itself, after_turn, halted}
+use Rattle.cluster_runs.specs.NodeSteps.{entry_of, outside_of, one_more, to_itself, after_turn, halted, one_put, rewritten_at}
 use Rattle.cluster_runs.specs.Runs.{with_line}
 use Rattle.world_runs.specs.View.{messages}
 use Rattle.world_runs.specs.Worlds.{IsInOrder, Leads, CallFits, CoreFits, UpFits}
@@ -39,7 +39,7 @@ use Rattle.world_runs.proofs.Lists.{has_in, has_left, has_right}
 use Rattle.world_runs.proofs.NodeEvents.{ClientFits, client_step_fits, call_fits, step_next}
 use Rattle.world_runs.proofs.Order.{in_order}
 use Rattle.world_runs.proofs.Tables.{nobody, node_in-new, node_in-last, file_in-stays}
-use Rattle.world_runs.proofs.Walk.{IsKept, NodeStep, of_osd, of_client, of_call, call_step, same_messages}
+use Rattle.world_runs.proofs.Walk.{IsKept, NodeStep, of_osd, of_client, of_call, call_step, same_messages, left_within}
 use Rattle.world_runs.proofs.EndRuns.{ends_kept}
 use Rattle.world_runs.proofs.Steps.{Fits, came}
 use Rattle.cluster_safety.specs.Seen.{up_state, core_state, kept_seen, nodes_seen, Sees, IsNotOf}
@@ -47,7 +47,9 @@ use Rattle.cluster_safety.specs.Events.{step_at, stepped}
 use Rattle.cluster_safety.specs.Asks.{AreOperations, DeclaredList}
 use Rattle.cluster_safety.specs.Runs.{IsShownBy, LeadsTo, FilesAreRuns, ArePlaced}
 use Rattle.cluster_safety.proofs.Events.{starts_show}
+use Rattle.own_messages_wait.proofs.Waiting.{Waiting, waiting_kept}
 use Rattle.cluster_safety.proofs.Endings.{stopped}
+use Rattle.cluster_safety.proofs.Forgotten.{forgotten_runs}
 use Rattle.cluster_safety.proofs.Leading.{led_same, led_else, led_back, led_added, led_ticked, down_leads_not, client_leads_not, started_leads_not}
 use Rattle.cluster_safety.proofs.Nodes.{here, other, plans_rest, ticks_rest, declared_rest}
 use Rattle.cluster_safety.proofs.OsdRuns.{steps_on, kept_on}
@@ -60,6 +62,7 @@ pub record Stage (w : World) (own : List Msg) : Type 0 where
   pub ends : Fits w own
   pub placed : ArePlaced w
   pub runs : FilesAreRuns w own
+  pub waiting : Waiting w own
 
 -- ---- at first
 
@@ -151,7 +154,7 @@ started_runs w node clock found down order fit =
     q = runs (next_boot node.kept) clock (osd (osd_starting w.times node (next_boot node.kept) clock))
 
     there : Node
-    there = record node { kept = node.kept ++ kept.Boot (next_boot node.kept) ∷ []; up = Some q }
+    there = record node { kept = node.kept ++ kept.Boot (next_boot node.kept) ∷ []; past = node.past ++ loads ∷ puts (kept.Boot (next_boot node.kept)) ∷ []; up = Some q }
 
     awake : Awake
     awake = record { node = node.id; boot = next_boot node.kept; times = w.times }
@@ -205,7 +208,7 @@ client_runs : (w : World) (was own : List Msg) (node : Node) (r : Running) (c : 
     → FilesAreRuns (after_turn w node (record r { core = client step.state }) (record step.turned { outs = outs })) (own ++ to_itself node.id outs)
 client_runs w was own node r c step outs within fewer found is_up is_client fits fit =
     let q : Running = record r { core = client step.state } in
-    let there : Node = record node { kept = one_more node.kept step.turned.rec; up = Some q } in
+    let there : Node = record node { kept = one_more node.kept step.turned.rec; past = one_put node.past step.turned.rec; up = Some q } in
     let after = after_turn w node (record r { core = client step.state }) (record step.turned { outs = outs }) in
     all_rest w after was (own ++ to_itself node.id outs) (map (entry_of node.id) step.turned.marks) refl (same_lists w after refl) (λ number. inert_says number node.id step.turned.marks fits.marks)
     (λ file v sees. other file w node found v sees (Some q) step.turned.rec (sym (ap (up_state file) is_up ∙ ap (core_state file) is_client)) (keeps_none file))
@@ -225,19 +228,19 @@ client_call w was node r c fit found is_up is_client =
     subst (CoreFits w.times w.files node.id node.kept r) is_client (subst (UpFits w.times w.files node.id node.kept) is_up (fit.shape.nodes node.id.0 node found).up)
 
 stepped_runs : (w : World) (was own : List Msg) (node : Node) (r : Running) (next : Core) (turned : Turned) (outs : List Msg) → ((m : Msg) → Has m own → Has m was) → ((m : Msg) → Has m outs → Has m turned.outs)
-    → node_in w.nodes node.id.0 ≡ Some node → node.up ≡ Some r → IsFit w was → Fits w was
+    → node_in w.nodes node.id.0 ≡ Some node → node.up ≡ Some r → IsFit w was → Fits w was → Waiting w was
     → IsFit (after_turn w node (record r { core = next }) (record turned { outs = outs })) (own ++ to_itself node.id outs) → NodeStep w was node r next turned → FilesAreRuns w was
     → FilesAreRuns (after_turn w node (record r { core = next }) (record turned { outs = outs })) (own ++ to_itself node.id outs)
-stepped_runs w was own node r _ _ outs within fewer found is_up fit ends fit_after (of_osd s happens is_osd reaches) =
+stepped_runs w was own node r _ _ outs within fewer found is_up fit ends waiting fit_after (of_osd s happens is_osd reaches) =
     let after = stepped w node r s happens outs in
     carried w after was (own ++ to_itself node.id outs) (map (entry_of node.id) (step_at node r s happens).turned.marks) refl (same_lists w after refl)
     (λ number stripe ops members listed are v is.
     steps_on stripe ops members number w was own node r s happens outs v
-    (record { within = within; fewer = fewer; fit = fit; ends = ends; fit_after = fit_after; its = record { found = found; up = is_up; core = is_osd }; reaches = reaches }) listed are is)
-stepped_runs w was own node r _ _ outs within fewer found is_up fit ends fit_after (of_client c happens is_client reaches) =
+    (record { within = within; fewer = fewer; fit = fit; ends = ends; fit_after = fit_after; its = record { found = found; up = is_up; core = is_osd }; reaches = reaches; waiting = waiting }) listed are is)
+stepped_runs w was own node r _ _ outs within fewer found is_up fit ends waiting fit_after (of_client c happens is_client reaches) =
     client_runs w was own node r c (step_of_client node.id w.times c r.clock happens) outs within fewer found is_up is_client
     (client_step_fits w.files node.id w.times c r.clock happens (client_call w was node r c fit found is_up is_client))
-stepped_runs w was own node r _ _ outs within fewer found is_up fit ends fit_after (of_call c k number location asked is_client resting bound called declared asks_so) =
+stepped_runs w was own node r _ _ outs within fewer found is_up fit ends waiting fit_after (of_call c k number location asked is_client resting bound called declared asks_so) =
     let capability = declared_capability number location (epoch_of c (declared_file number) k) in
     client_runs w was own node r c (call_step w node r c k number location asked) outs within fewer found is_up is_client
     (call_fits w.files node.id w.times (uses c capability) r.clock capability k asked (client_call w was node r c fit found is_up is_client) (refl, declared))
@@ -249,19 +252,19 @@ no_record rec is = cc
 client_keeps : (w : World) (own : List Msg) (rec : Record) (step : Step ClientState) (after : World) → ClientFits w.files step → step.turned.rec ≡ Some rec → FilesAreRuns w own → FilesAreRuns after []
 client_keeps w own rec step after fits is_rec = absurd (no_record rec (sym fits.rec ∙ is_rec))
 
-kept_runs : (w : World) (own : List Msg) (node : Node) (r : Running) (next : Core) (turned : Turned) (rec : Record) → node_in w.nodes node.id.0 ≡ Some node → node.up ≡ Some r → IsFit w own → Fits w own
+kept_runs : (w : World) (own : List Msg) (node : Node) (r : Running) (next : Core) (turned : Turned) (rec : Record) → node_in w.nodes node.id.0 ≡ Some node → node.up ≡ Some r → IsFit w own → Fits w own → Waiting w own
     → IsFit (after_turn w node (record r { core = next }) (record turned { outs = [] })) ([] ++ to_itself node.id []) → NodeStep w own node r next turned → turned.rec ≡ Some rec → FilesAreRuns w own
-    → FilesAreRuns (halted w (record node { kept = node.kept ++ rec ∷ [] }) (record r { core = next }) halt.Kept) []
-kept_runs w own node r _ _ rec found is_up fit ends fit_after (of_osd s happens is_osd reaches) is_rec =
-    let after = halted w (record node { kept = node.kept ++ rec ∷ [] }) (record r { core = osd (step_of_osd (outside_of node.kept) s r.clock happens).osd }) halt.Kept in
+    → FilesAreRuns (halted w (record node { kept = node.kept ++ rec ∷ []; past = node.past ++ puts rec ∷ [] }) (record r { core = next }) halt.Kept) []
+kept_runs w own node r _ _ rec found is_up fit ends waiting fit_after (of_osd s happens is_osd reaches) is_rec =
+    let after = halted w (record node { kept = node.kept ++ rec ∷ []; past = node.past ++ puts rec ∷ [] }) (record r { core = osd (step_of_osd (outside_of node.kept) s r.clock happens).osd }) halt.Kept in
     carried w after own [] (entry.Down node.id r.clock halt.Kept ∷ []) refl (same_lists w after refl)
     (λ number stripe ops members listed are v is.
     kept_on stripe ops members number w own [] node r s happens rec halt.Kept v
-    (record { within = λ m h. absurd h; fewer = λ m h. absurd h; fit = fit; ends = ends; fit_after = fit_after; its = record { found = found; up = is_up; core = is_osd }; reaches = reaches }) is_rec listed are is)
-kept_runs w own node r _ _ rec found is_up fit ends fit_after (of_client c happens is_client reaches) is_rec =
+    (record { within = λ m h. absurd h; fewer = λ m h. absurd h; fit = fit; ends = ends; fit_after = fit_after; its = record { found = found; up = is_up; core = is_osd }; reaches = reaches; waiting = waiting }) is_rec listed are is)
+kept_runs w own node r _ _ rec found is_up fit ends waiting fit_after (of_client c happens is_client reaches) is_rec =
     client_keeps w own rec (step_of_client node.id w.times c r.clock happens) _
     (client_step_fits w.files node.id w.times c r.clock happens (client_call w own node r c fit found is_up is_client)) is_rec
-kept_runs w own node r _ _ rec found is_up fit ends fit_after (of_call c k number location asked is_client resting bound called declared asks_so) is_rec =
+kept_runs w own node r _ _ rec found is_up fit ends waiting fit_after (of_call c k number location asked is_client resting bound called declared asks_so) is_rec =
     let capability = declared_capability number location (epoch_of c (declared_file number) k) in
     client_keeps w own rec (call_step w node r c k number location asked) _
     (call_fits w.files node.id w.times (uses c capability) r.clock capability k asked (client_call w own node r c fit found is_up is_client) (refl, declared)) is_rec
@@ -275,31 +278,34 @@ still_placed w after entries files = placed_more w after [] (same_entries w afte
 pub stage_kept : IsKept Stage
 stage_kept =
     record {
-      begins = record { fit = fits_kept.begins; ends = ends_kept.begins; placed = start_placed; runs = start_runs };
+      begins = record { fit = fits_kept.begins; ends = ends_kept.begins; waiting = waiting_kept.begins; placed = start_placed; runs = start_runs };
       times = λ lease drift bound.
           let after = tells (record start_world { times = record { lease = lease; drift = drift } }) (entry.Times lease drift ∷ []) in
           record {
             fit = fits_kept.times lease drift bound;
             ends = ends_kept.times lease drift bound;
+            waiting = waiting_kept.times lease drift bound;
             placed = placed_more start_world after (entry.Times lease drift ∷ []) refl refl (one_place (entry.Times lease drift) (λ number. refl)) start_placed;
             runs = all_rest start_world after [] [] (entry.Times lease drift ∷ []) refl (same_lists start_world after refl) (λ number. one_says number (entry.Times lease drift) refl) (λ file v sees. sees)
                 (λ file. led_same file start_world after refl) (λ m h. inr h) start_runs;
           };
       osd_declared = λ w id bound new p.
-          let node : Node = record { id = id; role = role.Osd; kept = []; up = None } in
+          let node : Node = record { id = id; role = role.Osd; kept = []; past = []; up = None } in
           let after = tells (record w { nodes = w.nodes ++ node ∷ [] }) [] in
           record {
             fit = fits_kept.osd_declared w id bound new p.fit;
             ends = ends_kept.osd_declared w id bound new p.ends;
+            waiting = waiting_kept.osd_declared w id bound new p.waiting;
             placed = placed_more w after [] refl refl no_places p.placed;
             runs = declared_runs w node [] new (λ file. refl) (λ file. down_leads_not file after id.0 node (node_in-last w.nodes node new) refl) none_says p.runs;
           };
       client_declared = λ w id clock bound new p.
-          let node : Node = record { id = id; role = role.Client; kept = []; up = Some (runs first_boot clock (client (new_client clock))) } in
+          let node : Node = record { id = id; role = role.Client; kept = []; past = []; up = Some (runs first_boot clock (client (new_client clock))) } in
           let after = tells (record w { nodes = w.nodes ++ node ∷ [] }) (entry.Up id first_boot clock ∷ []) in
           record {
             fit = fits_kept.client_declared w id clock bound new p.fit;
             ends = ends_kept.client_declared w id clock bound new p.ends;
+            waiting = waiting_kept.client_declared w id clock bound new p.waiting;
             placed = placed_more w after (entry.Up id first_boot clock ∷ []) refl refl (one_place (entry.Up id first_boot clock) (λ number. refl)) p.placed;
             runs = declared_runs w node (entry.Up id first_boot clock ∷ []) new (λ file. refl)
                 (λ file. client_leads_not file after id.0 node (runs first_boot clock (client (new_client clock))) (new_client clock) (node_in-last w.nodes node new) refl refl)
@@ -311,6 +317,7 @@ stage_kept =
           record {
             fit = fits_kept.file_declared w number location bound new p.fit;
             ends = ends_kept.file_declared w number location bound new p.ends;
+            waiting = waiting_kept.file_declared w number location bound new p.waiting;
             placed = placed_file w number location bound.1 p.placed;
             runs = all_rest w after [] [] (entry.File number location ∷ []) refl (λ k stripe members listed x is. listed x (file_in-stays w.files f k x is))
                 (λ k. one_says k (entry.File number location) refl) (λ file v sees. sees) (λ file. led_same file w after refl) (λ m h. inr h) p.runs;
@@ -321,6 +328,7 @@ stage_kept =
           record {
             fit = fit;
             ends = ends_kept.started w node clock bound found down close p.ends;
+            waiting = waiting_kept.started w node clock bound found down close p.waiting;
             placed = placed_more w after (entry.Up node.id (next_boot node.kept) clock ∷ []) refl refl (one_place (entry.Up node.id (next_boot node.kept) clock) (λ number. refl)) p.placed;
             runs = started_runs w node clock found down (in_order after [] fit) p.runs;
           };
@@ -330,6 +338,7 @@ stage_kept =
           record {
             fit = fit;
             ends = ends_kept.planned w node r q found is_up boot clock core p.ends;
+            waiting = waiting_kept.planned w node r q found is_up boot clock core p.waiting;
             placed = still_placed w after refl refl p.placed;
             runs = planned_runs w after node r q [] found is_up (in_order after [] fit) refl refl (same_entries w after refl) (λ m h. h) core (subst (λ (c : ℕ). r.clock ≤ c) (sym clock) (omega arith)) none_says p.runs;
           };
@@ -337,6 +346,7 @@ stage_kept =
           record {
             fit = fits_kept.aimed_at w node r c number target found is_up is_client p.fit;
             ends = ends_kept.aimed_at w node r c number target found is_up is_client p.ends;
+            waiting = waiting_kept.aimed_at w node r c number target found is_up is_client p.waiting;
             placed = still_placed w (record w { nodes = with_node w.nodes (record node { up = Some (record r { core = client (knows c (declared_file number) (aimed target)) }) }) }) refl refl p.placed;
             runs = aimed_runs w node r c number target found is_up is_client p.runs;
           };
@@ -344,6 +354,7 @@ stage_kept =
           record {
             fit = fits_kept.stopped w own node r how found is_up p.fit;
             ends = ends_kept.stopped w own node r how found is_up p.ends;
+            waiting = waiting_kept.stopped w own node r how found is_up p.waiting;
             placed = placed_more w (halted w node r how) (entry.Down node.id r.clock how ∷ []) refl refl (one_place (entry.Down node.id r.clock how) (λ number. refl)) p.placed;
             runs = stopped_runs w own node r how found is_up p.fit p.runs;
           };
@@ -353,6 +364,7 @@ stage_kept =
           record {
             fit = fit;
             ends = ends_kept.clock_set w node r clock bound found is_up rises close p.ends;
+            waiting = waiting_kept.clock_set w node r clock bound found is_up rises close p.waiting;
             placed = placed_more w after (entry.Clock node.id clock ∷ []) refl refl (one_place (entry.Clock node.id clock) (λ number. refl)) p.placed;
             runs = planned_runs w after node r (record r { clock = clock }) (entry.Clock node.id clock ∷ []) found is_up (in_order after [] fit) refl refl refl (λ m h. h) refl rises
                 (λ number. one_says number (entry.Clock node.id clock) refl) p.runs;
@@ -363,6 +375,7 @@ stage_kept =
           record {
             fit = fit;
             ends = ends_kept.all_ticked w count bound p.ends;
+            waiting = waiting_kept.all_ticked w count bound p.waiting;
             placed = placed_more w after (entry.Tick count ∷ []) refl refl (one_place (entry.Tick count) (λ number. refl)) p.placed;
             runs = all_rest w after [] [] (entry.Tick count ∷ []) refl (same_lists w after refl) (λ number. one_says number (entry.Tick count) refl) (λ file v sees. ticks_rest file w count v sees)
                 (λ file. led_ticked file w after [] count (in_order after [] fit) refl) (λ m h. inr h) p.runs;
@@ -372,45 +385,60 @@ stage_kept =
           record {
             fit = fits_kept.less_pending w own number p.fit;
             ends = ends_kept.less_pending w own number p.ends;
+            waiting = waiting_kept.less_pending w own number p.waiting;
             placed = still_placed w after refl refl p.placed;
             runs = fewer_runs w after own own refl refl refl (λ m h. elim (has_in m own (messages after) h) [
               | inl mine ↦ has_left m own (messages w) mine
               | inr sent ↦ has_right m own (messages w) (same_messages w.sent number m sent)
             ]) p.runs;
           };
-      lost = λ w own left within p.
+      lost = λ w own left part p.
           record {
-            fit = fits_kept.lost w own left within p.fit;
-            ends = ends_kept.lost w own left within p.ends;
+            fit = fits_kept.lost w own left part p.fit;
+            ends = ends_kept.lost w own left part p.ends;
+            waiting = waiting_kept.lost w own left part p.waiting;
             placed = p.placed;
             runs = fewer_runs w w own left refl refl refl (λ m h. elim (has_in m left (messages w) h) [
-              | inl mine ↦ has_left m own (messages w) (within m mine)
+              | inl mine ↦ has_left m own (messages w) (left_within left own part m mine)
               | inr sent ↦ has_right m own (messages w) sent
             ]) p.runs;
           };
-      stepped = λ w was own node r next turned outs rest within found is_up step split p.
-          let fit = fits_kept.stepped w was own node r next turned outs rest within found is_up step split p.fit in
+      stepped = λ w was own node r next turned outs rest part found is_up step split p.
+          let fit = fits_kept.stepped w was own node r next turned outs rest part found is_up step split p.fit in
           let after = after_turn w node (record r { core = next }) (record turned { outs = outs }) in
           record {
             fit = fit;
-            ends = ends_kept.stepped w was own node r next turned outs rest within found is_up step split p.ends;
+            ends = ends_kept.stepped w was own node r next turned outs rest part found is_up step split p.ends;
+            waiting = waiting_kept.stepped w was own node r next turned outs rest part found is_up step split p.waiting;
             placed = placed_more w after (map (entry_of node.id) turned.marks) refl refl
                 (mark_places node.id w.entries turned.marks (step_next w was node r next turned p.fit.shape found is_up step).marks) p.placed;
-            runs = stepped_runs w was own node r next turned outs within (λ m h. subst (Has m) (sym split) (has_left m outs rest h)) found is_up p.fit p.ends fit step p.runs;
+            runs = stepped_runs w was own node r next turned outs (left_within own was part) (λ m h. subst (Has m) (sym split) (has_left m outs rest h)) found is_up p.fit p.ends p.waiting fit step p.runs;
           };
       stopped_keeping = λ w own node r next turned rec found is_up step is_rec p.
-          let fit = fits_kept.stepped w own [] node r next turned [] turned.outs (λ m h. absurd h) found is_up step refl p.fit in
-          let there : Node = record node { kept = node.kept ++ rec ∷ [] } in
+          let fit = fits_kept.stepped w own [] node r next turned [] turned.outs (inl refl) found is_up step refl p.fit in
+          let there : Node = record node { kept = node.kept ++ rec ∷ []; past = node.past ++ puts rec ∷ [] } in
           record {
             fit = fits_kept.stopped_keeping w own node r next turned rec found is_up step is_rec p.fit;
             ends = ends_kept.stopped_keeping w own node r next turned rec found is_up step is_rec p.ends;
+            waiting = waiting_kept.stopped_keeping w own node r next turned rec found is_up step is_rec p.waiting;
             placed = placed_more w (halted w there (record r { core = next }) halt.Kept) (entry.Down node.id r.clock halt.Kept ∷ []) refl refl (one_place (entry.Down node.id r.clock halt.Kept) (λ number. refl)) p.placed;
-            runs = kept_runs w own node r next turned rec found is_up p.fit p.ends fit step is_rec p.runs;
+            runs = kept_runs w own node r next turned rec found is_up p.fit p.ends p.waiting fit step is_rec p.runs;
+          };
+      forgotten = λ w own node r s found is_up is_osd p.
+          let fit = fits_kept.forgotten w own node r s found is_up is_osd p.fit in
+          record {
+            fit = fit;
+            ends = ends_kept.forgotten w own node r s found is_up is_osd p.ends;
+            waiting = waiting_kept.forgotten w own node r s found is_up is_osd p.waiting;
+            placed = still_placed w (record w { nodes = with_node w.nodes (rewritten_at node r s) }) refl refl p.placed;
+            runs = forgotten_runs w own node r s (record { found = found; up = is_up; core = is_osd }) (in_order w own p.fit)
+                (in_order (record w { nodes = with_node w.nodes (rewritten_at node r s) }) own fit) p.runs;
           };
       lined = λ w l p.
           record {
             fit = fits_kept.lined w l p.fit;
             ends = ends_kept.lined w l p.ends;
+            waiting = waiting_kept.lined w l p.waiting;
             placed = still_placed w (with_line w l) refl refl p.placed;
             runs = fewer_runs w (with_line w l) [] [] refl refl refl (λ m h. h) p.runs;
           };

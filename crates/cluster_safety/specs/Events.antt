@@ -12,7 +12,7 @@ use Rattle.xt_protocol.specs.FileStates.{FileState, Site}
 use Rattle.xt_protocol.specs.OsdSteps.{OsdState, OsdStep, step_of_osd, file_concerned}
 use Rattle.lease_runs.specs.OsdView.{site_of}
 use Rattle.file_runs.specs.FileRuns.{FileWorld, Happening, message, wake, goes_on, stops_kept, stops_lost, acts, starts, after}
-use Rattle.cluster_runs.specs.World.{World, Node, Running, osd, node_in, with_node}
+use Rattle.cluster_runs.specs.World.{World, Node, Running, osd, node_in, with_node, puts}
 use Rattle.cluster_runs.specs.NodeSteps.{outside_of, after_turn, halted}
 use Rattle.cluster_runs.specs.Lines.{starts_as, next_boot, ticked}
 use Rattle.world_runs.specs.View.{awake_as}
@@ -43,7 +43,7 @@ stepped w node r s happens outs =
 -- and where it stops in the append of the step's record, which is kept
 abbrev pub stopped_with : World → Node → Running → OsdState → Event → Record → Halt → World
 stopped_with w node r s happens rec how =
-    halted w (record node { kept = node.kept ++ rec ∷ [] }) (record r { core = osd (step_at node r s happens).osd }) how
+    halted w (record node { kept = node.kept ++ rec ∷ []; past = node.past ++ puts rec ∷ [] }) (record r { core = osd (step_at node r s happens).osd }) how
 
 -- A message to an OSD past its silence: the file that it concerns takes its step, and no other file does. Where the OSD stops in its
 -- append with the record kept, the file's step stops so, and at every other file the node stops.

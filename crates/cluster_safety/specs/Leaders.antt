@@ -8,7 +8,7 @@ use Rattle.xt_protocol.specs.FileStates.{FileStep}
 use Rattle.xt_protocol.specs.OsdSteps.{OsdState}
 use Rattle.xt_protocol.specs.declared.states.Tenure.{Tenure}
 use Rattle.replica_runs.specs.FileView.{IsFree}
-use Rattle.file_runs.specs.FileRuns.{FileWorld, Happening, Ending, goes_on, stops_lost, acts, step_on, acted, Comes, MayEnd, May}
+use Rattle.file_runs.specs.FileRuns.{FileWorld, Happening, Ending, goes_on, stops_lost, acts, step_on, acted, Comes, OwnComes, MayEnd, May}
 use Rattle.cluster_runs.specs.World.{World, Node, Running, node_in, with_node}
 use Rattle.world_runs.specs.Worlds.{IsInOrder, Leads}
 use Rattle.cluster_safety.specs.Seen.{file_seen, Sees}
@@ -20,7 +20,7 @@ use Rattle.cluster_safety.specs.May.{LeadersHold}
 abbrev pub StepsMay : Type 0
 StepsMay =
     (stripe : ℕ) (ops : ℕ × ℕ → Op) (members : List ℕ) (file : FileId) (w : World) (own : List Msg) (node : Node) (r : Running) (s : OsdState) (v : FileWorld)
-    (happens : Happening) (how : Ending) → IsInOrder w own → RunsAs w node r s → Sees file w v → LeadersHold file w v → Comes stripe ops members v happens
+    (happens : Happening) (how : Ending) → IsInOrder w own → RunsAs w node r s → Sees file w v → LeadersHold file w v → Comes stripe ops members v happens → OwnComes node.id.0 (file_seen file s) happens
     → (IsHeld (step_on (site_at node r s) (file_seen file s) happens).state.lease → IsFree node.id.0 v.holder)
     → MayEnd (step_on (site_at node r s) (file_seen file s) happens) how
     → May stripe ops members v (acts node.id.0 (file_seen file s) (site_at node r s) happens how)

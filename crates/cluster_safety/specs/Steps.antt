@@ -11,7 +11,7 @@ use Rattle.xt_messages.specs.declared.message.Msg.{Msg}
 use Rattle.xt_protocol.specs.FileStates.{FileStep}
 use Rattle.xt_protocol.specs.OsdSteps.{OsdState, file_concerned}
 use Rattle.lease_safety.specs.State.{Has}
-use Rattle.file_runs.specs.FileRuns.{FileWorld, Event, message, wake, step_on, sent_by, Comes, MayAll, after_all}
+use Rattle.file_runs.specs.FileRuns.{FileWorld, Event, message, wake, step_on, sent_by, Comes, OwnComes, MayAll, after_all}
 use Rattle.time_line.specs.Clauses.{AreApart}
 use Rattle.cluster_runs.specs.World.{World, Node, Running}
 use Rattle.world_runs.specs.Worlds.{IsInOrder}
@@ -37,6 +37,7 @@ MessagesRun =
     → IsInOrder w own → IsInOrder (stepped w node r s (event.Deliver msg) outs) own_after
     → AreApart file.number w.entries → AreApart file.number (stepped w node r s (event.Deliver msg) outs).entries
     → RunsAs w node r s → IsAwake r s → file_concerned msg.payload ≡ Some file → Comes stripe ops members v (message msg.from msg.payload)
+    → OwnComes node.id.0 (file_seen file s) (message msg.from msg.payload)
     → Sees file w v → LeadersHold file w v
     → IsRun stripe ops members file (stepped w node r s (event.Deliver msg) outs) node.id.0 v
     (step_on (site_at node r s) (file_seen file s) (message msg.from msg.payload))

@@ -15,7 +15,7 @@ use Rattle.replica_safety.specs.Epochs.{at_node}
 use Rattle.replica_safety.specs.Lists.{AreDistinct}
 use Rattle.replica_safety.specs.Rules.{Start}
 use Rattle.replica_runs.proofs.Tools.{by_node, some_node}
-use Rattle.file_runs.specs.FileRuns.{FileNode, Tale, FileWorld, Happening, message, wake, step_on, Ending, goes_on, stops, stops_kept, stops_lost, Event, acts, starts, lapses, keeping, acted, after, May, MayAll, after_all}
+use Rattle.file_runs.specs.FileRuns.{FileNode, Tale, FileWorld, Happening, message, wake, step_on, Ending, goes_on, stops, stops_kept, stops_lost, Event, acts, starts, forgets, lapses, keeping, acted, after, May, MayAll, after_all}
 use Rattle.file_runs.proofs.Runs.{Inv, Up, Shape, next_inv}
 
 -- a mark that acts on a file acts on this one
@@ -79,6 +79,8 @@ module _ (stripe : ℕ) (some : 0 < stripe) (ops : ℕ × ℕ → Op) (members :
       let u : Up stripe some ops members distinct start (w.nodes n) inv.world n s = subst (Shape stripe some ops members distinct start (w.nodes n) inv.world n) may.runs (inv.nodes n) in
       ended w n (step_on site s happens) how named (of_step file site s happens (ap (λ (k : FileRow). k.file.number) u.same ∙ named.0 n))
   next w (starts n awake) may inv (are, told) = (for_node file w.nodes n (record (w.nodes n) { state = Some (file_from awake (w.nodes n).kept) }) (are n) are, told)
+  next w (forgets n s held body) may inv (are, told) =
+      (for_node file w.nodes n (record { state = Some (record s { kept = record s.kept { held = held } }); kept = record (w.nodes n).kept { held = held }; body = body }) (are n) are, told)
   next w (lapses n) may inv named = named
 
   pub all_named : (w : FileWorld) (es : List Event) → MayAll stripe ops members w es → Inv stripe some ops members distinct start w → Named w → Named (after_all w es)

@@ -1,8 +1,10 @@
 -- Every run of a file is a run of a world of heads.
-use Rattle.std.proofs.Common.{◌≡◌, ℕ, ◌<◌, ◌⊎◌, List, [], ◌∷◌, ◌++◌, refl, sym, ap, ap₂, ◌∙◌, subst, inl, inr, if◌then◌else◌, Option, Some, None}
+use Rattle.std.proofs.Common.{◌≡◌, ℕ, ◌<◌, ◌⊎◌, true, List, [], ◌∷◌, ◌++◌, refl, sym, ap, ap₂, ◌∙◌, subst, inl, inr, if◌then◌else◌, Option, Some, None}
 use Rattle.xt_base.specs.declared.ids.NodeId.{NodeId}
 use Rattle.xt_base.specs.declared.ids.Epoch.{Epoch}
 use Rattle.xt_base.specs.declared.ids.FileId.{FileId}
+use Rattle.xt_base.specs.declared.ids.Stamp.{Stamp}
+use Rattle.xt_messages.specs.declared.file.ObjectVersion.{ObjectVersion}
 use Rattle.xt_messages.specs.declared.file.FileHead.{FileHead}
 use Rattle.xt_messages.specs.declared.file.Op.{Op}
 use Rattle.xt_messages.specs.declared.message.Msg.{Msg}
@@ -13,22 +15,26 @@ use Rattle.xt_messages.specs.declared.record.Record.{Record}
 use Rattle.xt_messages.specs.declared.record.Record.TheVariants as kept
 use Rattle.xt_protocol.specs.declared.turned.Turned.{Turned}
 use Rattle.xt_protocol.specs.LeaseRows.{Awake}
-use Rattle.osd_invariants.specs.Sound.{IsHeld}
+use Rattle.osd_invariants.specs.Sound.{IsHeld, IsSound}
 use Rattle.osd_invariants.proofs.Kept.{expired_follows}
 use Rattle.osd_invariants.proofs.SoundSteps.{start_so, expired_so, step_so, wake_so}
 use Rattle.lease_runs.specs.ActsView.{ListAsked, RecordIs}
 use Rattle.lease_runs.proofs.ActSteps.{step_rec, wake_step_rec}
 use Rattle.xt_protocol.specs.FileStates.{FileState, Site, FileStep, file_from}
 use Rattle.xt_protocol.specs.FileSteps.{step_of_file}
+use Rattle.xt_protocol.specs.Forgetting.{versions_if, versions_led, versions_under}
 use Rattle.xt_protocol.specs.PrimaryRows.{body_beyond}
 use Rattle.xt_protocol.specs.ReplicaRows.{kept_after}
+use Rattle.xt_protocol.specs.Stamps.{has_version}
 use Rattle.xt_protocol.specs.Turns.{quiet}
+use Rattle.xt_protocol.specs.declared.states.Progress.{Progress}
+use Rattle.xt_protocol.specs.declared.states.Progress.TheVariants as progress
 use Rattle.xt_protocol.specs.declared.states.Tenure.{Tenure}
 use Rattle.replica_safety.specs.Epochs.{at_node}
 use Rattle.replica_safety.specs.Lists.{Has, AreDistinct}
 use Rattle.replica_safety.specs.Rules.{Start}
 use Rattle.replica_safety.proofs.Lists.{has-append}
-use Rattle.replica_runs.specs.HeadSteps.{Step, Loses, MayAll, after_steps}
+use Rattle.replica_runs.specs.HeadSteps.{Step, Loses, Forgets, MayAll, after_steps, AreKept, served_versions}
 use Rattle.replica_runs.specs.HeadSteps as heads
 use Rattle.replica_runs.specs.HeadWorld.{Node, Idle, Message, Status, shown, Entry, Local, local, put, BeginsAt}
 use Rattle.replica_runs.specs.HeadWorld as world
@@ -40,15 +46,19 @@ use Rattle.replica_runs.proofs.HeadRun.{turns_there, begins_there}
 use Rattle.replica_runs.proofs.HeadStands.{IsReached}
 use Rattle.replica_runs.proofs.Tools.{by_node, at_own}
 use Rattle.replica_runs.specs.FileView.{FileReaches, seen_of, settled, IsList, ListFits, IsOrderly, IsFree, AskComes, ShowsFile, Stops}
-use Rattle.replica_runs.specs.Seen.{Seen, local_of, AreIn, TenureFits, Fits}
+use Rattle.replica_runs.specs.Seen.{Seen, local_of, primary_of, leads_as, AreIn, NamesHeld, OwnFits, ProgressFits, TenureFits, Fits}
 use Rattle.replica_runs.proofs.AskSteps.{none_fit, expired_fit, step_fit, wake_fit}
 use Rattle.replica_runs.proofs.Choosing.{not_after_loss}
 use Rattle.replica_runs.proofs.Files.{expired_none, expired_tenure, files_show}
 use Rattle.replica_runs.proofs.Replicas.{peers_grow}
 use Rattle.replica_runs.proofs.Sending.{are_in, in_are, map_has, steps_append, may_append}
 use Rattle.replica_runs.proofs.Stopping.{stops, lost, others_same, statuses_before}
-use Rattle.file_runs.specs.FileRuns.{FileNode, Sent, Tale, FileWorld, Happening, message, wake, step_on, Ending, goes_on, stops_kept, stops_lost, Event, acts, starts, lapses, sent_by, holder_after, keeping, acted, after, Comes, MayEnd, MayAct, May, after_all, BeginsFile, Tells, IsOnOneOrder}
+use Rattle.file_runs.specs.FileRuns.{FileNode, Sent, Tale, FileWorld, Happening, message, wake, step_on, Ending, goes_on, stops_kept, stops_lost, Event, acts, starts, forgets, lapses, OwnComes, OwnTells, sent_by, holder_after, keeping, acted, after, Comes, MayEnd, MayAct, May, after_all, BeginsFile, Tells, IsOnOneOrder}
 use Rattle.file_runs.specs.FileRuns as runs
+
+-- a file is sound whatever is held of it
+held_so : (s : FileState) (held : List ObjectVersion) → IsSound s → IsSound (record s { kept = record s.kept { held = held } })
+held_so s held so = record { led = so.led; issued = so.issued; waits = so.waits; list = so.list; peers = so.peers; ready = so.ready }
 
 -- what is seen of a node in a world of heads, with this tenure
 abbrev seen_at : FileNode → world.World → Option Tenure → Seen
@@ -93,7 +103,7 @@ module _ (stripe : ℕ) (some : 0 < stripe) (ops : ℕ × ℕ → Op) (members :
     pub holds : (v2.holder ≡ Some m → v.holder ≡ Some m) × (v.holder ≡ Some m → v2.holder ≡ Some m)
 
   fits_on : (x : FileNode) (v v2 : world.World) (m : ℕ) (t : Option Tenure) → Leaves v v2 m → Fits members m (seen_at x v t) → Fits members m (seen_at x v2 t)
-  fits_on x v v2 m t l f = record { names = f.names; own = λ e h k. f.own e h (l.before e h k); tenure = tenure t f.tenure }
+  fits_on x v v2 m t l f = record { names = f.names; tenure = tenure t f.tenure }
     where
       tenure : (o : Option Tenure) → TenureFits members m (seen_at x v t) o → TenureFits members m (seen_at x v2 t) o
       tenure None g = λ is. g (l.holds.0 is)
@@ -233,7 +243,7 @@ module _ (stripe : ℕ) (some : 0 < stripe) (ops : ℕ × ℕ → Op) (members :
             steps = Loses ∷ [];
             may_steps = (tt, tt);
             leads = ap (λ l. heads.after n l Loses) local_is ∙ ap local_of (is_seen None (without n v.holder) is);
-            fits = subst (Fits members n) (is_seen None (without n v.holder) is) (record { names = u.fits.names; own = u.fits.own; tenure = not_after_loss n v.holder });
+            fits = subst (Fits members n) (is_seen None (without n v.holder) is) (record { names = u.fits.names; tenure = not_after_loss n v.holder });
             free = free_without;
           },
         )
@@ -275,10 +285,15 @@ module _ (stripe : ℕ) (some : 0 < stripe) (ops : ℕ × ℕ → Op) (members :
       shows : ShowsFile stripe ops members site s h v.sent v.entries
       shows = files_show stripe ops members site s h v.sent v.entries distinct orderly1 (subst (λ k. Fits members k a) (sym may.here) r.fits)
 
-      step_reaches : (hp : Happening) → Comes stripe ops members w hp → (IsHeld (step_on site s hp).state.lease → IsFree n v.holder) → FileReaches stripe ops members n a (step_on site s hp)
-      step_reaches (message from content) comes alone = subst (λ k. FileReaches stripe ops members k a (step_of_file site s from content)) may.here
-          (shows.message from content (came from content comes.0) comes.1 (λ held. subst (λ k. IsFree k h) (sym may.here) (r.free (alone held))))
-      step_reaches wake comes alone = subst (λ k. FileReaches stripe ops members k a (step_on site s wake)) may.here shows.wake
+      -- the bodies that the own head names are held
+      own_fits : (from : NodeId) (content : Payload) → OwnTells n s.kept.head from content → OwnFits n s1.kept.held from content
+      own_fits from (payload.Status file epoch head) mine = λ is v h. r.fits.names v (subst (λ (k : FileRow). Has v k.head.versions) (u.same ∙ sym kept_same) (mine is v h))
+      own_fits from _ mine = tt
+
+      step_reaches : (hp : Happening) → Comes stripe ops members w hp → OwnComes n s hp → (IsHeld (step_on site s hp).state.lease → IsFree n v.holder) → FileReaches stripe ops members n a (step_on site s hp)
+      step_reaches (message from content) comes mine alone = subst (λ k. FileReaches stripe ops members k a (step_of_file site s from content)) may.here
+          (shows.message from content (came from content comes.0) (subst (λ k. OwnFits k s1.kept.held from content) (sym may.here) (own_fits from content mine)) comes.1 (λ held. subst (λ k. IsFree k h) (sym may.here) (r.free (alone held))))
+      step_reaches wake comes mine alone = subst (λ k. FileReaches stripe ops members k a (step_on site s wake)) may.here shows.wake
 
       step_orderly : (hp : Happening) → Comes stripe ops members w hp → FileReaches stripe ops members n a (step_on site s hp) → IsOrderly stripe ops members (step_on site s hp).state
       step_orderly (message from content) comes f = record {
@@ -297,7 +312,7 @@ module _ (stripe : ℕ) (some : 0 < stripe) (ops : ℕ × ℕ → Op) (members :
       step = step_on site s happens
 
       f : FileReaches stripe ops members n a step
-      f = step_reaches happens may.comes (λ held. subst (IsFree n) (sym inv.holder) (may.alone held))
+      f = step_reaches happens may.comes may.own (λ held. subst (IsFree n) (sym inv.holder) (may.alone held))
 
       orderly2 : IsOrderly stripe ops members step.state
       orderly2 = step_orderly happens may.comes f
@@ -492,7 +507,7 @@ module _ (stripe : ℕ) (some : 0 < stripe) (ops : ℕ × ℕ → Op) (members :
       }
 
       own_fits : (x : FileNode) (t : Option Tenure) → Fits members n (seen_at x v t) → Fits members n (seen_at x v2 None)
-      own_fits x t f = record { names = f.names; own = f.own; tenure = not_after_loss n v.holder }
+      own_fits x t f = record { names = f.names; tenure = not_after_loss n v.holder }
 
       idle_node : (x : FileNode) (t : Option Tenure) → v.nodes n ≡ (local_of (seen_at x v t)).node → v2.nodes n ≡ (local_of (seen_at x v2 None)).node
       idle_node x t is = at_own v.nodes n (lost_node refl) ∙ ap (λ (z : Node). record { kept = z.kept; body = z.body; primary = Idle }) is
@@ -505,9 +520,107 @@ module _ (stripe : ℕ) (some : 0 < stripe) (ops : ℕ × ℕ → Op) (members :
       at m (inl same) = subst (λ k. Shape (w.nodes k) v2 k (w.nodes k).state) (sym same) (own (w.nodes n).state (inv.nodes n))
       at m (inr ne) = shape_on (w.nodes m) v v2 m (w.nodes m).state (others m ne) (inv.nodes m)
 
+  -- ---- bodies are forgotten
+
+  module _ (w : FileWorld) (inv : Inv w) (n : ℕ) (s : FileState) (held : List ObjectVersion) (body : ℕ → Stamp → List ℕ) (may : runs.MayForget w n s held body) where
+    abbrev Before : FileNode
+    Before = w.nodes n
+
+    abbrev After : FileNode
+    After = record {
+      state = Some (record s { kept = record s.kept { held = held } });
+      kept = record (w.nodes n).kept { held = held };
+      body = body;
+    }
+
+    abbrev behind_it : world.World
+    behind_it = put inv.world n (heads.after n (local inv.world n) (Forgets held body))
+
+    -- what is named and held is kept
+    still : (versions : List ObjectVersion) → AreKept Before.kept.held held versions → NamesHeld Before.kept.held versions → NamesHeld held versions
+    still versions keeps named v h = keeps v h (named v h)
+
+    up_before : Up Before inv.world n s
+    up_before = subst (Shape (w.nodes n) inv.world n) may.runs (inv.nodes n)
+
+    -- the versions that the seen primary serves are those that it needs
+    served : (o : Option Tenure) → (o ≡ None) ⊎ (o ≡ s.primary.tenure) → AreKept Before.kept.held held (served_versions (primary_of o))
+    served None e = λ v h. absurd h
+    served (Some t) (inl e) = absurd cc
+    served (Some t) (inr e) = of t.progress (subst (λ (o : Option Tenure). AreKept Before.kept.held held (versions_under (record { 0 = n }) o)) (sym e) may.led)
+      where
+        of : (p : Progress) → AreKept Before.kept.held held (versions_led (record { 0 = n }) t.peers p) → AreKept Before.kept.held held (served_versions (leads_as t.epoch t.peers p))
+        of progress.Gathering led = λ v h. absurd h
+        of (progress.Fetching chosen source asked later) led = λ v h. absurd h
+        of (progress.Installing chosen acked) led = λ v h. absurd h
+        of (progress.Active committed None) led = led
+        of (progress.Active committed (Some issued)) led = led
+
+    may_step : heads.MayForget (inv.world.nodes n) held body
+    may_step = subst (λ (z : Node). heads.MayForget z held body) (sym up_before.node)
+        (record { less = may.less; same = may.same; head = may.head; served = served up_before.tenure up_before.either })
+
+    progress_fits : (t : Tenure) (p : Progress) → AreKept Before.kept.held held (versions_led (record { 0 = n }) t.peers p) → ProgressFits members n Before.kept.held t.peers p → ProgressFits members n held t.peers p
+    progress_fits t progress.Gathering led fits = λ h is. still h.versions (subst (λ (o : Option FileHead). AreKept Before.kept.held held (versions_if o)) is led) (fits h is)
+    progress_fits t (progress.Fetching chosen source asked later) led fits = λ k h. of k h (fits k h)
+      where
+        of : (k : ObjectVersion) → Has k chosen.versions → (has_version Before.kept.held k ≡ true) ⊎ ((k ≡ asked) ⊎ Has k later) → (has_version held k ≡ true) ⊎ ((k ≡ asked) ⊎ Has k later)
+        of k h (inl e) = inl (led k h e)
+        of k h (inr e) = inr e
+    progress_fits t (progress.Installing chosen acked) led fits = (still chosen.versions led fits.0, fits.1)
+    progress_fits t (progress.Active committed issued) led fits = fits
+
+    tenure_fits : (o : Option Tenure) → (o ≡ None) ⊎ (o ≡ s.primary.tenure) → TenureFits members n (seen_at Before inv.world o) o → TenureFits members n (seen_at After behind_it o) o
+    tenure_fits None e f = f
+    tenure_fits (Some t) (inl e) f = absurd cc
+    tenure_fits (Some t) (inr e) f = (
+      f.0,
+      record {
+        peers = f.1.peers;
+        sent = f.1.sent;
+        progress = progress_fits t t.progress (subst (λ (o : Option Tenure). AreKept Before.kept.held held (versions_under (record { 0 = n }) o)) (sym e) may.led) f.1.progress;
+      },
+    )
+
+    up_after : Up After behind_it n (record s { kept = record s.kept { held = held } })
+    up_after = record {
+      same = ap (λ (k : FileRow). record k { held = held }) up_before.same;
+      orderly = record { sound = held_so s held up_before.orderly.sound; list = up_before.orderly.list; asks = up_before.orderly.asks };
+      tenure = up_before.tenure;
+      either = up_before.either;
+      node =
+          at_own inv.world.nodes n (heads.after n (local inv.world n) (Forgets held body)).node
+          ∙ ap (λ (z : Node). record { kept = record z.kept { held = held }; body = body; primary = z.primary }) up_before.node;
+      fits = record {
+        names = still Before.kept.head.versions may.head up_before.fits.names;
+        tenure = tenure_fits up_before.tenure up_before.either up_before.fits.tenure;
+      };
+    }
+
+    leaves : (m : ℕ) → (m ≡ n → ⊥) → Leaves inv.world behind_it m
+    leaves m ne = record {
+      node = by_node (λ t. (if t then (heads.after n (local inv.world n) (Forgets held body)).node else inv.world.nodes m) ≡ inv.world.nodes m) m n (λ is. absurd (ne is)) (λ _. refl);
+      grows = λ k h. h;
+      before = λ e h k. k;
+      holds = (λ e. e, λ e. e);
+    }
+
+    pub forgets_inv : Inv (after w (forgets n s held body))
+    forgets_inv = record {
+      world = behind_it;
+      reached = turns_there stripe some ops members start inv.world (record { node = n; steps = Forgets held body ∷ [] } ∷ []) ((may_step, tt), tt) inv.reached;
+      holder = inv.holder;
+      sent = inv.sent;
+      told = inv.told;
+      nodes = λ m. by_node (λ t. Shape (if t then After else w.nodes m) behind_it m (if t then After else w.nodes m).state) m n
+          (λ same. subst (λ (k : ℕ). Up After behind_it k (record s { kept = record s.kept { held = held } })) (sym same) up_after)
+          (λ ne. shape_on (w.nodes m) inv.world behind_it m (w.nodes m).state (leaves m ne) (inv.nodes m));
+    }
+
   pub next_inv : (w : FileWorld) (e : Event) → May stripe ops members w e → Inv w → Inv (after w e)
   next_inv w (acts n s site happens how) may inv = acts_inv w inv n s site happens how may
   next_inv w (starts n awake) may inv = starts_inv w inv n awake may
+  next_inv w (forgets n s held body) may inv = forgets_inv w inv n s held body may
   next_inv w (lapses n) may inv = lapses_inv w inv n
 
   pub all_inv : (w : FileWorld) (es : List Event) → runs.MayAll stripe ops members w es → Inv w → Inv (after_all w es)
@@ -535,7 +648,7 @@ module _ (stripe : ℕ) (some : 0 < stripe) (ops : ℕ × ℕ → Op) (members :
     told = subst (λ ts. Tells stripe ops ts []) (sym at.untold) refl;
     nodes = λ n. subst (Shape (w.nodes n) v n) (sym (at.stopped n)) (record {
       node = refl;
-      fits = record { names = at.names n; own = λ e h k. absurd k; tenure = λ is. absurd cc };
+      fits = record { names = at.names n; tenure = λ is. absurd cc };
       list = at.list n;
     });
   }

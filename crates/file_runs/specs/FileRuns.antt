@@ -1,15 +1,20 @@
 -- Runs of one file among OSDs, who holds it being given.
-use Rattle.std.specs.Prelude.{◌≡◌, ◌⊎◌, ℕ, ◌≤◌, List, [], ◌∷◌, ◌++◌, map, Option, Some, None}
+use Rattle.std.specs.Prelude.{◌≡◌, ◌⊎◌, true, ℕ, ◌≤◌, List, [], ◌∷◌, ◌++◌, map, Option, Some, None}
 use Rattle.xt_base.specs.declared.ids.NodeId.{NodeId}
 use Rattle.xt_base.specs.declared.ids.FileId.{FileId}
 use Rattle.xt_base.specs.declared.ids.Stamp.{Stamp}
 use Rattle.xt_messages.specs.declared.event.Mark.{Mark}
 use Rattle.xt_messages.specs.declared.file.Op.{Op}
+use Rattle.xt_messages.specs.declared.file.ObjectVersion.{ObjectVersion}
 use Rattle.xt_messages.specs.declared.message.Msg.{Msg}
+use Rattle.xt_messages.specs.declared.file.FileHead.{FileHead}
 use Rattle.xt_messages.specs.declared.message.Payload.{Payload}
+use Rattle.xt_messages.specs.declared.message.Payload.TheVariants as payload
 use Rattle.xt_messages.specs.declared.record.FileRow.{FileRow}
 use Rattle.xt_messages.specs.declared.record.Record.{Record}
-use Rattle.xt_protocol.specs.Folds.{new_row}
+use Rattle.xt_protocol.specs.Folds.{new_row, body_of}
+use Rattle.xt_protocol.specs.Forgetting.{versions_under}
+use Rattle.xt_protocol.specs.Stamps.{has_version}
 use Rattle.xt_protocol.specs.LeaseRows.{Awake}
 use Rattle.osd_invariants.specs.Sound.{IsHeld}
 use Rattle.xt_protocol.specs.FileStates.{FileState, Site, FileStep, file_from, and_then}
@@ -28,6 +33,7 @@ use Rattle.replica_runs.specs.Made.{IsMade}
 use Rattle.replica_runs.specs.Marks.{Begins}
 use Rattle.replica_runs.specs.Steps.{without}
 use Rattle.replica_runs.specs.FileView.{settled, ListFits, IsFree, AskComes}
+use Rattle.replica_runs.specs.HeadSteps.{AreKept}
 use Rattle.replica_runs.specs.Seen.{AreTold, NamesHeld}
 
 -- A node of the file: its state, none while it doesn't run; what it keeps of the file; and what the bodies are.
@@ -74,6 +80,8 @@ pub data Ending : Type 0 where
 pub data Event : Type 0 where
   acts : (node : ℕ) → (state : FileState) → (site : Site) → (happens : Happening) → (how : Ending) → Event
   starts : (node : ℕ) → (awake : Awake) → Event
+  -- of its bodies the node keeps these versions, and what the bodies are then
+  forgets : (node : ℕ) → (state : FileState) → (held : List ObjectVersion) → (body : ℕ → Stamp → List ℕ) → Event
   -- the node holds no more
   lapses : (node : ℕ) → Event
 
@@ -113,6 +121,13 @@ acted w n step stops_lost = record w { nodes = at_node n (keeping (w.nodes n) No
 abbrev pub after : FileWorld → Event → FileWorld
 after w (acts n s site happens how) = acted w n (step_on site s happens) how
 after w (starts n awake) = record w { nodes = at_node n (record (w.nodes n) { state = Some (file_from awake (w.nodes n).kept) }) w.nodes }
+after w (forgets n s held body) = record w {
+  nodes = at_node n (record {
+    state = Some (record s { kept = record s.kept { held = held } });
+    kept = record (w.nodes n).kept { held = held };
+    body = body;
+  }) w.nodes;
+}
 after w (lapses n) = record w { holder = without n w.holder }
 
 -- A world of a file in which nothing is kept, sent or marked yet.
@@ -130,6 +145,24 @@ Comes stripe ops members w (message from content) =
     (Has (record { from = from.0; content = content }) w.sent ⊎ (shown from.0 content ≡ [])) × AskComes stripe ops members from content
 Comes stripe ops members w wake = Unit {0}
 
+-- a status that a node told itself names versions of the head that it has
+abbrev pub OwnTells : ℕ → FileHead → NodeId → Payload → Type 0
+OwnTells n own from (payload.Status file epoch head) = from.0 ≡ n → (v : ObjectVersion) → Has v head.versions → Has v own.versions
+OwnTells n own from _ = Unit {0}
+
+abbrev pub OwnComes : ℕ → FileState → Happening → Type 0
+OwnComes n s (message from content) = OwnTells n s.kept.head from content
+OwnComes n s wake = Unit {0}
+
+-- Of the bodies of a node that runs these may be kept: none is new, each is what it was, and those of its head and those that its
+-- primary needs are among them.
+pub record MayForget (w : FileWorld) (n : ℕ) (s : FileState) (held : List ObjectVersion) (body : ℕ → Stamp → List ℕ) : Type 0 where
+  pub runs : (w.nodes n).state ≡ Some s
+  pub less : (v : ObjectVersion) → has_version held v ≡ true → has_version (w.nodes n).kept.held v ≡ true
+  pub same : (o : ℕ) (v : Stamp) → has_version held (body_of o v) ≡ true → body o v ≡ (w.nodes n).body o v
+  pub head : AreKept (w.nodes n).kept.held held (w.nodes n).kept.head.versions
+  pub led : AreKept (w.nodes n).kept.held held (versions_under (record { 0 = n }) s.primary.tenure)
+
 abbrev pub MayEnd : FileStep → Ending → Type 0
 MayEnd step stops_kept = (rec : Record) × (step.turned.rec ≡ Some rec)
 MayEnd step _ = Unit {0}
@@ -140,6 +173,7 @@ pub record MayAct (stripe : ℕ) (ops : ℕ × ℕ → Op) (members : List ℕ) 
   pub here : site.node.0 ≡ n
   pub bodies : site.body s.kept.file ≡ (w.nodes n).body
   pub comes : Comes stripe ops members w happens
+  pub own : OwnComes n s happens
   pub holds : (t : Tenure) → (settled site s).primary.tenure ≡ Some t → w.holder ≡ Some n
   pub alone : IsHeld (step_on site s happens).state.lease → IsFree n w.holder
   pub ends : MayEnd (step_on site s happens) how
@@ -147,6 +181,7 @@ pub record MayAct (stripe : ℕ) (ops : ℕ × ℕ → Op) (members : List ℕ) 
 abbrev pub May : ℕ → (ℕ × ℕ → Op) → List ℕ → FileWorld → Event → Type 0
 May stripe ops members w (acts n s site happens how) = MayAct stripe ops members w n s site happens how
 May stripe ops members w (starts n awake) = (w.nodes n).state ≡ None
+May stripe ops members w (forgets n s held body) = MayForget w n s held body
 May stripe ops members w (lapses n) = Unit {0}
 
 abbrev pub after_all : FileWorld → List Event → FileWorld

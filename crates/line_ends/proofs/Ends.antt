@@ -21,18 +21,18 @@ use Rattle.cluster_runs.specs.declared.ClientState.{ClientState}
 use Rattle.cluster_runs.specs.declared.DeclaredFile.{DeclaredFile}
 use Rattle.cluster_runs.specs.declared.Sent.{Sent}
 use Rattle.cluster_runs.specs.Clients.{step_of_client}
-use Rattle.cluster_runs.specs.World.{World, Node, Running, Core, osd, client, node_in, file_in}
+use Rattle.cluster_runs.specs.World.{World, Node, Running, Core, osd, client, node_in, file_in, loads}
 use Rattle.cluster_runs.specs.NodeSteps.{to_itself, after_turn, outside_of}
 use Rattle.cluster_runs.specs.Lines.{next_boot, no_longer_pending}
-use Rattle.world_runs.specs.View.{awake_as}
 use Rattle.cluster_runs.specs.Lines.{declared_capability, declared_file, epoch_of, uses}
 use Rattle.world_runs.proofs.Frame.{next_node}
 use Rattle.world_runs.proofs.Lists.{has_filter}
 use Rattle.world_runs.proofs.Tables.{same, node_in-new, node_in-id}
 use Rattle.world_runs.proofs.Walk.{of_osd, of_client, Reaches, call_step}
-use Rattle.line_ends.proofs.Files.{FileStands}
-use Rattle.line_ends.proofs.FileSizes.{FileSmall}
-use Rattle.line_ends.proofs.Clients.{AsksOne, asks_none, asks_this, client_gives, call_gives}
+use Rattle.own_messages_wait.proofs.Files.{FileStands}
+use Rattle.own_messages_wait.proofs.Outside.{outside_chain}
+use Rattle.own_messages_wait.proofs.FileSizes.{FileSmall}
+use Rattle.own_messages_wait.proofs.Clients.{AsksOne, asks_none, asks_this, client_gives, call_gives}
 use Rattle.std.proofs.Common.{◌*◌, length}
 use Rattle.std.specs.Prelude.{Result, Ok, Err, nat_lt, slice_get, slice_set, ◌-◌, zero, suc}
 use Rattle.xt_messages.specs.declared.file.Op.{Op}
@@ -41,10 +41,10 @@ use Rattle.xt_protocol.specs.Turns.{message}
 use Rattle.cluster_runs.specs.Lines.{OWN, no_longer_pending, delivers}
 use Rattle.cluster_runs.specs.NodeSteps.{Room, Cause, Overflow, came_to, has_no_room, Doing, end_of_step, event_at, event_comes, core_step, osd_steps, client_steps}
 use Rattle.xt_messages.specs.declared.status.Limited.TheVariants as limited
+use Rattle.world_runs.specs.View.{awake_as}
 use Rattle.world_runs.specs.Worlds.{CallFits}
-use Rattle.line_ends.proofs.Chains.{Chain}
-use Rattle.line_ends.proofs.Starts.{event_starts, room_of, IsOutside}
-use Rattle.line_ends.proofs.Keeping.{Stood, stood_kept, fits, files_stand, node_is, arrives}
+use Rattle.own_messages_wait.proofs.Starts.{event_starts, room_of, IsOutside, busy_low, count_busy, loosen}
+use Rattle.own_messages_wait.proofs.Keeping.{Stood, stood_kept, fits, files_stand, node_is, arrives, holds_of}
 use Rattle.time_line.specs.declared.line.Line.{Line}
 use Rattle.time_line.specs.declared.line.Line.TheVariants as line
 use Rattle.cluster_runs.specs.Rules.{refusal, called_file}
@@ -52,7 +52,7 @@ use Rattle.cluster_runs.specs.Lines.{Next, finished, opens, goes_on, ends, begin
 use Rattle.cluster_runs.specs.Runs.{IsOver, IsEnough, run_of}
 use Rattle.time_line.specs.Bounds.{AreLines}
 use Rattle.world_runs.proofs.Walk.{NextIs, steps_kept, steps_into}
-use Rattle.line_ends.proofs.Running.{InChain, no_own, of_a_client, Ran, HasRan, end_ran, awake_step, awake_is, silent_is, osd_chain, own_ran}
+use Rattle.own_messages_wait.proofs.Running.{InChain, no_own, of_a_client, Ran, HasRan, end_ran, awake_step, awake_is, silent_is, osd_chain, own_ran}
 use Rattle.xt_base.specs.declared.TheConstants.{COUNTS}
 use Rattle.time_line.specs.declared.entry.Entry.{Entry}
 
@@ -122,11 +122,6 @@ module _ (room : Room) where
       nothing : Ran d 0 (room_of happens + OWN * length d.world.files) d
       nothing = record { files = refl; left = refl; j = 0; less = omega arith; chain = no_own idle }
 
-      is_outside : (node : Node) (s : OsdState) → s.started.node ≡ node.id → (happens : Event) → Reaches d.world [] node.id happens → IsOutside s.started.node happens
-      is_outside node s mine (event.Deliver m) comes = ap (λ (n : NodeId). m.from.0 == n.0) (mine ∙ sym comes.0) ∙ (stood.mine.others m comes.1).0
-      is_outside node s mine event.Wake comes = tt
-      is_outside node s mine (event.Call call) comes = tt
-
       -- at an OSD
       by_osd : (node : Node) (r : Running) (s : OsdState) (found : node_in d.world.nodes node.id.0 ≡ Some node) (up : node.up ≡ Some r) (core : r.core ≡ osd s) → Reaches d.world [] node.id happens → (b : Bool) → is_silent s.started (max r.clock s.last) ≡ b
           → HasRan d 0 (room_of happens + OWN * length d.world.files) (end_of_step room d node r (osd_steps (step_of_osd (outside_of node.kept) s r.clock happens)))
@@ -134,21 +129,10 @@ module _ (room : Room) where
           end_ran room d 0 (room_of happens + OWN * length d.world.files) 0 node r (osd_steps (step_of_osd (outside_of node.kept) s r.clock happens)) (omega arith)
           (no_own (ap₂ (λ (own outs : List Msg). own ++ to_itself node.id outs) idle (silent_is (outside_of node.kept) s r.clock happens silent)))
       by_osd node r s found up core comes false awake =
-          let its = fits d.world [] node r found up stood s core in
-          let mine = node_is d.world [] node r found up stood s core in
           let same = awake_is (outside_of node.kept) s r.clock happens awake in
-          let then = subst (λ (step : OsdStep). Stood (after_turn d.world node (record r { core = osd step.osd }) (record step.turned { outs = step.turned.outs })) ([] ++ to_itself node.id step.turned.outs)) same
-          (stood_kept.stepped d.world [] [] node r (osd (step_of_osd (outside_of node.kept) s r.clock happens).osd) (step_of_osd (outside_of node.kept) s r.clock happens).turned (step_of_osd (outside_of node.kept) s r.clock happens).turned.outs [] (λ m h. h) found up
-          (of_osd s happens core comes) (sym (append-nil (step_of_osd (outside_of node.kept) s r.clock happens).turned.outs)) stood) in
           let step = awake_step (outside_of node.kept) s r.clock happens in
-          let there = node_in-new d.world.nodes (next_node node r (osd (awake_step (outside_of node.kept) s r.clock happens).osd) (awake_step (outside_of node.kept) s r.clock happens).turned) node found in
-          let fit = (then.fit.shape.nodes node.id.0 (next_node node r (osd (awake_step (outside_of node.kept) s r.clock happens).osd) (awake_step (outside_of node.kept) s r.clock happens).turned) there).up in
-          let stand = (then.mine.nodes_stand node.id.0 (next_node node r (osd (awake_step (outside_of node.kept) s r.clock happens).osd) (awake_step (outside_of node.kept) s r.clock happens).turned) there).up in
-          let chain = event_starts d.world.files stood.mine.lists (outside_of node.kept) s (max r.clock s.last) its.0.fits (files_stand d.world [] node r found up stood s core) its.0.rises happens
-          (arrives d.world [] node r found up stood s core happens comes) (is_outside node s mine happens comes)
-          (record { all_fit = fit.0.fits; all_stand = subst (λ (n : NodeId). (f : FileState) → Has f (awake_step (outside_of node.kept) s r.clock happens).osd.files → FileStands n f × FileSmall f) (sym mine) stand; all_rise = fit.0.rises }) in
-          let whole = osd_chain d node r s happens (room_of happens + OWN * length d.world.files) found mine awake (λ m h. absurd (subst (Has m) idle h))
-          (subst (λ (own : List Msg). Chain (awake_as s.started) s.started.node (awake_step (outside_of node.kept) s r.clock happens).osd.files (own ++ to_itself s.started.node (awake_step (outside_of node.kept) s r.clock happens).turned.outs) (room_of happens + OWN * length d.world.files)) (sym idle) chain) in
+          let whole = subst (λ (own : List Msg). InChain (after_turn d.world node (record r { core = osd step.osd }) step.turned) (own ++ to_itself node.id step.turned.outs) (room_of happens + OWN * length d.world.files)) (sym idle)
+          (outside_chain d.world node r s happens found up core stood comes awake) in
           subst (λ (step : OsdStep). HasRan d 0 (room_of happens + OWN * length d.world.files) (end_of_step room d node r (osd_steps step))) (sym same)
           (end_ran room d 0 (room_of happens + OWN * length d.world.files) (room_of happens + OWN * length d.world.files) node r (osd_steps (awake_step (outside_of node.kept) s r.clock happens)) (omega arith) whole)
 
@@ -157,7 +141,7 @@ module _ (room : Room) where
           → HasRan d 0 (room_of happens + OWN * length d.world.files) (end_of_step room d node r (client_steps (step_of_client node.id d.world.times c r.clock happens)))
       by_client node r c found up core comes =
           let g = client_gives node.id d.world.times c r.clock happens in
-          let then = stood_kept.stepped d.world [] [] node r (client (step_of_client node.id d.world.times c r.clock happens).state) (step_of_client node.id d.world.times c r.clock happens).turned (step_of_client node.id d.world.times c r.clock happens).turned.outs [] (λ m h. h) found up
+          let then = stood_kept.stepped d.world [] [] node r (client (step_of_client node.id d.world.times c r.clock happens).state) (step_of_client node.id d.world.times c r.clock happens).turned (step_of_client node.id d.world.times c r.clock happens).turned.outs [] (inl refl) found up
           (of_client c happens core comes) (sym (append-nil (step_of_client node.id d.world.times c r.clock happens).turned.outs)) stood in
           let there = node_in-new d.world.nodes (next_node node r (client (step_of_client node.id d.world.times c r.clock happens).state) (step_of_client node.id d.world.times c r.clock happens).turned) node found in
           let fit : CallFits d.world.files (step_of_client node.id d.world.times c r.clock happens).state.running
@@ -213,7 +197,7 @@ module _ (room : Room) where
       at (Some s) is =
           back (event_comes room (record d { world = record d.world { sent = no_longer_pending d.world.sent number } }) s.message.to (event.Deliver s.message))
           (event_ran (record d { world = record d.world { sent = no_longer_pending d.world.sent number } }) s.message.to (event.Deliver s.message) idle here
-          (refl, subst (λ (o : Option Sent). Has s.message (map (λ (s : Sent). s.message) (elim o [ None ↦ d.world.sent | Some s ↦ slice_set d.world.sent (number - 1) (record s { pending = false }) ]))) (sym is) (kept_there d.world.sent (number - 1) s is)))
+          (refl, subst (λ (o : Option Sent). Has s.message (map (λ (s : Sent). s.message) (elim o [ None ↦ d.world.sent | Some s ↦ slice_set d.world.sent (number - 1) (record s { pending = false }) ]))) (sym is) (kept_there d.world.sent (number - 1) s is), inl refl))
 
   -- ---- to the end
 
@@ -356,8 +340,8 @@ module _ (room : Room) where
       by_room node None = calm (OWN * length w.files) (starts_as w node (next_boot node.kept) clock)
 
       by_boot : (node : Node) (b : Bool)
-          → HasOpened (OWN * length w.files) (cond b (elim (room node.kept (kept.Boot (next_boot node.kept))) [ Some overflow ↦ Err (has_no_room overflow) | None ↦ does (new_line w) (starts_as w node (next_boot node.kept) clock) ]) (Err (came_to limited.Boots)))
-      by_boot node true = by_room node (room node.kept (kept.Boot (next_boot node.kept)))
+          → HasOpened (OWN * length w.files) (cond b (elim (room.overflow (node.past ++ loads ∷ []) (kept.Boot (next_boot node.kept))) [ Some overflow ↦ Err (has_no_room overflow) | None ↦ does (new_line w) (starts_as w node (next_boot node.kept) clock) ]) (Err (came_to limited.Boots)))
+      by_boot node true = by_room node (room.overflow (node.past ++ loads ∷ []) (kept.Boot (next_boot node.kept)))
       by_boot node false = tt
 
       at : (found : Option Node) → HasOpened (OWN * length w.files) (starts room (new_line w) clock found)
@@ -383,7 +367,7 @@ module _ (room : Room) where
   first_opened w (line.Cut node count) stood = calm (OWN * length w.files) _
   first_opened w (line.Clock node clock) stood = calm (OWN * length w.files) _
   first_opened w (line.Tick count) stood = calm (OWN * length w.files) _
-  first_opened w (line.Wake node) stood = opened (OWN * length w.files) (1 + OWN * length w.files) (new_line w) (event_comes room (new_line w) node event.Wake) refl (omega arith) (event_ran (new_line w) node event.Wake refl stood tt)
+  first_opened w (line.Wake node) stood = opened (OWN * length w.files) (1 + OWN * length w.files) (new_line w) (event_comes room (new_line w) node event.Wake) refl (omega arith) (event_ran (new_line w) node event.Wake refl stood refl)
   first_opened w (line.Call id c) stood = calls_opened w id c
   first_opened w (line.Aim id file node) stood = calm (OWN * length w.files) _
   first_opened w (line.Deliver number) stood = opened (OWN * length w.files) (OWN * length w.files) (new_line w) (delivers room (new_line w) number) refl (omega arith) (delivers_ran (new_line w) number refl stood)

@@ -1,8 +1,7 @@
 //! The ends of lines: the number of steps that `cluster_runs` allows a line of a schedule is enough for it in every run.
 //!
-//! A node's messages to itself that follow one event come to an end. What may still come of those that aren't handled is weighed
-//! for each file of an OSD: by its lease's messages, by the one message between its primary and its own replica, by its asks, and by
-//! what it lacks. Each that is handled leaves less, and an event brings `OWN` for a file at most.
+//! A node's messages to itself that follow one event come to an end: what may still come of those that wait is weighed in
+//! `own_messages_wait`, each that is handled leaves less, and an event brings `OWN` for a file at most.
 #![tactic(auto)]
 
 ghost use Rattle.cluster_runs.specs.NodeSteps.{Room};

@@ -286,7 +286,7 @@ record IsListed (s : FileState) : Type 0 where
   stored : IsStored s.kept.location
 
 viewed : (s : FileState) (location : Location) (used : ℕ) (stored : Option Location) → s.kept.location ≡ stored → IsSound s
-    → IsListed (record s { used = used; kept = kept_after s.kept (view_record s location stored) })
+    → IsListed (steps_to (record s { used = used }) (keeps (view_record s location stored))).state
 viewed s location used None is q =
     record {
       sound = record {

@@ -10,8 +10,7 @@ use Rattle.cluster_runs.specs.NodeSteps.{one_more}
 use Rattle.world_runs.specs.View.{awake_as}
 use Rattle.world_runs.specs.Worlds.{Agrees}
 use Rattle.cluster_fits.specs.Fits.{FitsNext}
-use Rattle.cluster_fits.proofs.Kept.{KeptIs}
-use Rattle.cluster_fits.proofs.Osd.{OsdIs}
+use Rattle.cluster_fits.specs.States.{KeptIs, OsdIs}
 
 -- The OSD runs on these records: it has of each file what they say, each file is sound, and all that it may send or keep is
 -- within the limits.

@@ -5,24 +5,33 @@
 //! sends the messages of the step, can be refused for want of room alone. Definitions and theorems alone; nothing runs here.
 #![tactic(auto)]
 
-ghost use Rattle.std.specs.Prelude.{◌<◌, ◌^◌, ◌++◌, ◌∷◌, [], ℕ, List};
+ghost use Rattle.std.specs.Prelude.{◌<◌, ◌^◌, ◌++◌, ◌∷◌, [], ℕ, Bool, List};
 ghost use Rattle.xt_base.specs.TimeSettings.{AreTimes};
 ghost use Rattle.xt_messages.specs.declared.event.Event.{Event};
+ghost use Rattle.xt_messages.specs.declared.file.Capability.{Capability};
 ghost use Rattle.xt_messages.specs.declared.record.Record.{Record};
 ghost use Rattle.xt_messages.specs.declared.record.Record.TheVariants as kept;
 ghost use Rattle.xt_protocol.specs.Folds.{fold_of};
+ghost use Rattle.xt_protocol.specs.Forgetting.{keep_of, osd_without, rewritten};
 ghost use Rattle.xt_protocol.specs.LeaseRows.{Silent};
 ghost use Rattle.xt_protocol.specs.OsdSteps.{OsdState, osd_from, step_of_osd};
-ghost use Rattle.cluster_runs.specs.NodeSteps.{outside_of};
 ghost use Rattle.xt_messages.specs.Limits.{FitsEvent};
-ghost use Rattle.cluster_fits.proofs.Kept.{KeptIs};
+ghost use Rattle.cluster_fits.specs.Fits.{FitsKept};
+ghost use Rattle.cluster_fits.specs.States.{KeptIs, outside_by};
 ghost use Rattle.osd_keeping.specs.Keeping.{RunsOn, StepsOn};
 
-/// A step of an OSD on the records that it runs on, at any reading of its clock, on any event within the limits.
+/// Records that are within the limits, each in its place behind those before it, as a store gives them: the rows that they say are
+/// within the limits, too.
+pub fn records_are_kept()
+    ensures { (records : List Record) → FitsKept records → KeptIs records }
+{}
+
+/// A step of an OSD on the records that it runs on, whatever capabilities pass there, at any reading of its clock, on any event
+/// within the limits.
 pub fn steps_are_kept()
-    ensures { (records : List Record) (s : OsdState) (reading : ℕ) (happens : Event) →
+    ensures { (sealed : Capability → Bool) (records : List Record) (s : OsdState) (reading : ℕ) (happens : Event) →
         KeptIs records → RunsOn records s → reading < 2 ^ 62 → FitsEvent happens →
-        StepsOn records (step_of_osd (outside_of records) s reading happens) }
+        StepsOn records (step_of_osd (outside_by sealed records) s reading happens) }
 {}
 
 /// An OSD that starts from what its records say, and keeps the record of that start.
@@ -31,4 +40,11 @@ pub fn starts_run_on_their_records()
         silent.boot.0 < 2 ^ 62 → AreTimes silent.times.lease silent.times.drift →
         silent.start < 2 ^ 62 → KeptIs (records ++ kept.Boot silent.boot ∷ [])
         × RunsOn (records ++ kept.Boot silent.boot ∷ []) (osd_from silent (fold_of records).files) }
+{}
+
+/// An OSD that has forgotten what it doesn't need runs on its rewritten records, and these are kept as the old ones were.
+pub fn forgetting_runs_on_rewritten_records()
+    ensures { (records : List Record) (s : OsdState) → KeptIs records → RunsOn records s →
+        KeptIs (rewritten (keep_of s) records)
+        × RunsOn (rewritten (keep_of s) records) (osd_without (keep_of s) s) }
 {}

@@ -1,6 +1,6 @@
 -- A tenure begins, a head is chosen, its bodies are fetched, and it is installed.
-use Rattle.std.proofs.Common.{◌≡◌, ℕ, ◌⊎◌, true, false, List, [], ◌∷◌, refl, sym, ap, ◌∙◌, subst, inl, inr, arith, if◌then◌else◌, ◌==◌, Option, Some, None}
-use Rattle.std.specs.Prelude.{cond, map, nat_lt, nat_le}
+use Rattle.std.proofs.Common.{◌≡◌, ℕ, ◌⊎◌, Bool, true, false, List, [], ◌∷◌, refl, sym, ap, ◌∙◌, subst, inl, inr, arith, if◌then◌else◌, ◌==◌, Option, Some, None}
+use Rattle.std.specs.Prelude.{cond, not, map, nat_lt, nat_le}
 use Rattle.std.proofs.lemmas.Bool.Decides.{nat_tests}
 use Rattle.xt_base.specs.declared.TheConstants.{COUNTS}
 use Rattle.xt_base.specs.declared.ids.NodeId.{NodeId}
@@ -59,12 +59,22 @@ none_told ms = λ i m. same ms m i
     same [] m = refl
     same (k ∷ ns) m = by_test (λ b. None ≡ reported (cond b (Some peer.Unknown) (peer_in (map unknown_peer ns) (record { 0 = m })))) (k.0 == m) (λ _. refl) (λ _. same ns m)
 
--- all versions are wanted
-wanted_all : (vs : List ObjectVersion) (v : ObjectVersion) → Has v vs → Has v (difference [] vs)
+-- each version is known, or wanted
+known_or_wanted : (known vs : List ObjectVersion) (v : ObjectVersion) → Has v vs → (has_version known v ≡ true) ⊎ Has v (difference known vs)
 unfolding difference
-wanted_all (w ∷ vs) v (inl p) = inl p
-wanted_all (w ∷ vs) v (inr h) = inr (wanted_all vs v h)
-wanted_all [] v h = absurd h
+known_or_wanted known [] v h = absurd h
+known_or_wanted known (w ∷ vs) v h = at (has_version known w) refl h (known_or_wanted known vs v)
+  where
+    at : (b : Bool) → has_version known w ≡ b → Has v (w ∷ vs) → (Has v vs → (has_version known v ≡ true) ⊎ Has v (difference known vs))
+        → (has_version known v ≡ true) ⊎ Has v (cond (not b) (w ∷ difference known vs) (difference known vs))
+    at true is (inl p) rest = inl (subst (λ (x : ObjectVersion). has_version known x ≡ true) (sym p) is)
+    at true is (inr k) rest = rest k
+    at false is (inl p) rest = inr (inl p)
+    at false is (inr k) rest = either (rest k)
+      where
+        either : (has_version known v ≡ true) ⊎ Has v (difference known vs) → (has_version known v ≡ true) ⊎ Has v (w ∷ difference known vs)
+        either (inl q) = inl q
+        either (inr q) = inr (inr q)
 
 pub not_after_loss : (n : ℕ) (h : Option ℕ) → without n h ≡ Some n → ⊥
 not_after_loss n None e = absurd cc
@@ -109,14 +119,14 @@ module _ (stripe : ℕ) (ops : ℕ × ℕ → Op) (members : List ℕ) (n : ℕ)
   -- ---- epoch drawn
 
   drawn_core : (z : Seen) (learnt : ℕ) (ms : List NodeId) → z.holder ≡ Some n → NamesHeld z.kept.held z.kept.head.versions
-      → ((e : Epoch) (h : FileHead) → Has (Status n e h) z.sent → NamesHeld z.kept.held h.versions) → map (λ (k : NodeId). k.0) ms ≡ members
+      → map (λ (k : NodeId). k.0) ms ≡ members
       → Core stripe ops members n z (tenure_of (epoch_above (ground_at stripe n z).place learnt z.kept.head) (map unknown_peer ms) progress.Gathering)
       (record {
         rec = Some (kept.Promise z.kept.file (epoch_above (ground_at stripe n z).place learnt z.kept.head));
         outs = to_each (record { 0 = n }) ms (payload.Gather z.kept.file (epoch_above (ground_at stripe n z).place learnt z.kept.head));
         marks = [];
       })
-  drawn_core z learnt ms held names own are = record {
+  drawn_core z learnt ms held names are = record {
     seen = b;
     steps = Draws learnt ∷ [];
     may = (held, tt);
@@ -129,7 +139,6 @@ module _ (stripe : ℕ) (ops : ℕ × ℕ → Op) (members : List ℕ) (n : ℕ)
     body = refl;
     holds = held;
     names = names;
-    own = own;
     peers = nodes_unknown ms ∙ are;
     progress = λ h is. absurd (cc (sym (ap (λ f. f n) (none_told ms)), is));
     calm_marks = inr tt;
@@ -170,36 +179,36 @@ module _ (stripe : ℕ) (ops : ℕ × ℕ → Op) (members : List ℕ) (n : ℕ)
 
   -- without a number left the primary is idle, and holds no more
   spent : (z : Seen) (turned : Turned) → turned ≡ quiet → NamesHeld z.kept.held z.kept.head.versions
-      → ((e : Epoch) (h : FileHead) → Has (Status n e h) z.sent → NamesHeld z.kept.held h.versions) → Leads stripe ops members n z None turned
-  spent z turned is names own = subst (Leads stripe ops members n z None) (sym is) (record {
+      → Leads stripe ops members n z None turned
+  spent z turned is names = subst (Leads stripe ops members n z None) (sym is) (record {
     behind = record z { tenure = None; holder = without n z.holder };
     shows = record { steps = Loses ∷ []; may = (tt, tt); leads = refl; outs = λ m h. absurd h; grows = λ x h. h; told = refl };
     kept = refl;
     body = refl;
     is_tenure = refl;
-    fits = record { names = names; own = own; tenure = not_after_loss n z.holder };
+    fits = record { names = names; tenure = not_after_loss n z.holder };
     calm = inl refl;
     steady = λ r. refl;
   })
 
   pub draws : (z : Seen) (learnt : ℕ) (ms : List NodeId) → z.holder ≡ Some n → NamesHeld z.kept.held z.kept.head.versions
-      → ((e : Epoch) (h : FileHead) → Has (Status n e h) z.sent → NamesHeld z.kept.held h.versions) → map (λ (k : NodeId). k.0) ms ≡ members
+      → map (λ (k : NodeId). k.0) ms ≡ members
       → LeadsTo z (epoch_drawn (ground_at stripe n z).place learnt z.kept.head ms)
   unfolding epoch_drawn
-  draws z learnt ms held names own are =
+  draws z learnt ms held names are =
       by_test (λ b. LeadsTo z (cond b (goes_on learnt (tenure_of e (map unknown_peer ms) progress.Gathering)
       (record { rec = Some (kept.Promise z.kept.file e); outs = to_each (record { 0 = n }) ms (payload.Gather z.kept.file e); marks = [] }))
       (record { primary = record { learnt = learnt; tenure = None }; turned = quiet }))) (nat_lt e.number COUNTS)
       (λ _. build stripe ops members n z (tenure_of e (map unknown_peer ms) progress.Gathering)
       (record { rec = Some (kept.Promise z.kept.file e); outs = to_each (record { 0 = n }) ms (payload.Gather z.kept.file e); marks = [] })
-      (drawn_core z learnt ms held names own are))
-      (λ _. spent z quiet refl names own)
+      (drawn_core z learnt ms held names are))
+      (λ _. spent z quiet refl names)
     where
       e : Epoch
       e = epoch_above (ground_at stripe n z).place learnt z.kept.head
 
   pub draws_anew : (z : Seen) (t : Tenure) (learnt : ℕ) → Fit (seen_in z t) → LeadsTo (seen_in z t) (epoch_drawn (ground_at stripe n z).place learnt z.kept.head (nodes_of t.peers))
-  draws_anew z t learnt fits = draws (seen_in z t) learnt (nodes_of t.peers) fits.tenure.0 fits.names fits.own (nodes_again t.peers ∙ fits.tenure.1.peers)
+  draws_anew z t learnt fits = draws (seen_in z t) learnt (nodes_of t.peers) fits.tenure.0 fits.names (nodes_again t.peers ∙ fits.tenure.1.peers)
 
   -- ---- a chosen head
 
@@ -214,7 +223,6 @@ module _ (stripe : ℕ) (ops : ℕ × ℕ → Op) (members : List ℕ) (n : ℕ)
     pub body : z.body ≡ body_beyond a.kept.file rec a.body
     pub holds : z.holder ≡ Some n
     pub names : NamesHeld z.kept.held z.kept.head.versions
-    pub own : (d : Epoch) (h : FileHead) → Has (Status n d h) a.sent → NamesHeld z.kept.held h.versions
     pub listed : nodes_in peers ≡ members
     pub sent : PeersSent n z.kept.file e peers z.sent
 
@@ -235,7 +243,6 @@ module _ (stripe : ℕ) (ops : ℕ × ℕ → Op) (members : List ℕ) (n : ℕ)
         body = b.body;
         holds = b.holds;
         names = b.names;
-        own = b.own;
         peers = fed_nodes stripe ops members n z target peers ∙ b.listed;
         progress = (held, none_fit);
         calm_marks = inr tt;
@@ -296,7 +303,6 @@ module _ (stripe : ℕ) (ops : ℕ × ℕ → Op) (members : List ℕ) (n : ℕ)
         body = b.body;
         holds = b.holds;
         names = b.names;
-        own = b.own;
         peers = b.listed;
         progress = are;
         calm_marks = inr tt;
@@ -317,9 +323,9 @@ module _ (stripe : ℕ) (ops : ℕ × ℕ → Op) (members : List ℕ) (n : ℕ)
 
   module _ (distinct : AreDistinct members) where
     pub status_comes : (z : Seen) (e : Epoch) (peers : List Peer) (from : NodeId) (head : FileHead) (learnt : ℕ) → Fit (seen_in z (tenure_of e peers progress.Gathering))
-        → peer_in peers from ≡ Some peer.Unknown → Has (Status from.0 e head) z.sent
+        → peer_in peers from ≡ Some peer.Unknown → Has (Status from.0 e head) z.sent → (from.0 ≡ n → NamesHeld z.kept.held head.versions)
         → LeadsTo (seen_in z (tenure_of e peers progress.Gathering)) (status_counted (ground_at stripe n z) learnt (tenure_of e (with_peer peers from (peer.Reported head)) progress.Gathering))
-    status_comes z e peers from head learnt fits unknown has =
+    status_comes z e peers from head learnt fits unknown has mine =
         by_test (λ b. nat_le (majority_among peers1) (statuses_counted peers1) ≡ b → LeadsTo a (cond b (chooses g learnt t1 (reports_of peers1)) (unmoved learnt t1))) (nat_le (majority_among peers1) (statuses_counted peers1))
         (λ _ most. chosen_among most (reports_of peers1) refl) (λ _ _. counted) refl
       where
@@ -353,7 +359,7 @@ module _ (stripe : ℕ) (ops : ℕ × ℕ → Op) (members : List ℕ) (n : ℕ)
         -- the own status was told with bodies that are held
         own_told : (h : FileHead) → statuses_of peers1 n ≡ Some h → NamesHeld z.kept.held h.versions
         own_told h is = by_node (λ b. (if b then Some head else statuses_of peers n) ≡ Some h → NamesHeld z.kept.held h.versions) n from.0
-            (λ same k. subst (λ (x : FileHead). NamesHeld z.kept.held x.versions) (some_is k) (fits.own e head (subst (λ m. Has (Status m e head) z.sent) (sym same) has)))
+            (λ same k. subst (λ (x : FileHead). NamesHeld z.kept.held x.versions) (some_is k) (mine (sym same)))
             (λ _ k. fits.tenure.1.progress h k) (ap (λ f. f n) told_too ∙ is)
           where
             some_is : {x y : FileHead} → Some x ≡ Some y → x ≡ y
@@ -386,7 +392,6 @@ module _ (stripe : ℕ) (ops : ℕ × ℕ → Op) (members : List ℕ) (n : ℕ)
           body = refl;
           holds = fits.tenure.0;
           names = fits.names;
-          own = fits.own;
           peers = listed;
           progress = own_told;
           calm_marks = inl refl;
@@ -400,8 +405,8 @@ module _ (stripe : ℕ) (ops : ℕ × ℕ → Op) (members : List ℕ) (n : ℕ)
         chosen_among most (first ∷ others) is =
             by_test (λ b. (best.0.0 == n) ≡ b → LeadsTo a (cond b (installs g learnt t1 best.1) (fetches g learnt t1 best.1 best.0 (difference (known_of_own g.held) best.1.versions)))) (best.0.0 == n)
             (λ _ own. installed a z e peers1 progress.Gathering best.1 None learnt before (own_told best.1 (ap (statuses_of peers1) (sym (number best.0.0 n own)) ∙ best_told)))
-            (λ _ _. subst (LeadsTo a) (keeps_none g learnt t1 best.1 best.0 (difference [] best.1.versions))
-            (fetched a z e peers1 progress.Gathering best.1 best.0 (difference [] best.1.versions) None learnt before (λ v h. inr (wanted_all best.1.versions v h)))) refl
+            (λ _ _. subst (LeadsTo a) (keeps_none g learnt t1 best.1 best.0 (difference (known_of_own g.held) best.1.versions))
+            (fetched a z e peers1 progress.Gathering best.1 best.0 (difference (known_of_own g.held) best.1.versions) None learnt before (λ v h. known_or_wanted (known_of_own g.held) best.1.versions v h))) refl
           where
             best : NodeId × FileHead
             best = chosen_of (record { 0 = n }) first others
@@ -444,7 +449,6 @@ module _ (stripe : ℕ) (ops : ℕ × ℕ → Op) (members : List ℕ) (n : ℕ)
               body = refl;
               holds = fits.tenure.0;
               names = fits.names;
-              own = fits.own;
               listed = listed;
               sent = sent_too;
             }
@@ -482,7 +486,6 @@ module _ (stripe : ℕ) (ops : ℕ × ℕ → Op) (members : List ℕ) (n : ℕ)
         body = refl;
         holds = fits.tenure.0;
         names = fits.names;
-        own = fits.own;
         listed = fits.tenure.1.peers;
         sent = fits.tenure.1.sent;
       }) (λ v h. of v (fits.tenure.1.progress v h))
@@ -505,7 +508,6 @@ module _ (stripe : ℕ) (ops : ℕ × ℕ → Op) (members : List ℕ) (n : ℕ)
         body = refl;
         holds = fits.tenure.0;
         names = staged_held z.kept.held z.kept.head.versions (body_of object version) fits.names;
-        own = λ d h k. staged_held z.kept.held h.versions (body_of object version) (fits.own d h k);
         listed = fits.tenure.1.peers;
         sent = fits.tenure.1.sent;
       }) (λ v h. of v (fits.tenure.1.progress v h))

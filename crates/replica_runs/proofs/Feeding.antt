@@ -12,7 +12,7 @@ use Rattle.xt_messages.specs.declared.file.Update.{Update}
 use Rattle.xt_messages.specs.declared.message.Msg.{Msg}
 use Rattle.xt_messages.specs.declared.message.Payload.{Payload}
 use Rattle.xt_protocol.specs.Stamps.{is_epoch, has_version}
-use Rattle.xt_protocol.specs.Primaries.{with_peer, fed_next, fed, last_sent, if_any, target_of}
+use Rattle.xt_protocol.specs.Primaries.{with_peer, known_of_report, fed_next, fed, last_sent, if_any, target_of}
 use Rattle.xt_protocol.specs.PrimaryRows.{target_in, peer_fed, peers_fed}
 use Rattle.xt_protocol.specs.declared.states.IssuedUpdate.{IssuedUpdate}
 use Rattle.xt_protocol.specs.declared.states.Peer.{Peer}
@@ -161,8 +161,8 @@ module _ (stripe : ℕ) (ops : ℕ × ℕ → Op) (members : List ℕ) (n : ℕ)
       new : (q : NodeId) (s : PeerState) → (Has x (shown_if n (last_sent a.kept.file e s)) → IsReady stripe ops members n a x)
           → Has x (shown_if n (last_sent a.kept.file e (peer_fed (ground_at stripe n a) target q s))) → IsReady stripe ops members n a x
       new q (peer.Reported head) old =
-          by_test (λ b. Has x (shown_if n (last_sent a.kept.file e (cond b (peer.Reported head) (fed a.body target [])))) → IsReady stripe ops members n a x) (q.0 == n)
-          (λ _ g. absurd g) (λ _ g. fed_ready a a.kept.file e target [] is x g)
+          by_test (λ b. Has x (shown_if n (last_sent a.kept.file e (cond b (peer.Reported head) (fed a.body target (known_of_report head))))) → IsReady stripe ops members n a x) (q.0 == n)
+          (λ _ g. absurd g) (λ _ g. fed_ready a a.kept.file e target (known_of_report head) is x g)
       new q peer.Unknown old = old
       new q (peer.Feeding known o v b) old = old
       new q (peer.Heading known head) old = old

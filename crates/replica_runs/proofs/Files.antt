@@ -46,7 +46,7 @@ use Rattle.replica_runs.specs.HeadWorld.{Message, shown, Entry}
 use Rattle.replica_runs.proofs.Tools.{by_test}
 use Rattle.replica_runs.specs.AskFits.{AskFits}
 use Rattle.replica_runs.specs.FileView.{Reaches, FileReaches, seen_of, settled, IsList, ListFits, IsOrderly, IsFree, AskComes, ShowsFile}
-use Rattle.replica_runs.specs.Seen.{Seen, ground_at, AreIn, TenureFits, Fits, Leads}
+use Rattle.replica_runs.specs.Seen.{Seen, ground_at, AreIn, TenureFits, Fits, Leads, OwnFits}
 use Rattle.replica_runs.proofs.Choosing.{LeadsTo, draws}
 use Rattle.replica_runs.proofs.Feeding.{seen_in}
 use Rattle.replica_runs.proofs.Hearing as hearing
@@ -356,7 +356,7 @@ module _ (stripe : ℕ) (ops : ℕ × ℕ → Op) (members : List ℕ) (site : S
             under2 (held h) = tt
 
             q : QuietStep (There s2) next
-            q = rows_step s2 ask own (under2 s.lease) (record { names = fits.names; own = fits.own; tenure = restored s.primary.tenure fits.tenure }) (of ask.deadline)
+            q = rows_step s2 ask own (under2 s.lease) (record { names = fits.names; tenure = restored s.primary.tenure fits.tenure }) (of ask.deadline)
               where
                 restored : (o : Option Tenure) → TenureFits members n (There s) o → TenureFits members n (There s2) o
                 restored None f = f
@@ -410,7 +410,7 @@ module _ (stripe : ℕ) (ops : ℕ × ℕ → Op) (members : List ℕ) (site : S
           (reaches stripe ops members n z led.primary.tenure led.turned
           (subst (λ g. Leads stripe ops members n z (epoch_drawn g.place s.primary.learnt s.kept.head (members_of s.kept.location)).primary.tenure (epoch_drawn g.place s.primary.learnt s.kept.head (members_of s.kept.location)).turned)
           (ground_is s holder sent entries (stripe_is s.kept.location list some))
-          (draws stripe ops members n z s.primary.learnt (members_of s.kept.location) refl fits.names fits.own (members_are s.kept.location list some))));
+          (draws stripe ops members n z s.primary.learnt (members_of s.kept.location) refl fits.names (members_are s.kept.location list some))));
       kept = refl;
     }
       where
@@ -470,27 +470,27 @@ module _ (stripe : ℕ) (ops : ℕ × ℕ → Op) (members : List ℕ) (site : S
 
     module _ (distinct : AreDistinct members) where
       -- a primary without a tenure hears nothing
-      idle_hears : (s : FileState) (from : NodeId) (content : Payload) (o : Option Tenure) → s.primary.tenure ≡ o → Fits members n (There s) → AreIn (shown from.0 content) sent
+      idle_hears : (s : FileState) (from : NodeId) (content : Payload) (o : Option Tenure) → s.primary.tenure ≡ o → Fits members n (There s) → AreIn (shown from.0 content) sent → OwnFits n s.kept.held from content
           → LeadsTo stripe ops members n (There s) (hears (ground_at stripe n (There s)) (record { learnt = s.primary.learnt; tenure = o }) from content)
       unfolding hears
-      idle_hears s from content None is fits came = subst (λ o. Leads stripe ops members n (There s) o quiet) is (rests stripe ops members n (There s) fits)
-      idle_hears s from content (Some t) is fits came =
+      idle_hears s from content None is fits came mine = subst (λ o. Leads stripe ops members n (There s) o quiet) is (rests stripe ops members n (There s) fits)
+      idle_hears s from content (Some t) is fits came mine =
           subst (λ b. LeadsTo stripe ops members n b (hears (ground_at stripe n (There s)) (record { learnt = s.primary.learnt; tenure = Some t }) from content)) (sym whole)
-          (hearing.primary_hears stripe ops members n distinct (There s) t from content s.primary.learnt (subst (Fits members n) whole fits) came)
+          (hearing.primary_hears stripe ops members n distinct (There s) t from content s.primary.learnt (subst (Fits members n) whole fits) came mine)
         where
           whole : There s ≡ seen_in (There s) t
           whole = ap (λ o. record { kept = s.kept; body = site.body s.kept.file; tenure = o; holder = holder; sent = sent; entries = entries }) is
 
       heard_step : (s : FileState) (l : LeaseState) (from : NodeId) (content : Payload) → IsOrderly stripe ops members s → (ListUnder l s.kept.location) → Fits members n (There s) → AreIn (shown from.0 content) sent
-          → Steps (There s) (primary_hears site s l from content)
-      heard_step s (free p) from content orderly under fits came = (quiet_step s s quiet holder sent entries refl refl mute_quiet fits).file
-      heard_step s (asking r) from content orderly under fits came = (quiet_step s s quiet holder sent entries refl refl mute_quiet fits).file
-      heard_step s (writing r) from content orderly under fits came = (quiet_step s s quiet holder sent entries refl refl mute_quiet fits).file
-      heard_step s (held h) from content orderly under fits came = record {
+          → OwnFits n s.kept.held from content → Steps (There s) (primary_hears site s l from content)
+      heard_step s (free p) from content orderly under fits came mine = (quiet_step s s quiet holder sent entries refl refl mute_quiet fits).file
+      heard_step s (asking r) from content orderly under fits came mine = (quiet_step s s quiet holder sent entries refl refl mute_quiet fits).file
+      heard_step s (writing r) from content orderly under fits came mine = (quiet_step s s quiet holder sent entries refl refl mute_quiet fits).file
+      heard_step s (held h) from content orderly under fits came mine = record {
         reach = reaches stripe ops members n (There s) (followed (ground_of site s)).primary.tenure (followed (ground_of site s)).turned
             (subst (λ g. Leads stripe ops members n (There s) (followed g).primary.tenure (followed g).turned) (ground_is s holder sent entries (stripe_is s.kept.location orderly.list (stored s.kept.location under)))
             (follows stripe ops members n (There s) s.primary.tenure s.asks (hears (ground_at stripe n (There s)) s.primary from content)
-            (idle_hears s from content s.primary.tenure refl fits came) orderly.asks.waiting));
+            (idle_hears s from content s.primary.tenure refl fits came mine) orderly.asks.waiting));
         kept = refl;
       }
         where
@@ -512,23 +512,23 @@ module _ (stripe : ℕ) (ops : ℕ × ℕ → Op) (members : List ℕ) (site : S
 
       -- A message that concerns the file, when nothing is overdue.
       pub message_step : (s : FileState) (from : NodeId) (content : Payload) → IsOrderly stripe ops members s → (IsHeld (message_comes site s from content).state.lease → IsFree n holder) → Fits members n (There s)
-          → AreIn (shown from.0 content) sent → AskComes stripe ops members from content → Steps (There s) (message_comes site s from content)
-      message_step s from (payload.Ask number capability asked) orderly alone fits came known =
+          → AreIn (shown from.0 content) sent → OwnFits n s.kept.held from content → AskComes stripe ops members from content → Steps (There s) (message_comes site s from content)
+      message_step s from (payload.Ask number capability asked) orderly alone fits came mine known =
           ask_step s capability.location.kind (record { client = from; number = number }) capability asked orderly known.0 fits known.1
-      message_step s from (payload.Read file ballot) orderly alone fits came known = read_step s from ballot fits
-      message_step s from (payload.Write file ballot boot l) orderly alone fits came known = write_step s from ballot boot l fits
-      message_step s from (payload.Promise file ballot boot report) orderly alone fits came known = answer_step s from (payload.Promise file ballot boot report) orderly alone fits
-      message_step s from (payload.Accepted file ballot boot) orderly alone fits came known = answer_step s from (payload.Accepted file ballot boot) orderly alone fits
-      message_step s from (payload.Outrun file ballot seen) orderly alone fits came known = answer_step s from (payload.Outrun file ballot seen) orderly alone fits
-      message_step s from (payload.Gather file epoch) orderly alone fits came known = replica_step s from (gathered s.kept.file s.kept.head epoch) (gather_acts stripe ops members n (There s) from epoch fits came.0)
-      message_step s from (payload.Fetch file epoch object version) orderly alone fits came known = record { reach = fetch_acts stripe ops members n (There s) from epoch object version fits; kept = refl }
-      message_step s from (payload.Stage file epoch object version bytes) orderly alone fits came known =
+      message_step s from (payload.Read file ballot) orderly alone fits came mine known = read_step s from ballot fits
+      message_step s from (payload.Write file ballot boot l) orderly alone fits came mine known = write_step s from ballot boot l fits
+      message_step s from (payload.Promise file ballot boot report) orderly alone fits came mine known = answer_step s from (payload.Promise file ballot boot report) orderly alone fits
+      message_step s from (payload.Accepted file ballot boot) orderly alone fits came mine known = answer_step s from (payload.Accepted file ballot boot) orderly alone fits
+      message_step s from (payload.Outrun file ballot seen) orderly alone fits came mine known = answer_step s from (payload.Outrun file ballot seen) orderly alone fits
+      message_step s from (payload.Gather file epoch) orderly alone fits came mine known = replica_step s from (gathered s.kept.file s.kept.head epoch) (gather_acts stripe ops members n (There s) from epoch fits came.0)
+      message_step s from (payload.Fetch file epoch object version) orderly alone fits came mine known = record { reach = fetch_acts stripe ops members n (There s) from epoch object version fits; kept = refl }
+      message_step s from (payload.Stage file epoch object version bytes) orderly alone fits came mine known =
           replica_step s from (staged s.kept.file s.kept.head s.kept.held epoch object version bytes) (stage_acts stripe ops members n (There s) from epoch object version bytes fits came.0)
-      message_step s from (payload.Head file epoch head) orderly alone fits came known =
+      message_step s from (payload.Head file epoch head) orderly alone fits came mine known =
           replica_step s from (headed s.kept.file s.kept.head s.kept.held epoch head) (head_acts stripe ops members n (There s) from epoch head fits came.0)
-      message_step s from (payload.Update file update) orderly alone fits came known =
+      message_step s from (payload.Update file update) orderly alone fits came mine known =
           replica_step s from (updated s.kept.file s.kept.head update) (update_acts stripe ops members n (There s) from update fits came.0)
-      message_step s from content orderly alone fits came known = heard_step s s.lease from content orderly orderly.sound.list fits came
+      message_step s from content orderly alone fits came mine known = heard_step s s.lease from content orderly orderly.sound.list fits came mine
 
     -- ---- a Wake
 
@@ -610,8 +610,8 @@ pub files_show : (stripe : ℕ) (ops : ℕ × ℕ → Op) (members : List ℕ) (
     → ShowsFile stripe ops members site s holder sent entries
 unfolding step_of_file wake_of_file
 files_show stripe ops members site s holder sent entries distinct orderly fits = record {
-  message = λ from content came known alone. mute_then stripe ops members site (seen_of site (settled site s) holder sent entries) (expired site s) (λ state. message_comes site state from content)
-      (mute_expired stripe ops members site s) (message_step stripe ops members site holder sent entries distinct (settled site s) from content orderly alone fits came known);
+  message = λ from content came mine known alone. mute_then stripe ops members site (seen_of site (settled site s) holder sent entries) (expired site s) (λ state. message_comes site state from content)
+      (mute_expired stripe ops members site s) (message_step stripe ops members site holder sent entries distinct (settled site s) from content orderly alone fits came mine known);
   wake = mute_then stripe ops members site (seen_of site (settled site s) holder sent entries) (expired site s) (wake_of_file site)
       (mute_expired stripe ops members site s) (woken_step stripe ops members site holder sent entries (settled site s) (settled site s).lease orderly.list orderly.sound.list fits);
 }

@@ -4,11 +4,11 @@ use Rattle.replica_safety.specs.Epochs.{Write}
 use Rattle.replica_safety.specs.Lists.{Has}
 use Rattle.replica_safety.specs.Rules.{Start}
 use Rattle.replica_runs.specs.World.{Node, Message, World}
-use Rattle.replica_runs.specs.Steps.{Step, Loses, after, May, AreHeld}
+use Rattle.replica_runs.specs.Steps.{Step, Loses, after, May, AreHeld, ServesHeld}
 use Rattle.replica_runs.specs.Steps as step
 use Rattle.replica_runs.specs.Marks.{Begins}
 use Rattle.replica_runs.proofs.Shows as shown
-use Rattle.replica_runs.proofs.Present.{Present, ServesHeld, stays_present, starts_present}
+use Rattle.replica_runs.proofs.Present.{Present, stays_present, starts_present}
 
 take-none : (n : ℕ) → take {A = Write} n [] ≡ []
 take-none zero = refl

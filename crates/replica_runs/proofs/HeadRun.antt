@@ -1,6 +1,6 @@
 -- Every run of a world of heads is a run of a world of writes.
 use Rattle.std.proofs.Common.{◌≡◌, ℕ, suc, ◌+◌, ◌<◌, ◌≤◌, ◌⊎◌, Bool, true, false, List, [], ◌∷◌, length, refl, sym, ap, ap₂, ◌∙◌, subst, inl, inr, arith, if◌then◌else◌, ◌==◌, Option, Some, None}
-use Rattle.std.specs.Prelude.{slice_get, map, max, cond}
+use Rattle.std.specs.Prelude.{slice_get, map, max, cond, filter}
 use Rattle.std.proofs.lemmas.Bool.Decides.{nat_tests}
 use Rattle.xt_base.specs.declared.TheConstants.{NO_OBJECT}
 use Rattle.xt_base.specs.declared.ids.Epoch.{Epoch}
@@ -8,6 +8,7 @@ use Rattle.xt_base.specs.declared.ids.OpId.{OpId}
 use Rattle.xt_base.specs.declared.ids.Stamp.{Stamp}
 use Rattle.xt_messages.specs.declared.file.FileHead.{FileHead}
 use Rattle.xt_messages.specs.declared.file.Location.{Location}
+use Rattle.xt_messages.specs.declared.file.ObjectVersion.{ObjectVersion}
 use Rattle.xt_messages.specs.declared.file.Op.{Op}
 use Rattle.xt_messages.specs.declared.file.Session.{Session}
 use Rattle.xt_messages.specs.declared.file.Update.{Update}
@@ -21,16 +22,17 @@ use Rattle.replica_safety.specs.Lists.{Has}
 use Rattle.replica_safety.specs.Rules.{Start}
 use Rattle.replica_safety.proofs.Orders.{same_is, same_self}
 use Rattle.replica_runs.specs.FileHeads.{Body, head_of, versions_of}
-use Rattle.replica_runs.specs.HeadSteps.{Step, Turn, with_acted, with_primary, keeping, drawn, nobody, none_acked, with_status, with_acked, target_of, last_id, next_stamp, IsChosen, IsMadeOver, after, May, after_steps, MayAll, after_turns, MayTurn}
+use Rattle.replica_runs.specs.HeadSteps.{Step, Turn, with_acted, with_primary, keeping, drawn, nobody, none_acked, with_status, with_acked, target_of, last_id, next_stamp, IsChosen, IsMadeOver, AreKept, MayForget, served_versions, after, May, after_steps, MayAll, after_turns, MayTurn}
 use Rattle.replica_runs.specs.HeadSteps as heads
 use Rattle.replica_runs.specs.HeadWorld.{Primary, Idle, Gathering, Installing, Active, leads_in, Node, Message, Gather, Status, UpdateSent, Ack, Piece, Entry, TellsActive, TellsIssue, TellsCommit, ReadOk, WriteOk, World, Local, local, put, BodiesAre, BeginsAt, has_at}
 use Rattle.replica_runs.specs.HeadWorld as message
 use Rattle.replica_runs.specs.Made.{bodies_of, IsMade}
 use Rattle.replica_runs.specs.Marks.{AreMade, Begins}
 use Rattle.replica_runs.specs.Steps as step
-use Rattle.replica_runs.specs.Steps.{IsHeld, without}
+use Rattle.replica_runs.specs.Steps.{IsHeld, without, AreHeld, ServesHeld}
 use Rattle.replica_runs.specs.World.{Counted, IsMost, among, epoch_of}
 use Rattle.replica_runs.specs.World as world
+use Rattle.replica_runs.proofs.Filtered.{has_left, left_has, named_has}
 use Rattle.replica_runs.proofs.Good.{IsGood, steps, good_begins}
 use Rattle.replica_runs.proofs.HeadAsks.{Reads, mark_size, is_new, made_named, made_over}
 use Rattle.replica_runs.proofs.HeadRows.{stays, says, gathers_reached, takes_head_reached, takes_update_reached}
@@ -134,6 +136,48 @@ module _ (stripe : ℕ) (some : 0 < stripe) (ops : ℕ × ℕ → Op) (members :
     }
 
     -- ---- bodies
+
+    -- of the node's bodies those are left that are kept
+    forgets : (held : List ObjectVersion) (body : ℕ → Stamp → List ℕ) → MayForget x held body → IsThere (put w n (after n (local w n) (heads.Forgets held body)))
+    forgets held body may = record {
+      world = step.after v (step.Forgets n bodies);
+      good = goes v (step.Forgets n bodies) (record {
+        less = λ b h. (left_has test (v.held n) b h).0;
+        heads = still y.head.writes x.kept.head.versions (ap (λ (h : FileHead). h.versions) (s.nodes n).head) may.head (good.present.heads n);
+        served = serves x.primary (s.nodes n).primary may.served;
+      }) good;
+      stand = moved w v (step.after v (step.Forgets n bodies)) n (after n (local w n) (heads.Forgets held body)) (v.nodes n) bodies (λ r. ap (λ f. f r) (unchanged v.nodes n)) (λ r. refl)
+          s.holder (record { head = (s.nodes n).head; bodies = there; primary = (s.nodes n).primary }) s.sent s.entries s;
+    }
+      where
+        test : Body → Bool
+        test b = has_version held (folds.body_of b.object b.version)
+
+        bodies : List Body
+        bodies = filter test (v.held n)
+
+        there : BodiesAre (record x.kept { held = held }) body bodies
+        there = record {
+          has = λ o t h. subst (λ bytes. Has (record { object = o; version = t; bytes = bytes }) bodies) (sym (may.same o t h))
+              (has_left test (v.held n) (record { object = o; version = t; bytes = x.body o t }) ((s.nodes n).bodies.has o t (may.less (folds.body_of o t) h)) h);
+          holds = λ o t low k. (left_has test (v.held n) (record { object = o; version = t; bytes = k.0 }) k.1).1;
+        }
+
+        still : (ws : List Update) (versions : List ObjectVersion) → versions ≡ versions_of ws → AreKept x.kept.held held versions → AreHeld (v.held n) ws → AreHeld bodies ws
+        still ws versions same keeps all o t low is =
+            let h = all o t low is in (
+              h.0,
+              has_left test (v.held n) (record { object = o; version = t; bytes = h.0 }) h.1
+                  (keeps (folds.body_of o t) (named_has versions o t (ap (λ (vs : List ObjectVersion). version_of vs o) same ∙ is)) ((s.nodes n).bodies.holds o t low h)),
+            )
+
+        serves : (p : Primary) → Stands p y.primary → AreKept x.kept.held held (served_versions p) → ServesHeld bodies y.primary
+        serves Idle st keeps = subst (ServesHeld bodies) (sym st) tt
+        serves (Gathering e statuses) st keeps = subst (ServesHeld bodies) (sym st.1) tt
+        serves (Installing e chosen acked) st keeps = subst (ServesHeld bodies) (sym st.2) tt
+        serves (Active e c issued acked) st keeps =
+            subst (ServesHeld bodies) (sym st.2)
+            (still st.0 c.versions (ap (λ (h : FileHead). h.versions) st.3.is_committed) keeps (subst (ServesHeld (v.held n)) st.2 (good.present.served n)))
 
     sends_body : (o : ℕ) (k : Stamp) → has_version x.kept.held (folds.body_of o k) ≡ true → IsThere (put w n (after n (local w n) (heads.SendsBody o k)))
     sends_body o k held = sends (Piece o k (x.body o k)) (world.Piece (record { object = o; version = k; bytes = x.body o k })) (inl refl)
@@ -444,6 +488,7 @@ module _ (stripe : ℕ) (some : 0 < stripe) (ops : ℕ × ℕ → Op) (members :
   next_there w n (heads.TakesUpdate u) may r = takes_update_reached stripe ops members start w r.world n r.good r.stand u may
   next_there w n (heads.SendsBody o k) may r = sends_body w r.world n r.good r.stand o k may
   next_there w n (heads.KeepsBody o k bytes) may r = keeps_body w r.world n r.good r.stand o k bytes may
+  next_there w n (heads.Forgets held body) may r = forgets w r.world n r.good r.stand held body may
   next_there w n (heads.Draws learnt) may r = draws w r.world n r.good r.stand learnt may
   next_there w n (heads.SendsGather e) may r = sends_gather w r.world n r.good r.stand e may
   next_there w n (heads.CountsStatus e statuses k h) may r = counts_status w r.world n r.good r.stand e statuses k h may.0 may.1 may.2

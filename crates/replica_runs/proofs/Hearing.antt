@@ -15,7 +15,7 @@ use Rattle.xt_messages.specs.declared.message.Payload.{Payload}
 use Rattle.xt_messages.specs.declared.message.Payload.TheVariants as payload
 use Rattle.xt_protocol.specs.Folds.{body_of}
 use Rattle.xt_protocol.specs.Stamps.{is_epoch, is_earlier, is_below, is_version, without_version}
-use Rattle.xt_protocol.specs.Primaries.{Led, peer_in, with_peer, reported, nodes_of, majority_among, with_node, carries, with_known, fed, last_sent, if_any, target_of}
+use Rattle.xt_protocol.specs.Primaries.{Led, peer_in, with_peer, reported, nodes_of, majority_among, with_node, carries, known_of_report, with_known, fed, last_sent, if_any, target_of}
 use Rattle.xt_protocol.specs.PrimaryRows.{goes_on, unmoved, with_state, feeds, status_told, hears_status, hears_object, body_fetched, target_in, body_staged, body_missed, epoch_drawn, hears_missing, makes_current, activated, committed, update_acked, acked_below, hears_ack, forgotten, peer_behind, outpromised, epoch_told, hears_peer, hears_member, hears_epoch, hears}
 use Rattle.xt_protocol.specs.Turns.{sends, answers, message}
 use Rattle.xt_protocol.specs.declared.states.IssuedUpdate.{IssuedUpdate}
@@ -31,7 +31,7 @@ use Rattle.replica_runs.specs.HeadSteps.{Step, CountsInstalled, Activates, Count
 use Rattle.replica_runs.specs.HeadWorld.{Message, Gather, UpdateSent, Ack, Status, Piece, shown, shown_if, Entry, TellsActive, TellsCommit, WriteOk, Gathering, Installing, Active, Local, Primary}
 use Rattle.replica_runs.specs.World.{IsMost}
 use Rattle.replica_runs.proofs.Tools.{by_test, both_true}
-use Rattle.replica_runs.specs.Seen.{Seen, local_of, ground_at, AreIn, AreTold, name_of, PeersSent, AckedFit, ProgressFits, nodes_in, statuses_of, acked_by, leads_as, Leads}
+use Rattle.replica_runs.specs.Seen.{Seen, local_of, ground_at, AreIn, AreTold, name_of, PeersSent, AckedFit, ProgressFits, nodes_in, statuses_of, acked_by, leads_as, Leads, NamesHeld, OwnFits}
 use Rattle.replica_runs.proofs.Choosing.{LeadsTo, Fit, Ready, still, draws_anew, status_comes, body_comes}
 use Rattle.replica_runs.proofs.Counts.{acked_with, acked_fits, most_acked}
 use Rattle.replica_runs.proofs.Feeding.{tenure_of, seen_in, if_any_shown, gather_sent, update_sent, IsTarget, target_there, fed_ready, sent_ready, with_ready}
@@ -84,7 +84,6 @@ module _ (stripe : ℕ) (ops : ℕ × ℕ → Op) (members : List ℕ) (n : ℕ)
         body = refl;
         holds = fits.tenure.0;
         names = fits.names;
-        own = fits.own;
         peers = listed;
         progress = progress;
         calm_marks = inl refl;
@@ -358,56 +357,56 @@ module _ (stripe : ℕ) (ops : ℕ × ℕ → Op) (members : List ℕ) (n : ℕ)
   module _ (distinct : AreDistinct members) where
     -- a status of an unknown peer
     new_status : (z : Seen) (e : Epoch) (peers : List Peer) (p : Progress) (q : NodeId) (head : FileHead) (learnt : ℕ) → IsFit (seen_in z (tenure_of e peers p)) → peer_in peers q ≡ Some peer.Unknown
-        → Has (Status q.0 e head) z.sent → Leading (seen_in z (tenure_of e peers p)) (status_told (ground_at stripe n z) learnt (tenure_of e peers p) p q head)
-    new_status z e peers progress.Gathering q head learnt fits there has = status_comes stripe ops members n distinct z e peers q head learnt fits there has
-    new_status z e peers (progress.Fetching chosen source asked later) q head learnt fits there has =
+        → Has (Status q.0 e head) z.sent → (q.0 ≡ n → NamesHeld z.kept.held head.versions) → Leading (seen_in z (tenure_of e peers p)) (status_told (ground_at stripe n z) learnt (tenure_of e peers p) p q head)
+    new_status z e peers progress.Gathering q head learnt fits there has mine = status_comes stripe ops members n distinct z e peers q head learnt fits there has mine
+    new_status z e peers (progress.Fetching chosen source asked later) q head learnt fits there has mine =
         changes_peer z e peers (progress.Fetching chosen source asked later) q peer.Unknown (peer.Reported head) [] fits there (λ gathers. absurd cc) (λ x h. absurd h) (λ m h. absurd h)
-    new_status z e peers (progress.Installing chosen acked) q head learnt fits there has =
-        feeds_on z e peers (progress.Installing chosen acked) q peer.Unknown (target_of z.kept.head e chosen) [] learnt fits there refl
-    new_status z e peers (progress.Active c issued) q head learnt fits there has = feeds_on z e peers (progress.Active c issued) q peer.Unknown z.kept.head [] learnt fits there refl
+    new_status z e peers (progress.Installing chosen acked) q head learnt fits there has mine =
+        feeds_on z e peers (progress.Installing chosen acked) q peer.Unknown (target_of z.kept.head e chosen) (known_of_report head) learnt fits there refl
+    new_status z e peers (progress.Active c issued) q head learnt fits there has mine = feeds_on z e peers (progress.Active c issued) q peer.Unknown z.kept.head (known_of_report head) learnt fits there refl
 
     status_heard : (z : Seen) (e : Epoch) (peers : List Peer) (p : Progress) (q : NodeId) (state : PeerState) (head : FileHead) (learnt : ℕ) → IsFit (seen_in z (tenure_of e peers p)) → peer_in peers q ≡ Some state
-        → Has (Status q.0 e head) z.sent → Leading (seen_in z (tenure_of e peers p)) (hears_status (ground_at stripe n z) learnt (tenure_of e peers p) q state head)
-    status_heard z e peers p q peer.Unknown head learnt fits there has = new_status z e peers p q head learnt fits there has
-    status_heard z e peers p q (peer.Reported h) head learnt fits there has = still stripe ops members n z (tenure_of e peers p) learnt fits
-    status_heard z e peers p q (peer.Feeding known o v b) head learnt fits there has = still stripe ops members n z (tenure_of e peers p) learnt fits
-    status_heard z e peers p q (peer.Heading known h) head learnt fits there has = still stripe ops members n z (tenure_of e peers p) learnt fits
-    status_heard z e peers p q peer.Current head learnt fits there has = still stripe ops members n z (tenure_of e peers p) learnt fits
+        → Has (Status q.0 e head) z.sent → (q.0 ≡ n → NamesHeld z.kept.held head.versions) → Leading (seen_in z (tenure_of e peers p)) (hears_status (ground_at stripe n z) learnt (tenure_of e peers p) q state head)
+    status_heard z e peers p q peer.Unknown head learnt fits there has mine = new_status z e peers p q head learnt fits there has mine
+    status_heard z e peers p q (peer.Reported h) head learnt fits there has mine = still stripe ops members n z (tenure_of e peers p) learnt fits
+    status_heard z e peers p q (peer.Feeding known o v b) head learnt fits there has mine = still stripe ops members n z (tenure_of e peers p) learnt fits
+    status_heard z e peers p q (peer.Heading known h) head learnt fits there has mine = still stripe ops members n z (tenure_of e peers p) learnt fits
+    status_heard z e peers p q peer.Current head learnt fits there has mine = still stripe ops members n z (tenure_of e peers p) learnt fits
 
     peer_heard : (z : Seen) (e : Epoch) (peers : List Peer) (p : Progress) (q : NodeId) (state : PeerState) (content : Payload) (d : Epoch) (learnt : ℕ) → IsFit (seen_in z (tenure_of e peers p)) → peer_in peers q ≡ Some state
-        → AreIn (shown q.0 content) z.sent → epoch_told content ≡ Some d → d ≡ e → Leading (seen_in z (tenure_of e peers p)) (hears_peer (ground_at stripe n z) learnt (tenure_of e peers p) q state content)
-    peer_heard z e peers p q state (payload.Status file k head) d learnt fits there came told same =
-        status_heard z e peers p q state head learnt fits there (subst (λ (x : Epoch). Has (Status q.0 x head) z.sent) (some_is told ∙ same) came.0)
+        → AreIn (shown q.0 content) z.sent → OwnFits n z.kept.held q content → epoch_told content ≡ Some d → d ≡ e → Leading (seen_in z (tenure_of e peers p)) (hears_peer (ground_at stripe n z) learnt (tenure_of e peers p) q state content)
+    peer_heard z e peers p q state (payload.Status file k head) d learnt fits there came mine told same =
+        status_heard z e peers p q state head learnt fits there (subst (λ (x : Epoch). Has (Status q.0 x head) z.sent) (some_is told ∙ same) came.0) mine
       where
         some_is : {a b : Epoch} → Some a ≡ Some b → a ≡ b
         some_is k = cc
-    peer_heard z e peers p q state (payload.Object file k object version bytes) d learnt fits there came told same = object_comes z e peers p q object version bytes learnt fits came.0
-    peer_heard z e peers p q state (payload.Staged file k object version) d learnt fits there came told same =
+    peer_heard z e peers p q state (payload.Object file k object version bytes) d learnt fits there came mine told same = object_comes z e peers p q object version bytes learnt fits came.0
+    peer_heard z e peers p q state (payload.Staged file k object version) d learnt fits there came mine told same =
         staged z e peers p q state (body_of object version) learnt fits there (target_in z.kept.head e p) refl
-    peer_heard z e peers p q state (payload.Missing file k object version) d learnt fits there came told same = missing_comes z e peers p q state (body_of object version) learnt fits there
-    peer_heard z e peers p q state (payload.Ack file stamp) d learnt fits there came told same =
+    peer_heard z e peers p q state (payload.Missing file k object version) d learnt fits there came mine told same = missing_comes z e peers p q state (body_of object version) learnt fits there
+    peer_heard z e peers p q state (payload.Ack file stamp) d learnt fits there came mine told same =
         ack_comes z e peers p q state stamp (makes_current (ground_at stripe n z).place q state stamp) learnt fits there came.0 (some_is told ∙ same)
       where
         some_is : {a b : Epoch} → Some a ≡ Some b → a ≡ b
         some_is k = cc
-    peer_heard z e peers p q state (payload.Behind file k stamp) d learnt fits there came told same = behind_comes z e peers p q state learnt fits there
-    peer_heard z e peers p q state (payload.Refused file k promised) d learnt fits there came told same = refused_comes z (tenure_of e peers p) promised learnt fits
-    peer_heard z e peers p q state _ d learnt fits there came told same = absurd cc
+    peer_heard z e peers p q state (payload.Behind file k stamp) d learnt fits there came mine told same = behind_comes z e peers p q state learnt fits there
+    peer_heard z e peers p q state (payload.Refused file k promised) d learnt fits there came mine told same = refused_comes z (tenure_of e peers p) promised learnt fits
+    peer_heard z e peers p q state _ d learnt fits there came mine told same = absurd cc
 
     member_heard : (z : Seen) (e : Epoch) (peers : List Peer) (p : Progress) (q : NodeId) (o : Option PeerState) (content : Payload) (d : Epoch) (learnt : ℕ) → IsFit (seen_in z (tenure_of e peers p)) → peer_in peers q ≡ o
-        → AreIn (shown q.0 content) z.sent → epoch_told content ≡ Some d → d ≡ e → Leading (seen_in z (tenure_of e peers p)) (hears_member (ground_at stripe n z) learnt (tenure_of e peers p) q o content)
-    member_heard z e peers p q None content d learnt fits there came told same = still stripe ops members n z (tenure_of e peers p) learnt fits
-    member_heard z e peers p q (Some state) content d learnt fits there came told same = peer_heard z e peers p q state content d learnt fits there came told same
+        → AreIn (shown q.0 content) z.sent → OwnFits n z.kept.held q content → epoch_told content ≡ Some d → d ≡ e → Leading (seen_in z (tenure_of e peers p)) (hears_member (ground_at stripe n z) learnt (tenure_of e peers p) q o content)
+    member_heard z e peers p q None content d learnt fits there came mine told same = still stripe ops members n z (tenure_of e peers p) learnt fits
+    member_heard z e peers p q (Some state) content d learnt fits there came mine told same = peer_heard z e peers p q state content d learnt fits there came mine told same
 
     epoch_heard : (z : Seen) (e : Epoch) (peers : List Peer) (p : Progress) (q : NodeId) (o : Option Epoch) (content : Payload) (learnt : ℕ) → IsFit (seen_in z (tenure_of e peers p)) → AreIn (shown q.0 content) z.sent
-        → epoch_told content ≡ o → Leading (seen_in z (tenure_of e peers p)) (hears_epoch (ground_at stripe n z) learnt (tenure_of e peers p) q o content)
-    epoch_heard z e peers p q None content learnt fits came told = still stripe ops members n z (tenure_of e peers p) learnt fits
-    epoch_heard z e peers p q (Some d) content learnt fits came told =
+        → OwnFits n z.kept.held q content → epoch_told content ≡ o → Leading (seen_in z (tenure_of e peers p)) (hears_epoch (ground_at stripe n z) learnt (tenure_of e peers p) q o content)
+    epoch_heard z e peers p q None content learnt fits came mine told = still stripe ops members n z (tenure_of e peers p) learnt fits
+    epoch_heard z e peers p q (Some d) content learnt fits came mine told =
         by_test (λ b. is_epoch d e ≡ b → Leading (seen_in z (tenure_of e peers p)) (cond b (hears_member (ground_at stripe n z) learnt (tenure_of e peers p) q (peer_in peers q) content) (unmoved learnt (tenure_of e peers p)))) (is_epoch d e)
-        (λ _ same. member_heard z e peers p q (peer_in peers q) content d learnt fits refl came told (same_is d e same)) (λ _ _. still stripe ops members n z (tenure_of e peers p) learnt fits) refl
+        (λ _ same. member_heard z e peers p q (peer_in peers q) content d learnt fits refl came mine told (same_is d e same)) (λ _ _. still stripe ops members n z (tenure_of e peers p) learnt fits) refl
 
     -- A message to a primary in its tenure, in its turn.
-    pub primary_hears : (z : Seen) (t : Tenure) (from : NodeId) (content : Payload) (learnt : ℕ) → IsFit (seen_in z t) → AreIn (shown from.0 content) z.sent
+    pub primary_hears : (z : Seen) (t : Tenure) (from : NodeId) (content : Payload) (learnt : ℕ) → IsFit (seen_in z t) → AreIn (shown from.0 content) z.sent → OwnFits n z.kept.held from content
         → Leading (seen_in z t) (hears (ground_at stripe n z) (record { learnt = learnt; tenure = Some t }) from content)
     unfolding hears
-    primary_hears z t from content learnt fits came = epoch_heard z t.epoch t.peers t.progress from (epoch_told content) content learnt fits came refl
+    primary_hears z t from content learnt fits came mine = epoch_heard z t.epoch t.peers t.progress from (epoch_told content) content learnt fits came mine refl

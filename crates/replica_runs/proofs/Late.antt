@@ -5,7 +5,7 @@ use Rattle.replica_safety.specs.Epochs.{Epoch, Stamp, Write}
 use Rattle.replica_safety.specs.Lists.{Has}
 use Rattle.replica_safety.specs.Rules.{Start}
 use Rattle.replica_runs.specs.World.{Primary, Idle, Gathering, Installing, Active, epoch_of, Node, Message, Update, World}
-use Rattle.replica_runs.specs.Steps.{Step, Gains, Loses, Promises, SendsStatus, TakesHead, TakesUpdate, SendsAck, KeepsUpdate, SendsBody, KeepsBody, Draws, SendsGather, CountsStatus, Chooses, SendsChosen, SendsOwn, CountsInstalled, Activates, Issues, SendsUpdate, CountsUpdated, Commits, AnswersRead, AnswersWrite, renoded, sends, after, May}
+use Rattle.replica_runs.specs.Steps.{Step, Gains, Loses, Promises, SendsStatus, TakesHead, TakesUpdate, SendsAck, KeepsUpdate, SendsBody, KeepsBody, Forgets, Draws, SendsGather, CountsStatus, Chooses, SendsChosen, SendsOwn, CountsInstalled, Activates, Issues, SendsUpdate, CountsUpdated, Commits, AnswersRead, AnswersWrite, renoded, sends, after, May}
 use Rattle.replica_runs.proofs.Tools.{by_node, lower_number, number_up}
 use Rattle.replica_runs.proofs.Fits.{Apart}
 
@@ -67,6 +67,7 @@ module _ (start : Start) where
   stays_late makes members w (KeepsUpdate r v) may ok = record { apart = ok.apart; nodes = ok.nodes; updates = ok.updates }
   stays_late makes members w (SendsBody r b) may ok = other w _ (λ v p. cc) ok
   stays_late makes members w (KeepsBody r b) may ok = record { apart = ok.apart; nodes = ok.nodes; updates = ok.updates }
+  stays_late makes members w (Forgets r held) may ok = record { apart = ok.apart; nodes = ok.nodes; updates = ok.updates }
   stays_late makes members w (Draws n e) may ok = at w n _ (record {
     floor = omega (arith, (ok.nodes n).floor, may.above);
     later = λ d p. subst (λ x. is_earlier start.epoch x ≡ true) (some_epoch p) (lower_number start.epoch e (omega (arith, (ok.nodes n).floor, may.above)));

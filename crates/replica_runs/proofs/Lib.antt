@@ -1,5 +1,6 @@
 pub mod Tools
 pub mod Fits
+pub mod Filtered
 pub mod Bytes
 pub mod Flat
 pub mod Content

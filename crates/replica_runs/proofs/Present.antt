@@ -11,16 +11,10 @@ use Rattle.replica_safety.specs.Epochs.{Epoch, Stamp, Write}
 use Rattle.replica_safety.specs.Lists.{Has}
 use Rattle.replica_runs.specs.FileHeads.{Body, body_of, bodies_in, folded, versions_of}
 use Rattle.replica_runs.specs.World.{Primary, Idle, Gathering, Installing, Active, Node, World}
-use Rattle.replica_runs.specs.Steps.{Step, Gains, Loses, Promises, SendsStatus, TakesHead, TakesUpdate, SendsAck, KeepsUpdate, SendsBody, KeepsBody, Draws, SendsGather, CountsStatus, Chooses, SendsChosen, SendsOwn, CountsInstalled, Activates, Issues, SendsUpdate, CountsUpdated, Commits, AnswersRead, AnswersWrite, renoded, keeps, after, May, IsHeld, Holds, AreHeld, begin}
+use Rattle.replica_runs.specs.Steps.{Step, Gains, Loses, Promises, SendsStatus, TakesHead, TakesUpdate, SendsAck, KeepsUpdate, SendsBody, KeepsBody, Forgets, Draws, SendsGather, CountsStatus, Chooses, SendsChosen, SendsOwn, CountsInstalled, Activates, Issues, SendsUpdate, CountsUpdated, Commits, AnswersRead, AnswersWrite, renoded, keeps, after, May, IsHeld, Holds, AreHeld, begin, ServesHeld}
 use Rattle.replica_runs.proofs.Tools.{by_node, body_there}
 use Rattle.replica_runs.proofs.Content.{by_less}
 use Rattle.replica_runs.proofs.Versions.{IsNamed, versions_named, folded_push, version_next, version_here}
-
-abbrev pub ServesHeld : List Body → Primary → Type 0
-ServesHeld held (Active e ws issued acked) = AreHeld held ws
-ServesHeld held Idle = Unit {0}
-ServesHeld held (Gathering e counted) = Unit {0}
-ServesHeld held (Installing e ws acked) = Unit {0}
 
 pub record Present (w : World) : Type 0 where
   pub heads : (r : ℕ) → AreHeld (w.held r) (w.nodes r).head.writes
@@ -81,6 +75,10 @@ module _ (makes : List Write → Write → Type 0) (members : List ℕ) where
   stays_present w (KeepsUpdate r v) may ok = kept w r (body_of v) ok
   stays_present w (SendsBody r b) may ok = record { heads = ok.heads; served = ok.served }
   stays_present w (KeepsBody r b) may ok = kept w r b ok
+  stays_present w (Forgets r held) may ok = record {
+    heads = λ q. by_node (λ t. AreHeld (if t then held else w.held q) (w.nodes q).head.writes) q r (λ e. subst (λ k. AreHeld held (w.nodes k).head.writes) (sym e) may.heads) (λ _. ok.heads q);
+    served = λ q. by_node (λ t. ServesHeld (if t then held else w.held q) (w.nodes q).primary) q r (λ e. subst (λ k. ServesHeld held (w.nodes k).primary) (sym e) may.served) (λ _. ok.served q);
+  }
   stays_present w (Draws n e) may ok = turned w n _ (ok.heads n) tt ok
   stays_present w (SendsGather n e) may ok = record { heads = ok.heads; served = ok.served }
   stays_present w (CountsStatus n e counted r h) may ok = turned w n _ (ok.heads n) tt ok

@@ -30,7 +30,7 @@ use Rattle.replica_runs.specs.HeadWorld.{Message, Gather, Head, UpdateSent, Stat
 use Rattle.replica_runs.proofs.HeldVersions.{held_more}
 use Rattle.replica_runs.proofs.Tools.{by_test, has-right}
 use Rattle.replica_runs.specs.FileView.{Reaches}
-use Rattle.replica_runs.specs.Seen.{Seen, local_of, AreIn, AreTold, AreUntold, NamesHeld, Fits, Leads}
+use Rattle.replica_runs.specs.Seen.{Seen, local_of, AreIn, AreTold, AreUntold, Fits, Leads}
 use Rattle.replica_runs.proofs.Feeding.{if_any_shown}
 use Rattle.replica_runs.proofs.Replicas.{held_grows, same_file, tenure_grows, ActsWell, gathers_well, takes_head_well, takes_update_well}
 use Rattle.replica_runs.proofs.Sending.{are_in, has-left}
@@ -81,7 +81,6 @@ module _ (stripe : ℕ) (ops : ℕ × ℕ → Op) (members : List ℕ) (n : ℕ)
     calm = inr tt;
     fits = record {
       names = well.names fits.names;
-      own = λ e h k. own e h (has-append (Status n e h) (shown_if n acted.answer) a.sent k);
       tenure = tenure_grows members n a b a.tenure refl (same_file a.kept acted.rec) (held_grows a.kept acted.rec) (λ x h. has-right x (shown_if n acted.answer) a.sent h) fits.tenure;
     };
   }
@@ -95,10 +94,6 @@ module _ (stripe : ℕ) (ops : ℕ × ℕ → Op) (members : List ℕ) (n : ℕ)
         sent = shown_if n acted.answer ++ a.sent;
         entries = a.entries;
       }
-
-      own : (e : Epoch) (h : FileHead) → Has (Status n e h) (shown_if n acted.answer) ⊎ Has (Status n e h) a.sent → NamesHeld b.kept.held h.versions
-      own e h (inl k) = λ v g. held_grows a.kept acted.rec v (well.told fits.names e h k v g)
-      own e h (inr k) = λ v g. held_grows a.kept acted.rec v (fits.own e h k v g)
 
   pub gather_acts : (a : Seen) (from : NodeId) (e : Epoch) → Fits members n a → Has (Gather e) a.sent
       → Reaches stripe ops members n a a.tenure (record { rec = (gathered a.kept.file a.kept.head e).rec; outs = if_any (record { 0 = n }) from (gathered a.kept.file a.kept.head e).answer; marks = [] })

@@ -149,7 +149,6 @@ module _ (stripe : ℕ) (ops : ℕ × ℕ → Op) (members : List ℕ) (n : ℕ)
     pub body : seen.body ≡ body_beyond a.kept.file turned.rec a.body
     pub holds : seen.holder ≡ Some n
     pub names : NamesHeld seen.kept.held seen.kept.head.versions
-    pub own : (e : Epoch) (h : FileHead) → Has (Status n e h) a.sent → NamesHeld seen.kept.held h.versions
     pub peers : nodes_in t.peers ≡ members
     pub progress : ProgressFits members n seen.kept.held t.peers t.progress
     pub outs : (m : Msg) → Has m turned.outs → (x : Message) → Has x (shown n m.payload) → IsReady seen x
@@ -191,7 +190,6 @@ module _ (stripe : ℕ) (ops : ℕ × ℕ → Op) (members : List ℕ) (n : ℕ)
         steady = c.steady;
         fits = record {
           names = c.names;
-          own = λ e h k. own e h (has-append (Status n e h) s.more c.seen.sent k);
           tenure = subst (TenureFits members n b) (sym c.is_tenure) (
             c.holds,
             record {
@@ -206,7 +204,3 @@ module _ (stripe : ℕ) (ops : ℕ × ℕ → Op) (members : List ℕ) (n : ℕ)
         where
           b : Seen
           b = with_sent c.seen (s.more ++ c.seen.sent)
-
-          own : (e : Epoch) (h : FileHead) → Has (Status n e h) s.more ⊎ Has (Status n e h) c.seen.sent → NamesHeld c.seen.kept.held h.versions
-          own e h (inl k) = absurd (s.calm e h k)
-          own e h (inr k) = c.own e h (c.calm e h k)

@@ -239,7 +239,6 @@ module _ (stripe : ℕ) (ops : ℕ × ℕ → Op) (members : List ℕ) (n : ℕ)
       body = refl;
       holds = fits.tenure.0;
       names = fits.names;
-      own = fits.own;
       peers = fits.tenure.1.peers;
       progress = omega arith;
       calm_marks = inl refl;

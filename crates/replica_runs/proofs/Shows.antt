@@ -15,7 +15,7 @@ use Rattle.replica_safety.proofs.Lists.{IsFront, has-left, has-append, whole_fro
 use Rattle.replica_safety.proofs.Sound.{IsOfEpoch, Sound, moved, begun}
 use Rattle.replica_safety.proofs.Conclusions.{line_served}
 use Rattle.replica_runs.specs.World.{Counted, Primary, Idle, Gathering, Installing, Active, epoch_of, Node, Message, Gather, Status, Install, Update, Ack, Piece, Mark, Told, World, among, counted_from, issued_writes}
-use Rattle.replica_runs.specs.Steps.{Step, Gains, Loses, Promises, SendsStatus, TakesHead, TakesUpdate, SendsAck, KeepsUpdate, SendsBody, KeepsBody, Draws, SendsGather, CountsStatus, Chooses, SendsChosen, SendsOwn, CountsInstalled, Activates, Issues, SendsUpdate, CountsUpdated, Commits, AnswersRead, AnswersWrite, renoded, leads, sends, keeps, IsHeld, without, after, May, IsAsked, after_all, MayAll, begin}
+use Rattle.replica_runs.specs.Steps.{Step, Gains, Loses, Promises, SendsStatus, TakesHead, TakesUpdate, SendsAck, KeepsUpdate, SendsBody, KeepsBody, Forgets, Draws, SendsGather, CountsStatus, Chooses, SendsChosen, SendsOwn, CountsInstalled, Activates, Issues, SendsUpdate, CountsUpdated, Commits, AnswersRead, AnswersWrite, renoded, leads, sends, keeps, IsHeld, without, after, May, IsAsked, after_all, MayAll, begin}
 use Rattle.replica_runs.specs.Marks.{acts_of, line_at, AnswersShow, AreMade, Begins}
 use Rattle.replica_runs.proofs.Tools.{true_false, not_true, by_epoch, by_node, some_write, at_same, was_true, lower_number, number_not_below, unchanged, made_front, made_push, has_body, has-front, last_push, among_has, counted_has}
 use Rattle.xt_protocol.specs.Heads.{version_of}
@@ -145,6 +145,21 @@ module _ (makes : List Write → Write → Type 0) (members : List ℕ) (start :
       either : (c : Body) → Has c (b ∷ w.held r) → BodyFits start s c
       either c (inl p) = subst (BodyFits start s) (sym p) fit
       either c (inr h) = ok.bodies r c h
+
+  forgets : (w : World) (s : State) (r : ℕ) (held : List Body) → ((b : Body) → Has b held → Has b (w.held r)) → Shows makes members start w s → Shows makes members start (after w (Forgets r held)) s
+  forgets w s r held less ok = record {
+    sound = ok.sound;
+    promised = ok.promised;
+    head = ok.head;
+    drawn = ok.drawn;
+    primaries = ok.primaries;
+    messages = ok.messages;
+    acts = ok.acts;
+    answers = ok.answers;
+    made = ok.made;
+    fits = ok.fits;
+    bodies = λ q c. by_node (λ t. Has c (if t then held else w.held q) → BodyFits start s c) q r (λ _ h. ok.bodies r c (less c h)) (λ _ h. ok.bodies q c h);
+  }
 
   sends_gather : (w : World) (s : State) (n : ℕ) (e : Epoch) → May makes members w (SendsGather n e) → Shows makes members start w s → Shows makes members start (after w (SendsGather n e)) s
   sends_gather w s n e may ok = says w s (Gather e) (ok.sound.choices.current_drawn e (leads_current s w.holder n (w.nodes n).primary e may (ok.primaries n))) ok
@@ -761,6 +776,7 @@ module _ (makes : List Write → Write → Type 0) (members : List ℕ) (start :
   }
   in_state w (SendsBody r b) may is = record { state = is.state; shows = says w is.state (Piece b) (is.shows.bodies r b may) is.shows }
   in_state w (KeepsBody r b) may is = record { state = is.state; shows = keeps_body w is.state r b (is.shows.messages (Piece b) may) is.shows }
+  in_state w (Forgets r held) may is = record { state = is.state; shows = forgets w is.state r held may.less is.shows }
   in_state w (AnswersRead n e ws issued acked o body) may is = record { state = is.state; shows = answers_read w is.state n e ws issued acked o body may is.late.apart is.shows }
   in_state w (AnswersWrite n e ws issued acked place v) may is = record { state = is.state; shows = answers_write w is.state n e ws issued acked place v may is.shows }
 

@@ -43,7 +43,6 @@ module _ (stripe : ℕ) (ops : ℕ × ℕ → Op) (members : List ℕ) (n : ℕ)
     untold = λ rec is. of r.calm rec is;
     fits = record {
       names = subst (λ (k : FileRow). NamesHeld k.held k.head.versions) r.kept r.fits.names;
-      own = λ e h k. subst (λ (row : FileRow). NamesHeld row.held h.versions) r.kept (r.fits.own e h k);
       tenure = not_after_loss n b.holder;
     };
   }
@@ -68,7 +67,7 @@ module _ (stripe : ℕ) (ops : ℕ × ℕ → Op) (members : List ℕ) (n : ℕ)
     grows = λ x h. h;
     told = refl;
     untold = λ rec is. refl;
-    fits = record { names = fits.names; own = fits.own; tenure = not_after_loss n a.holder };
+    fits = record { names = fits.names; tenure = not_after_loss n a.holder };
   }
 
   -- ---- who holds else
@@ -97,6 +96,7 @@ module _ (stripe : ℕ) (ops : ℕ × ℕ → Op) (members : List ℕ) (n : ℕ)
   one_same l (heads.TakesUpdate u) may m ne = same_holder l.holder m
   one_same l (heads.SendsBody o v) may m ne = same_holder l.holder m
   one_same l (heads.KeepsBody o v bytes) may m ne = same_holder l.holder m
+  one_same l (heads.Forgets held body) may m ne = same_holder l.holder m
   one_same l (heads.Draws learnt) may m ne = same_holder l.holder m
   one_same l (heads.SendsGather e) may m ne = same_holder l.holder m
   one_same l (heads.CountsStatus e statuses r h) may m ne = same_holder l.holder m
@@ -169,6 +169,7 @@ module _ (stripe : ℕ) (ops : ℕ × ℕ → Op) (members : List ℕ) (n : ℕ)
   one_before l (heads.TakesUpdate u) may m ne = acted_before l (updated l.node.kept.file l.node.kept.head u) m ne
   one_before l (heads.SendsBody o v) may m ne = sent_before l (Piece o v (l.node.body o v)) m (λ e h p. cc p)
   one_before l (heads.KeepsBody o v bytes) may m ne = same_before l m
+  one_before l (heads.Forgets held body) may m ne = same_before l m
   one_before l (heads.Draws learnt) may m ne = sent_before l (Gather (heads.drawn n learnt l.node)) m (λ e h p. cc p)
   one_before l (heads.SendsGather e) may m ne = sent_before l (Gather e) m (λ d h p. cc p)
   one_before l (heads.CountsStatus e statuses r h) may m ne = same_before l m

@@ -22,7 +22,7 @@ use Rattle.replica_safety.specs.Lists.{Has, AreDistinct}
 use Rattle.replica_runs.specs.HeadSteps.{Step, MayAll, after_steps}
 use Rattle.replica_runs.specs.HeadWorld.{Message, shown, Entry, Local}
 use Rattle.replica_runs.specs.AskFits.{AskFits, AsksFit}
-use Rattle.replica_runs.specs.Seen.{Seen, local_of, AreIn, AreTold, AreUntold, Shows, Fits}
+use Rattle.replica_runs.specs.Seen.{Seen, local_of, AreIn, AreTold, AreUntold, Shows, Fits, OwnFits}
 
 -- A step leads here: it keeps its record, leaves this tenure, and shows; and what holds goes on to hold.
 pub record Reaches (stripe : ℕ) (ops : ℕ × ℕ → Op) (members : List ℕ) (n : ℕ) (a : Seen) (tenure : Option Tenure) (turned : Turned) : Type 0 where
@@ -78,7 +78,8 @@ AskComes stripe ops members from _ = Unit {0}
 -- Each step of a file is a list of small steps: a message that was sent, and a Wake. A step that leaves the lease held is one while
 -- nobody else holds.
 pub record ShowsFile (stripe : ℕ) (ops : ℕ × ℕ → Op) (members : List ℕ) (site : Site) (s : FileState) (holder : Option ℕ) (sent : List Message) (entries : List Entry) : Type 0 where
-  pub message : (from : NodeId) (content : Payload) → AreIn (shown from.0 content) sent → AskComes stripe ops members from content
+  pub message : (from : NodeId) (content : Payload) → AreIn (shown from.0 content) sent → OwnFits site.node.0 (settled site s).kept.held from content
+      → AskComes stripe ops members from content
       → (IsHeld (step_of_file site s from content).state.lease → IsFree site.node.0 holder)
       → FileReaches stripe ops members site.node.0 (seen_of site (settled site s) holder sent entries) (step_of_file site s from content)
   pub wake : FileReaches stripe ops members site.node.0 (seen_of site (settled site s) holder sent entries) (and_then (expired site s) (wake_of_file site))

@@ -8,6 +8,7 @@ use Rattle.xt_base.specs.declared.ids.OpId.{OpId}
 use Rattle.xt_base.specs.declared.ids.Stamp.{Stamp}
 use Rattle.xt_messages.specs.declared.file.FileHead.{FileHead}
 use Rattle.xt_messages.specs.declared.file.Location.{Location}
+use Rattle.xt_messages.specs.declared.file.ObjectVersion.{ObjectVersion}
 use Rattle.xt_messages.specs.declared.file.Op.{Op}
 use Rattle.xt_messages.specs.declared.file.Session.{Session}
 use Rattle.xt_messages.specs.declared.file.Update.{Update}
@@ -45,6 +46,8 @@ pub data Step : Type 0 where
   -- bodies
   SendsBody : (object : ℕ) → (version : Stamp) → Step
   KeepsBody : (object : ℕ) → (version : Stamp) → (bytes : List ℕ) → Step
+  -- of its bodies it keeps these versions, and what the bodies are then
+  Forgets : (held : List ObjectVersion) → (body : ℕ → Stamp → List ℕ) → Step
   -- rows of a primary
   Draws : (learnt : ℕ) → Step
   SendsGather : (epoch : Epoch) → Step
@@ -125,6 +128,8 @@ after n l (TakesHead e h) = with_acted n l (headed l.node.kept.file l.node.kept.
 after n l (TakesUpdate u) = with_acted n l (updated l.node.kept.file l.node.kept.head u)
 after n l (SendsBody o v) = sends l (Piece o v (l.node.body o v))
 after n l (KeepsBody o v bytes) = with_acted n l (keeping l o v bytes)
+after n l (Forgets held body) =
+    record l { node = record { kept = record l.node.kept { held = held }; body = body; primary = l.node.primary } }
 after n l (Draws learnt) =
     let e = drawn n learnt l.node in
     record l {
@@ -166,6 +171,23 @@ pub record IsAllowed (stripe : ℕ) (asked : Op) : Type 0 where
   pub fits : FitsOp asked
   pub inside : leaves_object stripe asked ≡ false
 
+-- the versions that are held of these are kept
+abbrev pub AreKept : List ObjectVersion → List ObjectVersion → List ObjectVersion → Type 0
+AreKept old new versions = (v : ObjectVersion) → Has v versions → has_version old v ≡ true → has_version new v ≡ true
+
+-- the versions of the head that a primary serves
+abbrev pub served_versions : Primary → List ObjectVersion
+served_versions (Active e committed issued acked) = committed.versions
+served_versions _ = []
+
+-- Of the bodies of a node these may be kept: none is new, each is what it was, and those of its head and of the head that it serves
+-- are among them.
+pub record MayForget (x : Node) (held : List ObjectVersion) (body : ℕ → Stamp → List ℕ) : Type 0 where
+  pub less : (v : ObjectVersion) → has_version held v ≡ true → has_version x.kept.held v ≡ true
+  pub same : (o : ℕ) (v : Stamp) → has_version held (folds.body_of o v) ≡ true → body o v ≡ x.body o v
+  pub head : AreKept x.kept.held held x.kept.head.versions
+  pub served : AreKept x.kept.held held (served_versions x.primary)
+
 -- The update is what the operation of this id makes over the committed head, under the next stamp.
 pub record IsMadeOver (stripe : ℕ) (ops : ℕ × ℕ → Op) (body : ℕ → Stamp → List ℕ) (e : Epoch) (c : FileHead) (id : OpId) (truncation : ℕ) (u : Update) : Type 0 where
   pub allowed : IsAllowed stripe (ops (id.client.0, id.number))
@@ -184,6 +206,7 @@ May stripe ops members n l (TakesHead e h) = Has (Head e h) l.sent
 May stripe ops members n l (TakesUpdate u) = Has (UpdateSent u) l.sent
 May stripe ops members n l (SendsBody o v) = has_version l.node.kept.held (folds.body_of o v) ≡ true
 May stripe ops members n l (KeepsBody o v bytes) = Has (Piece o v bytes) l.sent
+May stripe ops members n l (Forgets held body) = MayForget l.node held body
 May stripe ops members n l (Draws learnt) = l.holder ≡ Some n
 May stripe ops members n l (SendsGather e) = leads_in l.node.primary ≡ Some e
 -- a status is counted once

@@ -14,6 +14,8 @@ use Rattle.xt_messages.specs.declared.file.ObjectVersion.{ObjectVersion}
 use Rattle.xt_messages.specs.declared.file.Op.{Op}
 use Rattle.xt_messages.specs.declared.file.Op.TheVariants as op
 use Rattle.xt_messages.specs.declared.message.Msg.{Msg}
+use Rattle.xt_messages.specs.declared.message.Payload.{Payload}
+use Rattle.xt_messages.specs.declared.message.Payload.TheVariants as payload
 use Rattle.xt_messages.specs.declared.record.FileRow.{FileRow}
 use Rattle.xt_protocol.specs.declared.turned.Turned.{Turned}
 use Rattle.xt_protocol.specs.Objects.{readable}
@@ -28,7 +30,7 @@ use Rattle.xt_protocol.specs.declared.states.Progress.TheVariants as progress
 use Rattle.xt_protocol.specs.declared.states.Tenure.{Tenure}
 use Rattle.replica_safety.specs.Lists.{Has}
 use Rattle.replica_runs.specs.HeadSteps.{Step, none_acked, after_steps, MayAll}
-use Rattle.replica_runs.specs.HeadWorld.{Primary, Idle, Gathering, Installing, Active, Message, Status, shown, shown_if, Entry, TellsActive, TellsIssue, TellsCommit, ReadOk, WriteOk, Local}
+use Rattle.replica_runs.specs.HeadWorld.{Primary, Idle, Gathering, Installing, Active, Message, shown, shown_if, Entry, TellsActive, TellsIssue, TellsCommit, ReadOk, WriteOk, Local}
 
 -- The primary.
 
@@ -167,10 +169,14 @@ abbrev pub TenureFits : List ℕ → ℕ → Seen → Option Tenure → Type 0
 TenureFits members n a None = a.holder ≡ Some n → ⊥
 TenureFits members n a (Some t) = (a.holder ≡ Some n) × FitsIn members n a t
 
+-- a status that a node tells itself is of bodies that it holds
+abbrev pub OwnFits : ℕ → List ObjectVersion → NodeId → Payload → Type 0
+OwnFits n held from (payload.Status file epoch head) = from.0 ≡ n → NamesHeld held head.versions
+OwnFits n held from _ = Unit {0}
+
 pub record Fits (members : List ℕ) (n : ℕ) (a : Seen) : Type 0 where
-  -- the bodies that the own head names are held, and those that it named when it was told
+  -- the bodies that the own head names are held
   pub names : NamesHeld a.kept.held a.kept.head.versions
-  pub own : (e : Epoch) (h : FileHead) → Has (Status n e h) a.sent → NamesHeld a.kept.held h.versions
   pub tenure : TenureFits members n a a.tenure
 
 -- A row leads here: it keeps its record, leaves this primary, and shows; and what holds goes on to hold.

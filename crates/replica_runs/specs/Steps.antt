@@ -25,6 +25,8 @@ pub data Step : Type 0 where
   KeepsUpdate : (replica : ℕ) → (write : Write) → Step
   SendsBody : (replica : ℕ) → (body : Body) → Step
   KeepsBody : (replica : ℕ) → (body : Body) → Step
+  -- of its bodies it keeps these
+  Forgets : (replica : ℕ) → (held : List Body) → Step
   -- rows of a primary
   Draws : (node : ℕ) → (epoch : Epoch) → Step
   SendsGather : (node : ℕ) → (epoch : Epoch) → Step
@@ -70,6 +72,13 @@ Holds held o v = (bytes : List ℕ) × Has (record { object = o; version = v; by
 abbrev pub AreHeld : List Body → List Write → Type 0
 AreHeld held ws = (o : ℕ) (v : Stamp) → o < NO_OBJECT → version_of (versions_of ws) o ≡ Some v → Holds held o v
 
+-- The bodies of the writes that a primary serves are held.
+abbrev pub ServesHeld : List Body → Primary → Type 0
+ServesHeld held (Active e ws issued acked) = AreHeld held ws
+ServesHeld held Idle = Unit {0}
+ServesHeld held (Gathering e counted) = Unit {0}
+ServesHeld held (Installing e ws acked) = Unit {0}
+
 -- Nobody holds the lease after this node has lost it.
 abbrev pub without : ℕ → Option ℕ → Option ℕ
 without n None = None
@@ -92,6 +101,7 @@ after w (SendsAck r t) = sends w (Ack r t)
 after w (KeepsUpdate r v) = keeps w r (body_of v)
 after w (SendsBody r b) = sends w (Piece b)
 after w (KeepsBody r b) = keeps w r b
+after w (Forgets r held) = record w { held = at_node r held w.held }
 after w (Draws n e) = renoded w n (record { promised = e; head = (w.nodes n).head; primary = Gathering e [] })
 after w (SendsGather n e) = sends w (Gather e)
 after w (CountsStatus n e counted r h) = leads w n (Gathering e (record { replica = r; head = h } ∷ counted))
@@ -150,6 +160,12 @@ May makes members w (SendsAck r t) = record {
 May makes members w (KeepsUpdate r v) = Has (Update v) w.messages × (v.object ≡ NO_OBJECT → ⊥)
 May makes members w (SendsBody r b) = Has b (w.held r)
 May makes members w (KeepsBody r b) = Has (Piece b) w.messages
+-- those of the head that it has, and of the writes that it serves
+May makes members w (Forgets r held) = record {
+  less : (b : Body) → Has b held → Has b (w.held r);
+  heads : AreHeld held (w.nodes r).head.writes;
+  served : ServesHeld held (w.nodes r).primary;
+}
 May makes members w (Draws n e) = record {
   holds : w.holder ≡ Some n;
   own : e.node.0 ≡ n;

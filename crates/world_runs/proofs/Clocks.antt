@@ -27,7 +27,7 @@ use Rattle.lease_runs.specs.LeaseView.{lease_row_of}
 use Rattle.cluster_runs.specs.declared.DeclaredFile.{DeclaredFile}
 use Rattle.time_line.specs.declared.entry.Entry.TheVariants as entry
 use Rattle.time_line.specs.TimeLine.{Standing, standing, standing_after, reads, advances}
-use Rattle.cluster_runs.specs.World.{World, Node, Running, Core, osd, client, node_in, with_node, up_of}
+use Rattle.cluster_runs.specs.World.{World, Node, Running, Core, osd, client, node_in, with_node, up_of, loads, puts}
 use Rattle.cluster_runs.specs.Rules.{Reading, lesser, reading_where, least_where, are_apart, drift_named, drifts, end_named, clock_ends}
 use Rattle.cluster_runs.specs.Lines.{runs, next_boot, osd_starting, starts_as, ticked, tells}
 use Rattle.world_runs.specs.View.{file_setting, node_id, end_in, told, awake_as, unseen, core_seen, up_seen, node_seen, lease_view}
@@ -187,7 +187,7 @@ start_fits w node clock found down close fit =
     running = runs (next_boot node.kept) clock (osd (osd_starting w.times node (next_boot node.kept) clock))
 
     there : Node
-    there = record node { kept = node.kept ++ kept.Boot (next_boot node.kept) ∷ []; up = Some (runs (next_boot node.kept) clock (osd (osd_starting w.times node (next_boot node.kept) clock))) }
+    there = record node { kept = node.kept ++ kept.Boot (next_boot node.kept) ∷ []; past = node.past ++ loads ∷ puts (kept.Boot (next_boot node.kept)) ∷ []; up = Some (runs (next_boot node.kept) clock (osd (osd_starting w.times node (next_boot node.kept) clock))) }
 
     rows : RowsFit w.files (fold_of node.kept).files
     rows = (fit.shape.nodes node.id.0 node found).rows

@@ -85,7 +85,7 @@ unstood : (o : Option Standing) → Stands o None → o ≡ None
 unstood None stands = refl
 unstood (Some st) stands = absurd stands
 
-pub osd_fits : (w : World) (id : NodeId) → node_in w.nodes id.0 ≡ None → IsFit w [] → IsFit (tells (record w { nodes = w.nodes ++ record { id = id; role = role.Osd; kept = []; up = None } ∷ [] }) []) []
+pub osd_fits : (w : World) (id : NodeId) → node_in w.nodes id.0 ≡ None → IsFit w [] → IsFit (tells (record w { nodes = w.nodes ++ record { id = id; role = role.Osd; kept = []; past = []; up = None } ∷ [] }) []) []
 osd_fits w id free fit =
     let es_is : w.entries ++ [] ≡ w.entries = append-nil w.entries in
     let next = tells (record w { nodes = w.nodes ++ new ∷ [] }) [] in
@@ -108,10 +108,10 @@ osd_fits w id free fit =
     }
   where
     new : Node
-    new = record { id = id; role = role.Osd; kept = []; up = None }
+    new = record { id = id; role = role.Osd; kept = []; past = []; up = None }
 
 pub client_fits : (w : World) (id : NodeId) (clock : ℕ) → node_in w.nodes id.0 ≡ None → IsFit w []
-    → IsFit (tells (record w { nodes = w.nodes ++ record { id = id; role = role.Client; kept = []; up = Some (runs first_boot clock (client (new_client clock))) } ∷ [] }) (entry.Up id first_boot clock ∷ [])) []
+    → IsFit (tells (record w { nodes = w.nodes ++ record { id = id; role = role.Client; kept = []; past = []; up = Some (runs first_boot clock (client (new_client clock))) } ∷ [] }) (entry.Up id first_boot clock ∷ [])) []
 client_fits w id clock free fit =
     let next = tells (record w { nodes = w.nodes ++ new ∷ [] }) (entry.Up id first_boot clock ∷ []) in
     let shape : IsShaped next [] =
@@ -131,7 +131,7 @@ client_fits w id clock free fit =
     record { shape = shape; safe = safe-push w.entries (entry.Up id first_boot clock) fit.safe (apart_now next [] shape) (λ number by acting. absurd (cc)) }
   where
     new : Node
-    new = record { id = id; role = role.Client; kept = []; up = Some (runs first_boot clock (client (new_client clock))) }
+    new = record { id = id; role = role.Client; kept = []; past = []; up = Some (runs first_boot clock (client (new_client clock))) }
 
 -- ---- files
 

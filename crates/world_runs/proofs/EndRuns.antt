@@ -24,14 +24,17 @@ use Rattle.time_line.specs.Bounds.{AreLines}
 use Rattle.cluster_runs.specs.Rules.{refusal}
 use Rattle.cluster_runs.specs.Clients.{new_client, knows, aimed, step_of_client}
 use Rattle.time_line.specs.Clauses.{HasBegunOn, EndsAreAnswered}
-use Rattle.cluster_runs.specs.World.{World, Node, Running, Core, osd, client, node_in, with_node}
-use Rattle.cluster_runs.specs.NodeSteps.{Room, halted}
+use Rattle.xt_messages.specs.declared.record.KeepBody.{KeepBody}
+use Rattle.xt_protocol.specs.OsdSteps.{OsdState}
+use Rattle.xt_protocol.specs.Forgetting.{keep_of, file_without, osd_without}
+use Rattle.cluster_runs.specs.World.{World, Node, Running, Core, osd, client, node_in, with_node, loads, puts}
+use Rattle.cluster_runs.specs.NodeSteps.{Room, halted, rewritten_at}
 use Rattle.cluster_runs.specs.Lines.{Next, finished, opens, goes_on, ends, begins, steps, so_far, runs, first_boot, next_boot, osd_starting, ticked, declared_file, epoch_of, declared_capability, uses, no_longer_pending}
 use Rattle.cluster_runs.specs.Runs.{run_of, IsRunInto}
 use Rattle.world_runs.specs.View.{node_id, messages}
 use Rattle.world_runs.proofs.Lists.{has_in, has_left, has_right, has_map}
 use Rattle.world_runs.proofs.Tables.{nobody}
-use Rattle.world_runs.proofs.Walk.{IsKept, NodeStep, of_osd, of_client, of_call, Reaches, same_messages, run_kept, NextIs, steps_into, so_far_kept}
+use Rattle.world_runs.proofs.Walk.{IsKept, NodeStep, of_osd, of_client, of_call, Reaches, same_messages, run_kept, NextIs, steps_into, so_far_kept, left_within}
 use Rattle.world_runs.specs.Acts.{ActsHaveBegun}
 use Rattle.world_runs.specs.Asks.{HasBegunSo, AsksHaveBegun, NextHasBegun}
 use Rattle.world_runs.proofs.FileIds.{FileIs}
@@ -80,6 +83,14 @@ starting_is es w node clock f h =
     let awake : Awake = record { node = node.id; boot = next_boot node.kept; times = w.times } in
     let row = has_map (file_from awake) (fold_of node.kept).files f h in
     subst (λ (x : FileState). FileIs (λ (id : OpId). HasBegunOn x.kept.file.number es id) x) (sym row.2) (new_is (λ (id : OpId). HasBegunOn (file_from awake row.0).kept.file.number es id) awake row.0)
+
+-- an OSD that forgets bodies has the asks that it had
+files_then : (es : List Entry) (keep : List KeepBody) (s : OsdState) → FilesAre es s.files → FilesAre es (osd_without keep s).files
+unfolding osd_without
+files_then es keep s are f h =
+    let from = has_map (file_without keep) s.files f h in
+    let is = are from.0 from.1 in
+    subst (λ (x : FileState). FileIs (λ (id : OpId). HasBegunOn x.kept.file.number es id) x) (sym from.2) (record { asks = is.asks; tenure = is.tenure })
 
 -- a node stops
 halts : (w : World) (own : List Msg) (node old : Node) (r : Running) (how : Halt) → node_in w.nodes node.id.0 ≡ Some old → Fits w own → Fits (halted w node r how) []
@@ -130,17 +141,17 @@ ends_kept =
       begins = nothing_fits;
       times = λ lease drift bound. told_fit [] [] [] [] (entry.Times lease drift) (record { begins = λ id. refl; ends = λ es. tt }) (same_nodes [] [] [] nothing_fits) nothing_fits;
       osd_declared = λ w id bound free fit.
-          let new : Node = record { id = id; role = role.Osd; kept = []; up = None } in
+          let new : Node = record { id = id; role = role.Osd; kept = []; past = []; up = None } in
           subst (λ (es : List Entry). EndsFit (w.nodes ++ new ∷ []) es (messages w)) (sym (append-nil w.entries))
           (changed_fit w.nodes (w.nodes ++ new ∷ []) w.entries (messages w) (add_fit w.nodes w.entries (messages w) new free tt fit) fit);
       client_declared = λ w id clock bound free fit.
-          let new : Node = record { id = id; role = role.Client; kept = []; up = Some (runs first_boot clock (client (new_client clock))) } in
+          let new : Node = record { id = id; role = role.Client; kept = []; past = []; up = Some (runs first_boot clock (client (new_client clock))) } in
           told_fit w.nodes (w.nodes ++ new ∷ []) w.entries (messages w) (entry.Up id first_boot clock) (record { begins = λ id. refl; ends = λ es. tt })
           (add_fit w.nodes w.entries (messages w) new free (tt, λ k above. fit.strangers id.0 free k (omega arith)) fit) fit;
       file_declared = λ w number location bound free fit.
           told_fit w.nodes w.nodes w.entries (messages w) (entry.File number location) (record { begins = λ id. refl; ends = λ es. tt }) (same_nodes w.nodes w.entries (messages w) fit) fit;
       started = λ w node clock bound found down close fit.
-          let there : Node = record node { kept = node.kept ++ kept.Boot (next_boot node.kept) ∷ []; up = Some (runs (next_boot node.kept) clock (osd (osd_starting w.times node (next_boot node.kept) clock))) } in
+          let there : Node = record node { kept = node.kept ++ kept.Boot (next_boot node.kept) ∷ []; past = node.past ++ loads ∷ puts (kept.Boot (next_boot node.kept)) ∷ []; up = Some (runs (next_boot node.kept) clock (osd (osd_starting w.times node (next_boot node.kept) clock))) } in
           told_fit w.nodes (with_node w.nodes there) w.entries (messages w) (entry.Up node.id (next_boot node.kept) clock) (record { begins = λ id. refl; ends = λ es. tt })
           (put_fit w.nodes w.entries (messages w) there node found (starting_is w.entries w node clock) fit) fit;
       planned = λ w node r q found is_up boot clock core fit.
@@ -159,11 +170,15 @@ ends_kept =
       all_ticked = λ w count bound fit.
           told_fit w.nodes (map (ticked count) w.nodes) w.entries (messages w) (entry.Tick count) (record { begins = λ id. refl; ends = λ es. tt }) (tick_fit w.nodes w.entries (messages w) count fit) fit;
       less_pending = less_pending;
-      lost = fewer_fits;
-      stepped = λ w was own node r next turned outs rest within found is_up step split fit.
-          stepped_fits w was own node r next turned outs within (λ m h. subst (Has m) (sym split) (has_left m outs rest h)) found (node_owes w was node r next turned found is_up fit step) fit;
+      lost = λ w own left part fit. fewer_fits w own left (left_within left own part) fit;
+      stepped = λ w was own node r next turned outs rest part found is_up step split fit.
+          stepped_fits w was own node r next turned outs (left_within own was part) (λ m h. subst (Has m) (sym split) (has_left m outs rest h)) found (node_owes w was node r next turned found is_up fit step) fit;
       stopped_keeping = λ w own node r next turned rec found is_up step e fit.
-          halts w own (record node { kept = node.kept ++ rec ∷ [] }) node (record r { core = next }) halt.Kept found fit;
+          halts w own (record node { kept = node.kept ++ rec ∷ []; past = node.past ++ puts rec ∷ [] }) node (record r { core = next }) halt.Kept found fit;
+      forgotten = λ w own node r s found is_up is_osd fit.
+          let there = rewritten_at node r s in
+          changed_fit w.nodes (with_node w.nodes (rewritten_at node r s)) w.entries (own ++ messages w)
+          (put_fit w.nodes w.entries (own ++ messages w) there node found (files_then w.entries (keep_of s) s (subst (CoreIs w.entries node.id) is_osd (core_of w own node r found is_up fit))) fit) fit;
       lined = λ w l fit. fit;
     }
 

@@ -15,8 +15,8 @@ use Rattle.time_line.specs.declared.entry.Halt.TheVariants as halt
 use Rattle.cluster_runs.specs.declared.DeclaredFile.{DeclaredFile}
 use Rattle.time_line.specs.declared.entry.Entry.TheVariants as entry
 use Rattle.cluster_runs.specs.declared.Sent.{Sent}
-use Rattle.cluster_runs.specs.World.{World, Node, Running, Core, node_in, file_in}
-use Rattle.cluster_runs.specs.NodeSteps.{entry_of, pending, numbered, to_itself, one_more, after_turn, halted, keeps_record, cut_in_sending, Doing, loses_own, sends, appends}
+use Rattle.cluster_runs.specs.World.{World, Node, Running, Core, node_in, file_in, puts}
+use Rattle.cluster_runs.specs.NodeSteps.{entry_of, pending, numbered, to_itself, one_more, after_turn, halted, keeps_record, cut_in_sending, Doing, loses_own, sends, appends, one_put}
 use Rattle.lease_safety.specs.State.{Has}
 use Rattle.lease_runs.specs.LeaseWorld.{LeaseSetting, LeaseNode, RowStep, node_stepped, row_stepped, IsReached}
 use Rattle.lease_runs.proofs.Tests.{when}
@@ -46,7 +46,7 @@ whole d node running turned = record d { world = after_turn d.world node running
 pub however : (P : Doing → Type 0) (d : Doing) (node : Node) (running : Running) (turned : Turned) → P (whole d node running turned)
     → ((count : ℕ) → P (loses_own d (cut_in_sending d.world node running count turned)))
     → P (loses_own d (halted d.world node running halt.Lost))
-    → ((rec : Record) → turned.rec ≡ Some rec → P (loses_own d (halted d.world (record node { kept = node.kept ++ rec ∷ [] }) running halt.Kept)))
+    → ((rec : Record) → turned.rec ≡ Some rec → P (loses_own d (halted d.world (record node { kept = node.kept ++ rec ∷ []; past = node.past ++ puts rec ∷ [] }) running halt.Kept)))
     → P (appends d node running running.crash turned.rec turned)
 however P d node running turned all cut lost stands = in_append running.crash turned.rec refl
   where
@@ -62,7 +62,7 @@ however P d node running turned all cut lost stands = in_append running.crash tu
     in_append None rec e = in_sending running.cut turned.outs refl
     in_append (Some stop) None e = in_sending running.cut turned.outs refl
     in_append (Some stop) (Some rec) e =
-        when (λ (v : World). P (loses_own d v)) (keeps_record stop) (halted d.world (record node { kept = node.kept ++ rec ∷ [] }) running halt.Kept) (halted d.world node running halt.Lost)
+        when (λ (v : World). P (loses_own d v)) (keeps_record stop) (halted d.world (record node { kept = node.kept ++ rec ∷ []; past = node.past ++ puts rec ∷ [] }) running halt.Kept) (halted d.world node running halt.Lost)
         (λ stays. stands rec e) (λ goes. lost)
 
 -- ---- the frame
@@ -104,7 +104,7 @@ sent_by file own kept w node nodes outs m within h =
     ]
 
 abbrev pub next_node : Node → Running → Core → Turned → Node
-next_node node r next turned = record node { kept = one_more node.kept turned.rec; up = Some (record r { core = next }) }
+next_node node r next turned = record node { kept = one_more node.kept turned.rec; past = one_put node.past turned.rec; up = Some (record r { core = next }) }
 
 -- a whole step
 pub after_reached : (g : LeaseSetting) (w : World) (own kept : List Msg) (node : Node) (r : Running) (next : Core) (turned : Turned) (step : RowStep)

@@ -13,6 +13,7 @@ pub mod Walk
 pub mod NodeEvents
 pub mod Declares
 pub mod Clocks
+pub mod Forgotten
 pub mod LineSteps
 pub mod Order
 pub mod Runs

@@ -10,12 +10,17 @@ use Rattle.lease_safety.specs.State.{Has}
 use Rattle.xt_protocol.specs.Folds.{fold_of}
 use Rattle.lease_runs.specs.LeaseWorld.{LeaseSetting}
 use Rattle.lease_runs.proofs.Seen as seen_steps
+use Rattle.xt_messages.specs.declared.record.KeepBody.{KeepBody}
+use Rattle.xt_protocol.specs.Forgetting.{keep_of, osd_without, rewritten}
+use Rattle.xt_protocol.specs.OsdSteps.{OsdState}
+use Rattle.world_runs.proofs.Forgotten.{core_then, rows_fit_then, seen_then}
 use Rattle.cluster_runs.specs.declared.DeclaredFile.{DeclaredFile}
 use Rattle.time_line.specs.declared.line.Line.{Line}
 use Rattle.cluster_runs.specs.declared.ClientState.{ClientState}
 use Rattle.time_line.specs.TimeLine.{Standing, standing}
 use Rattle.cluster_runs.specs.Clients.{knows, aimed}
-use Rattle.cluster_runs.specs.World.{World, Node, Running, Core, osd, client, node_in, with_node, up_of}
+use Rattle.cluster_runs.specs.NodeSteps.{rewritten_at}
+use Rattle.cluster_runs.specs.World.{World, Node, Running, Core, osd, client, node_in, with_node, up_of, puts}
 use Rattle.cluster_runs.specs.Lines.{declared_file, no_longer_pending}
 use Rattle.world_runs.specs.View.{file_setting, node_id, told, core_seen, up_seen, node_seen, messages, is_of, lease_view}
 use Rattle.world_runs.proofs.Lists.{has_in, has_left, has_right, has_filter, filter_has}
@@ -23,7 +28,7 @@ use Rattle.world_runs.proofs.Tables.{same, node_in-new, node_in-other}
 use Rattle.world_runs.proofs.Fit.{IsFit, replaced, halt_fits, fewer_fits, after_fits, fewer_next}
 use Rattle.world_runs.proofs.Files.{record_fits}
 use Rattle.world_runs.proofs.NodeEvents.{step_next}
-use Rattle.world_runs.proofs.Walk.{IsKept, same_messages}
+use Rattle.world_runs.proofs.Walk.{IsKept, same_messages, left_within}
 use Rattle.cluster_runs.specs.Runs.{with_line}
 use Rattle.world_runs.proofs.Declares as declares
 use Rattle.world_runs.proofs.Clocks as clocks
@@ -31,12 +36,11 @@ use Rattle.world_runs.specs.Worlds.{OsdFits, CoreFits, UpFits, NodeFits, EndFits
 
 -- ---- plans
 
--- a running node is changed so that nothing of its lease changes
-changed_fits : (w : World) (own : List Msg) (node : Node) (r q : Running) → node_in w.nodes node.id.0 ≡ Some node → node.up ≡ Some r
-    → ((g : LeaseSetting) (n : ℕ) (end : Option ℕ) → core_seen g n end node.kept q q.core ≡ core_seen g n end node.kept r r.core) → CoreFits w.times w.files node.id node.kept q q.core
-    → ((o : Option Standing) → Stands o (Some r) → Stands o (Some q)) → IsFit w own → IsFit (record w { nodes = with_node w.nodes (record node { up = Some q }) }) own
-changed_fits w own node r q found is_up seen core stands fit =
-    let there : Node = record node { up = Some q } in
+-- a running node is replaced so that nothing of its lease changes
+replaced_fits : (w : World) (own : List Msg) (node there : Node) (r q : Running) → node_in w.nodes there.id.0 ≡ Some node → node.up ≡ Some r → there.up ≡ Some q
+    → ((g : LeaseSetting) (n : ℕ) (end : Option ℕ) → core_seen g n end there.kept q q.core ≡ core_seen g n end node.kept r r.core) → NodeFits w.times w.files there
+    → ((o : Option Standing) → Stands o (Some r) → Stands o (Some q)) → IsFit w own → IsFit (record w { nodes = with_node w.nodes there }) own
+replaced_fits w own node there r q found is_up now_up seen fits stands fit =
     let next : World = record w { nodes = with_node w.nodes there } in
     record {
       shape =
@@ -44,17 +48,19 @@ changed_fits w own node r q found is_up seen core stands fit =
             good = λ number members are.
                 let g = file_setting w.times number members in
                 seen_steps.unmoved g (lease_view g w own) (lease_view g next own) (fit.shape.good number members are)
-                (λ n. elim (same n node.id.0) [
+                (λ n. elim (same n there.id.0) [
                   | inl e ↦ seen_steps.as_it_is _ _
-                      (ap (node_seen g n (told number n w.entries)) (ap (node_in next.nodes) e ∙ node_in-new w.nodes there node found) ∙ (seen g n (told number n w.entries)
+                      (ap (node_seen g n (told number n w.entries)) (ap (node_in next.nodes) e ∙ node_in-new w.nodes there node found) ∙ ap (up_seen g n (told number n w.entries) there.kept) now_up
+                      ∙ (seen g n (told number n w.entries)
                       ∙ sym (ap (node_seen g n (told number n w.entries)) (ap (node_in w.nodes) e ∙ found) ∙ ap (up_seen g n (told number n w.entries) node.kept) is_up)))
                   | inr ne ↦ seen_steps.as_it_is _ _ (ap (node_seen g n (told number n w.entries)) (node_in-other w.nodes there n ne))
                 ])
                 (λ m h. h);
-            nodes = λ n x is. replaced (NodeFits w.times w.files) w.nodes there node n x found (record { rows = (fit.shape.nodes node.id.0 node found).rows; up = core }) (λ y was. fit.shape.nodes n y was) is;
-            stands = λ n number. elim (same n node.id.0) [
+            nodes = λ n x is. replaced (NodeFits w.times w.files) w.nodes there node n x found fits (λ y was. fit.shape.nodes n y was) is;
+            stands = λ n number. elim (same n there.id.0) [
               | inl e ↦ subst (λ (f : Option Node). Stands (standing (node_id n) number w.entries) (up_of f)) (sym (ap (node_in next.nodes) e ∙ node_in-new w.nodes there node found))
-                  (stands (standing (node_id n) number w.entries) (subst (Stands (standing (node_id n) number w.entries)) (ap up_of (ap (node_in w.nodes) e ∙ found) ∙ is_up) (fit.shape.stands n number)))
+                  (subst (λ (u : Option Running). Stands (standing (node_id n) number w.entries) u) (sym now_up)
+                  (stands (standing (node_id n) number w.entries) (subst (Stands (standing (node_id n) number w.entries)) (ap up_of (ap (node_in w.nodes) e ∙ found) ∙ is_up) (fit.shape.stands n number))))
               | inr ne ↦ subst (λ (f : Option Node). Stands (standing (node_id n) number w.entries) (up_of f)) (sym (node_in-other w.nodes there n ne)) (fit.shape.stands n number)
             ];
             asks = fit.shape.asks;
@@ -62,6 +68,32 @@ changed_fits w own node r q found is_up seen core stands fit =
           };
       safe = fit.safe;
     }
+
+-- a running node is changed so that nothing of its lease changes
+changed_fits : (w : World) (own : List Msg) (node : Node) (r q : Running) → node_in w.nodes node.id.0 ≡ Some node → node.up ≡ Some r
+    → ((g : LeaseSetting) (n : ℕ) (end : Option ℕ) → core_seen g n end node.kept q q.core ≡ core_seen g n end node.kept r r.core) → CoreFits w.times w.files node.id node.kept q q.core
+    → ((o : Option Standing) → Stands o (Some r) → Stands o (Some q)) → IsFit w own → IsFit (record w { nodes = with_node w.nodes (record node { up = Some q }) }) own
+changed_fits w own node r q found is_up seen core stands fit =
+    replaced_fits w own node (record node { up = Some q }) r q found is_up refl seen (record { rows = (fit.shape.nodes node.id.0 node found).rows; up = core }) stands fit
+
+-- an OSD forgets bodies
+forgotten_fits : (w : World) (own : List Msg) (node : Node) (r : Running) (s : OsdState) → node_in w.nodes node.id.0 ≡ Some node → node.up ≡ Some r → r.core ≡ osd s → IsFit w own
+    → IsFit (record w { nodes = with_node w.nodes (rewritten_at node r s) }) own
+forgotten_fits w own node r s found is_up is_osd fit =
+    let keep = keep_of s in
+    let was : CoreFits w.times w.files node.id node.kept r (osd s)
+    = subst (CoreFits w.times w.files node.id node.kept r) is_osd (subst (UpFits w.times w.files node.id node.kept) is_up (fit.shape.nodes node.id.0 node found).up) in
+    replaced_fits w own node (rewritten_at node r s) r (record r { core = osd (osd_without keep s) }) found is_up refl
+    (λ g n end. seen_then g n end keep node.kept (rewritten keep node.kept) r s ∙ ap (core_seen g n end node.kept r) (sym is_osd))
+    (record {
+      rows = rows_fit_then w.files keep node.kept (fit.shape.nodes node.id.0 node found).rows;
+      up = core_then w.times w.files node.id keep node.kept r s was;
+    })
+    (λ o stands. forgets_stands r s keep o is_osd stands) fit
+  where
+    forgets_stands : (r : Running) (s : OsdState) (keep : List KeepBody) (o : Option Standing) → r.core ≡ osd s → Stands o (Some r) → Stands o (Some (record r { core = osd (osd_without keep s) }))
+    forgets_stands r s keep None core stands = absurd stands
+    forgets_stands r s keep (Some st) core stands = (stands.0, tt)
 
 same_core : (times : TimeSettings) (files : List DeclaredFile) (node : NodeId) (records : List Record) (r q : Running) (core : Core) → r.boot ≡ q.boot → r.clock ≡ q.clock → CoreFits times files node records r core → CoreFits times files node records q core
 same_core times files node records r q (osd s) boot clock fits =
@@ -137,13 +169,14 @@ fits_kept =
       clock_set = λ w node r clock bound found is_up rises close fit. clocks.clock_fits w node r clock found is_up rises close fit;
       all_ticked = λ w count bound fit. clocks.tick_fits w count fit;
       less_pending = less_sent;
-      lost = fewer_fits;
-      stepped = λ w was own node r next turned outs rest within found is_up step split fit.
-          after_fits w was own node r next (record turned { outs = outs }) within found is_up
+      lost = λ w own left part fit. fewer_fits w own left (left_within left own part) fit;
+      stepped = λ w was own node r next turned outs rest part found is_up step split fit.
+          after_fits w was own node r next (record turned { outs = outs }) (left_within own was part) found is_up
           (fewer_next w was node r next turned outs (λ m h. subst (Has m) (sym split) (has_left m outs rest h)) (step_next w was node r next turned fit.shape found is_up step)) fit;
       stopped_keeping = λ w own node r next turned rec found is_up step e fit.
           let is = step_next w own node r next turned fit.shape found is_up step in
-          halt_fits w own (record node { kept = node.kept ++ rec ∷ [] }) node (record r { core = next }) halt.Kept found
+          halt_fits w own (record node { kept = node.kept ++ rec ∷ []; past = node.past ++ puts rec ∷ [] }) node (record r { core = next }) halt.Kept found
           (record_fits w.files node.kept rec (is.rec rec e).0 (fit.shape.nodes node.id.0 node found).rows) (omega (arith, ap (λ (b : Boot). b.0) (is.rec rec e).1)) fit;
+      forgotten = forgotten_fits;
       lined = lined_fits;
     }

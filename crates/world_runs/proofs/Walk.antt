@@ -27,9 +27,9 @@ use Rattle.time_line.specs.declared.entry.Entry.TheVariants as entry
 use Rattle.cluster_runs.specs.declared.Role.TheVariants as role
 use Rattle.cluster_runs.specs.declared.ClientState.{ClientState}
 use Rattle.cluster_runs.specs.Clients.{new_client, knows, aimed, call_of_client}
-use Rattle.cluster_runs.specs.World.{World, start_world, Node, Running, Core, osd, client, node_in, with_node, file_in, up_of}
+use Rattle.cluster_runs.specs.World.{World, start_world, Node, Running, Core, osd, client, node_in, with_node, file_in, up_of, puts, loads}
 use Rattle.cluster_runs.specs.Rules.{refusal, if_so, no_osd, no_node, node_twice, runs_already, runs_not, drifts, drifts_inside, goes_back, clock_ends, called_file}
-use Rattle.cluster_runs.specs.NodeSteps.{Room, Cause, came_to, has_no_room, Overflow, Doing, halted, client_steps, event_comes}
+use Rattle.cluster_runs.specs.NodeSteps.{Room, Cause, came_to, has_no_room, Overflow, Doing, halted, client_steps, event_comes, forgets_at, forgets_in, forgets_if, rewritten_at}
 use Rattle.cluster_runs.specs.Lines.{does, tells, declares, runs, first_boot, next_boot, starts_as, starts, changed, stops, crashes, cuts, reads_clock, declared_file, declared_capability, operation_of, epoch_of, uses, client_calls, core_calls, location_of, calls, aims_at, aims, no_longer_pending, delivers, least_pending, first_step, Next, finished, opens, goes_on, ends, begins, went, settles, works_on, next_step, steps, so_far}
 use Rattle.world_runs.specs.View.{messages}
 use Rattle.world_runs.proofs.Lists.{set_same}
@@ -41,6 +41,7 @@ use Rattle.xt_messages.specs.declared.event.Event.{Event}
 use Rattle.xt_protocol.specs.declared.turned.Turned.{Turned}
 use Rattle.time_line.specs.declared.entry.Halt.{Halt}
 use Rattle.lease_safety.specs.Legal.{IsClose}
+use Rattle.xt_protocol.specs.Forgetting.{keep_of}
 use Rattle.xt_protocol.specs.OsdSteps.{OsdState, step_of_osd}
 use Rattle.cluster_runs.specs.Steps.{Step}
 use Rattle.cluster_runs.specs.Clients.{step_of_client}
@@ -100,11 +101,23 @@ kept_there sent number s is = subst (λ (o : Option Sent). Has s.message (map (�
 
 -- ---- what may happen
 
+-- the first of a node's messages to itself is handled, or one that was sent, where none of them is left
+abbrev pub IsFirst : Msg → List Msg → Type 0
+IsFirst msg was = (was ≡ []) ⊎ ((rest : List Msg) × (was ≡ msg ∷ rest))
+
 -- an event comes to a node: a message that was sent, or is the node's to itself
 abbrev pub Reaches : World → List Msg → NodeId → Event → Type 0
-Reaches w was node (event.Deliver msg) = (msg.to ≡ node) × Has msg (was ++ messages w)
-Reaches w was node event.Wake = Unit {0}
-Reaches w was node (event.Call call) = Unit {0}
+Reaches w was node (event.Deliver msg) = (msg.to ≡ node) × Has msg (was ++ messages w) × IsFirst msg was
+Reaches w was node event.Wake = was ≡ []
+Reaches w was node (event.Call call) = was ≡ []
+
+-- what is left of a node's messages to itself: all but the first, or none
+abbrev pub AreLeft : List Msg → List Msg → Type 0
+AreLeft own was = (own ≡ []) ⊎ ((m : Msg) × (was ≡ m ∷ own))
+
+pub left_within : (own was : List Msg) → AreLeft own was → (m : Msg) → Has m own → Has m was
+left_within own was (inl none) m h = absurd (subst (Has m) none h)
+left_within own was (inr some) m h = subst (Has m) (sym some.1) (inr h)
 
 -- a client's call on a declared file
 abbrev pub call_step : World → Node → Running → ClientState → Call → ℕ → Location → Op → Step ClientState
@@ -118,7 +131,7 @@ pub data NodeStep (w : World) (was : List Msg) (node : Node) (r : Running) : Cor
       → NodeStep w was node r (osd (step_of_osd (outside_of node.kept) s r.clock happens).osd) (step_of_osd (outside_of node.kept) s r.clock happens).turned
   of_client : (c : ClientState) (happens : Event) → r.core ≡ client c → Reaches w was node.id happens
       → NodeStep w was node r (client (step_of_client node.id w.times c r.clock happens).state) (step_of_client node.id w.times c r.clock happens).turned
-  of_call : (c : ClientState) (k : Call) (number : ℕ) (location : Location) (asked : Op) → r.core ≡ client c → c.running ≡ None → FitsCall k → called_file k ≡ Some number → file_in w.files number ≡ Some location → operation_of k ≡ Some asked
+  of_call : (c : ClientState) (k : Call) (number : ℕ) (location : Location) (asked : Op) → r.core ≡ client c → (c.running ≡ None) × (was ≡ []) → FitsCall k → called_file k ≡ Some number → file_in w.files number ≡ Some location → operation_of k ≡ Some asked
       → NodeStep w was node r (client (call_step w node r c k number location asked).state) (call_step w node r c k number location asked).turned
 
 -- a new clock is close to those of the other running nodes
@@ -136,9 +149,9 @@ pub record IsKept (P : World → List Msg → Type 0) : Type 0 where
   pub times : (lease drift : ℕ) → AreTimes lease drift → P (tells (record start_world { times = record { lease = lease; drift = drift } }) (entry.Times lease drift ∷ [])) []
   -- declarations
   pub osd_declared : (w : World) (id : NodeId) → FitsNode id → node_in w.nodes id.0 ≡ None → P w []
-      → P (tells (record w { nodes = w.nodes ++ record { id = id; role = role.Osd; kept = []; up = None } ∷ [] }) []) []
+      → P (tells (record w { nodes = w.nodes ++ record { id = id; role = role.Osd; kept = []; past = []; up = None } ∷ [] }) []) []
   pub client_declared : (w : World) (id : NodeId) (clock : ℕ) → FitsNode id × (clock < 2 ^ 62) → node_in w.nodes id.0 ≡ None → P w []
-      → P (tells (record w { nodes = w.nodes ++ record { id = id; role = role.Client; kept = []; up = Some (runs first_boot clock (client (new_client clock))) } ∷ [] }) (entry.Up id first_boot clock ∷ [])) []
+      → P (tells (record w { nodes = w.nodes ++ record { id = id; role = role.Client; kept = []; past = []; up = Some (runs first_boot clock (client (new_client clock))) } ∷ [] }) (entry.Up id first_boot clock ∷ [])) []
   pub file_declared : (w : World) (number : ℕ) (location : Location) → (number < 1000000) × FitsLocation location → file_in w.files number ≡ None → P w []
       → P (tells (record w { files = w.files ++ record { number = number; location = location } ∷ [] }) (entry.File number location ∷ [])) []
   -- a node starts; it is changed in what no step of it reads; a client's first target is set; a node stops
@@ -154,13 +167,16 @@ pub record IsKept (P : World → List Msg → Type 0) : Type 0 where
   pub all_ticked : (w : World) (count : ℕ) → (count < 2 ^ 32) × (clock_ends count w.nodes ≡ None) → P w [] → P (tells (record w { nodes = map (ticked count) w.nodes }) (entry.Tick count ∷ [])) []
   -- a message is no longer pending; messages of a node to itself are lost
   pub less_pending : (w : World) (own : List Msg) (number : ℕ) → P w own → P (record w { sent = no_longer_pending w.sent number }) own
-  pub lost : (w : World) (own left : List Msg) → ((m : Msg) → Has m left → Has m own) → P w own → P w left
+  pub lost : (w : World) (own left : List Msg) → AreLeft left own → P w own → P w left
   -- a node steps, and perhaps only the first of its messages go out; or it stops in its append, and its record is kept
-  pub stepped : (w : World) (was own : List Msg) (node : Node) (r : Running) (next : Core) (turned : Turned) (outs rest : List Msg) → ((m : Msg) → Has m own → Has m was)
+  pub stepped : (w : World) (was own : List Msg) (node : Node) (r : Running) (next : Core) (turned : Turned) (outs rest : List Msg) → AreLeft own was
       → node_in w.nodes node.id.0 ≡ Some node → node.up ≡ Some r → NodeStep w was node r next turned → turned.outs ≡ outs ++ rest → P w was
       → P (after_turn w node (record r { core = next }) (record turned { outs = outs })) (own ++ to_itself node.id outs)
   pub stopped_keeping : (w : World) (own : List Msg) (node : Node) (r : Running) (next : Core) (turned : Turned) (rec : Record) → node_in w.nodes node.id.0 ≡ Some node → node.up ≡ Some r
-      → NodeStep w own node r next turned → turned.rec ≡ Some rec → P w own → P (halted w (record node { kept = node.kept ++ rec ∷ [] }) (record r { core = next }) halt.Kept) []
+      → NodeStep w own node r next turned → turned.rec ≡ Some rec → P w own → P (halted w (record node { kept = node.kept ++ rec ∷ []; past = node.past ++ puts rec ∷ [] }) (record r { core = next }) halt.Kept) []
+  -- an OSD that has put a record forgets the bodies that it doesn't need
+  pub forgotten : (w : World) (own : List Msg) (node : Node) (r : Running) (s : OsdState) → node_in w.nodes node.id.0 ≡ Some node → node.up ≡ Some r → r.core ≡ osd s → P w own
+      → P (record w { nodes = with_node w.nodes (rewritten_at node r s) }) own
   -- a line is added
   pub lined : (w : World) (l : Line) → P w [] → P (with_line w l) []
 
@@ -221,17 +237,17 @@ module _ (P : World → List Msg → Type 0) (keeps : IsKept P) where
   ResultIs (Err cause) = Unit {0}
 
   -- whatever becomes of a step
-  step_kept : (d : Doing) (was : List Msg) (node : Node) (r : Running) (next : Core) (turned : Turned) → ((k : Msg) → Has k d.own → Has k was) → node_in d.world.nodes node.id.0 ≡ Some node → node.up ≡ Some r
+  step_kept : (d : Doing) (was : List Msg) (node : Node) (r : Running) (next : Core) (turned : Turned) → AreLeft d.own was → node_in d.world.nodes node.id.0 ≡ Some node → node.up ≡ Some r
       → NodeStep d.world was node r next turned → P d.world was → (let after = appends d node (record r { core = next }) r.crash turned.rec turned in P after.world after.own)
-  step_kept d was node r next turned within found is_up is p =
+  step_kept d was node r next turned left found is_up is p =
       however (λ (after : Doing). P after.world after.own) d node (record r { core = next }) turned
-      (keeps.stepped d.world was d.own node r next turned turned.outs [] within found is_up is (sym (append-nil turned.outs)) p)
+      (keeps.stepped d.world was d.own node r next turned turned.outs [] left found is_up is (sym (append-nil turned.outs)) p)
       (λ count.
       let fewer = take count turned.outs in
       let done = after_turn d.world node (record r { core = next }) (record turned { outs = fewer }) in
       let there = next_node node r next turned in
       keeps.stopped done (d.own ++ to_itself node.id fewer) there (record r { core = next }) halt.Cut (node_in-new d.world.nodes there node found) refl
-      (keeps.stepped d.world was d.own node r next turned fewer (drop count turned.outs) within found is_up is (sym (take-append-drop count turned.outs)) p))
+      (keeps.stepped d.world was d.own node r next turned fewer (drop count turned.outs) left found is_up is (sym (take-append-drop count turned.outs)) p))
       (keeps.stopped d.world was node r halt.Lost found is_up p)
       (λ rec e. keeps.stopped_keeping d.world was node r next turned rec found is_up is e p)
 
@@ -243,30 +259,59 @@ module _ (P : World → List Msg → Type 0) (keeps : IsKept P) where
       at false true = tt
       at false false = p
 
-  end_kept : (room : Room) (d : Doing) (was : List Msg) (node : Node) (r : Running) (step : Step Core) → ((k : Msg) → Has k d.own → Has k was) → node_in d.world.nodes node.id.0 ≡ Some node → node.up ≡ Some r
-      → NodeStep d.world was node r step.state step.turned → P d.world was → ResultIs (end_of_step room d node r step)
-  end_kept room d was node r step within found is_up is p = at (overflow_of room node.kept step.turned.rec)
+  -- whether it forgets or not
+  forgets_kept : (room : Room) (id : NodeId) (rec : Option Record) (result : Result Doing Cause) → ResultIs result → ResultIs (forgets_if room id rec result)
+  forgets_kept room id None (Ok d) p = p
+  forgets_kept room id None (Err cause) p = tt
+  forgets_kept room id (Some rec) (Err cause) p = tt
+  forgets_kept room id (Some rec) (Ok d) p = in_world (node_in d.world.nodes id.0) refl
     where
+      by_core : (node : Node) (r : Running) (core : Core) → node_in d.world.nodes node.id.0 ≡ Some node → node.up ≡ Some r → r.core ≡ core → P (forgets_at room d.world node r core) d.own
+      by_core node r (client c) found is_up is_core = p
+      by_core node r (osd s) found is_up is_core =
+          at (room.rewrites_now node.past (keep_of s))
+        where
+          at : (b : Bool) → P (cond b (record d.world { nodes = with_node d.world.nodes (rewritten_at node r s) }) d.world) d.own
+          at true = keeps.forgotten d.world d.own node r s found is_up is_core p
+          at false = p
+
+      by_up : (node : Node) (up : Option Running) → node_in d.world.nodes node.id.0 ≡ Some node → node.up ≡ up
+          → P (elim up [ None ↦ d.world | Some running ↦ forgets_at room d.world node running running.core ]) d.own
+      by_up node None found is_up = p
+      by_up node (Some r) found is_up = by_core node r r.core found is_up refl
+
+      in_world : (o : Option Node) → node_in d.world.nodes id.0 ≡ o → P (forgets_in room d.world o) d.own
+      in_world None is = p
+      in_world (Some node) is = by_up node node.up (ap (node_in d.world.nodes) (node_in-id d.world.nodes id.0 node is) ∙ is) refl
+
+  end_kept : (room : Room) (d : Doing) (was : List Msg) (node : Node) (r : Running) (step : Step Core) → AreLeft d.own was → node_in d.world.nodes node.id.0 ≡ Some node → node.up ≡ Some r
+      → NodeStep d.world was node r step.state step.turned → P d.world was → ResultIs (end_of_step room d node r step)
+  end_kept room d was node r step left found is_up is p = at (overflow_of room node.past step.turned.rec)
+    where
+      done : Doing
+      done = appends d node (record r { core = step.state }) r.crash step.turned.rec step.turned
+
       at : (o : Option Overflow) → ResultIs (elim o [
         | Some overflow ↦ Err (has_no_room overflow)
-        | None ↦ within_limits (appends d node (record r { core = step.state }) r.crash step.turned.rec step.turned)
+        | None ↦ forgets_if room node.id step.turned.rec (within_limits (appends d node (record r { core = step.state }) r.crash step.turned.rec step.turned))
       ])
       at (Some overflow) = tt
-      at None = limits_kept (appends d node (record r { core = step.state }) r.crash step.turned.rec step.turned) (step_kept d was node r step.state step.turned within found is_up is p)
+      at None = forgets_kept room node.id step.turned.rec (within_limits (appends d node (record r { core = step.state }) r.crash step.turned.rec step.turned))
+          (limits_kept (appends d node (record r { core = step.state }) r.crash step.turned.rec step.turned) (step_kept d was node r step.state step.turned left found is_up is p))
 
-  event_kept : (room : Room) (d : Doing) (was : List Msg) (id : NodeId) (happens : Event) → ((k : Msg) → Has k d.own → Has k was) → Reaches d.world was id happens → P d.world was → ResultIs (event_comes room d id happens)
+  event_kept : (room : Room) (d : Doing) (was : List Msg) (id : NodeId) (happens : Event) → AreLeft d.own was → Reaches d.world was id happens → P d.world was → ResultIs (event_comes room d id happens)
   unfolding event_comes
-  event_kept room d was id happens within comes p = at (node_in d.world.nodes id.0) refl
+  event_kept room d was id happens left comes p = at (node_in d.world.nodes id.0) refl
     where
       quiet_kept : P d.world d.own
-      quiet_kept = keeps.lost d.world was d.own within p
+      quiet_kept = keeps.lost d.world was d.own left p
 
       by_core : (node : Node) (r : Running) (core : Core) → node_in d.world.nodes node.id.0 ≡ Some node → node.id ≡ id → node.up ≡ Some r → r.core ≡ core
           → ResultIs (end_of_step room d node r (core_step d.world.times node core r.clock happens))
       by_core node r (osd s) found mine is_up is_core =
-          end_kept room d was node r (osd_steps (step_of_osd (outside_of node.kept) s r.clock happens)) within found is_up (of_osd s happens is_core (subst (λ (n : NodeId). Reaches d.world was n happens) (sym mine) comes)) p
+          end_kept room d was node r (osd_steps (step_of_osd (outside_of node.kept) s r.clock happens)) left found is_up (of_osd s happens is_core (subst (λ (n : NodeId). Reaches d.world was n happens) (sym mine) comes)) p
       by_core node r (client c) found mine is_up is_core =
-          end_kept room d was node r (client_steps (step_of_client node.id d.world.times c r.clock happens)) within found is_up (of_client c happens is_core (subst (λ (n : NodeId). Reaches d.world was n happens) (sym mine) comes)) p
+          end_kept room d was node r (client_steps (step_of_client node.id d.world.times c r.clock happens)) left found is_up (of_client c happens is_core (subst (λ (n : NodeId). Reaches d.world was n happens) (sym mine) comes)) p
 
       by_up : (node : Node) (up : Option Running) → node_in d.world.nodes node.id.0 ≡ Some node → node.id ≡ id → node.up ≡ up
           → ResultIs (elim up [
@@ -333,9 +378,6 @@ module _ (P : World → List Msg → Type 0) (keeps : IsKept P) where
       here : P (record d.world { sent = no_longer_pending d.world.sent number }) []
       here = keeps.less_pending d.world [] number fit
 
-      none_own : (k : Msg) → Has k d.own → Has k []
-      none_own k h = subst (Has k) idle h
-
       at : (o : Option Sent) → slice_get d.world.sent (number - 1) ≡ o
           → ResultIs (elim o [
             | None ↦ Ok (record d { world = record d.world { sent = no_longer_pending d.world.sent number } })
@@ -343,8 +385,8 @@ module _ (P : World → List Msg → Type 0) (keeps : IsKept P) where
           ])
       at None is = subst (P (record d.world { sent = no_longer_pending d.world.sent number })) (sym idle) here
       at (Some s) is =
-          event_kept room (record d { world = record d.world { sent = no_longer_pending d.world.sent number } }) [] s.message.to (event.Deliver s.message) none_own
-          (refl, kept_there d.world.sent number s is) here
+          event_kept room (record d { world = record d.world { sent = no_longer_pending d.world.sent number } }) [] s.message.to (event.Deliver s.message) (inl idle)
+          (refl, kept_there d.world.sent number s is, inl refl) here
 
   -- ---- a client's call
 
@@ -353,7 +395,7 @@ module _ (P : World → List Msg → Type 0) (keeps : IsKept P) where
   call_number_kept room d node r c k number location asked idle found is_up is_core resting bound called declared asks_so fit =
       let capability = declared_capability number location (epoch_of c (declared_file number) k) in
       let step = call_of_client node.id d.world.times (uses c capability) r.clock capability k asked in
-      end_kept room d [] node r (client_steps step) (λ m h. subst (Has m) idle h) found is_up (of_call c k number location asked is_core resting bound called declared asks_so) fit
+      end_kept room d [] node r (client_steps step) (inl idle) found is_up (of_call c k number location asked is_core (resting, refl) bound called declared asks_so) fit
 
   calls_kept : (room : Room) (d : Doing) (id : NodeId) (k : Call) → FitsCall k → busy d.world.nodes id ≡ None → d.own ≡ [] → P d.world [] → ResultIs (calls room d (node_in d.world.nodes id.0) k)
   calls_kept room d id k bound free idle fit = at (node_in d.world.nodes id.0) refl
@@ -407,8 +449,8 @@ module _ (P : World → List Msg → Type 0) (keeps : IsKept P) where
       by_room node is few None = subst (P (starts_as d.world node (next_boot node.kept) clock)) (sym idle) (new node is few)
 
       by_boot : (node : Node) → node_in d.world.nodes id.0 ≡ Some node → (b : Bool) → nat_lt (next_boot node.kept).0 COUNTS ≡ b
-          → ResultIs (cond b (elim (room node.kept (kept.Boot (next_boot node.kept))) [ Some overflow ↦ Err (has_no_room overflow) | None ↦ does d (starts_as d.world node (next_boot node.kept) clock) ]) (Err (came_to limited.Boots)))
-      by_boot node is true few = by_room node is few (room node.kept (kept.Boot (next_boot node.kept)))
+          → ResultIs (cond b (elim (room.overflow (node.past ++ loads ∷ []) (kept.Boot (next_boot node.kept))) [ Some overflow ↦ Err (has_no_room overflow) | None ↦ does d (starts_as d.world node (next_boot node.kept) clock) ]) (Err (came_to limited.Boots)))
+      by_boot node is true few = by_room node is few (room.overflow (node.past ++ loads ∷ []) (kept.Boot (next_boot node.kept)))
       by_boot node is false few = tt
 
       at : (found : Option Node) → node_in d.world.nodes id.0 ≡ found → ResultIs (starts room d clock found)
@@ -453,10 +495,10 @@ module _ (P : World → List Msg → Type 0) (keeps : IsKept P) where
   unfolding first_step refusal
   first_kept room w (line.Times lease drift) allowed first fit =
       subst (λ (w : World). P (tells (record w { times = record { lease = lease; drift = drift } }) (entry.Times lease drift ∷ [])) []) (sym first.1) (keeps.times lease drift first.0)
-  first_kept room w (line.Osd node) allowed first fit = declares_kept _ (record { id = node; role = role.Osd; kept = []; up = None }) [] refl (keeps.osd_declared w node first.0 (none_there _ (not_so _ _ allowed)) fit)
+  first_kept room w (line.Osd node) allowed first fit = declares_kept _ (record { id = node; role = role.Osd; kept = []; past = []; up = None }) [] refl (keeps.osd_declared w node first.0 (none_there _ (not_so _ _ allowed)) fit)
   first_kept room w (line.Client node clock) allowed first fit =
       let free = (either_none (node_twice w.nodes node) (drifts_inside w node clock) allowed).0 in
-      declares_kept _ (record { id = node; role = role.Client; kept = []; up = Some (runs first_boot clock (client (new_client clock))) }) (entry.Up node first_boot clock ∷ []) refl (keeps.client_declared w node clock first.0 (none_there _ (not_so _ _ free)) fit)
+      declares_kept _ (record { id = node; role = role.Client; kept = []; past = []; up = Some (runs first_boot clock (client (new_client clock))) }) (entry.Up node first_boot clock ∷ []) refl (keeps.client_declared w node clock first.0 (none_there _ (not_so _ _ free)) fit)
   first_kept room w (line.File number location) allowed first fit = keeps.file_declared w number location first.0 (none_there _ (not_so _ _ (either_none (file_twice w.files number) (first_stranger w.nodes location.members) allowed).0)) fit
   first_kept room w (line.Start node clock) allowed first fit =
       let later = (either_none (no_osd w.nodes node) (option_or (runs_already w.nodes node) (drifts w node clock)) allowed).1 in
@@ -471,7 +513,7 @@ module _ (P : World → List Msg → Type 0) (keeps : IsKept P) where
       let two = either_none (goes_back clock (up_of (node_in w.nodes node.0))) (drifts w node clock) one.1 in
       clock_line w node clock first.0.1 one.0 two.0 two.1 fit
   first_kept room w (line.Tick count) allowed first fit = keeps.all_ticked w count (first.0, allowed) fit
-  first_kept room w (line.Wake node) allowed first fit = event_kept room (record { world = w; own = []; left = 0 }) [] node event.Wake (λ k h. h) tt fit
+  first_kept room w (line.Wake node) allowed first fit = event_kept room (record { world = w; own = []; left = 0 }) [] node event.Wake (inl refl) refl fit
   first_kept room w (line.Call id k) allowed first fit = calls_kept room (record { world = w; own = []; left = 0 }) id k first.0.1 (either_none (no_called_file w.files (called_file k)) (busy w.nodes id) (either_none (no_client w.nodes id) (option_or (no_called_file w.files (called_file k)) (busy w.nodes id)) allowed).1).1 refl fit
   first_kept room w (line.Aim id file node) allowed first fit = aims_kept w id file node fit
   first_kept room w (line.Deliver number) allowed first fit = delivers_kept room (record { world = w; own = []; left = 0 }) number refl fit
@@ -492,7 +534,7 @@ module _ (P : World → List Msg → Type 0) (keeps : IsKept P) where
   went_kept w (Err cause) before fit = before
 
   idle_of : (w : World) (own : List Msg) → P w own → P w []
-  idle_of w own fit = keeps.lost w own [] (λ m h. absurd h) fit
+  idle_of w own fit = keeps.lost w own [] (inl refl) fit
 
   settles_kept : (room : Room) (d : Doing) (left : ℕ) → d.own ≡ [] → P d.world [] → NextIs (settles room d left)
   settles_kept room d zero idle fit = fit
@@ -509,7 +551,7 @@ module _ (P : World → List Msg → Type 0) (keeps : IsKept P) where
   works_kept room d [] is fit = settles_kept room d d.left is fit
   works_kept room d (m ∷ own) is fit =
       went_kept d.world (event_comes room (record d { own = own }) m.to (event.Deliver m)) (idle_of d.world (m ∷ own) fit)
-      (event_kept room (record d { own = own }) (m ∷ own) m.to (event.Deliver m) (λ k h. inr h) (refl, inl refl) fit)
+      (event_kept room (record d { own = own }) (m ∷ own) m.to (event.Deliver m) (inr (m, refl)) (refl, inl refl, inr (own, refl)) fit)
 
   next_kept : (room : Room) (next : Next) → NextIs next → NextIs (next_step room next)
   unfolding next_step

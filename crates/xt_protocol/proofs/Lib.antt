@@ -1,2 +1,3 @@
+pub mod FileRows
 pub mod Folds
 pub mod Stamps

@@ -6,7 +6,12 @@ use Rattle.xt_base.specs.declared.ids.FileId.{FileId}
 use Rattle.xt_base.specs.declared.ids.Stamp.{Stamp}
 use Rattle.xt_messages.specs.declared.file.Location.{Location}
 use Rattle.xt_messages.specs.declared.file.Capability.{Capability}
+use Rattle.xt_messages.specs.declared.file.ObjectVersion.{ObjectVersion}
 use Rattle.xt_messages.specs.declared.record.FileRow.{FileRow}
+use Rattle.xt_messages.specs.declared.record.Record.{Record}
+use Rattle.xt_messages.specs.declared.record.Record.TheVariants as kept
+use Rattle.xt_protocol.specs.Folds.{body_of}
+use Rattle.xt_protocol.specs.Stamps.{with_held}
 use Rattle.xt_protocol.specs.declared.turned.Turned.{Turned}
 use Rattle.xt_protocol.specs.Register.{Acceptor, new_acceptor}
 use Rattle.xt_protocol.specs.LeaseRows.{Awake, LeaseState, free, new_proposer}
@@ -17,10 +22,12 @@ use Rattle.xt_protocol.specs.ReplicaRows.{kept_after}
 use Rattle.xt_protocol.specs.Primaries.{Ground, new_primary}
 use Rattle.xt_protocol.specs.Asks.{no_asks, Served}
 
--- The state of a file: what the records say of it, its register, its lease, the end of a lease that was met last, the clock at
--- which it was asked for last, its primary, and the asks that aren't answered. A stop loses all but the first.
+-- The state of a file: what the records say of it, the bodies that were staged since its last head or update, its register, its
+-- lease, the end of a lease that was met last, the clock at which it was asked for last, its primary, and the asks that aren't
+-- answered. A stop loses all but the first.
 pub record FileState : Type 0 where
   pub kept : FileRow
+  pub staged : List ObjectVersion
   pub acceptor : Acceptor
   pub lease : LeaseState
   pub last_end : ℕ
@@ -46,6 +53,7 @@ abbrev pub file_from : Awake → FileRow → FileState
 file_from awake row =
     record {
       kept = row;
+      staged = [];
       acceptor = new_acceptor awake.boot;
       lease = free (new_proposer awake);
       last_end = 0;
@@ -58,9 +66,20 @@ file_from awake row =
 abbrev pub nothing : FileState → FileStep
 nothing s = record { state = s; turned = quiet }
 
+-- the bodies that were staged since the last head or update, after a record
+abbrev pub staged_after : List ObjectVersion → Option Record → List ObjectVersion
+staged_after staged (Some (kept.Stage file object version bytes)) = with_held staged (body_of object version)
+staged_after staged (Some (kept.Update file update)) = []
+staged_after staged (Some (kept.Head file head)) = []
+staged_after staged _ = staged
+
 -- a step that leaves the file in this state; its record changes what is kept
 abbrev pub steps_to : FileState → Turned → FileStep
-steps_to s turned = record { state = record s { kept = kept_after s.kept turned.rec }; turned = turned }
+steps_to s turned =
+    record {
+      state = record s { kept = kept_after s.kept turned.rec; staged = staged_after s.staged turned.rec };
+      turned = turned;
+    }
 
 -- a step, and then these rows on the state that it leaves
 abbrev pub and_then : FileStep → (FileState → FileStep) → FileStep

@@ -6,6 +6,7 @@ pub mod FileIds
 pub mod FileLeases
 pub mod FileStates
 pub mod FileSteps
+pub mod Forgetting
 pub mod Folds
 pub mod Heads
 pub mod LeaseRows

@@ -106,13 +106,13 @@ carries place peers acked = nat_le (majority_among peers) (length acked) && has_
 
 -- Feeding.
 
--- what is known of a peer that has told this head: nothing yet, so that every version is staged
+-- what is known of a peer that has told this head: the versions that it names
 abbrev pub known_of_report : FileHead → List ObjectVersion
-known_of_report head = []
+known_of_report head = head.versions
 
--- what is known of the primary's own bodies when it begins to fetch: nothing yet, so that every version is fetched
+-- what is known of the primary's own bodies when it begins to fetch: those that it holds
 abbrev pub known_of_own : List ObjectVersion → List ObjectVersion
-known_of_own held = []
+known_of_own held = held
 
 -- these versions and this one, each once
 abbrev pub with_known : List ObjectVersion → ObjectVersion → List ObjectVersion

@@ -1,0 +1,2 @@
+pub mod OneHead
+pub mod Ends

@@ -1,0 +1,222 @@
+-- The records of some rows fold to these rows.
+use Rattle.std.proofs.Common.{◌≡◌, ◌==◌, ℕ, zero, suc, ◌<◌, Bool, true, false, cond, List, [], ◌∷◌, ◌++◌, Option, Some, None, refl, ap, sym, subst, ◌∙◌, arith, map, append_assoc, append-nil}
+use Rattle.std.specs.Prelude.{filter, flat_map}
+use Rattle.std.proofs.lemmas.List.Sums.{fold-append}
+use Rattle.std.specs.List.{fold, AllByRecursion}
+use Rattle.std.specs.Ordering.{is_eq, is_lt}
+use Rattle.std.specs.declared.cmp.Ordering.{Ordering}
+use Rattle.std.specs.declared.cmp.Ordering.TheVariants.{Less, Equal, Greater}
+use Rattle.xt_base.specs.declared.ids.Boot.{Boot}
+use Rattle.xt_base.specs.declared.ids.FileId.{FileId}
+use Rattle.xt_base.specs.declared.ids.Stamp.{Stamp}
+use Rattle.xt_messages.specs.declared.file.Location.{Location}
+use Rattle.xt_messages.specs.declared.file.ObjectVersion.{ObjectVersion}
+use Rattle.xt_messages.specs.declared.record.FileRow.{FileRow}
+use Rattle.xt_messages.specs.declared.record.Folded.{Folded}
+use Rattle.xt_messages.specs.declared.record.Record.{Record}
+use Rattle.xt_messages.specs.declared.record.Record.TheVariants as kept
+use Rattle.xt_protocol.specs.FileIds.{is_file, is_before, file_cmp}
+use Rattle.xt_protocol.specs.Folds.{new_row, row_in, with_row, row_after, rows_after, file_of, boot_after, folded_after, body_of, fold_of}
+use Rattle.xt_protocol.specs.Heads.{new_head}
+use Rattle.xt_protocol.specs.Forgetting.{view_of, stage_of, records_of_row, records_of_rows}
+use Rattle.xt_protocol.specs.Stamps.{with_held}
+use Rattle.xt_protocol.specs.VersionOrder.{version_cmp}
+use Rattle.xt_protocol.proofs.Folds.{file-itself, is_file-file_cmp, row_after-file}
+use Rattle.xt_protocol.proofs.Stamps.{held-alone, held-behind}
+use Rattle.xt_protocol.proofs.FileRows.{FilesRise, put_behind, put_over, read_behind, read_here}
+
+pub is_less : (o : Ordering) → is_lt o ≡ true → o ≡ Less
+is_less Less h = refl
+is_less Equal h = absurd cc
+is_less Greater h = absurd cc
+
+is_equal : (o : Ordering) → is_eq o ≡ true → o ≡ Equal
+is_equal Less h = absurd cc
+is_equal Equal h = refl
+is_equal Greater h = absurd cc
+
+-- a file is one with itself in the order
+same_file : (a : FileId) → file_cmp a a ≡ Equal
+same_file a = is_equal (file_cmp a a) (sym (is_file-file_cmp a a) ∙ file-itself a)
+
+-- ---- a row behind all others
+
+abbrev pub AreBefore : FileId → List FileRow → Type 0
+AreBefore file rows = AllByRecursion (λ (r : FileRow). file_cmp r.file file ≡ Less) rows
+
+pub read_new : (pre : List FileRow) (file : FileId) → AreBefore file pre → row_in pre file ≡ new_row file
+unfolding row_in
+read_new [] file all = refl
+read_new (r ∷ rs) file all = read_behind r rs file all.0 ∙ read_new rs file all.1
+
+put_new : (pre : List FileRow) (b : FileRow) → AreBefore b.file pre → with_row pre b ≡ pre ++ b ∷ []
+unfolding with_row
+put_new [] b all = refl
+put_new (r ∷ rs) b all = put_behind r b rs all.0 ∙ ap (λ (t : List FileRow). r ∷ t) (put_new rs b all.1)
+
+pub read_last : (pre : List FileRow) (a : FileRow) → AreBefore a.file pre → row_in (pre ++ a ∷ []) a.file ≡ a
+read_last [] a all = read_here a [] a.file (same_file a.file)
+read_last (r ∷ rs) a all = read_behind r (rs ++ a ∷ []) a.file all.0 ∙ read_last rs a all.1
+
+put_last : (pre : List FileRow) (a b : FileRow) → b.file ≡ a.file → AreBefore a.file pre → with_row (pre ++ a ∷ []) b ≡ pre ++ b ∷ []
+put_last [] a b same all = put_over a b [] (ap (file_cmp a.file) same ∙ same_file a.file)
+put_last (r ∷ rs) a b same all = put_behind r b (rs ++ a ∷ []) (ap (file_cmp r.file) same ∙ all.0) ∙ ap (λ (t : List FileRow). r ∷ t) (put_last rs a b same all.1)
+
+-- the rows behind which this row of its file comes last: it is there, or a new one would be
+pub record ComesLast (files pre : List FileRow) (a : FileRow) : Type 0 where
+  pub reads : row_in files a.file ≡ a
+  pub puts : (b : FileRow) → b.file ≡ a.file → with_row files b ≡ pre ++ b ∷ []
+
+pub last_new : (pre : List FileRow) (file : FileId) → AreBefore file pre → ComesLast pre pre (new_row file)
+last_new pre file all = record {
+  reads = read_new pre file all;
+  puts = λ b same. put_new pre b (subst (λ (f : FileId). AreBefore f pre) (sym same) all);
+}
+
+last_there : (pre : List FileRow) (a : FileRow) → AreBefore a.file pre → ComesLast (pre ++ a ∷ []) pre a
+last_there pre a all = record { reads = read_last pre a all; puts = λ b same. put_last pre a b same all }
+
+-- ---- records of one file
+
+abbrev pub AreOf : FileId → List Record → Type 0
+AreOf file recs = AllByRecursion (λ (rec : Record). file_of rec ≡ Some file) recs
+
+-- a record of a file is of no start
+no_boot : (boot : ℕ) (rec : Record) (file : FileId) → file_of rec ≡ Some file → boot_after boot rec ≡ boot
+no_boot boot (kept.Boot b) file is = absurd cc
+no_boot boot (kept.Promise f epoch) file is = refl
+no_boot boot (kept.Update f update) file is = refl
+no_boot boot (kept.Stage f object version bytes) file is = refl
+no_boot boot (kept.Head f head) file is = refl
+no_boot boot (kept.View f location) file is = refl
+no_boot boot (kept.Meta from number now nodes request) file is = refl
+
+one_record : (boot : Boot) (files pre : List FileRow) (a : FileRow) (rec : Record) → file_of rec ≡ Some a.file → ComesLast files pre a
+    → folded_after (record { boot = boot; files = files }) rec ≡ record { boot = boot; files = pre ++ row_after a rec ∷ [] }
+one_record boot files pre a rec of last =
+    ap (λ (n : ℕ). record { boot = record { 0 = n }; files = rows_after files rec (file_of rec) }) (no_boot boot.0 rec a.file of)
+    ∙ ap (λ (o : Option FileId). record { boot = boot; files = rows_after files rec o }) of
+    ∙ ap (λ (r : FileRow). record { boot = boot; files = with_row files (row_after r rec) }) last.reads
+    ∙ ap (λ (fs : List FileRow). record { boot = boot; files = fs }) (last.puts (row_after a rec) (row_after-file a rec))
+
+pub some_records : (recs : List Record) (boot : Boot) (files pre : List FileRow) (a : FileRow) (rec : Record) → file_of rec ≡ Some a.file → AreOf a.file recs
+    → AreBefore a.file pre → ComesLast files pre a
+    → fold folded_after (record { boot = boot; files = files }) (rec ∷ recs) ≡ record { boot = boot; files = pre ++ fold row_after a (rec ∷ recs) ∷ [] }
+some_records [] boot files pre a rec of all before last = one_record boot files pre a rec of last
+some_records (x ∷ xs) boot files pre a rec of all before last =
+    ap (λ (f : Folded). fold folded_after f (x ∷ xs)) (one_record boot files pre a rec of last)
+    ∙ some_records xs boot (pre ++ row_after a rec ∷ []) pre (row_after a rec) x (all.0 ∙ ap (λ (f : FileId). Some f) (sym same)) (subst (λ (f : FileId). AreOf f xs) (sym same) all.1)
+    (subst (λ (f : FileId). AreBefore f pre) (sym same) before) (last_there pre (row_after a rec) (subst (λ (f : FileId). AreBefore f pre) (sym same) before))
+  where
+    same : (row_after a rec).file ≡ a.file
+    same = row_after-file a rec
+
+-- ---- held versions, one after the other
+
+abbrev pub AreBelow : List ObjectVersion → ObjectVersion → Type 0
+AreBelow versions v = AllByRecursion (λ (h : ObjectVersion). version_cmp h v ≡ Less) versions
+
+-- each version comes before all behind it
+abbrev pub Ascend : List ObjectVersion → Type 0
+Ascend [] = Unit {0}
+Ascend (v ∷ vs) = AllByRecursion (λ (w : ObjectVersion). version_cmp v w ≡ Less) vs × Ascend vs
+
+put_held : (pre : List ObjectVersion) (v : ObjectVersion) → AreBelow pre v → with_held pre v ≡ pre ++ v ∷ []
+put_held [] v all = held-alone v
+put_held (h ∷ hs) v all = held-behind h v hs all.0 ∙ ap (λ (t : List ObjectVersion). h ∷ t) (put_held hs v all.1)
+
+below_more : (pre : List ObjectVersion) (v w : ObjectVersion) → AreBelow pre w → version_cmp v w ≡ Less → AreBelow (pre ++ v ∷ []) w
+below_more [] v w all is = (is, tt)
+below_more (h ∷ hs) v w all is = (all.0, below_more hs v w all.1 is)
+
+each_more : (pre : List ObjectVersion) (v : ObjectVersion) (vs : List ObjectVersion) → AllByRecursion (AreBelow pre) vs → AllByRecursion (λ (w : ObjectVersion). version_cmp v w ≡ Less) vs
+    → AllByRecursion (AreBelow (pre ++ v ∷ [])) vs
+each_more pre v [] all first = tt
+each_more pre v (w ∷ ws) all first = (below_more pre v w all.0 first.0, each_more pre v ws all.1 first.1)
+
+module _ (body : FileId → ℕ → Stamp → List ℕ) where
+  pub staged_all : (a : FileRow) (pre held : List ObjectVersion) → AllByRecursion (AreBelow pre) held → Ascend held
+      → fold row_after (record a { held = pre }) (map (stage_of body a.file) held) ≡ record a { held = pre ++ held }
+  staged_all a pre [] all up = ap (λ (hs : List ObjectVersion). record a { held = hs }) (sym (append-nil pre))
+  staged_all a pre (v ∷ vs) all up =
+      ap (λ (hs : List ObjectVersion). fold row_after (record a { held = hs }) (map (stage_of body a.file) vs)) (put_held pre v all.0)
+      ∙ staged_all a (pre ++ v ∷ []) vs (each_more pre v vs all.1 up.0) up.1
+      ∙ ap (λ (hs : List ObjectVersion). record a { held = hs }) (append_assoc pre (v ∷ []) vs)
+
+  pub all_below_none : (vs : List ObjectVersion) → AllByRecursion (AreBelow []) vs
+  all_below_none [] = tt
+  all_below_none (v ∷ vs) = (tt, all_below_none vs)
+
+  stages_of : (file : FileId) (held : List ObjectVersion) (head : Record) → file_of head ≡ Some file → AreOf file (map (stage_of body file) held ++ head ∷ [])
+  stages_of file [] head is = (is, tt)
+  stages_of file (v ∷ vs) head is = (refl, stages_of file vs head is)
+
+  -- a row in which only the list is there
+  abbrev pub listed : FileId → Option Location → FileRow
+  listed file location = record { file = file; head = new_head; held = []; location = location }
+
+  -- the bodies and the head behind the list
+  rest_says : (row : FileRow) → Ascend row.held → fold row_after (listed row.file row.location) (map (stage_of body row.file) row.held ++ kept.Head row.file row.head ∷ []) ≡ row
+  rest_says row up =
+      fold-append row_after (listed row.file row.location) (map (stage_of body row.file) row.held) (kept.Head row.file row.head ∷ [])
+      ∙ ap (λ (r : FileRow). record r { head = row.head }) (staged_all (listed row.file row.location) [] row.held (all_below_none row.held) up)
+
+  -- the records of a row fold to it, behind rows that come before it
+  pub row_says : (boot : Boot) (pre : List FileRow) (row : FileRow) → Ascend row.held → AreBefore row.file pre
+      → fold folded_after (record { boot = boot; files = pre }) (records_of_row body row) ≡ record { boot = boot; files = pre ++ row ∷ [] }
+  row_says boot pre row up before = at row.location refl
+    where
+      last : ComesLast pre pre (new_row row.file)
+      last = last_new pre row.file before
+
+      bare : (held : List ObjectVersion)
+          → fold folded_after (record { boot = boot; files = pre }) (map (stage_of body row.file) held ++ kept.Head row.file row.head ∷ [])
+          ≡ record { boot = boot; files = pre ++ fold row_after (new_row row.file) (map (stage_of body row.file) held ++ kept.Head row.file row.head ∷ []) ∷ [] }
+      bare [] = some_records [] boot pre pre (new_row row.file) (kept.Head row.file row.head) refl tt before last
+      bare (v ∷ vs) =
+          some_records (map (stage_of body row.file) vs ++ kept.Head row.file row.head ∷ []) boot pre pre (new_row row.file) (stage_of body row.file v) refl
+          (stages_of row.file vs (kept.Head row.file row.head) refl) before last
+
+      at : (o : Option Location) → row.location ≡ o
+          → fold folded_after (record { boot = boot; files = pre }) (view_of row.file o ++ map (stage_of body row.file) row.held ++ kept.Head row.file row.head ∷ [])
+          ≡ record { boot = boot; files = pre ++ row ∷ [] }
+      at None is =
+          bare row.held
+          ∙ ap (λ (r : FileRow). record { boot = boot; files = pre ++ r ∷ [] })
+          (ap (λ (o : Option Location). fold row_after (listed row.file o) (map (stage_of body row.file) row.held ++ kept.Head row.file row.head ∷ [])) (sym is) ∙ rest_says row up)
+      at (Some l) is =
+          some_records (map (stage_of body row.file) row.held ++ kept.Head row.file row.head ∷ []) boot pre pre (new_row row.file) (kept.View row.file l) refl
+          (stages_of row.file row.held (kept.Head row.file row.head) refl) before last
+          ∙ ap (λ (r : FileRow). record { boot = boot; files = pre ++ r ∷ [] })
+          (ap (λ (o : Option Location). fold row_after (listed row.file o) (map (stage_of body row.file) row.held ++ kept.Head row.file row.head ∷ [])) (sym is) ∙ rest_says row up)
+
+  -- ---- all rows
+
+  before_next : (pre : List FileRow) (r : FileRow) (file : FileId) → AreBefore file pre → file_cmp r.file file ≡ Less → AreBefore file (pre ++ r ∷ [])
+  before_next [] r file all is = (is, tt)
+  before_next (p ∷ ps) r file all is = (all.0, before_next ps r file all.1 is)
+
+  abbrev pub Follow : List FileRow → List FileRow → Type 0
+  Follow pre rows = AllByRecursion (λ (r : FileRow). AreBefore r.file pre) rows
+
+  pub follow_next : (pre : List FileRow) (r : FileRow) (rows : List FileRow) → Follow pre rows → AllByRecursion (λ (later : FileRow). is_before r.file later.file ≡ true) rows → Follow (pre ++ r ∷ []) rows
+  follow_next pre r [] all first = tt
+  follow_next pre r (x ∷ xs) all first = (before_next pre r x.file all.0 (is_less (file_cmp r.file x.file) first.0), follow_next pre r xs all.1 first.1)
+
+  rows_say : (boot : Boot) (pre rows : List FileRow) → FilesRise rows → AllByRecursion (λ (r : FileRow). Ascend r.held) rows → Follow pre rows
+      → fold folded_after (record { boot = boot; files = pre }) (records_of_rows body rows) ≡ record { boot = boot; files = pre ++ rows }
+  rows_say boot pre [] rise up follow = ap (λ (fs : List FileRow). record { boot = boot; files = fs }) (sym (append-nil pre))
+  rows_say boot pre (r ∷ rs) rise up follow =
+      fold-append folded_after (record { boot = boot; files = pre }) (records_of_row body r) (records_of_rows body rs)
+      ∙ ap (λ (f : Folded). fold folded_after f (records_of_rows body rs)) (row_says boot pre r up.0 follow.0)
+      ∙ rows_say boot (pre ++ r ∷ []) rs rise.1 up.1 (follow_next pre r rs follow.1 rise.0)
+      ∙ ap (λ (fs : List FileRow). record { boot = boot; files = fs }) (append_assoc pre (r ∷ []) rs)
+
+  pub follow_none : (rows : List FileRow) → Follow [] rows
+  follow_none [] = tt
+  follow_none (r ∷ rs) = (tt, follow_none rs)
+
+  -- The records of rows that rise fold to them.
+  pub all_say : (boot : Boot) (rows : List FileRow) → FilesRise rows → AllByRecursion (λ (r : FileRow). Ascend r.held) rows
+      → fold folded_after (record { boot = boot; files = [] }) (records_of_rows body rows) ≡ record { boot = boot; files = rows }
+  all_say boot rows rise up = rows_say boot [] rows rise up (follow_none rows)

@@ -1,0 +1,2 @@
+mod Working
+mod Measure
