@@ -16,10 +16,11 @@ use Rattle.world_hull.specs.declared.errors.WorldErr.{WorldErr}
 use Rattle.node_hosts.specs.Turns.{call_step}
 use Rattle.cluster_fits.specs.Fits.{FitsRunning, FitsTurned, FitsCalling}
 use Rattle.world_nodes.specs.Nodes.{NodesView, IsAt, IsPlace, NodeCalls}
+use Rattle.step_endings.specs.Endings.{FitsGiven}
 use Rattle.step_endings.specs.Steps.{Working, IsStepped}
-use Rattle.step_endings.proofs.Endings.{at_again}
+use Rattle.step_endings.proofs.Endings.{at_again, one_node}
 use Rattle.cluster_core.proofs.FirstSteps.{found_at}
-use Rattle.cluster_core.proofs.Events.{took_ends, one_node}
+use Rattle.cluster_core.proofs.Events.{took_ends}
 
 -- the call of a running client on a declared file is a step
 call_is : (room : Room) (d : Doing) (node : Node) (running : Running) (state : ClientState) (c : Call) (number : ℕ) (location : Location) (asked : Op) → node.up ≡ Some running → running.core ≡ client state
@@ -47,12 +48,12 @@ module _ (was self : Working) (id : NodeId) (place : ℕ) (c : Call) (number : �
       ∙ call_is room was.doing found.0 made.0 made.1 c number location asked made.3.0 made.2 called file op))
       (took_ends T room was between new place found.0 made.0 (call_step (record { id = found.0.id; role = found.0.role; times = was.doing.world.times; up = found.0.up }) made.0.clock made.1 c number location asked) after turned r found.1 made.3 so ends))
 
-  pub call_fits : FitsCalling self.doing.world id c → (node : Node) → IsAt after.nodes place node → FitsTurned node.kept turned × IfSome node.up FitsRunning
+  pub call_fits : FitsCalling self.doing.world id c → (node : Node) → IsAt after.nodes place node → FitsGiven node turned × IfSome node.up FitsRunning
   call_fits fits node at =
       let fits_here : FitsCalling was.doing.world id c = subst (λ (x : Working). FitsCalling x.doing.world id c) (sym is) fits in
       let step : Step Core = call_step (record { id = found.0.id; role = found.0.role; times = was.doing.world.times; up = found.0.up }) made.0.clock made.1 c number location asked in
       let there : Node = record found.0 { up = Some (record made.0 { core = step.state }) } in
       let stands : IsAt after.nodes place there = subst (λ (v : NodesView). IsAt v.nodes place there) (sym made.3.2) (at_again was.doing.world.nodes place found.0 there found.1 refl) in
       let both = fits_here found.0 made.0 (found_at was.doing.world.nodes id place found.0 found.1 found.2) made.3.0 in
-      subst (λ (n : Node). FitsTurned n.kept turned × IfSome n.up FitsRunning) (one_node after.nodes place there node stands at)
-      (subst (FitsTurned found.0.kept) (sym made.3.1) (both.1 made.1 number location asked made.2 called file op), record { clock = both.0.clock; plan = both.0.plan })
+      subst (λ (n : Node). FitsGiven n turned × IfSome n.up FitsRunning) (one_node after.nodes place there node stands at)
+      ((subst (FitsTurned found.0.kept) (sym made.3.1) (both.1 made.1 number location asked made.2 called file op), tt), record { clock = both.0.clock; plan = both.0.plan })

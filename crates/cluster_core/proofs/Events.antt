@@ -1,5 +1,5 @@
 -- the steps that events and calls make
-use Rattle.std.proofs.Common.{◌≡◌, ℕ, ◌<◌, ◌^◌, Option, Some, None, Result, Ok, Err, List, [], ◌∷◌, ◌++◌, refl, ap, sym, ◌∙◌, subst}
+use Rattle.std.proofs.Common.{◌≡◌, ℕ, ◌<◌, ◌^◌, Option, Some, None, Result, Ok, Err, List, refl, ap, sym, ◌∙◌, subst}
 use Rattle.std.specs.Option.{IfSome}
 use Rattle.xt_base.specs.declared.ids.NodeId.{NodeId}
 use Rattle.xt_messages.specs.declared.message.Msg.{Msg}
@@ -8,15 +8,16 @@ use Rattle.xt_messages.specs.declared.event.Event.TheVariants as event
 use Rattle.cluster_runs.specs.declared.Sent.{Sent}
 use Rattle.cluster_runs.specs.Lines.{no_longer_pending, delivers}
 use Rattle.world_tables.specs.Limits.{IsSentAs}
-use Rattle.cluster_fits.specs.Fits.{FitsRunning, FitsTurned, FitsComing, FitsDelivery}
+use Rattle.cluster_fits.specs.Fits.{FitsRunning, FitsTurned, MayForget, FitsStep, FitsComing, FitsDelivery}
 use Rattle.xt_protocol.specs.declared.turned.Turned.{Turned}
 use Rattle.cluster_runs.specs.Steps.{Step}
 use Rattle.cluster_runs.specs.World.{Node, Running, Core, node_in, with_node}
-use Rattle.cluster_runs.specs.NodeSteps.{Room, Cause, Doing, core_step, end_of_step, event_at, event_comes}
+use Rattle.cluster_runs.specs.NodeSteps.{Room, Cause, Doing, one_more, core_step, end_of_step, event_at, event_comes}
 use Rattle.world_hull.specs.declared.errors.WorldErr.{WorldErr}
 use Rattle.world_nodes.specs.Nodes.{NodesView, IsAt, IsPlace, NodeTook, NodeHandles}
 use Rattle.step_endings.specs.Steps.{Working, Tells, IsStepped, cause_of}
-use Rattle.step_endings.proofs.Endings.{end_again, at_again}
+use Rattle.step_endings.specs.Endings.{FitsGiven}
+use Rattle.step_endings.proofs.Endings.{end_again, at_again, one_node}
 use Rattle.cluster_core.proofs.FirstSteps.{found_at}
 
 -- ---- an event
@@ -102,18 +103,12 @@ event_steps T room was self between new id happens place node after turned r is 
 
 -- ---- what is asked of an event
 
-pub one_node : (nodes : List Node) (place : ℕ) (a b : Node) → IsAt nodes place a → IsAt nodes place b → a ≡ b
-one_node nodes place a b one two = the_same a b (sym one.here ∙ two.here)
-  where
-    the_same : (x y : Node) → Some x ≡ Some y → x ≡ y
-    the_same x y e = cc
-
 module _ (was self : Working) (id : NodeId) (happens : Event) (place : ℕ) (is : was ≡ self) (fits : FitsComing self.doing.world id happens) (found : IsPlace was.doing.world.nodes id (Some place)) where
   fits_here : FitsComing was.doing.world id happens
   fits_here = subst (λ (x : Working). FitsComing x.doing.world id happens) (sym is) fits
 
   its_step : (node : Node) (running : Running) → IsAt was.doing.world.nodes place node → node.up ≡ Some running
-      → FitsRunning running × FitsTurned node.kept (core_step was.doing.world.times node running.core running.clock happens).turned
+      → FitsRunning running × FitsStep node.kept (core_step was.doing.world.times node running.core running.clock happens)
   its_step node running at up =
       fits_here.step node running
       (found_at was.doing.world.nodes id place node at (ap (λ (n : Node). n.id) (one_node was.doing.world.nodes place node found.0 at found.1) ∙ found.2)) up
@@ -126,15 +121,17 @@ module _ (was self : Working) (id : NodeId) (happens : Event) (place : ℕ) (is 
       ways (Some r) e = (its_step node r at e).0.clock
 
   pub end_fits : (after : NodesView) (turned : Turned) → NodeHandles happens (record { times = was.doing.world.times; nodes = was.doing.world.nodes }) found.0 after (Some turned)
-      → (node : Node) → IsAt after.nodes place node → FitsTurned node.kept turned × IfSome node.up FitsRunning
+      → (node : Node) → IsAt after.nodes place node → FitsGiven node turned × IfSome node.up FitsRunning
   end_fits after turned handles node at =
       let running : Running = handles.0 in
       let step : Step Core = core_step was.doing.world.times found.0 running.core running.clock happens in
       let there : Node = record found.0 { up = Some (record running { core = step.state }) } in
       let stands : IsAt after.nodes place there = subst (λ (v : NodesView). IsAt v.nodes place there) (sym handles.1.2) (at_again was.doing.world.nodes place found.0 there found.1 refl) in
       let both = its_step found.0 running found.1 handles.1.0 in
-      subst (λ (n : Node). FitsTurned n.kept turned × IfSome n.up FitsRunning) (one_node after.nodes place there node stands at)
-      (subst (FitsTurned found.0.kept) (sym handles.1.1) both.1, record { clock = both.0.clock; plan = both.0.plan })
+      subst (λ (n : Node). FitsGiven n turned × IfSome n.up FitsRunning) (one_node after.nodes place there node stands at) (
+        subst (λ (t : Turned). FitsTurned found.0.kept t × MayForget (one_more found.0.kept t.rec) step.state) (sym handles.1.1) (both.1.turned, both.1.forgetting),
+        record { clock = both.0.clock; plan = both.0.plan },
+      )
 
 -- ---- deliveries
 

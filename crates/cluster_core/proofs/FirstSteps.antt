@@ -164,29 +164,29 @@ few d node es room = at (nat_lt (length d.world.nodes) NODES) (less (length d.wo
 
 pub osd_refused : (room : Room) (d : Doing) (id : NodeId) → NODES ≤ length d.world.nodes → cause_of (first_step room d (line.Osd id)) ≡ Some (came_to limited.Nodes)
 unfolding first_step
-osd_refused room d id full = ap cause_of (many d (record { id = id; role = role.Osd; kept = []; up = None }) [] full)
+osd_refused room d id full = ap cause_of (many d (record { id = id; role = role.Osd; kept = []; past = []; up = None }) [] full)
 
 pub osd_declared : (room : Room) (d : Doing) (id : NodeId) (after : NodesView) → length d.world.nodes < NODES
-    → after ≡ record { times = d.world.times; nodes = d.world.nodes ++ record { id = id; role = role.Osd; kept = []; up = None } ∷ [] }
+    → after ≡ record { times = d.world.times; nodes = d.world.nodes ++ record { id = id; role = role.Osd; kept = []; past = []; up = None } ∷ [] }
     → first_step room d (line.Osd id) ≡ Ok (record d { world = record d.world { times = after.times; nodes = after.nodes } })
 unfolding first_step
 osd_declared room d id after some is =
-    few d (record { id = id; role = role.Osd; kept = []; up = None }) [] some
-    ∙ ap (λ (es : List Entry). Ok (record d { world = record d.world { nodes = d.world.nodes ++ record { id = id; role = role.Osd; kept = []; up = None } ∷ []; entries = es } })) (append-nil d.world.entries)
+    few d (record { id = id; role = role.Osd; kept = []; past = []; up = None }) [] some
+    ∙ ap (λ (es : List Entry). Ok (record d { world = record d.world { nodes = d.world.nodes ++ record { id = id; role = role.Osd; kept = []; past = []; up = None } ∷ []; entries = es } })) (append-nil d.world.entries)
     ∙ ap (λ (v : NodesView). Ok (record d { world = record d.world { times = v.times; nodes = v.nodes } })) (sym is)
 
 pub client_refused : (room : Room) (d : Doing) (id : NodeId) (clock : ℕ) → NODES ≤ length d.world.nodes → cause_of (first_step room d (line.Client id clock)) ≡ Some (came_to limited.Nodes)
 unfolding first_step
 client_refused room d id clock full =
-    ap cause_of (many d (record { id = id; role = role.Client; kept = []; up = Some (runs first_boot clock (client (new_client clock))) }) (entry.Up id first_boot clock ∷ []) full)
+    ap cause_of (many d (record { id = id; role = role.Client; kept = []; past = []; up = Some (runs first_boot clock (client (new_client clock))) }) (entry.Up id first_boot clock ∷ []) full)
 
 pub client_declared : (room : Room) (d : Doing) (id : NodeId) (clock : ℕ) (after : NodesView) (es : List Entry) → length d.world.nodes < NODES
-    → after ≡ record { times = d.world.times; nodes = d.world.nodes ++ record { id = id; role = role.Client; kept = []; up = Some (runs first_boot clock (client (new_client clock))) } ∷ [] }
+    → after ≡ record { times = d.world.times; nodes = d.world.nodes ++ record { id = id; role = role.Client; kept = []; past = []; up = Some (runs first_boot clock (client (new_client clock))) } ∷ [] }
     → es ≡ d.world.entries ++ entry.Up id first_boot clock ∷ []
     → first_step room d (line.Client id clock) ≡ Ok (record d { world = record d.world { times = after.times; nodes = after.nodes; entries = es } })
 unfolding first_step
 client_declared room d id clock after es some is told =
-    few d (record { id = id; role = role.Client; kept = []; up = Some (runs first_boot clock (client (new_client clock))) }) (entry.Up id first_boot clock ∷ []) some
+    few d (record { id = id; role = role.Client; kept = []; past = []; up = Some (runs first_boot clock (client (new_client clock))) }) (entry.Up id first_boot clock ∷ []) some
     ∙ ap (λ (v : NodesView). Ok (record d { world = record d.world { times = v.times; nodes = v.nodes; entries = d.world.entries ++ entry.Up id first_boot clock ∷ [] } })) (sym is)
     ∙ ap (λ (xs : List Entry). Ok (record d { world = record d.world { times = after.times; nodes = after.nodes; entries = xs } })) (sym told)
 

@@ -1,9 +1,8 @@
 -- an OSD starts
-use Rattle.std.proofs.Common.{◌≡◌, ℕ, Bool, true, false, cond, Option, Some, None, Result, Ok, Err, List, [], ◌∷◌, ◌++◌, refl, ap, sym, ◌∙◌, subst}
+use Rattle.std.proofs.Common.{◌≡◌, ℕ, Bool, true, false, cond, Option, Some, None, Result, Ok, Err, List, [], ◌∷◌, ◌++◌, refl, ap, sym, ◌∙◌, subst, append_assoc}
 use Rattle.std.specs.Prelude.{nat_lt}
 use Rattle.xt_base.specs.declared.ids.NodeId.{NodeId}
 use Rattle.xt_base.specs.declared.ids.Boot.{Boot}
-use Rattle.xt_messages.specs.declared.record.Record.{Record}
 use Rattle.xt_messages.specs.declared.record.Record.TheVariants as kept
 use Rattle.xt_messages.specs.declared.record.Folded.{Folded}
 use Rattle.xt_messages.specs.declared.status.Limited.TheVariants as limited
@@ -12,7 +11,7 @@ use Rattle.xt_protocol.specs.Folds.{fold_of}
 use Rattle.time_line.specs.declared.line.Line.TheVariants as line
 use Rattle.time_line.specs.declared.entry.Entry.{Entry}
 use Rattle.time_line.specs.declared.entry.Entry.TheVariants as entry
-use Rattle.cluster_runs.specs.World.{Node, Running, osd, node_in, with_node}
+use Rattle.cluster_runs.specs.World.{Node, Deed, loads, puts, osd, node_in, with_node}
 use Rattle.cluster_runs.specs.NodeSteps.{Room, Overflow, Cause, came_to, has_no_room, Doing}
 use Rattle.cluster_runs.specs.Lines.{does, tells, next_boot, osd_starting, starts_as, starts, first_step}
 use Rattle.cluster_runs.specs.Lines as lines
@@ -21,7 +20,7 @@ use Rattle.world_hull.specs.Appends.{kept_by}
 use Rattle.world_hull.specs.declared.hull.Kept.{Kept}
 use Rattle.world_hull.specs.declared.errors.WorldErr.{WorldErr}
 use Rattle.world_hull.specs.declared.errors.WorldErr.TheVariants as error
-use Rattle.world_nodes.specs.Nodes.{NodesView, IsAt, IsPlace, Changes, kept_when}
+use Rattle.world_nodes.specs.Nodes.{NodesView, IsAt, IsPlace, Changes, after_append, after_load}
 use Rattle.step_endings.specs.Steps.{Tells, cause_of}
 use Rattle.cluster_core.specs.Boots.{boot_behind}
 use Rattle.step_endings.proofs.Endings.{twice, at_again}
@@ -40,7 +39,7 @@ module _ (told : Room) (d : Doing) (id : NodeId) (clock place : ℕ) (is : IsPla
   by_room boot o = elim o [ Some overflow ↦ Err (has_no_room overflow) | None ↦ does d (starts_as d.world is.0 boot clock) ]
 
   abbrev by_boot : Bool → Result Doing Cause
-  by_boot b = cond b (by_room (next_boot is.0.kept) (told is.0.kept (kept.Boot (next_boot is.0.kept)))) (Err (came_to limited.Boots))
+  by_boot b = cond b (by_room (next_boot is.0.kept) (told.overflow (is.0.past ++ loads ∷ []) (kept.Boot (next_boot is.0.kept)))) (Err (came_to limited.Boots))
 
   here : first_step told d (line.Start id clock) ≡ by_boot (nat_lt (next_boot is.0.kept).0 COUNTS)
   unfolding first_step
@@ -55,18 +54,18 @@ module _ (told : Room) (d : Doing) (id : NodeId) (clock place : ℕ) (is : IsPla
       at false e = refl
 
   -- this is the next one
-  starts_is : (boot : Boot) → boot_behind (fold_of is.0.kept).boot ≡ Some boot → first_step told d (line.Start id clock) ≡ by_room boot (told is.0.kept (kept.Boot boot))
+  starts_is : (boot : Boot) → boot_behind (fold_of is.0.kept).boot ≡ Some boot → first_step told d (line.Start id clock) ≡ by_room boot (told.overflow (is.0.past ++ loads ∷ []) (kept.Boot boot))
   starts_is boot some = here ∙ at (nat_lt (next_boot is.0.kept).0 COUNTS) some
     where
       the_same : (a b : Boot) → Some a ≡ Some b → a ≡ b
       the_same a b e = cc
 
-      at : (b : Bool) → cond b (Some (next_boot is.0.kept)) None ≡ Some boot → by_boot b ≡ by_room boot (told is.0.kept (kept.Boot boot))
-      at true e = ap (λ (x : Boot). by_room x (told is.0.kept (kept.Boot x))) (the_same (next_boot is.0.kept) boot e)
+      at : (b : Bool) → cond b (Some (next_boot is.0.kept)) None ≡ Some boot → by_boot b ≡ by_room boot (told.overflow (is.0.past ++ loads ∷ []) (kept.Boot boot))
+      at true e = ap (λ (x : Boot). by_room x (told.overflow (is.0.past ++ loads ∷ []) (kept.Boot x))) (the_same (next_boot is.0.kept) boot e)
       at false e = absurd (cc)
 
   -- its record has no room
-  pub start_full : (T : Type 0) (boot : Boot) (e : WorldErr) → boot_behind (fold_of is.0.kept).boot ≡ Some boot → IsFullOrMemory e → IsFullExactly {T = T} (told is.0.kept (kept.Boot boot)) (Err e)
+  pub start_full : (T : Type 0) (boot : Boot) (e : WorldErr) → boot_behind (fold_of is.0.kept).boot ≡ Some boot → IsFullOrMemory e → IsFullExactly {T = T} (told.overflow (is.0.past ++ loads ∷ []) (kept.Boot boot)) (Err e)
       → Tells (cause_of (first_step told d (line.Start id clock))) e
   start_full T boot (error.Illegal rule) some may full = may
   start_full T boot (error.Limit what limit) some may full = absurd (may)
@@ -74,28 +73,45 @@ module _ (told : Room) (d : Doing) (id : NodeId) (clock place : ℕ) (is : IsPla
       ap cause_of (starts_is boot some) ∙ ap (λ (o : Option Overflow). cause_of (by_room boot o)) full
   start_full T boot error.OutOfMemory some may full = tt
 
+  -- the node as it started from its loaded records, before its start is put
+  abbrev pub started_from : Boot → Node
+  started_from boot = record (after_load is.0) { up = Some (lines.runs boot clock (osd (osd_starting d.world.times is.0 boot clock))) }
+
+  abbrev pub started_in : Boot → NodesView
+  started_in boot = record { times = d.world.times; nodes = with_node d.world.nodes (started_from boot) }
+
+  -- where its records were loaded
+  pub loaded_at : (loaded : NodesView) → Changes (record { times = d.world.times; nodes = d.world.nodes }) place after_load loaded → IsAt loaded.nodes place (after_load is.0)
+  loaded_at loaded changes =
+      subst (λ (v : NodesView). IsAt v.nodes place (after_load is.0)) (sym (changes is.0 is.1)) (at_again d.world.nodes place is.0 (after_load is.0) is.1 refl)
+
+  -- its records were loaded, and it started
+  pub started_is : (boot : Boot) (folded : Folded) (loaded between : NodesView) → Changes (record { times = d.world.times; nodes = d.world.nodes }) place after_load loaded
+      → ((node : Node) → IsAt loaded.nodes place node → folded ≡ fold_of node.kept
+      → between ≡ record loaded { nodes = with_node loaded.nodes (record node { up = Some (lines.runs boot clock (osd (osd_starting loaded.times node boot clock))) }) })
+      → folded ≡ fold_of is.0.kept → between ≡ started_in boot
+  started_is boot folded loaded between changes started said =
+      started (after_load is.0) (loaded_at loaded changes) said
+      ∙ ap (λ (v : NodesView). record v { nodes = with_node v.nodes (record (after_load is.0) { up = Some (lines.runs boot clock (osd (osd_starting v.times (after_load is.0) boot clock))) }) }) (changes is.0 is.1)
+      ∙ ap (λ (ns : List Node). record { times = d.world.times; nodes = ns }) (twice d.world.nodes (after_load is.0) (started_from boot) refl)
+
   -- the node stands there, as it started
-  pub started_at : (boot : Boot) (between : NodesView)
-      → between ≡ record { times = d.world.times; nodes = with_node d.world.nodes (record is.0 { up = Some (lines.runs boot clock (osd (osd_starting d.world.times is.0 boot clock))) }) }
-      → IsAt between.nodes place (record is.0 { up = Some (lines.runs boot clock (osd (osd_starting d.world.times is.0 boot clock))) })
-  started_at boot between was =
-      let there : Node = record is.0 { up = Some (lines.runs boot clock (osd (osd_starting d.world.times is.0 boot clock))) } in
-      subst (λ (v : NodesView). IsAt v.nodes place there) (sym was) (at_again d.world.nodes place is.0 there is.1 refl)
+  pub started_at : (boot : Boot) (between : NodesView) → between ≡ started_in boot → IsAt between.nodes place (started_from boot)
+  started_at boot between was = subst (λ (v : NodesView). IsAt v.nodes place (started_from boot)) (sym was) (at_again d.world.nodes place is.0 (started_from boot) is.1 refl)
 
   -- it has started
-  pub start_done : (boot : Boot) (between after : NodesView) (end : Kept) (es : List Entry) → boot_behind (fold_of is.0.kept).boot ≡ Some boot → told is.0.kept (kept.Boot boot) ≡ None
-      → between ≡ record { times = d.world.times; nodes = with_node d.world.nodes (record is.0 { up = Some (lines.runs boot clock (osd (osd_starting d.world.times is.0 boot clock))) }) }
-      → end ≡ kept_by None → Changes between place (λ node. record node { kept = kept_when node.kept (kept.Boot boot) end }) after
+  pub start_done : (boot : Boot) (between after : NodesView) (end : Kept) (es : List Entry) → boot_behind (fold_of is.0.kept).boot ≡ Some boot
+      → told.overflow (is.0.past ++ loads ∷ []) (kept.Boot boot) ≡ None → between ≡ started_in boot
+      → end ≡ kept_by None → Changes between place (after_append (kept.Boot boot) end) after
       → es ≡ d.world.entries ++ entry.Up id boot clock ∷ []
       → first_step told d (line.Start id clock) ≡ Ok (record d { world = record d.world { times = after.times; nodes = after.nodes; entries = es } })
   start_done boot between after end es some fits was is_end changes said =
-      let up : Running = lines.runs boot clock (osd (osd_starting d.world.times is.0 boot clock)) in
-      let there : Node = record is.0 { up = Some up } in
-      let at : IsAt between.nodes place there = subst (λ (v : NodesView). IsAt v.nodes place there) (sym was) (at_again d.world.nodes place is.0 there is.1 refl) in
-      let next : Node = record is.0 { kept = is.0.kept ++ kept.Boot boot ∷ []; up = Some up } in
+      let there : Node = started_from boot in
+      let next : Node = record there { kept = is.0.kept ++ kept.Boot boot ∷ []; past = is.0.past ++ loads ∷ puts (kept.Boot boot) ∷ [] } in
       let its : after ≡ record { times = d.world.times; nodes = with_node d.world.nodes next } =
-      changes there at
-      ∙ ap (λ (k : Kept). record between { nodes = with_node between.nodes (record there { kept = kept_when is.0.kept (kept.Boot boot) k }) }) is_end
+      changes there (started_at boot between was)
+      ∙ ap (λ (k : Kept). record between { nodes = with_node between.nodes (after_append (kept.Boot boot) k there) }) is_end
+      ∙ ap (λ (ds : List Deed). record between { nodes = with_node between.nodes (record next { past = ds }) }) (append_assoc is.0.past (loads ∷ []) (puts (kept.Boot boot) ∷ []))
       ∙ ap (λ (v : NodesView). record v { nodes = with_node v.nodes next }) was
       ∙ ap (λ (ns : List Node). record { times = d.world.times; nodes = ns }) (twice d.world.nodes there next refl) in
       starts_is boot some

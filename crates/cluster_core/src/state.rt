@@ -63,7 +63,8 @@ impl<C: NodeCore, H: Hull> Model for State<C, H> {
 impl<C: NodeCore, H: Hull> State<C, H> {
     /// The world before the first line, over a hull that keeps no record.
     pub fn new(alloc: Global, hull: H) -> State<C, H>
-        requires { H.kept hull ≡ λ _. [] }
+        requires kept { H.kept hull ≡ λ _. [] }
+        requires past { H.past hull ≡ λ _. [] }
         ensures { result ≡ resting start_world }
     {
         State {

@@ -25,13 +25,14 @@ impl<C: NodeCore, H: Hull> Model for World<C, H> {
     ghost view = { λ w. record { world = w.state.doing.world; ended = w.state.ended } };
 
     ghost invariant = { λ w.
-        IsRunSoFar H.overflow (record { world = w.state.doing.world; ended = w.state.ended }) };
+        IsRunSoFar H.room (record { world = w.state.doing.world; ended = w.state.ended }) };
 }
 
 impl<C: NodeCore, H: Hull> World<C, H> {
     /// The world before the first line, over a hull that keeps no record.
     pub fn new(alloc: Global, hull: H) -> World<C, H>
-        requires { H.kept hull ≡ λ _. [] }
+        requires kept { H.kept hull ≡ λ _. [] }
+        requires past { H.past hull ≡ λ _. [] }
         ensures { result ≡ record { world = start_world; ended = false } }
     {
         World {
@@ -54,12 +55,12 @@ impl<C: NodeCore, H: Hull> World<C, H> {
     }
 
     /// Takes a line. `Illegal` comes exactly where it breaks a rule, and the world is unchanged; `Full` and `Limit` exactly
-    /// where it ends by that cause. Behind each error but `Illegal` the world takes no line again, and only its entries and
+    /// where it ends by that cause. After each error but `Illegal` the world takes no line again, and only its entries and
     /// lines are to be used: they are those of the steps that the line had finished.
     pub fn apply(&mut self, line: &Line) -> Result<(), WorldErr>
         requires going { self.old.ended ≡ false }
         requires values { AreLines (self.old.world.lines ++ line.now ∷ []) }
-        ensures { IsApplied H.overflow self.old line.now self.new result }
+        ensures { IsApplied H.room self.old line.now self.new result }
     {
         if let Some(rule) = self.state.refusal(line) {
             return Err(WorldErr::Illegal { rule });

@@ -1,1 +1,3 @@
+mod Endings
 mod Hulls
+pub mod Views

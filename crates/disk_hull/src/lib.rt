@@ -7,5 +7,6 @@
 
 mod carrying;
 mod disk_hull;
+mod stored_node;
 
 pub use disk_hull::DiskHull;

@@ -4,7 +4,7 @@
 //! what a crash leaves of its disk, and nothing that was kept beside it.
 #![tactic(auto)]
 
-ghost use Rattle.std.specs.Prelude.{◌≡◌, IfOk, IfErr};
+ghost use Rattle.std.specs.Prelude.{◌≡◌, IfOk, IfErr, OnErr};
 ghost use Rattle.xt_messages.specs.Limits.{FitsRecord};
 ghost use Rattle.xt_protocol.specs.Folds.{IsInPlace, fold_of};
 ghost use Rattle.world_hull.specs.Answers.{IsFullOrMemory, IsFullExactly};
@@ -41,12 +41,14 @@ pub fn appended(
     }
 }
 
-/// The node starts again from what a crash leaves of its disk. Gives the records that it finds there.
+/// The node starts again from what a crash leaves of its disk. Gives the records that it finds there. Where memory runs out,
+/// its records and its disk are as before.
 pub fn read_again(alloc: Global, store: &mut NodeStore) -> Result<Vec<Record>, WorldErr>
     ensures same { store.new.records ≡ store.old.records }
     ensures found { IfOk result (λ found. found.items ≡ store.old.records) }
     ensures read { IfOk result (λ found. IsReadAgain store.old.disk store.new.disk found.items) }
     ensures error { IfErr result (λ error. error ≡ WorldErr.OutOfMemory) }
+    ensures failed { OnErr result (store.new ≡ store.old) }
 {
     let again = store.reloaded(alloc)?;
     let found = again.copies(alloc)?;

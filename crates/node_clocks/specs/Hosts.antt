@@ -1,15 +1,14 @@
 -- lists of nodes as code has them
 use Rattle.std.specs.Prelude.{ℕ, ◌≡◌, ◌+◌, ◌<◌, List, map, slice_index_or, slice_set}
 use Rattle.std.specs.Option.{option_map, IfSome}
-use Rattle.xt_messages.specs.declared.record.Record.{Record}
 use Rattle.xt_base.specs.declared.TheConstants.{COUNTS}
 use Rattle.cluster_runs.specs.World.{Node}
 use Rattle.cluster_runs.specs.Lines.{reads_clock}
-use Rattle.node_hosts.specs.Hosts.{HostView, node_of}
+use Rattle.node_hosts.specs.Hosts.{HostView, Stored, node_of}
 
--- the nodes, with the records that are kept for them
-abbrev pub nodes_of : (ℕ → List Record) → List HostView → List Node
-nodes_of kept hosts = map (λ h. node_of (kept h.id.0) h) hosts
+-- the nodes, with what is stored for them
+abbrev pub nodes_of : (ℕ → Stored) → List HostView → List Node
+nodes_of stored hosts = map (λ h. node_of (stored h.id.0) h) hosts
 
 -- no running clock would reach the end behind so many milliseconds
 abbrev pub MayTick : ℕ → HostView → Type 0

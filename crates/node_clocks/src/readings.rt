@@ -1,6 +1,6 @@
 //! The clocks of running nodes, as the rules on them see them.
-ghost use Rattle.std.specs.Prelude.{◌≡◌, ℕ, List};
-ghost use Rattle.xt_messages.specs.declared.record.Record.{Record};
+ghost use Rattle.std.specs.Prelude.{◌≡◌, ℕ};
+ghost use Rattle.node_hosts.specs.Hosts.{Stored};
 ghost use Rattle.cluster_runs.specs.Rules.{are_apart, least_where, lesser, reading_where};
 ghost use Rattle.node_clocks.specs.Hosts.{nodes_of};
 ghost use Rattle.node_clocks.specs.Clocks.{reading_of, test_of};
@@ -80,8 +80,8 @@ fn reading_where<C: NodeCore>(host: &Host<C>, test: &ClockTest) -> Option<Readin
 /// The clock of the least running node of which the test holds.
 #[tactic(auto, unfolding(cluster_runs::specs::Rules::least_where))]
 pub fn least_where<C: NodeCore>(hosts: &[Host<C>], test: &ClockTest) -> Option<Reading>
-    ensures { (kept : ℕ → List Record) →
-        reading_of result ≡ least_where (test_of test.now) (nodes_of kept hosts.now) }
+    ensures { (stored : ℕ → Stored) →
+        reading_of result ≡ least_where (test_of test.now) (nodes_of stored hosts.now) }
 {
     let (first, rest) = hosts.split_first()?;
     lesser(reading_where(first, test), least_where(rest, test))

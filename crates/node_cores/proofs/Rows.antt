@@ -12,7 +12,7 @@ use Rattle.xt_messages.specs.declared.record.Record.TheVariants as kept
 use Rattle.xt_protocol.specs.FileIds.{is_file, is_before}
 use Rattle.xt_protocol.specs.Heads.{new_head, head_after}
 use Rattle.xt_protocol.specs.Folds.{row_in, with_row, new_row, row_after, file_of, rows_after, folded_after, nothing_kept, fold_of, IsInPlace, AreInPlace}
-use Rattle.replica_records.proofs.FileRows.{rise-with_row}
+use Rattle.xt_protocol.proofs.FileRows.{rise-with_row}
 use Rattle.osd_files.specs.Whole.{RowRises}
 use Rattle.osd_core.specs.Slots.{AreRows}
 use Rattle.cluster_fits.specs.Fits.{FitsKept}

@@ -7,7 +7,7 @@ use Rattle.xt_protocol.specs.OsdSteps.{step_of_osd}
 use Rattle.osd_core.specs.Views.{OsdView}
 use Rattle.osd_core.specs.Keys.{outside_of}
 use Rattle.cluster_runs.specs.NodeSteps.{core_step, osd_steps}
-use Rattle.node_hosts.specs.Hosts.{HostView, node_of}
+use Rattle.node_hosts.specs.Hosts.{HostView, node_with}
 use Rattle.node_hosts.specs.Turns.{IsCoreStep}
 use Rattle.node_cores.specs.declared.roles.Core.TheVariants as core
 use Rattle.node_cores.specs.Cores.{core_of, IsOf}
@@ -15,7 +15,7 @@ use Rattle.node_cores.specs.Cores.{core_of, IsOf}
 -- an OSD's step
 pub osd_took : (kept : List Record) (old new : OsdView) (clock : ℕ) (happens : Event) (turned : Turned)
     → step_of_osd (outside_of old.key kept) old.state clock happens ≡ record { osd = new.state; turned = turned } → new.key ≡ old.key
-    → IsCoreStep core_of IsOf (λ (host : HostView). core_step host.times (node_of kept host) (core_of (core.Osd old)) clock happens) (core.Osd old) (core.Osd new) turned
+    → IsCoreStep core_of IsOf (λ (host : HostView). core_step host.times (node_with kept host) (core_of (core.Osd old)) clock happens) (core.Osd old) (core.Osd new) turned
 osd_took kept old new clock happens turned is same = λ host own. (
   ap osd_steps (ap (λ (key : Option (List ℕ)). step_of_osd (outside_of key kept) old.state clock happens) (sym own) ∙ is),
   same ∙ own,

@@ -9,7 +9,7 @@ use osd_core::Osd;
 use replica_client::ReplicaClient;
 use std::alloc::{AllocError, Global};
 use xt_base::{Boot, NodeId, OutOfMemory, Times};
-use xt_messages::{Call, Event, Folded, Location, Op};
+use xt_messages::{Call, Event, Folded, Keep, Location, Op};
 use xt_protocol::Turned;
 
 /// The code of a running node, by its role.
@@ -103,6 +103,20 @@ impl NodeCore for Core {
         match self {
             Core::Osd(_) => Ok(()),
             Core::Client(client) => client.aim(&declared_file(number), node),
+        }
+    }
+
+    fn keep(&self) -> Result<Option<Keep>, OutOfMemory> {
+        match self {
+            Core::Osd(osd) => Ok(Some(osd.keep()?)),
+            Core::Client(_) => Ok(None),
+        }
+    }
+
+    fn forget(&mut self, keep: &Keep) {
+        match self {
+            Core::Osd(osd) => osd.forget(keep),
+            Core::Client(_) => {}
         }
     }
 

@@ -17,6 +17,7 @@ ghost use Rattle.world_hull.specs.Appends.{kept_by};
 ghost use Rattle.node_disks.specs.Disks.{AreOn, HasRecords, IsToStop};
 ghost use Rattle.node_disks.specs.Ends.{own_after, IsLoadedWith, IsStartedFrom, IsReadAgain, IsLeftBy, IsReadAfter};
 ghost use Rattle.node_disks.specs.Room.{journal_overflow};
+ghost use Rattle.node_disks.specs.Stored.{none_stored};
 
 use crate::JOURNAL;
 use disk_model::{MemoryDisk, Stop};
@@ -144,9 +145,10 @@ fn left_by_stop(
 }
 
 impl NodeStore {
-    /// No record, on a new disk.
+    /// No record, on a new disk: as after a start from a disk without a byte.
     pub fn new(alloc: Global) -> Result<NodeStore, OutOfMemory>
-        ensures { IfOk result (λ node. node.records ≡ []) }
+        ensures none { IfOk result (λ node. node.records ≡ []) }
+        ensures read { IfOk result (λ node. IsReadAgain none_stored.disk node.disk []) }
     {
         restarted(alloc, Octets::new(alloc))
     }

@@ -1,3 +1,4 @@
 pub mod Hosts
 pub mod Cores
 pub mod Turns
+pub mod Forgetting

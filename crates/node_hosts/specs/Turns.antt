@@ -15,7 +15,7 @@ use Rattle.cluster_runs.specs.World.{Running, Core, osd, client}
 use Rattle.cluster_runs.specs.NodeSteps.{core_step, client_steps}
 use Rattle.cluster_runs.specs.Lines.{declared_capability, declared_file, epoch_of, uses}
 use Rattle.node_hosts.specs.declared.running.Moment.{Moment}
-use Rattle.node_hosts.specs.Hosts.{HostView, node_of}
+use Rattle.node_hosts.specs.Hosts.{HostView, node_with}
 
 -- the step of a client's call on a declared file, at its clock
 abbrev pub call_step : HostView → ℕ → ClientState → Call → ℕ → Location → Op → Step Core
@@ -57,7 +57,7 @@ Took old running step new turned =
 abbrev pub Handles : List Record → Event → HostView → HostView → Option Turned → Type 0
 Handles kept happens old new None = (old.up ≡ None) × (new ≡ old)
 Handles kept happens old new (Some turned) =
-    (running : Running) × Took old running (core_step old.times (node_of kept old) running.core running.clock happens) new turned
+    (running : Running) × Took old running (core_step old.times (node_with kept old) running.core running.clock happens) new turned
 
 -- A client made a call on a declared file; an OSD, and a node that doesn't run, made none.
 abbrev pub Calls : Call → ℕ → Location → Op → HostView → HostView → Option Turned → Type 0

@@ -1,4 +1,4 @@
-ghost use Rattle.std.specs.Prelude.{◌≡◌, ◌+◌, ◌<◌, ◌^◌, Option, Some, None, IfOk, IfSome, OnOk, OnErr, []};
+ghost use Rattle.std.specs.Prelude.{◌≡◌, ◌+◌, ◌<◌, ◌^◌, Option, Some, None, IfOk, IfSome, OnOk, OnErr};
 ghost use Rattle.std.specs.Option.{option_map};
 ghost use Rattle.cluster_runs.specs.World.{client, is_client, is_osd, osd};
 ghost use Rattle.cluster_runs.specs.Rules.{has_call};
@@ -7,7 +7,8 @@ ghost use Rattle.cluster_runs.specs.Lines.{runs, first_boot, crashes, cuts, read
 ghost use Rattle.xt_protocol.specs.OsdSteps.{osd_from};
 ghost use Rattle.xt_messages.specs.Limits.{FitsEvent};
 ghost use Rattle.node_hosts.specs.Cores.{IsSaid};
-ghost use Rattle.node_hosts.specs.Hosts.{host_ticked, node_of};
+ghost use Rattle.node_hosts.specs.Hosts.{host_ticked, node_of, nothing_stored};
+ghost use Rattle.node_hosts.specs.Forgetting.{needed_by, running_without};
 ghost use Rattle.node_hosts.specs.Turns.{Handles, Calls, moment_of};
 
 use crate::node_core::NodeCore;
@@ -18,10 +19,10 @@ use object_versions::Bodies;
 use std::alloc::Global;
 use std::marker::Model;
 use xt_base::{Boot, NodeId, OutOfMemory, Times};
-use xt_messages::{Call, Event, Folded, Location, Op};
+use xt_messages::{Call, Event, Folded, Keep, Location, Op};
 use xt_protocol::Turned;
 
-/// A declared node without its records. Contracts see its id, its role, its times and how it runs.
+/// A declared node without what is stored for it. Contracts see its id, its role, its times and how it runs.
 pub struct Host<C: NodeCore> {
     id: NodeId,
     role: Role,
@@ -108,13 +109,13 @@ impl<C: NodeCore> Host<C> {
     }
 
     pub fn is_osd(&self) -> bool
-        ensures { result ≡ is_osd (Some (node_of [] self.now)) }
+        ensures { result ≡ is_osd (Some (node_of nothing_stored self.now)) }
     {
         self.role == Role::Osd
     }
 
     pub fn is_client(&self) -> bool
-        ensures { result ≡ is_client (Some (node_of [] self.now)) }
+        ensures { result ≡ is_client (Some (node_of nothing_stored self.now)) }
     {
         self.role == Role::Client
     }
@@ -254,6 +255,27 @@ impl<C: NodeCore> Host<C> {
                 drop(self.up.take());
                 Err(error)
             }
+        }
+    }
+
+    /// The held bodies that it needs; None where no OSD runs.
+    pub fn keep(&self) -> Result<Option<Keep>, OutOfMemory>
+        ensures { IfOk result (λ keep. keep ≡ needed_by self.now.up) }
+    {
+        match &self.up {
+            None => Ok(None),
+            Some(running) => running.core.keep(),
+        }
+    }
+
+    /// A running OSD forgets the held bodies that aren't among these, which are all that it needs.
+    pub fn forget(&mut self, keep: &Keep)
+        requires { needed_by self.old.up ≡ Some keep.now }
+        ensures { self.new ≡
+            record self.old { up = option_map (running_without keep.now) self.old.up } }
+    {
+        if let Some(running) = &mut self.up {
+            running.core.forget(keep);
         }
     }
 

@@ -1,8 +1,9 @@
-//! A declared node of a world, without its records: its clock, what is planned for it, and the core that runs there.
+//! A declared node of a world, without what is stored for it: its clock, what is planned for it, and the core that runs there.
 //!
 //! A `NodeCore` is the code of an OSD or of a client: its steps equal those of `cluster_runs`. Over any core, `Host::handle` equals
 //! `core_step` on an event, and `Host::call` the step of a client's call. Both take the node's bodies at most, and nothing that
-//! appends or sends: what comes of a step is in their hands who hold the world. Behind want of memory a node isn't to be used again.
+//! appends or sends: what comes of a step is in their hands who hold the world. `Host::keep` gives the held bodies that an OSD needs, and
+//! `Host::forget` lets the others go. After want of memory a node isn't to be used again.
 #![tactic(auto)]
 
 mod bodies;

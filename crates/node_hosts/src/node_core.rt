@@ -1,4 +1,4 @@
-ghost use Rattle.std.specs.Prelude.{◌≡◌, ◌<◌, ◌^◌, IfOk, OnOk};
+ghost use Rattle.std.specs.Prelude.{◌≡◌, ◌<◌, ◌^◌, Some, IfOk, OnOk};
 ghost use Rattle.xt_base.specs.TimeSettings.{TimeSettings};
 ghost use Rattle.xt_base.specs.declared.ids.NodeId.{NodeId};
 ghost use Rattle.xt_protocol.specs.OsdSteps.{osd_from};
@@ -7,14 +7,15 @@ ghost use Rattle.cluster_runs.specs.Clients.{new_client};
 ghost use Rattle.cluster_runs.specs.NodeSteps.{core_step};
 ghost use Rattle.cluster_runs.specs.Lines.{aims_at};
 ghost use Rattle.xt_messages.specs.Limits.{FitsEvent};
-ghost use Rattle.node_hosts.specs.Hosts.{node_of};
+ghost use Rattle.node_hosts.specs.Hosts.{node_with};
 ghost use Rattle.node_hosts.specs.Cores.{IsCoreChanged, IsSaid};
+ghost use Rattle.node_hosts.specs.Forgetting.{needed_at, forgets};
 ghost use Rattle.node_hosts.specs.Turns.{IsCoreStep, IsCoreCall, is_calling};
 
 use object_versions::Bodies;
 use std::alloc::Global;
 use xt_base::{Boot, NodeId, OutOfMemory, Times};
-use xt_messages::{Call, Event, Folded, Location, Op};
+use xt_messages::{Call, Event, Folded, Keep, Location, Op};
 use xt_protocol::Turned;
 
 /// The code of a running node: an OSD or a client. After an error it isn't to be used again.
@@ -58,7 +59,7 @@ pub trait NodeCore: Drop {
         requires fits { FitsEvent ev.now }
         ensures { IfOk result (λ turned.
             IsCoreStep state is_of (λ host.
-            core_step host.times (node_of (B.records bodies.old) host) (state self.old) clock
+            core_step host.times (node_with (B.records bodies.old) host) (state self.old) clock
             ev.now) self.old self.new turned) };
 
     /// A client makes a call on a declared file; an OSD makes none.
@@ -78,6 +79,15 @@ pub trait NodeCore: Drop {
     /// A client's first target for a declared file is this member.
     fn aim(&mut self, number: u64, node: NodeId) -> Result<(), OutOfMemory>
         ensures { OnOk result (IsCoreChanged state is_of (aims_at number node) self.old self.new) };
+
+    /// The held bodies that an OSD needs; None at a client, which holds none.
+    fn keep(&self) -> Result<Option<Keep>, OutOfMemory>
+        ensures { IfOk result (λ keep. keep ≡ needed_at (state self.now)) };
+
+    /// An OSD forgets the held bodies that aren't among these, which are all that it needs.
+    fn forget(&mut self, keep: &Keep)
+        requires { needed_at (state self.old) ≡ Some keep.now }
+        ensures { IsCoreChanged state is_of (forgets keep.now) self.old self.new };
 
     /// Whether a client's call runs.
     fn has_call(&self) -> bool

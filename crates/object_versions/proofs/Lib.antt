@@ -3,3 +3,4 @@ pub mod HeadRows
 pub mod HeldSets
 pub mod HeldVersions
 pub mod Puts
+pub mod BodyOrder

@@ -1,2 +1,3 @@
 pub mod KeptBodies
 pub mod Rising
+pub mod Keeping

@@ -3,3 +3,4 @@ pub mod Starting
 pub mod Waking
 pub mod Stepping
 mod Steps
+pub mod Keeping

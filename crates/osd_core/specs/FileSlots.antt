@@ -1,6 +1,8 @@
 -- a file of an OSD: its row, until it is used, and a file from then on
-use Rattle.std.specs.Prelude.{ℕ, ◌≡◌}
+use Rattle.std.specs.Prelude.{ℕ, ◌≡◌, List}
 use Rattle.xt_base.specs.declared.ids.FileId.{FileId}
+use Rattle.xt_messages.specs.declared.record.KeepBody.{KeepBody}
+use Rattle.xt_protocol.specs.Forgetting.{file_without}
 use Rattle.xt_protocol.specs.LeaseRows.{Awake}
 use Rattle.xt_protocol.specs.FileStates.{FileState, file_from}
 use Rattle.osd_files.specs.Views.{FileView}
@@ -31,3 +33,9 @@ IsSoundSlot awake (slot.File file) = file.awake ≡ awake
 pub record WakesSlot (now : ℕ) (awake : Awake) (old new : Slot) (woken : Woken) : Type 0 where
   pub sound : IsSoundSlot awake new
   pub file : IsWoken now (view_of awake old) (view_of awake new) woken
+
+-- A slot whose file has forgotten the held bodies that aren't among these. It is of the same file, and stays as sound.
+pub record ForgetsSlot (keep : List KeepBody) (old new : Slot) : Type 0 where
+  pub file : id_of new ≡ id_of old
+  pub state : (awake : Awake) → state_of awake new ≡ file_without keep (state_of awake old)
+  pub sound : (awake : Awake) → IsSoundSlot awake old → IsSoundSlot awake new

@@ -5,8 +5,10 @@ use Rattle.xt_base.specs.declared.ids.FileId.{FileId}
 use Rattle.xt_base.specs.declared.ids.Stamp.{Stamp}
 use Rattle.xt_messages.specs.declared.file.Capability.{Capability}
 use Rattle.xt_messages.specs.declared.record.FileRow.{FileRow}
+use Rattle.xt_messages.specs.declared.record.KeepBody.{KeepBody}
 use Rattle.xt_protocol.specs.FileIds.{is_before}
 use Rattle.xt_protocol.specs.Folds.{new_row}
+use Rattle.xt_protocol.specs.Forgetting.{file_without}
 use Rattle.xt_protocol.specs.LeaseRows.{Silent, Awake}
 use Rattle.xt_protocol.specs.declared.turned.Turned.{Turned}
 use Rattle.object_versions.specs.Rising.{rises}
@@ -94,6 +96,12 @@ pub record WakesBehind (now : ℕ) (old new : List Slot) (before after : Turned)
 pub record StepsFiles (row : List FileState → FilesStep) (awake : Awake) (old new : List Slot) (turned : Turned) : Type 0 where
   pub slots : AreSlots awake new
   pub step : row (states_of awake old) ≡ record { files = states_of awake new; turned = turned }
+
+-- Slots whose files have forgotten the held bodies that aren't among these: they are of the same files, and stay as sound.
+pub record ForgetsSlots (keep : List KeepBody) (old new : List Slot) : Type 0 where
+  pub files : map id_of new ≡ map id_of old
+  pub states : (awake : Awake) → states_of awake new ≡ map (file_without keep) (states_of awake old)
+  pub sound : (awake : Awake) → AreSound awake old → AreSound awake new
 
 -- ---- the rows of a start
 

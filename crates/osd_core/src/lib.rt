@@ -1,8 +1,10 @@
-//! An OSD of replicated files: its whole step on an event, over any number of files.
+//! An OSD of replicated files: its whole step on an event, over any number of files; which of the bodies that it holds it needs, and
+//! how it forgets the others.
 //!
 //! Contracts see an OSD as the state of `xt_protocol`, and each call equals its definition there: a start from what the records
-//! say, silence, a message for the file that it concerns, a Wake for all of them. A file is found by halves, and stays a row of
-//! the records until a message concerns it. Want of memory, and a body that can't be read, are all that a step may answer beside.
+//! say, silence, a message for the file that it concerns, a Wake for all of them, what is needed, and what is there without the rest.
+//! A file is found by halves, and stays a row of the records until a message concerns it. Want of memory, and a body that can't be
+//! read, are all that a step may answer beside.
 #![tactic(auto)]
 
 mod messages;

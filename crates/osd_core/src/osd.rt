@@ -1,6 +1,7 @@
 ghost use Rattle.std.specs.Prelude.{◌≡◌, ◌<◌, ◌^◌, Ok, IfOk, IfSome};
 ghost use Rattle.xt_protocol.specs.SeenBodies.{body_by};
 ghost use Rattle.object_versions.specs.KeptBodies.{fault_of, ReadsOnly};
+ghost use Rattle.xt_protocol.specs.Forgetting.{keep_of, osd_without};
 ghost use Rattle.xt_protocol.specs.OsdSteps.{event_handled, osd_from, step_of_osd};
 ghost use Rattle.osd_files.specs.Views.{site_at};
 ghost use Rattle.xt_messages.specs.Limits.{FitsEvent};
@@ -9,13 +10,13 @@ ghost use Rattle.osd_core.specs.Slots.{AreRows, AreSlots, StepsFiles};
 
 use crate::messages::{is_sealed, stops};
 use crate::slot::Slot;
-use crate::slots::{slots_from, take, wake};
+use crate::slots::{forget_all, keep_all, slots_from, take, wake};
 use flease::{Awake, Silent};
-use object_versions::{Bodies, StepErr};
+use object_versions::{Bodies, SoughtBodies, StepErr};
 use std::alloc::Global;
 use std::marker::Model;
-use xt_base::{Boot, NodeId, Octets, OutOfMemory, Times};
-use xt_messages::{Event, Folded, Msg};
+use xt_base::{Boot, NodeId, Octets, OutOfMemory, Seq, Times};
+use xt_messages::{Event, Folded, Keep, Msg};
 use xt_protocol::{Turned, quiet};
 
 /// An OSD of replicated files. Contracts see its key and its state.
@@ -160,6 +161,28 @@ impl Osd {
                 Err(error)
             }
         }
+    }
+
+    /// The held bodies that it needs, file by file, those of a file by object and stamp.
+    pub fn keep(&self) -> Result<Keep, OutOfMemory>
+        ensures { IfOk result (λ keep. keep ≡ keep_of self.now.state) }
+    {
+        let mut keep = Seq::new(self.alloc);
+        match keep_all(self.alloc, self.slots.as_slice(), &mut keep) {
+            Ok(()) => Ok(keep),
+            Err(error) => {
+                drop(keep);
+                Err(error)
+            }
+        }
+    }
+
+    /// Forgets the held bodies that aren't among these. It takes no memory.
+    pub fn forget(&mut self, keep: &Keep)
+        ensures { self.new ≡ record self.old { state = osd_without keep.now self.old.state } }
+    {
+        let keep = SoughtBodies::of(keep);
+        forget_all(self.slots.as_mut_slice(), &keep);
     }
 
     /// The node.

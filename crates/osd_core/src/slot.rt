@@ -1,4 +1,4 @@
-ghost use Rattle.std.specs.Prelude.{◌≡◌, ◌<◌, ◌^◌, IfOk};
+ghost use Rattle.std.specs.Prelude.{◌≡◌, ◌<◌, ◌^◌, ◌++◌, [], IfOk, OnOk};
 ghost use Rattle.xt_messages.specs.Limits.{FitsPayload};
 ghost use Rattle.xt_protocol.specs.Folds.{new_row};
 ghost use Rattle.xt_protocol.specs.LeaseRows.{Awake};
@@ -6,17 +6,21 @@ ghost use Rattle.xt_protocol.specs.SeenBodies.{body_by};
 ghost use Rattle.object_versions.specs.KeptBodies.{fault_of, ReadsOnly};
 ghost use Rattle.xt_protocol.specs.Turns.{quiet};
 ghost use Rattle.xt_protocol.specs.FileSteps.{step_of_file};
+ghost use Rattle.xt_protocol.specs.Forgetting.{needed_of, row_without};
 ghost use Rattle.osd_files.specs.Whole.{IsRowOn};
-ghost use Rattle.osd_core.specs.FileSlots.{id_of, view_of, IsSoundSlot, WakesSlot};
+ghost use Rattle.object_versions.specs.Keeping.{needed_among};
+ghost use Rattle.osd_core.specs.FileSlots.{id_of, state_of, view_of, ForgetsSlot, IsSoundSlot, WakesSlot};
 
 use flease::Awake;
-use object_versions::{Bodies, StepErr};
+use object_versions::{
+    Bodies, NeededVersions, SoughtBodies, SoughtVersions, StepErr, forget_held, keep_needed,
+};
 use osd_files::{OsdFile, Woken};
 use replica_records::new_head;
 use std::alloc::Global;
 use std::mem;
 use xt_base::{FileId, OutOfMemory};
-use xt_messages::{FileRow, HeldSet, Msg};
+use xt_messages::{FileRow, HeldSet, Keep, Msg};
 use xt_protocol::{Turned, quiet};
 
 /// A file at an OSD: what its records say of it, until a message concerns it.
@@ -56,6 +60,27 @@ pub fn no_news(alloc: Global) -> Woken
         overdue: quiet(alloc),
         again: quiet(alloc),
     }
+}
+
+/// Puts the held bodies behind those that are to be kept already that a row needs: those of its head.
+fn keep_row(alloc: Global, row: &FileRow, keep: &mut Keep) -> Result<(), OutOfMemory>
+    ensures { OnOk result (keep.new ≡
+        keep.old ++ needed_among row.now.file row.now.head.versions [] [] row.now.held) }
+{
+    let staged = HeldSet::new(alloc);
+    let needed = NeededVersions {
+        head: SoughtVersions::of(row.head.versions.as_slice()),
+        led: SoughtVersions::of(&[]),
+        staged: &staged,
+    };
+    keep_needed(keep, &row.file, &needed, &row.held)
+}
+
+/// Forgets the held bodies of a row that aren't to be kept. It takes no memory.
+fn forget_in(row: &mut FileRow, keep: &SoughtBodies<'_>)
+    ensures { row.new ≡ row_without keep.now row.old }
+{
+    forget_held(&mut row.held, &row.file, keep);
 }
 
 impl Slot {
@@ -119,6 +144,27 @@ impl Slot {
         match self {
             Slot::Row(_) => Ok(no_news(alloc)),
             Slot::File(file) => file.wake(now),
+        }
+    }
+
+    /// Puts the held bodies that its file needs behind those that are to be kept already.
+    pub fn keep(&self, alloc: Global, keep: &mut Keep) -> Result<(), OutOfMemory>
+        ensures { OnOk result ((awake : Awake) → IsSoundSlot awake self.now →
+            keep.new ≡ keep.old ++ needed_of awake.node (state_of awake self.now)) }
+    {
+        match self {
+            Slot::Row(row) => keep_row(alloc, row, keep),
+            Slot::File(file) => file.keep(keep),
+        }
+    }
+
+    /// Forgets the held bodies of its file that aren't to be kept. It takes no memory.
+    pub fn forget(&mut self, keep: &SoughtBodies<'_>)
+        ensures { ForgetsSlot keep.now self.old self.new }
+    {
+        match self {
+            Slot::Row(row) => forget_in(row, keep),
+            Slot::File(file) => file.forget(keep),
         }
     }
 }

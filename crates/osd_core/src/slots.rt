@@ -1,8 +1,9 @@
-ghost use Rattle.std.specs.Prelude.{◌≡◌, ◌<◌, ◌^◌, ℕ, List, Bool, IfOk, OnOk, IsTrue};
+ghost use Rattle.std.specs.Prelude.{◌≡◌, ◌<◌, ◌^◌, ◌++◌, ℕ, List, Bool, IfOk, OnOk, IsTrue, flat_map};
 ghost use Rattle.xt_messages.specs.Limits.{FitsPayload};
 ghost use Rattle.xt_base.specs.declared.ids.FileId.{FileId};
 ghost use Rattle.xt_base.specs.declared.ids.Stamp.{Stamp};
 ghost use Rattle.xt_messages.specs.declared.file.Capability.{Capability};
+ghost use Rattle.xt_protocol.specs.Forgetting.{needed_of};
 ghost use Rattle.xt_protocol.specs.LeaseRows.{Awake};
 ghost use Rattle.xt_protocol.specs.SeenBodies.{body_by};
 ghost use Rattle.object_versions.specs.KeptBodies.{fault_of, ReadsOnly};
@@ -10,16 +11,16 @@ ghost use Rattle.xt_protocol.specs.Turns.{joined, quiet};
 ghost use Rattle.xt_protocol.specs.OsdSteps.{asks_dir, file_concerned, message_handled, woken};
 ghost use Rattle.osd_files.specs.Views.{site_at};
 ghost use Rattle.osd_files.specs.Whole.{IsSealedBy};
-ghost use Rattle.osd_core.specs.Slots.{slots_rise, slots_from, AreSound, AreSlots, IsSlotPlace, IsMade, WakesMore, WakesSlots, WakesBehind, StepsFiles};
+ghost use Rattle.osd_core.specs.Slots.{slots_rise, slots_from, states_of, AreSound, ForgetsSlots, AreSlots, IsSlotPlace, IsMade, WakesMore, WakesSlots, WakesBehind, StepsFiles};
 
 use crate::messages::file_concerned;
 use crate::slot::{Slot, new_row, no_news};
 use flease::Awake;
-use object_versions::{Bodies, StepErr};
+use object_versions::{Bodies, SoughtBodies, StepErr};
 use osd_files::Woken;
 use std::alloc::Global;
 use xt_base::{DIR_NODE, FileId, NodeId, OutOfMemory};
-use xt_messages::{FileTable, Msg, Payload, RegistryReq};
+use xt_messages::{FileTable, Keep, Msg, Payload, RegistryReq};
 use xt_protocol::{Turned, extend, message, quiet, sends_one};
 
 /// The kind of an OSD in the registry.
@@ -198,4 +199,24 @@ fn take_files(turned: &mut Turned, woken: &mut Woken) -> Result<(), OutOfMemory>
 {
     extend(&mut woken.overdue, &mut woken.again)?;
     extend(turned, &mut woken.overdue)
+}
+
+/// Puts the held bodies that the files need behind those that are to be kept already, file by file.
+pub fn keep_all(alloc: Global, slots: &[Slot], keep: &mut Keep) -> Result<(), OutOfMemory>
+    ensures { OnOk result ((awake : Awake) → AreSound awake slots.now →
+        keep.new ≡ keep.old ++ flat_map (needed_of awake.node) (states_of awake slots.now)) }
+{
+    for slot in slots {
+        slot.keep(alloc, keep)?;
+    }
+    Ok(())
+}
+
+/// Forgets the held bodies of all files that aren't to be kept. It takes no memory.
+pub fn forget_all(slots: &mut [Slot], keep: &SoughtBodies<'_>)
+    ensures { ForgetsSlots keep.now slots.old slots.new }
+{
+    for slot in slots.iter_mut() {
+        slot.forget(keep);
+    }
 }

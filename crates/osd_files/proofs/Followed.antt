@@ -15,7 +15,7 @@ use Rattle.xt_protocol.specs.SeenBodies.{body_by}
 use Rattle.flease.specs.Moves.{turn_of, IsSettled}
 use Rattle.xt_protocol.specs.declared.states.PrimaryState.{PrimaryState}
 use Rattle.xt_protocol.specs.FileLeases.{leads_to}
-use Rattle.xt_protocol.specs.FileStates.{FileState, Site, FileStep, ground_of, serves_to, stripe_of, nothing}
+use Rattle.xt_protocol.specs.FileStates.{FileState, Site, FileStep, ground_of, serves_to, stripe_of, nothing, staged_after}
 use Rattle.xt_protocol.specs.FileSteps.{primary_hears}
 use Rattle.xt_protocol.specs.Asks.{Served, asks_follow}
 use Rattle.xt_protocol.specs.Primaries.{Ground, Led, is_ready}
@@ -33,17 +33,19 @@ use Rattle.osd_files.proofs.Waiting.{after_none, follow_joined, none_last}
 use Rattle.osd_files.proofs.Wakes.{settled_turn}
 
 -- a row of the primary, by what it made of the primary, and by what the replica noted
-pub led_row : (s : FileState) (before after : FileRow) (old new : LeadView) (led made : Led) (turned : Turned) → led ≡ made → new ≡ record old { primary = made.primary } → turned ≡ made.turned
-    → record after { location = old.location } ≡ kept_after (record before { location = old.location }) turned.rec
+pub led_row : (s : FileState) (before after : FileRow) (staged : List ObjectVersion) (old new : LeadView) (led made : Led) (turned : Turned) → led ≡ made
+    → new ≡ record old { primary = made.primary } → turned ≡ made.turned
+    → record after { location = old.location } ≡ kept_after (record before { location = old.location }) turned.rec → staged ≡ staged_after s.staged turned.rec
     → leads_to (record s { kept = record before { location = old.location } }) led
-    ≡ record { state = record s { kept = record after { location = new.location }; primary = new.primary }; turned = turned }
-led_row s before after old new led made turned is changed given noted =
+    ≡ record { state = record s { kept = record after { location = new.location }; staged = staged; primary = new.primary }; turned = turned }
+led_row s before after staged old new led made turned is changed given noted follows =
     let kept : FileRow = record before { location = old.location } in
-    let by : FileRow → PrimaryState → Turned → FileStep = λ k p t. record { state = record s { kept = k; primary = p }; turned = t } in
-    ap (λ (l : Led). by (kept_after kept l.turned.rec) l.primary l.turned) is
-    ∙ ap (λ (t : Turned). by (kept_after kept t.rec) made.primary t) (sym given)
-    ∙ ap (λ (k : FileRow). by k made.primary turned) (sym noted)
-    ∙ ap (λ (l : LeadView). by (record after { location = l.location }) l.primary turned) (sym changed)
+    let by : FileRow → List ObjectVersion → PrimaryState → Turned → FileStep = λ k v p t. record { state = record s { kept = k; staged = v; primary = p }; turned = t } in
+    ap (λ (l : Led). by (kept_after kept l.turned.rec) (staged_after s.staged l.turned.rec) l.primary l.turned) is
+    ∙ ap (λ (t : Turned). by (kept_after kept t.rec) (staged_after s.staged t.rec) made.primary t) (sym given)
+    ∙ ap (λ (k : FileRow). by k (staged_after s.staged turned.rec) made.primary turned) (sym noted)
+    ∙ ap (λ (v : List ObjectVersion). by (record after { location = old.location }) v made.primary turned) (sym follows)
+    ∙ ap (λ (l : LeadView). by (record after { location = l.location }) staged l.primary turned) (sym changed)
 
 -- a lease that gives no turn, where nothing is overdue
 unheard_by : (site : Site) (s : FileState) (l : LeaseState) (from : NodeId) (content : Payload) → turn_of l site.now ≡ None → IsSettled l site.now → primary_hears site s l from content ≡ nothing s
@@ -71,7 +73,7 @@ module _ (awake : Awake) (now : ℕ) (test : Capability → Bool) (records : Lis
 
   -- the file behind the primary's row
   abbrev behind : FileState
-  behind = record s { kept = kept_after s.kept led.turned.rec; primary = led.primary }
+  behind = record s { kept = kept_after s.kept led.turned.rec; staged = staged_after s.staged led.turned.rec; primary = led.primary }
 
   abbrev pub Leads : FileView → Turned → Type 0
   Leads mid turned = IsStep (λ site s. leads_to s (hears (ground_of site s) s.primary from content)) site old mid turned
@@ -111,7 +113,7 @@ module _ (awake : Awake) (now : ℕ) (test : Capability → Bool) (records : Lis
       let behind_led : Served → Served = λ v. record v { turned = joined led.turned v.turned } in
       let follows : asks_follow stands s.primary.tenure s.asks led ≡ behind_led (served_in new second) =
       follow_joined stands s.primary.tenure s.asks led ∙ ap behind_led (sym after) in
-      let by : Option Record → Turned → FileStep = λ rec t. record { state = record s { kept = kept_after s.kept rec; primary = new.state.primary; asks = new.state.asks }; turned = t } in
+      let by : Option Record → Turned → FileStep = λ rec t. record { state = record s { kept = kept_after s.kept rec; staged = staged_after s.staged rec; primary = new.state.primary; asks = new.state.asks }; turned = t } in
       let of : FileState → Turned → FileStep = λ st t. record { state = st; turned = t } in
       record {
         here = ap (λ (v : FileView). v.awake) follow.rest ∙ row.here;

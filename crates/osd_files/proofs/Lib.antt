@@ -13,3 +13,4 @@ pub mod Noted
 pub mod Waiting
 pub mod Followed
 pub mod Stepped
+pub mod Needs

@@ -6,7 +6,7 @@ use Rattle.xt_protocol.specs.declared.turned.Turned.{Turned}
 use Rattle.xt_protocol.specs.Heads.{head_after}
 use Rattle.xt_protocol.specs.Folds.{body_of}
 use Rattle.xt_protocol.specs.Primaries.{if_any}
-use Rattle.xt_protocol.specs.FileStates.{FileState, Site, FileStep}
+use Rattle.xt_protocol.specs.FileStates.{FileState, Site, FileStep, staged_after}
 use Rattle.xt_protocol.specs.FileSteps.{replica_acts}
 use Rattle.xt_base.specs.declared.ids.FileId.{FileId}
 use Rattle.xt_base.specs.declared.ids.Epoch.{Epoch}
@@ -113,16 +113,17 @@ acted_plain file own held (payload.Head f epoch head) = headed_plain file own he
 acted_plain file own held (payload.Update f update) = updated_plain file own update
 acted_plain file own held content = tt
 
--- a replica's row, by what the replica did
-pub acts_row : (site : Site) (s : FileState) (before after : FileRow) (location : Option Location) (from : NodeId) (made acted : Acted) (turned : Turned)
-    → IsPlain made.rec → acted ≡ made → after ≡ kept_after before acted.rec
+-- a replica's row, by what the replica did, and by what was staged since the last head or update
+pub acts_row : (site : Site) (s : FileState) (before after : FileRow) (staged : List ObjectVersion) (location : Option Location) (from : NodeId) (made acted : Acted) (turned : Turned)
+    → IsPlain made.rec → acted ≡ made → after ≡ kept_after before acted.rec → staged ≡ staged_after s.staged turned.rec
     → turned ≡ record { rec = acted.rec; outs = if_any site.node from acted.answer; marks = [] }
     → replica_acts site (record s { kept = record before { location = location } }) from made
-    ≡ record { state = record s { kept = record after { location = location } }; turned = turned }
-acts_row site s before after location from made acted turned plain is kept sent =
+    ≡ record { state = record s { kept = record after { location = location }; staged = staged }; turned = turned }
+acts_row site s before after staged location from made acted turned plain is kept follows sent =
     let told : Acted → Turned = λ a. record { rec = a.rec; outs = if_any site.node from a.answer; marks = [] } in
-    let with_kept : FileRow → Turned → FileStep = λ k t. record { state = record s { kept = k }; turned = t } in
-    ap (λ (k : FileRow). with_kept k (told made)) (sym (plain_kept before made.rec location plain))
-    ∙ ap (λ (a : Acted). with_kept (record (kept_after before a.rec) { location = location }) (told a)) (sym is)
-    ∙ ap (λ (k : FileRow). with_kept (record k { location = location }) (told acted)) (sym kept)
-    ∙ ap (λ (t : Turned). with_kept (record after { location = location }) t) (sym sent)
+    let by : FileRow → List ObjectVersion → Turned → FileStep = λ k v t. record { state = record s { kept = k; staged = v }; turned = t } in
+    ap (λ (k : FileRow). by k (staged_after s.staged made.rec) (told made)) (sym (plain_kept before made.rec location plain))
+    ∙ ap (λ (a : Acted). by (record (kept_after before a.rec) { location = location }) (staged_after s.staged a.rec) (told a)) (sym is)
+    ∙ ap (λ (k : FileRow). by (record k { location = location }) (staged_after s.staged acted.rec) (told acted)) (sym kept)
+    ∙ ap (λ (t : Turned). by (record after { location = location }) (staged_after s.staged t.rec) t) (sym sent)
+    ∙ ap (λ (v : List ObjectVersion). by (record after { location = location }) v turned) (sym follows)

@@ -1,7 +1,7 @@
 -- from the row of a file that has changed to the row of the file before it
 use Rattle.std.proofs.Common.{◌≡◌, ◌∙◌, ℕ, Bool, true, false, refl, ap, sym, subst, Result, Ok, Err, Option, Some, None, IfSome, IfNone, List, cond, arith, ◌<◌}
 use Rattle.std.specs.Prelude.{◌==◌, nat_lt}
-use Rattle.std.specs.Result.{IfOk}
+use Rattle.std.specs.Result.{IfOk, OnOk}
 use Rattle.xt_base.specs.declared.ids.FileId.{FileId}
 use Rattle.xt_base.specs.Faults.{Rose}
 use Rattle.xt_messages.specs.declared.record.Record.{Record}
@@ -23,6 +23,10 @@ use Rattle.osd_files.specs.Rows.{IsRow, IsRowBy}
 pub if_ok : {A E : Type 0} (P Q : A → Type 0) (r : Result A E) → ((a : A) → P a → Q a) → IfOk r P → IfOk r Q
 if_ok P Q (Ok a) all h = all a h
 if_ok P Q (Err e) all h = h
+
+pub if_both : {A E : Type 0} (P : A → Type 0) (S : Type 0) (Q : A → Type 0) (r : Result A E) → ((a : A) → P a → S → Q a) → IfOk r P → OnOk r S → IfOk r Q
+if_both P S Q (Ok a) all h s = all a h s
+if_both P S Q (Err e) all h s = h
 
 -- a file whose primary has become idle
 pub lapses : (now : ℕ) (old mid new : FileView) (turned : Turned) → mid ≡ record { awake = old.awake; state = record old.state { primary = idle old.state.primary } }

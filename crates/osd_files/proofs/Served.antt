@@ -8,7 +8,7 @@ use Rattle.flease.specs.Moves.{turn_of, is_free, IsSettled}
 use Rattle.xt_protocol.specs.declared.states.Asks.{Asks}
 use Rattle.xt_protocol.specs.declared.states.PrimaryState.{PrimaryState}
 use Rattle.xt_protocol.specs.declared.states.WaitingAsk.{WaitingAsk}
-use Rattle.xt_protocol.specs.FileStates.{FileState, Site, FileStep, ground_of, serves_to}
+use Rattle.xt_protocol.specs.FileStates.{FileState, Site, FileStep, ground_of, serves_to, staged_after}
 use Rattle.xt_protocol.specs.Primaries.{Led, issued_by, is_active}
 use Rattle.xt_protocol.specs.ReplicaRows.{kept_after}
 use Rattle.xt_protocol.specs.Serving.{reads, writes}
@@ -40,7 +40,7 @@ write_row site s ask primary turned asks so led marked =
     let is : serves (ground_of site s) (before s) ask left ≡ done =
     written site s ask so ∙ ap (λ (o : Option Led). write_done (before s) ask o left) led in
     let none : turned.rec ≡ None = sym (ap (λ (v : Served). v.turned.rec) is) ∙ served_none (ground_of site s) (before s) ask left refl in
-    let by : Option Record → Asks → FileStep = λ rec x. record { state = record s { kept = kept_after s.kept rec; primary = primary; asks = x }; turned = turned } in
+    let by : Option Record → Asks → FileStep = λ rec x. record { state = record s { kept = kept_after s.kept rec; staged = staged_after s.staged rec; primary = primary; asks = x }; turned = turned } in
     ap (serves_to s) is ∙ ap (λ (rec : Option Record). by rec done.asks) none ∙ ap (by None) (sym marked)
 
 -- a write meets an issued one
@@ -61,7 +61,7 @@ read_row site s ask so =
     let done : Served = record { primary = s.primary; asks = s.asks; turned = joined quiet turned } in
     let is : serves (ground_of site s) (before s) ask left ≡ done = when_true (is_read ask.op) _ _ so in
     let none : turned.rec ≡ None = sym (ap (λ (v : Served). v.turned.rec) is) ∙ served_none (ground_of site s) (before s) ask left refl in
-    let by : Option Record → FileStep = λ rec. record { state = record s { kept = kept_after s.kept rec }; turned = turned } in
+    let by : Option Record → FileStep = λ rec. record { state = record s { kept = kept_after s.kept rec; staged = staged_after s.staged rec }; turned = turned } in
     ap (serves_to s) is ∙ ap by none
 
 -- an ask that wasn't asked already

@@ -6,7 +6,7 @@ use Rattle.xt_messages.specs.declared.record.Record.{Record}
 use Rattle.xt_protocol.specs.declared.turned.Turned.{Turned}
 use Rattle.xt_protocol.specs.LeaseRows.{LeaseState, Held, Turn, free, asking, writing, held, has_turn}
 use Rattle.flease.specs.Moves.{turn_of, IsSettled}
-use Rattle.xt_protocol.specs.FileStates.{FileState, Site, ground_of, nothing}
+use Rattle.xt_protocol.specs.FileStates.{FileState, Site, ground_of, nothing, staged_after}
 use Rattle.xt_protocol.specs.ReplicaRows.{kept_after}
 use Rattle.xt_protocol.specs.Serving.{wakes}
 use Rattle.xt_protocol.specs.FileSteps.{wake_of_file, wakes_under_lease, renews}
@@ -44,7 +44,7 @@ unfolding wake_of_file
 woken site s h woke is sent =
     let all = wakes (ground_of site s).place s.primary in
     ap (λ (l : LeaseState). wakes_under_lease site s l) is
-    ∙ ap (λ (rec : Option Record). behind_it all (renews site (record s { kept = kept_after s.kept rec }) h)) (wake_keeps (ground_of site s).place s.primary)
+    ∙ ap (λ (rec : Option Record). behind_it all (renews site (record s { kept = kept_after s.kept rec; staged = staged_after s.staged rec }) h)) (wake_keeps (ground_of site s).place s.primary)
     ∙ ap (λ (t : Turned). behind_it t (renews site s h)) (sym sent)
 
 pub settled_turn : (b : Bool) (t : Turn) → b ≡ true → cond b (Some t) None ≡ None → ⊥

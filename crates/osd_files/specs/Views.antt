@@ -21,6 +21,7 @@ shown p =
       state =
           record {
             kept = record p.replica { location = p.lead.location };
+            staged = p.staged;
             acceptor = p.acceptor;
             lease = p.lease;
             last_end = p.last_end;

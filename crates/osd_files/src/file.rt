@@ -1,21 +1,23 @@
-ghost use Rattle.std.specs.Prelude.{◌≡◌, ◌<◌, ◌^◌, Bool, IfOk};
+ghost use Rattle.std.specs.Prelude.{◌≡◌, ◌<◌, ◌^◌, ◌++◌, Bool, IfOk, OnOk};
 ghost use Rattle.xt_messages.specs.Limits.{FitsPayload};
 ghost use Rattle.xt_protocol.specs.SeenBodies.{body_by};
 ghost use Rattle.object_versions.specs.KeptBodies.{fault_of, ReadsOnly};
 ghost use Rattle.xt_protocol.specs.FileStates.{file_from};
 ghost use Rattle.xt_protocol.specs.FileSteps as rows;
+ghost use Rattle.xt_protocol.specs.Forgetting.{file_without, needed_of};
 ghost use Rattle.osd_files.specs.Whole.{IsRowOn, IsWoken, RowRises};
 
+use crate::keeping::{forget, keep_held};
 use crate::parts::Parts;
 use crate::starting::{file_from, give_up};
 use crate::steps::step_of_file;
 use crate::waking::{Woken, wake_whole};
 use flease::Awake;
-use object_versions::{Bodies, StepErr};
+use object_versions::{Bodies, SoughtBodies, StepErr};
 use std::alloc::Global;
 use std::marker::Model;
 use xt_base::{FileId, NodeId, OutOfMemory};
-use xt_messages::{FileRow, Payload};
+use xt_messages::{FileRow, Keep, Payload};
 use xt_protocol::Turned;
 
 /// A file at an OSD that is awake. Contracts see the OSD, and the file's state in the rows' terms.
@@ -99,5 +101,20 @@ impl OsdFile {
                 Err(error)
             }
         }
+    }
+
+    /// Puts the held bodies that the file needs behind those that are to be kept already.
+    pub fn keep(&self, keep: &mut Keep) -> Result<(), OutOfMemory>
+        ensures { OnOk result (keep.new ≡
+            keep.old ++ needed_of self.now.awake.node self.now.state) }
+    {
+        keep_held(&self.parts, keep)
+    }
+
+    /// Forgets the held bodies of the file that aren't to be kept. It takes no memory.
+    pub fn forget(&mut self, keep: &SoughtBodies<'_>)
+        ensures { self.new ≡ record self.old { state = file_without keep.now self.old.state } }
+    {
+        forget(&mut self.parts, keep);
     }
 }

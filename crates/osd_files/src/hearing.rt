@@ -12,6 +12,7 @@ ghost use Rattle.object_versions.specs.KeptBodies.{fault_of, ReadsOnly};
 
 use crate::joining::both;
 use crate::parts::Parts;
+use crate::staging::note_staged;
 use object_versions::{Bodies, StepErr};
 use replica_primary::send_any;
 use replica_state::{Replica, fetched_from};
@@ -92,7 +93,8 @@ pub fn replica_comes(
 {
     let (alloc, node) = (file.alloc, file.awake.node());
     let acted = acts(&mut file.replica, content)?;
-    replica_acts(alloc, node, from, acted)
+    let turned = replica_acts(alloc, node, from, acted)?;
+    note_staged(&mut file.staged, turned)
 }
 
 /// Fetch comes: the body is sent where it is held, whatever is promised. The file stays as it is.

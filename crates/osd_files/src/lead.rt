@@ -15,6 +15,7 @@ ghost use Rattle.object_versions.specs.Rising.{HeadRises};
 ghost use Rattle.object_versions.specs.KeptBodies.{fault_of, ReadsOnly};
 ghost use Rattle.replica_primary.specs.Written.{ground};
 ghost use Rattle.xt_protocol.specs.FileStates.{members_of};
+ghost use Rattle.xt_protocol.specs.Forgetting.{versions_if, versions_under};
 ghost use Rattle.osd_files.specs.Leads.{location_in, primary_in, place_of, StandsAt};
 ghost use Rattle.osd_files.specs.Asking.{first_list, list_after};
 ghost use Rattle.osd_files.specs.Counts.{heard_at, IsCountedIn, no_majority, no_majority_at};
@@ -25,7 +26,7 @@ use replica_primary::{Phase, Primary};
 use std::alloc::Global;
 use std::marker::Model;
 use xt_base::{FileId, NodeId, OpId, OutOfMemory};
-use xt_messages::{FileHead, HeldSet, Location, Op, Payload, Record, Reply};
+use xt_messages::{FileHead, HeldSet, Location, ObjectVersion, Op, Payload, Record, Reply};
 use xt_protocol::{Turned, quiet};
 
 /// Where a file is, and the primary that stands on that.
@@ -97,6 +98,26 @@ fn no_majority_at(members: usize, phase: Phase) -> Option<Reply>
         Phase::Gathering { have } => Some(too_few(have, members)),
         Phase::Fetching => Some(too_few(0, members)),
         Phase::Installing { have } | Phase::Active { have, .. } => Some(too_few(have, members)),
+    }
+}
+
+/// The versions of a head, if there is one.
+fn versions_if(head: Option<&FileHead>) -> &[ObjectVersion]
+    ensures { result.now ≡ versions_if (option_map (λ h. h.now) head.entry) }
+{
+    match head {
+        Some(head) => head.versions.as_slice(),
+        None => &[],
+    }
+}
+
+/// The versions that a primary needs.
+fn needed_by(primary: &Primary) -> &[ObjectVersion]
+    ensures { result.now ≡ versions_under primary.now.place.node primary.now.state.tenure }
+{
+    match primary.chosen() {
+        Some(chosen) => chosen.versions.as_slice(),
+        None => versions_if(primary.rests_on()),
     }
 }
 
@@ -173,6 +194,16 @@ impl Lead {
         match &self.listed {
             Some(listed) => matches!(listed.primary.phase(), Phase::Idle),
             None => true,
+        }
+    }
+
+    /// The versions that the primary needs: those of the head that it has chosen, or of the one that it rests on.
+    pub fn needs(&self) -> &[ObjectVersion]
+        ensures { result.now ≡ versions_under self.now.node self.now.primary.tenure }
+    {
+        match &self.listed {
+            Some(listed) => needed_by(&listed.primary),
+            None => &[],
         }
     }
 

@@ -51,7 +51,7 @@ fn primary_led<B: Bodies>(
         from,
         content,
     )?;
-    Ok(noted(&mut file.replica, turned)?)
+    Ok(noted(&mut file.replica, &mut file.staged, turned)?)
 }
 
 /// Whether the lease gives a turn.

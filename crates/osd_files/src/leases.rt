@@ -9,6 +9,7 @@ ghost use Rattle.osd_invariants.specs.Sound.{IsStored, ListUnder};
 ghost use Rattle.replica_state.specs.Kept.{IsNotable};
 ghost use Rattle.xt_protocol.specs.ReplicaRows.{kept_after};
 ghost use Rattle.xt_protocol.specs.Turns.{message, sends};
+ghost use Rattle.xt_protocol.specs.FileStates.{staged_after};
 ghost use Rattle.xt_protocol.specs.FileLeases as rows;
 ghost use Rattle.xt_protocol.specs.FileSteps.{message_comes};
 ghost use Rattle.osd_files.specs.Answers.{read_answer, write_answer, answered_write, news_of, HasTurn, HoldBy};
@@ -18,11 +19,12 @@ ghost use Rattle.osd_files.specs.Rows.{IsRow};
 
 use crate::joining::{both, join_next};
 use crate::parts::Parts;
+use crate::staging::note_staged;
 use flease::{FileLease, News, ReadAnswer, WriteAnswer};
 use replica_state::Replica;
 use std::alloc::Global;
 use xt_base::{Ballot, Boot, FileId, Lease, NodeId, OptionalBox, OutOfMemory, Seq};
-use xt_messages::{Mark, Payload, Record, Reply};
+use xt_messages::{HeldSet, Mark, Payload, Record, Reply};
 use xt_protocol::{Turned, message, quiet, sends, sends_one, shows};
 
 /// The message that answers a Read.
@@ -177,10 +179,15 @@ fn note(replica: &mut Replica, rec: &OptionalBox<Record>) -> Result<(), OutOfMem
     }
 }
 
-/// What the primary gave, once its own replica has taken what it recorded.
-pub fn noted(replica: &mut Replica, turned: Turned) -> Result<Turned, OutOfMemory>
+/// What the primary gave, once its own replica has taken what it recorded, and the staged bodies follow it.
+pub fn noted(
+    replica: &mut Replica,
+    staged: &mut HeldSet,
+    turned: Turned,
+) -> Result<Turned, OutOfMemory>
     requires { IfSome turned.rec (IsNotable replica.old) }
     ensures turned { IfOk result (λ given. given ≡ turned) }
+    ensures staged { OnOk result (staged.new ≡ staged_after staged.old turned.rec) }
     ensures ok { OnOk result ((location : Option Location) →
         record replica.new { location = location } ≡
         kept_after (record replica.old { location = location }) turned.rec) }
@@ -188,7 +195,7 @@ pub fn noted(replica: &mut Replica, turned: Turned) -> Result<Turned, OutOfMemor
 {
     let done = note(replica, &turned.rec);
     let (turned, ()) = both(turned, done)?;
-    Ok(turned)
+    note_staged(staged, turned)
 }
 
 /// The number of a node has 32 bits.
@@ -215,7 +222,7 @@ fn led_on(file: &mut Parts, now: u64) -> Result<Turned, OutOfMemory>
         unreachable!()
     };
     let turned = file.lead.begin(&turn, file.replica.head())?;
-    noted(&mut file.replica, turned)
+    noted(&mut file.replica, &mut file.staged, turned)
 }
 
 /// Lease won, or renewed: it is marked, and an idle primary draws its epoch.

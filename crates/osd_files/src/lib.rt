@@ -1,4 +1,5 @@
-//! A file at an OSD that is awake: the step on a message that concerns it, and what a Wake gives at it.
+//! A file at an OSD that is awake: the step on a message that concerns it, what a Wake gives at it, which of its held bodies it needs,
+//! and how it forgets the others.
 //!
 //! `OsdFile` does exactly what the rows of `xt_protocol` say (`step_of_file`, `expired`, `wake_of_file`) on the state that contracts
 //! see, which is sound at every moment. Want of memory, and a body that can't be read, are all that a call may answer beside
@@ -9,12 +10,14 @@ mod asks;
 mod file;
 mod hearing;
 mod joining;
+mod keeping;
 mod lead;
 mod leading;
 mod leases;
 mod overdue;
 mod parts;
 mod serving;
+mod staging;
 mod starting;
 mod steps;
 mod waking;

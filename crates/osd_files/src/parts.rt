@@ -6,6 +6,7 @@ use flease::{Acceptor, Awake, FileLease};
 use osd_asks::OpenAsks;
 use replica_state::Replica;
 use std::alloc::Global;
+use xt_messages::HeldSet;
 
 /// The parts of a file at an OSD that is awake: what is kept of it, and what a stop loses.
 #[derive(Drop)]
@@ -13,6 +14,8 @@ pub struct Parts {
     pub alloc: Global,
     pub awake: Awake,
     pub replica: Replica,
+    /// The bodies that were staged since the file's last head or update.
+    pub staged: HeldSet,
     pub acceptor: Acceptor,
     pub lease: FileLease,
     pub lead: Lead,

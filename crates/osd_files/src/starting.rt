@@ -9,7 +9,7 @@ use flease::{Acceptor, Awake, FileLease};
 use osd_asks::OpenAsks;
 use replica_state::Replica;
 use std::alloc::Global;
-use xt_messages::FileRow;
+use xt_messages::{FileRow, HeldSet};
 
 /// A file at an OSD that has just started, from what its records say.
 pub fn file_from(alloc: Global, awake: &Awake, row: FileRow) -> Parts
@@ -22,6 +22,7 @@ pub fn file_from(alloc: Global, awake: &Awake, row: FileRow) -> Parts
         alloc,
         awake: *awake,
         replica,
+        staged: HeldSet::new(alloc),
         acceptor: Acceptor::new(awake.boot()),
         lease: FileLease::new(*awake),
         lead,

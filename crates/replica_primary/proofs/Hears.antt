@@ -25,7 +25,7 @@ use Rattle.xt_protocol.specs.declared.states.Progress.{Progress}
 use Rattle.xt_protocol.specs.declared.states.Progress.TheVariants as progress
 use Rattle.xt_protocol.specs.declared.states.Tenure.{Tenure}
 use Rattle.xt_protocol.specs.Choice.{chosen_of, difference}
-use Rattle.xt_protocol.specs.Primaries.{Ground, Led, fed, fed_next, is_reported, is_unknown, known_of_own, last_to_each, majority_among, nodes_of, peer_in, report_of, reports_of, statuses_counted, target_of, with_peer}
+use Rattle.xt_protocol.specs.Primaries.{Ground, Led, fed, fed_next, known_of_report, is_reported, is_unknown, known_of_own, last_to_each, majority_among, nodes_of, peer_in, report_of, reports_of, statuses_counted, target_of, with_peer}
 use Rattle.xt_protocol.specs.PrimaryRows.{after_keeping, body_beyond, body_fetched, body_missed, chooses, epoch_drawn, fetches, forgotten, goes_on, head_chosen, hears_epoch, hears_member, hears_missing, hears_object, hears_peer, hears_status, installs, peer_fed, peers_fed, status_counted, status_told, target_in, unmoved}
 use Rattle.xt_protocol.specs.PrimaryRows as rows
 use Rattle.xt_protocol.specs.Turns.{message, quiet, sends}
@@ -52,23 +52,24 @@ not_is_not true is = refl
 not_is_not false is = absurd cc
 
 -- another peer that has reported is fed
-feed_of : (h : Ground) (target : FileHead) (node : NodeId) (state fed_as : PeerState) → is_to_feed h.place (record { node = node; state = state }) ≡ true → fed_as ≡ fed h.body target []
-    → fed_as ≡ peer_fed h target node state
+feed_of : (h : Ground) (target : FileHead) (node : NodeId) (state fed_as : PeerState) → is_to_feed h.place (record { node = node; state = state }) ≡ true
+    → ((head : FileHead) → state ≡ peer.Reported head → fed_as ≡ fed h.body target (known_of_report head)) → fed_as ≡ peer_fed h target node state
 feed_of h target node (peer.Reported head) fed_as is fed_is =
-    fed_is ∙ sym (ap (λ (b : Bool). cond b (peer.Reported head) (fed h.body target [])) (not_is (node.0 == h.place.node.0) is))
+    fed_is head refl ∙ sym (ap (λ (b : Bool). cond b (peer.Reported head) (fed h.body target (known_of_report head))) (not_is (node.0 == h.place.node.0) is))
 feed_of h target node peer.Unknown fed_as is fed_is = absurd cc
 feed_of h target node (peer.Feeding known object version body) fed_as is fed_is = absurd cc
 feed_of h target node (peer.Heading known head) fed_as is fed_is = absurd cc
 feed_of h target node peer.Current fed_as is fed_is = absurd cc
 
-pub feed_to : (h : Ground) (target : FileHead) (p : Peer) (fed_as : PeerState) → is_to_feed h.place p ≡ true → fed_as ≡ fed h.body target []
+pub feed_to : (h : Ground) (target : FileHead) (p : Peer) (fed_as : PeerState) → is_to_feed h.place p ≡ true
+    → ((head : FileHead) → p.state ≡ peer.Reported head → fed_as ≡ fed h.body target (known_of_report head))
     → (let q : Peer = record { node = p.node; state = fed_as } in q) ≡ record { node = p.node; state = peer_fed h target p.node p.state }
 feed_to h target p fed_as is fed_is = ap (λ (s : PeerState). let q : Peer = record { node = p.node; state = s } in q) (feed_of h target p.node p.state fed_as is fed_is)
 
 -- any other peer stays as it is
 left_of : (h : Ground) (target : FileHead) (node : NodeId) (state : PeerState) → is_to_feed h.place (record { node = node; state = state }) ≡ false → state ≡ peer_fed h target node state
 left_of h target node (peer.Reported head) is =
-    sym (ap (λ (b : Bool). cond b (peer.Reported head) (fed h.body target [])) (not_is_not (node.0 == h.place.node.0) is))
+    sym (ap (λ (b : Bool). cond b (peer.Reported head) (fed h.body target (known_of_report head))) (not_is_not (node.0 == h.place.node.0) is))
 left_of h target node peer.Unknown is = refl
 left_of h target node (peer.Feeding known object version body) is = refl
 left_of h target node (peer.Heading known head) is = refl
@@ -253,14 +254,14 @@ module _ (g : Ground) (learnt : ℕ) (t : Tenure) where
 
   -- a status that comes while the head is installed, or later
   pub installing_told : (p : Progress) (chosen : FileHead) (acked : List NodeId) (from : NodeId) (head : FileHead) → p ≡ progress.Installing chosen acked
-      → feeds_any g learnt t (target_in g.own t.epoch p) from (Some []) ≡ status_told g learnt t p from head
+      → feeds_any g learnt t (target_in g.own t.epoch p) from (Some (known_of_report head)) ≡ status_told g learnt t p from head
   installing_told p chosen acked from head is =
-      ap (λ (q : Progress). feeds_any g learnt t (target_in g.own t.epoch q) from (Some [])) is ∙ ap (λ (q : Progress). status_told g learnt t q from head) (sym is)
+      ap (λ (q : Progress). feeds_any g learnt t (target_in g.own t.epoch q) from (Some (known_of_report head))) is ∙ ap (λ (q : Progress). status_told g learnt t q from head) (sym is)
 
   pub active_told : (p : Progress) (committed : FileHead) (issued : Option IssuedUpdate) (from : NodeId) (head : FileHead) → p ≡ progress.Active committed issued
-      → feeds_any g learnt t (target_in g.own t.epoch p) from (Some []) ≡ status_told g learnt t p from head
+      → feeds_any g learnt t (target_in g.own t.epoch p) from (Some (known_of_report head)) ≡ status_told g learnt t p from head
   active_told p committed issued from head is =
-      ap (λ (q : Progress). feeds_any g learnt t (target_in g.own t.epoch q) from (Some [])) is ∙ ap (λ (q : Progress). status_told g learnt t q from head) (sym is)
+      ap (λ (q : Progress). feeds_any g learnt t (target_in g.own t.epoch q) from (Some (known_of_report head))) is ∙ ap (λ (q : Progress). status_told g learnt t q from head) (sym is)
 
   -- a body is missed once no body is fetched any more
   pub missed_later : (p : Progress) (from : NodeId) (state : PeerState) (v : ObjectVersion) → source_in p ≡ None

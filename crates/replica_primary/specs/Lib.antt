@@ -1,5 +1,6 @@
 pub mod PrimaryViews
 pub mod Phases
+pub mod Rests
 pub mod Written
 pub mod Moves
 pub mod Acks

@@ -7,7 +7,8 @@ ghost use Rattle.xt_messages.specs.declared.record.Record.{Record};
 ghost use Rattle.xt_base.specs.declared.ids.NodeId.{NodeId};
 ghost use Rattle.xt_protocol.specs.declared.states.Progress.{Progress};
 ghost use Rattle.xt_protocol.specs.declared.states.PeerState.TheVariants as peer;
-ghost use Rattle.xt_protocol.specs.Primaries.{last_to_each, report_of, reports_of, target_of, with_peer};
+ghost use Rattle.xt_protocol.specs.Choice.{difference};
+ghost use Rattle.xt_protocol.specs.Primaries.{known_of_report, last_to_each, report_of, reports_of, target_of, with_peer};
 ghost use Rattle.xt_protocol.specs.PrimaryRows as rows;
 ghost use Rattle.xt_protocol.specs.PrimaryRows.{after_keeping, goes_on};
 ghost use Rattle.xt_protocol.specs.Turns.{message, sends};
@@ -19,11 +20,11 @@ use crate::feeding::{fed, target_of};
 use crate::moving::{FetchedBody, Next, advance, after_keeping, kept_of, put, unmoved};
 use crate::peers::set_peer;
 use crate::sending::last_to_each;
-use object_versions::{Bodies, StepErr};
-use osd_decisions::{choose, difference, is_majority, statuses_counted};
+use object_versions::{Bodies, StepErr, holds};
+use osd_decisions::{choose, is_majority, statuses_counted};
 use std::alloc::Global;
 use xt_base::{Copies, Epoch, NodeId, OutOfMemory, Seq};
-use xt_messages::{FileHead, ObjectVersion, Payload, Versions};
+use xt_messages::{FileHead, HeldPairs, HeldSet, ObjectVersion, Payload, Versions};
 use xt_protocol::{
     Peer, PeerState, Peers, Place, Progress, Tenure, Turned, join, message, sends, sends_one,
 };
@@ -73,6 +74,17 @@ fn is_to_feed(place: &Place, peer: &Peer) -> bool
     }
 }
 
+/// The versions that a peer has told, where it has reported.
+fn told_versions(alloc: Global, state: &PeerState) -> Result<HeldPairs, OutOfMemory>
+    ensures { IfOk result (λ told. (head : FileHead) → state.now ≡ peer.Reported head →
+        told ≡ known_of_report head) }
+{
+    match state {
+        PeerState::Reported { head } => head.versions.copy(alloc),
+        _ => Ok(Seq::new(alloc)),
+    }
+}
+
 /// A peer that has reported is fed; the own node gets the head itself.
 fn peer_fed<B: Bodies>(
     bodies: &mut B,
@@ -93,7 +105,8 @@ fn peer_fed<B: Bodies>(
     if !is_to_feed(place, peer) {
         return Ok(());
     }
-    let state = fed(bodies, alloc, &place.file, fetched, target, Seq::new(alloc))?;
+    let told = told_versions(alloc, &peer.state)?;
+    let state = fed(bodies, alloc, &place.file, fetched, target, told)?;
     put(&mut peer.state, state);
     Ok(())
 }
@@ -296,19 +309,34 @@ pub fn fetches(
     Ok(Next::Gives { turned })
 }
 
+/// The versions that are wanted and not held, in the order of those wanted.
+#[tactic(auto, unfolding(xt_protocol::specs::Choice::difference))]
+fn unheld(alloc: Global, held: &HeldSet, want: &Versions) -> Result<Versions, OutOfMemory>
+    ensures { IfOk result (λ missing. missing ≡ difference held.now want.now) }
+{
+    let mut missing = Seq::new(alloc);
+    for version in want.as_slice() {
+        if !holds(held, *version) {
+            missing.push(*version)?;
+        }
+    }
+    Ok(missing)
+}
+
 /// Head chosen: the own one is installed; of another one the bodies are fetched that are wanted.
 fn head_chosen(
     alloc: Global,
     place: &Place,
     tenure: &mut Tenure,
+    held: &HeldSet,
     source: NodeId,
     chosen: FileHead,
 ) -> Result<Next, OutOfMemory>
     ensures { IfOk result (λ next.
-        (learnt : ℕ) (from : NodeId) (records : List Record) (own : FileHead)
-        (held : List ObjectVersion) →
-        next_of (ground place.now records own held) learnt from tenure.new next ≡
-        rows.head_chosen (ground place.now records own held) learnt tenure.old (source, chosen)) }
+        (learnt : ℕ) (from : NodeId) (records : List Record) (own : FileHead) →
+        next_of (ground place.now records own held.now) learnt from tenure.new next ≡
+        rows.head_chosen (ground place.now records own held.now) learnt tenure.old
+        (source, chosen)) }
 {
     if source.0 == place.node.0 {
         return Ok(Next::Installs {
@@ -316,7 +344,7 @@ fn head_chosen(
             fetched: None,
         });
     }
-    let wanted = difference(alloc, &Seq::new(alloc), &chosen.versions)?;
+    let wanted = unheld(alloc, held, &chosen.versions)?;
     fetches(alloc, place, tenure, chosen, source, wanted, None)
 }
 
@@ -325,36 +353,40 @@ fn chooses(
     alloc: Global,
     place: &Place,
     tenure: &mut Tenure,
+    held: &HeldSet,
     reports: &[(NodeId, FileHead)],
 ) -> Result<Next, OutOfMemory>
     ensures { IfOk result (λ next.
-        (learnt : ℕ) (from : NodeId) (records : List Record) (own : FileHead)
-        (held : List ObjectVersion) →
-        next_of (ground place.now records own held) learnt from tenure.new next ≡
-        rows.chooses (ground place.now records own held) learnt tenure.old reports.now) }
+        (learnt : ℕ) (from : NodeId) (records : List Record) (own : FileHead) →
+        next_of (ground place.now records own held.now) learnt from tenure.new next ≡
+        rows.chooses (ground place.now records own held.now) learnt tenure.old reports.now) }
 {
     if reports.is_empty() {
         return Ok(unmoved(alloc));
     }
     let (source, chosen) = &reports[choose(place.node, reports)];
     let chosen = chosen.copy(alloc)?;
-    head_chosen(alloc, place, tenure, *source, chosen)
+    head_chosen(alloc, place, tenure, held, *source, chosen)
 }
 
 /// Status counted: at a majority a head is chosen.
-fn status_counted(alloc: Global, place: &Place, tenure: &mut Tenure) -> Result<Next, OutOfMemory>
+fn status_counted(
+    alloc: Global,
+    place: &Place,
+    tenure: &mut Tenure,
+    held: &HeldSet,
+) -> Result<Next, OutOfMemory>
     ensures { IfOk result (λ next.
-        (learnt : ℕ) (from : NodeId) (records : List Record) (own : FileHead)
-        (held : List ObjectVersion) →
-        next_of (ground place.now records own held) learnt from tenure.new next ≡
-        rows.status_counted (ground place.now records own held) learnt tenure.old) }
+        (learnt : ℕ) (from : NodeId) (records : List Record) (own : FileHead) →
+        next_of (ground place.now records own held.now) learnt from tenure.new next ≡
+        rows.status_counted (ground place.now records own held.now) learnt tenure.old) }
 {
     let peers = tenure.peers.as_slice();
     if !is_majority(peers, statuses_counted(peers)) {
         return Ok(unmoved(alloc));
     }
     let reports = reports_of(alloc, peers)?;
-    chooses(alloc, place, tenure, reports.as_slice())
+    chooses(alloc, place, tenure, held, reports.as_slice())
 }
 
 /// A status of an unknown peer is counted, or kept until the head is installed.
@@ -376,26 +408,26 @@ pub fn status_told(
     alloc: Global,
     place: &Place,
     tenure: &mut Tenure,
+    held: &HeldSet,
     from: NodeId,
     head: &FileHead,
 ) -> Result<Next, OutOfMemory>
-    ensures { IfOk result (λ next.
-        (learnt : ℕ) (records : List Record) (own : FileHead) (held : List ObjectVersion) →
-        next_of (ground place.now records own held) learnt from tenure.new next ≡
-        rows.status_told (ground place.now records own held) learnt tenure.old tenure.old.progress
-        from head.now) }
+    ensures { IfOk result (λ next. (learnt : ℕ) (records : List Record) (own : FileHead) →
+        next_of (ground place.now records own held.now) learnt from tenure.new next ≡
+        rows.status_told (ground place.now records own held.now) learnt tenure.old
+        tenure.old.progress from head.now) }
 {
     match &tenure.progress {
         Progress::Gathering => {
             status_kept(alloc, &mut tenure.peers, from, head)?;
-            status_counted(alloc, place, tenure)
+            status_counted(alloc, place, tenure, held)
         }
         Progress::Fetching { .. } => {
             status_kept(alloc, &mut tenure.peers, from, head)?;
             Ok(unmoved(alloc))
         }
         Progress::Installing { .. } | Progress::Active { .. } => Ok(Next::Feeds {
-            known: Seq::new(alloc),
+            known: head.versions.copy(alloc)?,
         }),
     }
 }

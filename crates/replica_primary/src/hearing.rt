@@ -48,20 +48,20 @@ fn hears_status(
     alloc: Global,
     place: &Place,
     tenure: &mut Tenure,
+    held: &HeldSet,
     from: NodeId,
     head: &FileHead,
 ) -> Result<Next, OutOfMemory>
-    ensures { IfOk result (λ next.
-        (learnt : ℕ) (records : List Record) (own : FileHead) (held : List ObjectVersion)
+    ensures { IfOk result (λ next. (learnt : ℕ) (records : List Record) (own : FileHead)
         (state : PeerState) → peer_in tenure.old.peers from ≡ Some state →
-        next_of (ground place.now records own held) learnt from tenure.new next ≡
-        rows.hears_status (ground place.now records own held) learnt tenure.old from state
+        next_of (ground place.now records own held.now) learnt from tenure.new next ≡
+        rows.hears_status (ground place.now records own held.now) learnt tenure.old from state
         head.now) }
 {
     if !is_unknown(tenure.peers.as_slice(), from) {
         return Ok(unmoved(alloc));
     }
-    status_told(alloc, place, tenure, from, head)
+    status_told(alloc, place, tenure, held, from, head)
 }
 
 /// Whether an acknowledgement makes this peer current.
@@ -180,7 +180,7 @@ fn goes_on_hearing(
         payload.now) }
 {
     match payload {
-        Payload::Status { head, .. } => hears_status(alloc, place, tenure, from, head),
+        Payload::Status { head, .. } => hears_status(alloc, place, tenure, held, from, head),
         Payload::Object {
             object,
             version,

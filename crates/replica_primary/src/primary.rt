@@ -9,11 +9,13 @@ ghost use Rattle.object_versions.specs.KeptBodies.{fault_of, ReadsOnly};
 ghost use Rattle.object_versions.specs.Rising.{HeadRises};
 ghost use Rattle.replica_primary.specs.Written.{ground};
 ghost use Rattle.replica_primary.specs.Phases.{phase_in, phase_of};
+ghost use Rattle.replica_primary.specs.Rests.{chosen_by, rested_on, rests_on};
 ghost use Rattle.std.specs.Option.{option_map};
 
 use crate::drawing::epoch_drawn;
 use crate::hearing::hears;
 use crate::moving::put;
+use crate::peers::peer_in;
 use crate::serving::{Written, put_issued, writes};
 use crate::waking::wakes;
 use flease::Turn;
@@ -23,7 +25,7 @@ use std::alloc::Global;
 use std::marker::Model;
 use xt_base::{FileId, Members, NodeId, OpId, OutOfMemory};
 use xt_messages::{FileHead, HeldSet, Op, Payload, Reply};
-use xt_protocol::{Peer, Place, PrimaryState, Progress, Turned};
+use xt_protocol::{Peer, PeerState, Place, PrimaryState, Progress, Tenure, Turned};
 
 /// The primary of one file at one node. Contracts see where it stands and its state.
 #[derive(Drop)]
@@ -217,6 +219,55 @@ impl Primary {
             None => Phase::Idle,
             Some(tenure) => phase_in(tenure.peers.as_slice(), &tenure.progress),
         }
+    }
+
+    /// The head that was chosen, while its bodies are fetched and while it is installed.
+    pub fn chosen(&self) -> Option<&FileHead>
+        ensures { option_map (λ head. head.now) result ≡ chosen_by self.now.state.tenure }
+    {
+        match &self.state.tenure {
+            Some(
+                Tenure {
+                    progress: Progress::Fetching { chosen, .. }
+                    | Progress::Installing { chosen, .. },
+                    ..
+                },
+            ) => Some(chosen),
+            _ => None,
+        }
+    }
+
+    /// The head that the primary rests on: the committed one while it is active, and that of its own replica while it gathers,
+    /// once it has counted that.
+    pub fn rests_on(&self) -> Option<&FileHead>
+        ensures { option_map (λ head. head.now) result ≡
+            rests_on self.now.place.node self.now.state.tenure }
+    {
+        match &self.state.tenure {
+            Some(tenure) => rested_on(self.place.node, tenure.peers.as_slice(), &tenure.progress),
+            None => None,
+        }
+    }
+}
+
+/// The head that a primary at this node with these peers rests on.
+fn rested_on<'a>(node: NodeId, peers: &'a [Peer], progress: &'a Progress) -> Option<&'a FileHead>
+    ensures { option_map (λ head. head.now) result ≡ rested_on node peers.now progress.now }
+{
+    match progress {
+        Progress::Active { committed, .. } => Some(committed),
+        Progress::Gathering => reported(peer_in(peers, node)?),
+        _ => None,
+    }
+}
+
+/// The head that a peer has reported.
+fn reported(state: &PeerState) -> Option<&FileHead>
+    ensures { option_map (λ head. head.now) result ≡ rows.reported (Some state.now) }
+{
+    match state {
+        PeerState::Reported { head } => Some(head),
+        _ => None,
     }
 }
 

@@ -11,7 +11,7 @@ use Rattle.xt_messages.specs.declared.record.Record.TheVariants as kept
 use Rattle.xt_protocol.specs.FileIds.{is_file, is_before}
 use Rattle.xt_protocol.specs.Folds.{row_in, with_row, new_row, row_after, file_of, rows_after}
 use Rattle.replica_records.specs.Sound.{FitsLists, FitsFold, IsSoundRow, AreSoundRows}
-use Rattle.replica_records.proofs.FileRows.{rise-with_row}
+use Rattle.xt_protocol.proofs.FileRows.{rise-with_row}
 use Rattle.replica_records.proofs.AfterUpdate.{lists_after}
 
 pub new_sound : (within : Bool) (file : FileId) → IsSoundRow within (new_row file)

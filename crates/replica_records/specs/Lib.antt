@@ -4,3 +4,4 @@ pub mod RecordText
 pub mod RecordFields
 pub mod Places
 pub mod Logs
+pub mod Heads

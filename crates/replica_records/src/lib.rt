@@ -8,6 +8,7 @@
 mod errors;
 mod folding;
 mod head;
+mod keeping;
 mod log;
 mod order;
 mod payload;
@@ -18,6 +19,7 @@ mod writing;
 pub use errors::RecordErr;
 pub use folding::{Folding, fold};
 pub use head::{head_after, new_head, plain_stamp};
+pub use keeping::heads;
 pub use log::RecordLog;
 pub use object_versions::{Bodies, BodyErr};
 pub use payload::{read_record, record_bytes};

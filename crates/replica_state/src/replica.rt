@@ -1,6 +1,7 @@
 ghost use Rattle.std.specs.Prelude.{◌≡◌, IfOk, OnOk, OnErr};
 ghost use Rattle.xt_messages.specs.Limits.{FitsEpoch, FitsHead, FitsUpdate};
 ghost use Rattle.xt_protocol.specs.Folds.{row_after};
+ghost use Rattle.xt_protocol.specs.Forgetting.{row_without};
 ghost use Rattle.xt_protocol.specs.ReplicaRows.{kept_after, gathered, staged, headed, updated};
 ghost use Rattle.replica_state.specs.Kept.{kept_row, IsNotable};
 
@@ -8,7 +9,7 @@ use crate::answers::{
     acknowledgement, after_record, body_turned_away, head_turned_away, hold_body, only,
     plain_status, promised_status, refused, update_turned_away,
 };
-use object_versions::{hold, is_earlier, take_update};
+use object_versions::{SoughtBodies, forget_held, hold, is_earlier, take_update};
 use std::alloc::Global;
 use std::marker::Model;
 use xt_base::{Copies, Epoch, FileId, Octets, OutOfMemory, Stamp};
@@ -194,5 +195,12 @@ impl Replica {
             _ => unreachable!(),
         }
         Ok(())
+    }
+
+    /// Forgets the held bodies that aren't to be kept. It takes no memory.
+    pub fn forget(&mut self, keep: &SoughtBodies<'_>)
+        ensures { self.new ≡ row_without keep.now self.old }
+    {
+        forget_held(&mut self.held, &self.file, keep);
     }
 }

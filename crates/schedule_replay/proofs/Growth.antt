@@ -1,5 +1,5 @@
 -- The steps of a line add entries behind those that are there, and leave the lines so far as they are.
-use Rattle.std.proofs.Common.{◌≡◌, ◌∙◌, ℕ, zero, suc, Bool, true, false, if◌then◌else◌, ◌-◌, ◌+◌, arith, nat_lt, take, length, slice_get, Option, Some, None, Result, Ok, Err, List, [], ◌∷◌, ◌++◌, refl, sym, ap, subst, append_assoc, append-nil}
+use Rattle.std.proofs.Common.{◌≡◌, ◌∙◌, ℕ, zero, suc, Bool, true, false, if◌then◌else◌, ◌-◌, arith, nat_lt, take, length, slice_get, Option, Some, None, Result, Ok, Err, List, [], ◌∷◌, ◌++◌, refl, sym, ap, subst, append_assoc, append-nil}
 use Rattle.xt_base.specs.declared.ids.NodeId.{NodeId}
 use Rattle.xt_messages.specs.declared.file.Location.{Location}
 use Rattle.xt_messages.specs.declared.file.Op.{Op}
@@ -22,11 +22,12 @@ use Rattle.time_line.specs.declared.entry.Halt.TheVariants as halt
 use Rattle.cluster_runs.specs.declared.TheConstants.{MESSAGES, MESSAGE_BYTES, NODES}
 use Rattle.cluster_runs.specs.declared.Sent.{Sent}
 use Rattle.cluster_runs.specs.Steps.{Step}
-use Rattle.cluster_runs.specs.World.{World, Node, Running, Core, osd, client, node_in, with_node}
+use Rattle.cluster_runs.specs.World.{World, Node, puts, loads, Running, Core, osd, client, node_in, with_node}
 use Rattle.cluster_runs.specs.Rules.{called_file}
-use Rattle.cluster_runs.specs.NodeSteps.{Room, Overflow, Cause, came_to, has_no_room, Doing, frame_bytes, core_step, after_turn, halted, keeps_record, one_more, cut_in_sending, sends, appends, within_limits, overflow_of, end_of_step, event_at, event_comes}
+use Rattle.cluster_runs.specs.NodeSteps.{Room, Overflow, Cause, came_to, has_no_room, Doing, frame_bytes, core_step, after_turn, halted, keeps_record, one_more, one_put, forgets_if, cut_in_sending, sends, appends, within_limits, overflow_of, end_of_step, event_at, event_comes}
 use Rattle.cluster_runs.specs.Lines.{Next, finished, opens, goes_on, ends, begins, does, declares, next_boot, starts, starts_as, changed, stops, crashes, cuts, reads_clock, core_calls, calls, location_of, operation_of, aims, no_longer_pending, delivers, least_pending, first_step, went, settles, works_on, next_step, steps, so_far, enough, done}
 use Rattle.cluster_runs.specs.Runs.{IsPartOf}
+use Rattle.step_endings.proofs.Forgetting.{only_nodes}
 
 -- the later world has the lines of the earlier one, and its entries with more behind them
 pub record Grows (old new : World) : Type 0 where
@@ -73,14 +74,15 @@ sends_grows d node running None outs turned = turn_grows d.world node running tu
 sends_grows d node running (Some count) [] turned = turn_grows d.world node running turned
 sends_grows d node running (Some count) (out ∷ outs) turned =
     let less : Turned = record turned { outs = take count turned.outs } in
-    let there : Node = record node { kept = one_more node.kept turned.rec } in
+    let there : Node = record node { kept = one_more node.kept turned.rec; past = one_put node.past turned.rec } in
     grows_on d.world (after_turn d.world node running less) (cut_in_sending d.world node running count turned)
     (turn_grows d.world node running less) (halted_grows (after_turn d.world node running less) there running halt.Cut)
 
 appends_grows : (d : Doing) (node : Node) (running : Running) (crash : Option Stop) (rec : Option Record) (turned : Turned) → Grows d.world (appends d node running crash rec turned).world
 appends_grows d node running (Some stop) (Some rec) turned =
-    either (Grows d.world) (keeps_record stop) (halted d.world (record node { kept = node.kept ++ rec ∷ [] }) running halt.Kept) (halted d.world node running halt.Lost)
-    (halted_grows d.world (record node { kept = node.kept ++ rec ∷ [] }) running halt.Kept) (halted_grows d.world node running halt.Lost)
+    let put : Node = record node { kept = node.kept ++ rec ∷ []; past = node.past ++ puts rec ∷ [] } in
+    either (Grows d.world) (keeps_record stop) (halted d.world put running halt.Kept) (halted d.world node running halt.Lost)
+    (halted_grows d.world put running halt.Kept) (halted_grows d.world node running halt.Lost)
 appends_grows d node running None rec turned = sends_grows d node running running.cut turned.outs turned
 appends_grows d node running (Some stop) None turned = sends_grows d node running running.cut turned.outs turned
 
@@ -95,11 +97,21 @@ with_room : (w : World) (found : Option Overflow) (r : Result Doing Cause) → G
 with_room w (Some overflow) r goes = tt
 with_room w None r goes = goes
 
+-- what a node forgets is in no entry
+forgets_grows : (room : Room) (w : World) (id : NodeId) (rec : Option Record) (r : Result Doing Cause) → GoesOn w r → GoesOn w (forgets_if room id rec r)
+forgets_grows room w id None r goes = goes
+forgets_grows room w id (Some rec) (Err cause) goes = tt
+forgets_grows room w id (Some rec) (Ok d) goes =
+    let only = only_nodes room d.world (node_in d.world.nodes id.0) in
+    record { same = ap (λ (v : World). v.lines) only ∙ goes.same; more = goes.more; entries = ap (λ (v : World). v.entries) only ∙ goes.entries }
+
 step_grows : (room : Room) (d : Doing) (node : Node) (running : Running) (step : Step Core) → GoesOn d.world (end_of_step room d node running step)
 step_grows room d node running step =
     let next : Running = record running { core = step.state } in
-    with_room d.world (overflow_of room node.kept step.turned.rec) (within_limits (appends d node next running.crash step.turned.rec step.turned))
-    (within_grows d.world (appends d node next running.crash step.turned.rec step.turned) (appends_grows d node next running.crash step.turned.rec step.turned))
+    let ended : Result Doing Cause = within_limits (appends d node next running.crash step.turned.rec step.turned) in
+    with_room d.world (overflow_of room node.past step.turned.rec) (forgets_if room node.id step.turned.rec ended)
+    (forgets_grows room d.world node.id step.turned.rec ended
+    (within_grows d.world (appends d node next running.crash step.turned.rec step.turned) (appends_grows d node next running.crash step.turned.rec step.turned)))
 
 -- ---- events
 
@@ -139,7 +151,7 @@ starts_grows room d clock None = stays d.world
 starts_grows room d clock (Some node) =
     let boot = next_boot node.kept in
     either (GoesOn d.world) (nat_lt boot.0 COUNTS) _ (Err (came_to limited.Boots))
-    (with_room d.world (room node.kept (kept.Boot boot)) (does d (starts_as d.world node boot clock)) (record { same = refl; more = _; entries = refl })) tt
+    (with_room d.world (room.overflow (node.past ++ loads ∷ []) (kept.Boot boot)) (does d (starts_as d.world node boot clock)) (record { same = refl; more = _; entries = refl })) tt
 
 stops_grow : (w : World) (node : Option Node) → Grows w (stops w node)
 stops_grow w None = stays w

@@ -55,7 +55,7 @@ pub fn replay<C: NodeCore, H: Hull, S: Source, K: Sink>(
     requires start { world.old.world ≡ start_world }
     requires going { world.old.ended ≡ false }
     // The trace is that of a run of the lines that were taken, over journals that have the hull's room, and it is safe.
-    ensures replay { IsReplay H.overflow (S.left src.old) (S.left src.new) (K.held out.old)
+    ensures replay { IsReplay H.room (S.left src.old) (S.left src.new) (K.held out.old)
         (K.held out.new) result }
     // A fault ends the replay and is told, where its object's count rose; with any other status no count did.
     ensures cause { HasCause (S.fault_count src.old) (S.fault_count src.new) (K.fault_count out.old)
@@ -63,7 +63,7 @@ pub fn replay<C: NodeCore, H: Hull, S: Source, K: Sink>(
     // A good schedule is done whole, where neither the source nor the sink fails, unless memory runs out.
     ensures complete { (Rose (S.fault_count src.old) (S.fault_count src.new) → ⊥) →
         (Rose (K.fault_count out.old) (K.fault_count out.new) → ⊥) →
-        Completes H.overflow (S.left src.old) (K.held out.old) (K.held out.new) result }
+        Completes H.room (S.left src.old) (K.held out.old) (K.held out.new) result }
 {
     let mut raw = Vec::new(alloc);
     for _line in 0..LINES {

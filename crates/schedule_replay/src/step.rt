@@ -28,9 +28,9 @@ fn status_of(number: u64, error: WorldErr) -> Status
 /// Applies a line to a world that is the run of its lines. Its entries stand behind those that were there, and the trace is safe.
 fn apply<C: NodeCore, H: Hull>(world: &mut World<C, H>, line: Line) -> Result<(), WorldErr>
     requires going { world.old.ended ≡ false }
-    requires run { IsScheduleRun H.overflow world.old.world }
+    requires run { IsScheduleRun H.room world.old.world }
     requires formed { IsLine (length world.old.world.lines == 0) line }
-    ensures applied { IsApplied H.overflow world.old line world.new result }
+    ensures applied { IsApplied H.room world.old line world.new result }
     ensures grown { Grown world.old.world.entries world.new.world.entries }
     ensures safe { IsSafe world.new.world.entries }
 {
@@ -47,9 +47,9 @@ pub fn replay_line<C: NodeCore, H: Hull, S: Source, K: Sink>(
     raw: &mut Vec<u8>,
 ) -> Option<Status>
     requires going { world.old.ended ≡ false }
-    requires run { IsScheduleRun H.overflow world.old.world }
+    requires run { IsScheduleRun H.room world.old.world }
     requires few { length world.old.world.lines < LINES }
-    ensures step { IsStep H.overflow (S.left src.old) (S.left src.new) (K.held out.old)
+    ensures step { IsStep H.room (S.left src.old) (S.left src.new) (K.held out.old)
         (K.held out.new) world.old world.new result }
     ensures cause { CausesStep (S.fault_count src.old) (S.fault_count src.new)
         (K.fault_count out.old) (K.fault_count out.new) result }

@@ -5,7 +5,7 @@ use Rattle.xt_base.specs.declared.ids.NodeId.{NodeId}
 use Rattle.xt_messages.specs.declared.record.Record.{Record}
 use Rattle.cluster_runs.specs.declared.Sent.{Sent}
 use Rattle.cluster_runs.specs.World.{Node, Running, with_node}
-use Rattle.cluster_runs.specs.NodeSteps.{Room, Cause, overflow_of, numbered, one_more, loses_own, stopped_in_append}
+use Rattle.cluster_runs.specs.NodeSteps.{Room, Cause, overflow_of, numbered, loses_own, stopped_in_append}
 use Rattle.disk_model.specs.declared.plan.Stop.{Stop}
 use Rattle.time_line.specs.declared.entry.Halt.{Halt}
 use Rattle.time_line.specs.declared.entry.Entry.{Entry}
@@ -15,7 +15,7 @@ use Rattle.world_hull.specs.declared.hull.Kept.{Kept}
 use Rattle.std.proofs.lemmas.List.{append-nil}
 use Rattle.world_hull.specs.declared.errors.WorldErr.{WorldErr}
 use Rattle.world_tables.specs.Limits.{limit_passed}
-use Rattle.world_nodes.specs.Nodes.{NodesView, IsAt, Changes, kept_when}
+use Rattle.world_nodes.specs.Nodes.{NodesView, IsAt, Changes, after_append, after_put}
 use Rattle.step_endings.specs.Steps.{Working, WentOn, IsUntold, Tells, cause_of}
 use Rattle.step_endings.specs.Endings.{IsGiven, IsWithin, Halts, ended_in_append, halt_of}
 use Rattle.step_endings.proofs.Endings.{numbered_same, cause_is, append_sent, append_done, at_again}
@@ -23,8 +23,8 @@ use Rattle.step_endings.proofs.Giving.{limits_kept, limit_told}
 
 pub give_done : {T : Type 0} (told : Room) (was self new : Working) (place : ℕ) (node : Node) (id : NodeId) (rec : Option Record) (outs : List Msg) (r : Result T WorldErr) (between after : NodesView) (sent : List Sent)
     → was ≡ self → IsAt self.doing.world.nodes place node → ((n : Node) → IsAt was.doing.world.nodes place n → id ≡ n.id)
-    → Changes (record { times = was.doing.world.times; nodes = was.doing.world.nodes }) place (λ n. record n { kept = one_more n.kept rec }) between
-    → ((n : Node) → IsAt was.doing.world.nodes place n → overflow_of told n.kept rec ≡ None)
+    → Changes (record { times = was.doing.world.times; nodes = was.doing.world.nodes }) place (after_put rec) between
+    → ((n : Node) → IsAt was.doing.world.nodes place n → overflow_of told n.past rec ≡ None)
     → after ≡ between → sent ≡ was.doing.world.sent ++ numbered between.nodes id outs → IsWithin {T = T} (limit_passed sent) r
     → new ≡ record was { doing = record was.doing { world = record was.doing.world { times = after.times; nodes = after.nodes; sent = sent } } }
     → IsGiven told self node rec outs new r
@@ -34,22 +34,22 @@ give_done {T} told was self new place node id rec outs r between after sent is a
     there : IsAt was.doing.world.nodes place node
     there = subst (λ (x : Working). IsAt x.doing.world.nodes place node) (sym is) at
 
-    its_nodes : after ≡ record { times = was.doing.world.times; nodes = with_node was.doing.world.nodes (record node { kept = one_more node.kept rec }) }
+    its_nodes : after ≡ record { times = was.doing.world.times; nodes = with_node was.doing.world.nodes (after_put rec node) }
     its_nodes = same ∙ changes node there
 
     its_sent : sent ≡ was.doing.world.sent ++ numbered was.doing.world.nodes node.id outs
     its_sent =
         is_sent
         ∙ ap (λ (v : NodesView). was.doing.world.sent ++ numbered v.nodes id outs) (changes node there)
-        ∙ ap (λ (i : NodeId). was.doing.world.sent ++ numbered (with_node was.doing.world.nodes (record node { kept = one_more node.kept rec })) i outs) (its node there)
-        ∙ ap (λ (more : List Sent). was.doing.world.sent ++ more) (numbered_same was.doing.world.nodes (record node { kept = one_more node.kept rec }) node.id outs)
+        ∙ ap (λ (i : NodeId). was.doing.world.sent ++ numbered (with_node was.doing.world.nodes (after_put rec node)) i outs) (its node there)
+        ∙ ap (λ (more : List Sent). was.doing.world.sent ++ more) (numbered_same was.doing.world.nodes (after_put rec node) node.id outs)
 
     ends : (r : Result T WorldErr) → IsWithin {T = T} (limit_passed sent) r → IsGiven told was node rec outs new r
     ends (Ok value) none = (
       limits_kept told was.doing.world node rec outs sent (room node there) its_sent none,
       is_new
           ∙ ap (λ (v : NodesView). record was { doing = record was.doing { world = record was.doing.world { times = v.times; nodes = v.nodes; sent = sent } } }) its_nodes
-          ∙ ap (λ (s : List Sent). record was { doing = record was.doing { world = record was.doing.world { nodes = with_node was.doing.world.nodes (record node { kept = one_more node.kept rec }); sent = s } } }) its_sent,
+          ∙ ap (λ (s : List Sent). record was { doing = record was.doing { world = record was.doing.world { nodes = with_node was.doing.world.nodes (after_put rec node); sent = s } } }) its_sent,
     )
     ends (Err e) limit = (
       limit_told told was.doing.world node rec outs T sent e (room node there) its_sent limit,
@@ -63,7 +63,7 @@ give_done {T} told was self new place node id rec outs r between after sent is a
 
 -- an append was stopped, but a limit is passed
 pub append_limit : (T : Type 0) (told : Room) (was self new : Working) (place : ℕ) (node : Node) (running : Running) (stop : Stop) (rec : Record) (e : WorldErr)
-    → was ≡ self → IsAt self.doing.world.nodes place node → ((n : Node) → IsAt was.doing.world.nodes place n → told n.kept rec ≡ None)
+    → was ≡ self → IsAt self.doing.world.nodes place node → ((n : Node) → IsAt was.doing.world.nodes place n → told.overflow n.past rec ≡ None)
     → IsWithin {T = T} (limit_passed was.doing.world.sent) (Err e) → IsUntold was new
     → Tells (cause_of (ended_in_append told self.doing node running stop rec)) e × IsUntold self new
 append_limit T told was self new place node running stop rec e is at room passed untold =
@@ -80,14 +80,14 @@ append_limit T told was self new place node running stop rec e is at room passed
 -- an append was stopped, and the node with it
 pub append_told : (told : Room) (was self new : Working) (place : ℕ) (node : Node) (running : Running) (stop : Stop) (rec : Record) (end : Kept) (id : NodeId) (clock : ℕ) (how : Halt) (after : NodesView) (es : List Entry)
     → was ≡ self → IsAt self.doing.world.nodes place node → running.clock ≡ clock → ((n : Node) → IsAt was.doing.world.nodes place n → id ≡ n.id)
-    → end ≡ kept_by (Some stop) → Changes (record { times = was.doing.world.times; nodes = was.doing.world.nodes }) place (λ n. record n { kept = kept_when n.kept rec end }) after
-    → ((n : Node) → IsAt was.doing.world.nodes place n → told n.kept rec ≡ None) → limit_passed was.doing.world.sent ≡ None
+    → end ≡ kept_by (Some stop) → Changes (record { times = was.doing.world.times; nodes = was.doing.world.nodes }) place (after_append rec end) after
+    → ((n : Node) → IsAt was.doing.world.nodes place n → told.overflow n.past rec ≡ None) → limit_passed was.doing.world.sent ≡ None
     → how ≡ halt_of end → es ≡ was.doing.world.entries ++ entry.Down id clock how ∷ []
     → Halts (record was { doing = record was.doing { world = record was.doing.world { times = after.times; nodes = after.nodes; entries = es } } }) place new
     → (ended_in_append told self.doing node running stop rec ≡ Ok new.doing) × WentOn self new
 append_told told was self new place node running stop rec end id clock how after es is at is_clock its is_end changes room passed is_how is_es halts =
     subst (λ (x : Working). (ended_in_append told x.doing node running stop rec ≡ Ok new.doing) × WentOn x new) is
-    (append_done told was new node running stop rec end is_end
+    (append_done told was new place node running stop rec end there is_end
     (limits_kept told was.doing.world node (Some rec) [] was.doing.world.sent (room node there) (sym (append-nil was.doing.world.sent)) passed)
     (halts next stands
     ∙ ap (λ (v : NodesView). record was { doing = record was.doing { world = record was.doing.world { times = v.times; nodes = with_node v.nodes (record next { up = None }); entries = es }; own = [] } }) (changes node there)
@@ -101,7 +101,7 @@ append_told told was self new place node running stop rec end id clock how after
     there = subst (λ (x : Working). IsAt x.doing.world.nodes place node) (sym is) at
 
     next : Node
-    next = record node { kept = kept_when node.kept rec end }
+    next = after_append rec end node
 
     stands : IsAt after.nodes place next
     stands = subst (λ (v : NodesView). IsAt v.nodes place next) (sym (changes node there)) (at_again was.doing.world.nodes place node next there refl)

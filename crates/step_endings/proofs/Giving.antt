@@ -15,25 +15,25 @@ use Rattle.step_endings.specs.Steps.{Tells, limit_of}
 use Rattle.step_endings.specs.Endings.{given, hindrance, cause_against, IsWithin}
 
 module _ (told : Room) (w : World) (node : Node) (rec : Option Record) (outs : List Msg) where
-  cause_when : (o : Option Overflow) → overflow_of told node.kept rec ≡ o
+  cause_when : (o : Option Overflow) → overflow_of told node.past rec ≡ o
       → cause_against told w node rec outs
       ≡ (elim o [ Some overflow ↦ Some (has_no_room overflow) | None ↦ hindrance (limit_passed (given w node rec outs).sent) ])
   cause_when o is =
       ap (λ (p : Option Overflow). elim p [ Some overflow ↦ Some (has_no_room overflow) | None ↦ hindrance (limit_passed (given w node rec outs).sent) ]) is
 
   -- the hull has kept the record, or tells why not
-  pub full_told : (T : Type 0) (e : WorldErr) → IsFullOrMemory e → IsFullExactly {T = T} (overflow_of told node.kept rec) (Err e) → Tells (cause_against told w node rec outs) e
+  pub full_told : (T : Type 0) (e : WorldErr) → IsFullOrMemory e → IsFullExactly {T = T} (overflow_of told node.past rec) (Err e) → Tells (cause_against told w node rec outs) e
   full_told T (error.Illegal rule) may is = may
   full_told T (error.Limit what limit) may is = absurd (may)
   full_told T (error.Full need limit) may is = cause_when (Some (record { need = need; limit = limit })) is
   full_told T error.OutOfMemory may is = tt
 
   -- then the messages pass no limit, or a limit is told
-  pub limits_kept : (sent : List Sent) → overflow_of told node.kept rec ≡ None → sent ≡ (given w node rec outs).sent → limit_passed sent ≡ None
+  pub limits_kept : (sent : List Sent) → overflow_of told node.past rec ≡ None → sent ≡ (given w node rec outs).sent → limit_passed sent ≡ None
       → cause_against told w node rec outs ≡ None
   limits_kept sent fits is none = cause_when None fits ∙ ap hindrance (ap limit_passed (sym is) ∙ none)
 
-  pub limit_told : (T : Type 0) (sent : List Sent) (e : WorldErr) → overflow_of told node.kept rec ≡ None → sent ≡ (given w node rec outs).sent → IsWithin {T = T} (limit_passed sent) (Err e)
+  pub limit_told : (T : Type 0) (sent : List Sent) (e : WorldErr) → overflow_of told node.past rec ≡ None → sent ≡ (given w node rec outs).sent → IsWithin {T = T} (limit_passed sent) (Err e)
       → Tells (cause_against told w node rec outs) e
   limit_told T sent e fits is passed = at (limit_passed sent) refl passed
     where

@@ -10,7 +10,8 @@ use Rattle.xt_messages.specs.declared.record.Record.{Record}
 use Rattle.xt_messages.specs.declared.status.Limited.{Limited}
 use Rattle.xt_protocol.specs.declared.turned.Turned.{Turned}
 use Rattle.cluster_runs.specs.World.{World, Node, Running, with_node}
-use Rattle.cluster_runs.specs.NodeSteps.{Room, Cause, came_to, has_no_room, Doing, numbered, one_more, overflow_of, within_limits, after_turn, to_itself, loses_own, cut_in_sending, stopped_in_append}
+use Rattle.cluster_runs.specs.NodeSteps.{Room, Cause, came_to, has_no_room, Doing, numbered, one_more, overflow_of, within_limits, forgets_if, after_turn, to_itself, loses_own, cut_in_sending, stopped_in_append}
+use Rattle.cluster_fits.specs.Fits.{FitsTurned, MayForget}
 use Rattle.world_tables.specs.Limits.{limit_passed}
 use Rattle.world_hull.specs.declared.errors.WorldErr.{WorldErr}
 use Rattle.step_endings.specs.declared.ending.Ending.{Ending}
@@ -18,7 +19,7 @@ use Rattle.step_endings.specs.declared.ending.Ending.TheVariants as ending
 use Rattle.world_hull.specs.declared.errors.WorldErr.TheVariants as error
 use Rattle.world_hull.specs.declared.hull.Kept.{Kept}
 use Rattle.world_hull.specs.declared.hull.Kept.TheVariants as kept
-use Rattle.world_nodes.specs.Nodes.{IsAt}
+use Rattle.world_nodes.specs.Nodes.{IsAt, after_put}
 use Rattle.step_endings.specs.Steps.{Working, Tells, IsUntold, limit_of}
 
 -- By the plans and by what a step gives: a record is appended where a crash is planned, or messages are sent where a cut is.
@@ -31,11 +32,16 @@ ending_of crash cut rec outs = ending.Whole
 abbrev pub given_by : Option Record → List Msg → List Mark → Turned
 given_by rec outs marks = record { rec = rec; outs = outs; marks = marks }
 
--- a world in which a node's record is kept and its messages are numbered
+-- what a step gave fits the node that took it, and that node may forget then
+abbrev pub FitsGiven : Node → Turned → Type 0
+FitsGiven node turned =
+    FitsTurned node.kept turned × IfSome node.up (λ running. MayForget (one_more node.kept turned.rec) running.core)
+
+-- a world in which a node's record is put and its messages are numbered
 abbrev pub given : World → Node → Option Record → List Msg → World
 given w node rec outs =
     record w {
-      nodes = with_node w.nodes (record node { kept = one_more node.kept rec });
+      nodes = with_node w.nodes (after_put rec node);
       sent = w.sent ++ numbered w.nodes node.id outs;
     }
 
@@ -46,7 +52,7 @@ hindrance (Some what) = Some (came_to what)
 
 abbrev pub cause_against : Room → World → Node → Option Record → List Msg → Option Cause
 cause_against room w node rec outs =
-    elim (overflow_of room node.kept rec) [
+    elim (overflow_of room node.past rec) [
       | Some overflow ↦ Some (has_no_room overflow)
       | None ↦ hindrance (limit_passed (given w node rec outs).sent)
     ]
@@ -58,11 +64,15 @@ IsGiven room old node rec outs new (Ok value) =
     × (new ≡ record old { doing = record old.doing { world = given old.doing.world node rec outs } })
 IsGiven room old node rec outs new (Err e) = Tells (cause_against room old.doing.world node rec outs) e × IsUntold old new
 
--- ---- endings, each behind room for the record
+-- ---- endings, each after room for the record
 
--- the record of a step must have room; then what comes of the step must be within the limits
+-- The record of a step must have room; then what comes of the step must be within the limits; then a node that still runs may forget.
 abbrev pub ended : Room → Node → Option Record → Doing → Result Doing Cause
-ended room node rec d = elim (overflow_of room node.kept rec) [ Some overflow ↦ Err (has_no_room overflow) | None ↦ within_limits d ]
+ended room node rec d =
+    elim (overflow_of room node.past rec) [
+      | Some overflow ↦ Err (has_no_room overflow)
+      | None ↦ forgets_if room node.id rec (within_limits d)
+    ]
 
 -- with all that it gives
 abbrev pub ended_whole : Room → Doing → Node → Running → Turned → Result Doing Cause

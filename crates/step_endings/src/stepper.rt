@@ -1,13 +1,13 @@
-ghost use Rattle.std.specs.Prelude.{◌≡◌, ◌<◌, ◌++◌, ◌∷◌, [], Some, length, IfErr, IfSome, OnOk};
+ghost use Rattle.std.specs.Prelude.{◌≡◌, ◌<◌, ◌++◌, ◌∷◌, [], Some, Ok, length, IfErr, IfSome, OnOk};
 ghost use Rattle.std.specs.List.{AllByRecursion};
 ghost use Rattle.xt_messages.specs.Limits.{FitsMessage};
 ghost use Rattle.cluster_runs.specs.World.{Node, Running};
-ghost use Rattle.cluster_runs.specs.NodeSteps.{end_of_step, numbered};
-ghost use Rattle.cluster_fits.specs.Fits.{FitsPlan, FitsNext, FitsTurned, FitsRunning};
+ghost use Rattle.cluster_runs.specs.NodeSteps.{end_of_step, forgets_if, numbered};
+ghost use Rattle.cluster_fits.specs.Fits.{FitsPlan, FitsNext, FitsTurned, FitsRunning, MayForget};
 ghost use Rattle.world_nodes.specs.Nodes.{IsAt};
 ghost use Rattle.world_tables.specs.Limits.{limit_passed};
 ghost use Rattle.step_endings.specs.Steps.{Around, working, IsStepped};
-ghost use Rattle.step_endings.specs.Endings.{given_by, IsGiven, Halts, IsWithin, ended_whole, ended_sending, ended_in_append};
+ghost use Rattle.step_endings.specs.Endings.{given_by, FitsGiven, IsGiven, Halts, IsWithin, ended_whole, ended_sending, ended_in_append};
 
 use crate::ending::{Ending, ending_of, front, halt_of};
 use crate::entries::{entries_of, entries_to_cut, tell};
@@ -108,13 +108,34 @@ impl<C: NodeCore, H: Hull> Stepper<C, H> {
             FitsNext node.kept rec.now }
         requires messages { AllByRecursion FitsMessage outs.now }
         ensures { (around : Around) (node : Node) → IsAt self.old.nodes.nodes place node →
-            IsGiven H.overflow (working around self.old) node rec.now outs.now
+            IsGiven H.room (working around self.old) node rec.now outs.now
             (working around self.new) result }
     {
         let node = self.nodes.id(place);
         self.nodes.keep(alloc, place, rec)?;
         send(alloc, &mut self.nodes, &mut self.sent, node, outs)?;
         test_limits(&self.sent)
+    }
+
+    /// After a record was put, the node at a place forgets the bodies that it doesn't need, where the hull rewrites its records now.
+    fn forget(
+        &mut self,
+        alloc: Global,
+        place: usize,
+        rec: &OptionalBox<Record>,
+    ) -> Result<(), WorldErr>
+        requires inside { place < length self.old.nodes.nodes }
+        requires fits { (node : Node) → IsAt self.old.nodes.nodes place node →
+            IfSome node.up (λ running. MayForget node.kept running.core) }
+        ensures { (around : Around) (node : Node) → IsAt self.old.nodes.nodes place node →
+            IsStepped (working around self.old)
+            (forgets_if H.room node.id rec.now (Ok (working around self.old).doing))
+            (working around self.new) result }
+    {
+        if rec.is_some() {
+            self.nodes.forget(alloc, place)?;
+        }
+        Ok(())
     }
 
     /// Ends a step with all that it gives.
@@ -128,16 +149,17 @@ impl<C: NodeCore, H: Hull> Stepper<C, H> {
     ) -> Result<(), WorldErr>
         requires inside { place < length self.old.nodes.nodes }
         requires fits { (node : Node) → IsAt self.old.nodes.nodes place node →
-            FitsTurned node.kept (given_by rec.now outs.old marks.old) }
+            FitsGiven node (given_by rec.now outs.old marks.old) }
         ensures { (around : Around) (node : Node) (running : Running) →
             IsAt self.old.nodes.nodes place node → node.up ≡ Some running →
             IsStepped (working around self.old)
-            (ended_whole H.overflow (working around self.old).doing node running
+            (ended_whole H.room (working around self.old).doing node running
             (given_by rec.now outs.old marks.old)) (working around self.new) result }
     {
         let node = self.nodes.id(place);
         let mut made = entries_of(alloc, node, replace(marks, Marks::new(alloc)))?;
         self.give(alloc, place, rec, outs.as_slice())?;
+        self.forget(alloc, place, rec)?;
         self.own.put(node, replace(outs, Msgs::new(alloc)))?;
         self.entries.append(&mut made)?;
         Ok(())
@@ -160,7 +182,7 @@ impl<C: NodeCore, H: Hull> Stepper<C, H> {
         ensures { (around : Around) (node : Node) (running : Running) →
             IsAt self.old.nodes.nodes place node → node.up ≡ Some running → running.clock ≡ clock →
             IsStepped (working around self.old)
-            (ended_sending H.overflow (working around self.old).doing node running count
+            (ended_sending H.room (working around self.old).doing node running count
             (given_by rec.now outs.now marks.old)) (working around self.new) result }
     {
         let node = self.nodes.id(place);
@@ -188,7 +210,7 @@ impl<C: NodeCore, H: Hull> Stepper<C, H> {
         ensures { (around : Around) (node : Node) (running : Running) →
             IsAt self.old.nodes.nodes place node → node.up ≡ Some running → running.clock ≡ clock →
             IsStepped (working around self.old)
-            (ended_in_append H.overflow (working around self.old).doing node running stop rec.now)
+            (ended_in_append H.room (working around self.old).doing node running stop rec.now)
             (working around self.new) result }
     {
         let node = self.nodes.id(place);
@@ -212,12 +234,11 @@ impl<C: NodeCore, H: Hull> Stepper<C, H> {
     ) -> Result<(), WorldErr>
         requires inside { place < length self.old.nodes.nodes }
         requires fits { (node : Node) → IsAt self.old.nodes.nodes place node →
-            FitsTurned node.kept (given_by rec.now outs.old marks.old)
-            × IfSome node.up FitsRunning }
+            FitsGiven node (given_by rec.now outs.old marks.old) × IfSome node.up FitsRunning }
         ensures { (around : Around) (node : Node) (running : Running) →
             IsAt self.old.nodes.nodes place node → node.up ≡ Some running →
             IsStepped (working around self.old)
-            (end_of_step H.overflow (working around self.old).doing node running
+            (end_of_step H.room (working around self.old).doing node running
             (record { state = running.core; turned = given_by rec.now outs.old marks.old }))
             (working around self.new) result }
     {
@@ -245,11 +266,11 @@ impl<C: NodeCore, H: Hull> Stepper<C, H> {
     ) -> Result<(), WorldErr>
         requires inside { place < length self.old.nodes.nodes }
         requires fits { (node : Node) → IsAt self.old.nodes.nodes place node →
-            FitsTurned node.kept turned × IfSome node.up FitsRunning }
+            FitsGiven node turned × IfSome node.up FitsRunning }
         ensures { (around : Around) (node : Node) (running : Running) →
             IsAt self.old.nodes.nodes place node → node.up ≡ Some running →
             IsStepped (working around self.old)
-            (end_of_step H.overflow (working around self.old).doing node running
+            (end_of_step H.room (working around self.old).doing node running
             (record { state = running.core; turned = turned })) (working around self.new) result }
     {
         let (rec, mut outs, mut marks) = turned.into_parts();

@@ -4,8 +4,13 @@ use Rattle.disk_model.specs.declared.plan.Stop.{Stop}
 use Rattle.xt_base.specs.declared.ids.NodeId.{NodeId}
 use Rattle.xt_messages.specs.declared.record.Record.{Record}
 use Rattle.cluster_runs.specs.NodeSteps.{keeps_record}
+use Rattle.cluster_runs.specs.World.{Deed, puts}
 use Rattle.world_hull.specs.declared.hull.Kept.{Kept}
 use Rattle.world_hull.specs.declared.hull.Kept.TheVariants.{Done, StoppedKept, StoppedLost}
+
+-- what a hull has of the nodes, by their numbers: the records that each keeps, and what was done to them
+abbrev pub Logs : Type 0
+Logs = (ℕ → List Record) × (ℕ → List Deed)
 
 -- a stop is in one of the four device calls of an append
 abbrev pub IsInAppend : Option Stop → Type 0
@@ -21,17 +26,32 @@ kept_by (Some stop) = if keeps_record stop then StoppedKept else StoppedLost
 abbrev pub with_record : (ℕ → List Record) → NodeId → Record → ℕ → List Record
 with_record records node rec n = if n == node.0 then records n ++ rec ∷ [] else records n
 
+-- what was done to the records of each node, with one deed more at this node
+abbrev pub with_deed : (ℕ → List Deed) → NodeId → Deed → ℕ → List Deed
+with_deed past node deed n = if n == node.0 then past n ++ deed ∷ [] else past n
+
 -- what each node keeps after an append that ended so
 abbrev pub records_after : (ℕ → List Record) → NodeId → Record → Kept → ℕ → List Record
 records_after records node rec Done = with_record records node rec
 records_after records node rec StoppedKept = with_record records node rec
 records_after records node rec StoppedLost = records
 
--- The append of this node's record ended as its stop has it: the record stands behind the node's old ones, or was lost,
--- and every other node keeps what it kept.
-abbrev pub IsAppended : (ℕ → List Record) → (ℕ → List Record) → NodeId → Record → Option Stop → Kept → Type 0
-IsAppended old new node rec stop end = (end ≡ kept_by stop) × (new ≡ records_after old node rec end)
+-- what was done to the records of each node after an append that ended so: the record was put where it is kept
+abbrev pub past_after : (ℕ → List Deed) → NodeId → Record → Kept → ℕ → List Deed
+past_after past node rec Done = with_deed past node (puts rec)
+past_after past node rec StoppedKept = with_deed past node (puts rec)
+past_after past node rec StoppedLost = past
 
--- every other node keeps what it kept
-abbrev pub AreOthersSame : (ℕ → List Record) → (ℕ → List Record) → NodeId → Type 0
-AreOthersSame old new node = (n : ℕ) → (n == node.0) ≡ false → new n ≡ old n
+-- The append of this node's record ended as its stop has it: the record was put after the node's old ones, or was lost,
+-- and every other node keeps what it kept.
+abbrev pub IsAppended : Logs → Logs → NodeId → Record → Option Stop → Kept → Type 0
+IsAppended old new node rec stop end =
+    (end ≡ kept_by stop) × (new.0 ≡ records_after old.0 node rec end) × (new.1 ≡ past_after old.1 node rec end)
+
+-- nothing was done to the records of any node
+abbrev pub AreAllSame : Logs → Logs → Type 0
+AreAllSame old new = (new.0 ≡ old.0) × (new.1 ≡ old.1)
+
+-- every other node keeps what it kept, and nothing was done to it
+abbrev pub AreOthersSame : Logs → Logs → NodeId → Type 0
+AreOthersSame old new node = (n : ℕ) → (n == node.0) ≡ false → (new.0 n ≡ old.0 n) × (new.1 n ≡ old.1 n)

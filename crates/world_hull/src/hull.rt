@@ -1,17 +1,20 @@
-ghost use Rattle.std.specs.Prelude.{◌≡◌, ℕ, List, IfOk, IfErr, OnErr};
+ghost use Rattle.std.specs.Prelude.{◌≡◌, ℕ, List, false, IfOk, IfErr, OnErr};
 ghost use Rattle.xt_messages.specs.declared.record.Record.{Record};
 ghost use Rattle.xt_messages.specs.Limits.{FitsMessage, FitsRecord};
-ghost use Rattle.xt_protocol.specs.Folds.{IsInPlace, fold_of, logged_of, body_kept};
+ghost use Rattle.xt_protocol.specs.Folds.{IsInPlace, fold_of, body_kept};
 ghost use Rattle.cluster_runs.specs.NodeSteps.{Room};
+ghost use Rattle.cluster_runs.specs.World.{Deed};
 ghost use Rattle.world_hull.specs.Answers.{IsFullOrMemory, IsFullExactly, GivesBody};
-ghost use Rattle.world_hull.specs.Appends.{IsInAppend, IsAppended, AreOthersSame, kept_by};
+ghost use Rattle.world_hull.specs.Appends.{IsInAppend, IsAppended, AreAllSame, AreOthersSame, kept_by};
+ghost use Rattle.world_hull.specs.Revivals.{IsRevived};
+ghost use Rattle.world_hull.specs.Rewritings.{MayBecome, IsNeverNow, IsCompacted};
 
 use crate::errors::WorldErr;
 use disk_model::{OPEN_GATE, Stop};
 use object_versions::BodyErr;
 use std::alloc::Global;
 use xt_base::{FileId, NodeId, Octets, Stamp};
-use xt_messages::{Msg, Record};
+use xt_messages::{Keep, Msg, Record};
 
 /// How an append ended.
 #[derive(Clone, Copy)]
@@ -44,18 +47,22 @@ impl Kept {
 
 /// Keeps the records of a world's nodes, and carries their messages.
 pub trait Hull: Drop {
-    /// The records of each node, by its number, in the order in which they were kept.
+    /// The records of each node, by its number, in the order in which they were kept, or as they were rewritten.
     ghost kept: { Self → ℕ → List Record };
 
-    /// Whether a record has no room behind these of its node, and what it would need.
-    ghost overflow: { Room };
+    /// What was done to the records of each node, by its number.
+    ghost past: { Self → ℕ → List Deed };
+
+    /// What is decided by what was done to a node's records: whether one more has no room, and what it would need; and
+    /// whether they are rewritten now with these bodies.
+    ghost room: { Room };
 
     /// The very message, or `OutOfMemory`.
     fn carry(&mut self, alloc: Global, msg: &Msg) -> Result<Msg, WorldErr>
         requires { FitsMessage msg.now }
         ensures message { IfOk result (λ carried. carried ≡ msg.now) }
         ensures error { IfErr result (λ error. error ≡ WorldErr.OutOfMemory) }
-        ensures records { kept self.new ≡ kept self.old };
+        ensures records { AreAllSame (kept self.old, past self.old) (kept self.new, past self.new) };
 
     /// Appends the node's record, or stops in one of the four device calls of that. `Full` comes exactly where the
     /// record has no room, whether there is a stop or not. After an error the hull isn't to be used for the node's records
@@ -70,21 +77,37 @@ pub trait Hull: Drop {
         requires fits { FitsRecord rec.now }
         requires place { IsInPlace (fold_of (kept self.old node.0)) rec.now }
         requires call { IsInAppend stop }
-        ensures records { IfOk result (λ end.
-            IsAppended (kept self.old) (kept self.new) node rec.now stop end) }
-        ensures room { IsFullExactly (overflow (kept self.old node.0) rec.now) result }
+        ensures records { IfOk result (λ end. IsAppended (kept self.old, past self.old)
+            (kept self.new, past self.new) node rec.now stop end) }
+        ensures room { IsFullExactly (room.overflow (past self.old node.0) rec.now) result }
         ensures error { IfErr result IsFullOrMemory }
-        ensures others { OnErr result (AreOthersSame (kept self.old) (kept self.new) node) };
+        ensures others { OnErr result (AreOthersSame (kept self.old, past self.old)
+            (kept self.new, past self.new) node) };
 
     /// What the node that starts again finds: records that say what its records say, with its requests in their order.
-    /// Only memory may run out.
+    /// They were loaded then. Only memory may run out, and then nothing was.
     fn revive(&mut self, alloc: Global, node: NodeId) -> Result<Vec<Record>, WorldErr>
-        ensures found { IfOk result (λ found. fold_of found.items ≡
-            fold_of (kept self.old node.0)) }
-        ensures logged { IfOk result (λ found. logged_of found.items ≡
-            logged_of (kept self.old node.0)) }
+        ensures found { IfOk result (λ found. IsRevived (kept self.old, past self.old)
+            (kept self.new, past self.new) node found.items) }
         ensures error { IfErr result (λ error. error ≡ WorldErr.OutOfMemory) }
-        ensures records { kept self.new ≡ kept self.old };
+        ensures records { OnErr result (AreAllSame (kept self.old, past self.old)
+            (kept self.new, past self.new)) };
+
+    /// Whether the node's records may be rewritten now. Where it is false they aren't, at any choice of bodies: then who
+    /// asks needn't find out which bodies the node needs.
+    fn may_compact(&self, node: NodeId) -> bool
+        ensures { result ≡ false → IsNeverNow room (past self.now node.0) };
+
+    /// Rewrites the node's records with these bodies, where that is to be done now, and tells whether it was. Only memory
+    /// may run out. After an error the hull isn't to be used for the node's records again; those of every other node are
+    /// as before.
+    fn compact(&mut self, alloc: Global, node: NodeId, keep: &Keep) -> Result<bool, WorldErr>
+        requires { MayBecome keep.now (kept self.old node.0) }
+        ensures records { IfOk result (λ rewrote. IsCompacted room (kept self.old, past self.old)
+            (kept self.new, past self.new) node keep.now rewrote) }
+        ensures error { IfErr result (λ error. error ≡ WorldErr.OutOfMemory) }
+        ensures others { OnErr result (AreOthersSame (kept self.old, past self.old)
+            (kept self.new, past self.new) node) };
 
     /// What the node keeps as this version of this object of the file. `NoSuchVersion` comes exactly where it keeps
     /// none; it is never `Failed`. Bodies are in memory, so nothing changes.

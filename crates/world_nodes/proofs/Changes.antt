@@ -3,7 +3,9 @@ use Rattle.std.proofs.Common.{◌≡◌, ℕ, zero, suc, ◌<◌, ◌==◌, Bool
 use Rattle.std.specs.Prelude.{slice_get, slice_set}
 use Rattle.std.proofs.lemmas.Bool.Decides.{nat_tests}
 use Rattle.disk_model.specs.declared.plan.Stop.{Stop}
-use Rattle.world_hull.specs.Appends.{IsAppended, AreOthersSame, records_after}
+use Rattle.world_hull.specs.Appends.{Logs, IsAppended, AreAllSame, AreOthersSame, records_after, past_after}
+use Rattle.world_hull.specs.Revivals.{IsRevived}
+use Rattle.world_hull.specs.Rewritings.{IsCompacted, logs_after}
 use Rattle.world_hull.specs.declared.hull.Kept.{Kept}
 use Rattle.world_hull.specs.declared.hull.Kept.TheVariants as ending
 use Rattle.world_hull.specs.declared.errors.WorldErr.{WorldErr}
@@ -15,27 +17,33 @@ use Rattle.xt_messages.specs.declared.file.Location.{Location}
 use Rattle.xt_messages.specs.declared.file.Op.{Op}
 use Rattle.xt_messages.specs.declared.event.Call.{Call}
 use Rattle.xt_messages.specs.declared.event.Event.{Event}
+use Rattle.xt_messages.specs.declared.record.KeepBody.{KeepBody}
 use Rattle.xt_messages.specs.declared.record.Record.{Record}
 use Rattle.xt_base.specs.declared.ids.Boot.{Boot}
 use Rattle.xt_messages.specs.declared.record.Folded.{Folded}
 use Rattle.xt_protocol.specs.declared.turned.Turned.{Turned}
 use Rattle.xt_protocol.specs.Folds.{fold_of}
+use Rattle.xt_protocol.specs.Forgetting.{rewritten}
 use Rattle.xt_protocol.specs.OsdSteps.{osd_from}
 use Rattle.cluster_runs.specs.Lines.{runs, osd_starting}
 use Rattle.cluster_runs.specs.Steps.{Step}
-use Rattle.cluster_runs.specs.World.{Node, Running, Core, osd, node_in, with_node}
-use Rattle.cluster_runs.specs.NodeSteps.{core_step}
-use Rattle.node_hosts.specs.Hosts.{HostView, node_of}
+use Rattle.cluster_runs.specs.World.{Node, Deed, puts, loads, rewrites, Running, Core, osd, client, node_in, with_node}
+use Rattle.cluster_runs.specs.NodeSteps.{Room, core_step}
+use Rattle.node_hosts.specs.Hosts.{HostView, Stored, nothing_stored, node_of, node_with}
 use Rattle.node_hosts.specs.Turns.{Took, Handles, Calls, call_step}
 use Rattle.node_clocks.specs.Hosts.{nodes_of}
-use Rattle.world_nodes.specs.Nodes.{NodesView, has_host, AreHosts, IsAt, IsPlace, Changes, NodeTook, NodeHandles, NodeCalls, kept_when}
-use Rattle.world_nodes.proofs.Hosts.{AreOthers, same_kept, at_place, changed, still, times_at, pushed, declared_is}
+use Rattle.world_nodes.specs.Nodes.{NodesView, has_host, AreHosts, IsAt, IsPlace, Changes, NodeTook, NodeHandles, NodeCalls, after_append, after_load}
+use Rattle.world_nodes.proofs.Hosts.{AreOthers, same_stored, at_place, changed, still, times_at, pushed, declared_is}
 
 -- ---- results
 
 pub map_ok : {T E P Q : Type 0} (r : Result T E) → (P → Q) → OnOk r P → OnOk r Q
 map_ok (Ok x) f p = f p
 map_ok (Err e) f p = tt
+
+pub on_ok : {T E P : Type 0} (r : Result T E) → P → OnOk r P
+on_ok (Ok x) p = p
+on_ok (Err e) p = tt
 
 pub map_if : {T E : Type 0} (P Q : T → Type 0) (r : Result T E) → ((x : T) → P x → Q x) → IfOk r P → IfOk r Q
 map_if P Q (Ok x) f p = f x p
@@ -62,29 +70,35 @@ took_same old new running step turned took = same_but_up old new (Some (record r
 
 pub handled_same : (kept : List Record) (happens : Event) (old new : HostView) (turned : Option Turned) → Handles kept happens old new turned → IsSameHost old new
 handled_same kept happens old new None is = same_but_up old new old.up is.1
-handled_same kept happens old new (Some turned) is = took_same old new is.0 (core_step old.times (node_of kept old) is.0.core is.0.clock happens) turned is.1
+handled_same kept happens old new (Some turned) is = took_same old new is.0 (core_step old.times (node_with kept old) is.0.core is.0.clock happens) turned is.1
 
 pub called_same : (c : Call) (number : ℕ) (location : Location) (asked : Op) (old new : HostView) (turned : Option Turned) → Calls c number location asked old new turned → IsSameHost old new
 called_same c number location asked old new None is = same_but_up old new old.up is.1
 called_same c number location asked old new (Some turned) is = took_same old new is.0 (call_step old is.0.clock is.1 c number location asked) turned is.3
 
+-- a step doesn't see what was done to the records
+past_unseen : (times : TimeSettings) (stored : Stored) (host : HostView) (core : Core) (clock : ℕ) (happens : Event)
+    → core_step times (node_with stored.kept host) core clock happens ≡ core_step times (node_of stored host) core clock happens
+past_unseen times stored host (osd state) clock happens = refl
+past_unseen times stored host (client state) clock happens = refl
+
 -- ---- the node in a place
 
-module _ (kept : ℕ → List Record) (times : TimeSettings) (hosts : List HostView) (place : ℕ) (old new : HostView) (self : NodesView) (are : AreHosts kept times hosts)
-    (is_self : record { times = times; nodes = nodes_of kept hosts } ≡ self) (lt : place < length self.nodes) (is_old : old ≡ get_or hosts place old) where
+module _ (stored : ℕ → Stored) (times : TimeSettings) (hosts : List HostView) (place : ℕ) (old new : HostView) (self : NodesView) (are : AreHosts stored times hosts)
+    (is_self : record { times = times; nodes = nodes_of stored hosts } ≡ self) (lt : place < length self.nodes) (is_old : old ≡ get_or hosts place old) where
   inside : place < length hosts
   inside =
-      subst (λ (n : ℕ). place < n) (length-map hosts (λ (h : HostView). node_of (kept h.id.0) h))
+      subst (λ (n : ℕ). place < n) (length-map hosts (λ (h : HostView). node_of (stored h.id.0) h))
       (subst (λ (v : NodesView). place < length v.nodes) (sym is_self) lt)
 
   its_times : old.times ≡ times
-  its_times = times_at kept times hosts place old are inside is_old
+  its_times = times_at stored times hosts place old are inside is_old
 
   -- they are in order again
-  pub again : (after : ℕ → List Record) → AreOthers kept after old.id.0 → IsSameHost old new → AreHosts after times (set hosts place new)
-  again after others same = still kept after times hosts place old new are inside is_old same.0 same.1 others
+  pub again : (after : ℕ → Stored) → AreOthers stored after old.id.0 → IsSameHost old new → AreHosts after times (set hosts place new)
+  again after others same = still stored after times hosts place old new are inside is_old same.0 same.1 others
 
-  at_self : (node : Node) → IsAt self.nodes place node → IsAt (nodes_of kept hosts) place node
+  at_self : (node : Node) → IsAt self.nodes place node → IsAt (nodes_of stored hosts) place node
   at_self node at = subst (λ (v : NodesView). IsAt v.nodes place node) (sym is_self) at
 
   -- what is found in this place is this one
@@ -92,48 +106,48 @@ module _ (kept : ℕ → List Record) (times : TimeSettings) (hosts : List HostV
   same_old other is = is ∙ get_or_default hosts place other old inside ∙ sym is_old
 
   -- a node in this place is this one
-  pub this_node : (node : Node) → IsAt self.nodes place node → node ≡ node_of (kept old.id.0) old
-  this_node node at = (changed kept kept hosts place old old node are.distinct inside is_old refl (same_kept kept old.id.0) (at_self node at)).0
+  pub this_node : (node : Node) → IsAt self.nodes place node → node ≡ node_of (stored old.id.0) old
+  this_node node at = (changed stored stored hosts place old old node are.distinct inside is_old refl (same_stored stored old.id.0) (at_self node at)).0
 
   -- what is said of it is said of the node of its id
-  pub said_of : {A : Type 0} (id : NodeId) (say : Option Node → A) → IsPlace self.nodes id (Some place) → say (Some (node_of (kept old.id.0) old)) ≡ say (node_in self.nodes id.0)
+  pub said_of : {A : Type 0} (id : NodeId) (say : Option Node → A) → IsPlace self.nodes id (Some place) → say (Some (node_of (stored old.id.0) old)) ≡ say (node_in self.nodes id.0)
   said_of id say found =
       sym
       (ap say
       (ap (λ (i : NodeId). node_in self.nodes i.0) (sym found.2) ∙ found.1.found ∙ ap (λ (n : Node). Some n) (this_node found.0 found.1)))
 
   -- this one is in this place
-  pub stands : IsAt self.nodes place (node_of (kept old.id.0) old)
+  pub stands : IsAt self.nodes place (node_of (stored old.id.0) old)
   stands =
-      subst (λ (v : NodesView). IsAt v.nodes place (node_of (kept old.id.0) old)) is_self
-      (subst (λ (h : HostView). IsAt (nodes_of kept hosts) place (node_of (kept h.id.0) h)) (sym is_old) (at_place kept hosts place old are.distinct inside))
+      subst (λ (v : NodesView). IsAt v.nodes place (node_of (stored old.id.0) old)) is_self
+      (subst (λ (h : HostView). IsAt (nodes_of stored hosts) place (node_of (stored h.id.0) h)) (sym is_old) (at_place stored hosts place old are.distinct inside))
 
-  put : (after : ℕ → List Record) (node : Node) → AreOthers kept after old.id.0 → new.id ≡ old.id → IsAt self.nodes place node
+  put : (after : ℕ → Stored) (node : Node) → AreOthers stored after old.id.0 → new.id ≡ old.id → IsAt self.nodes place node
       → record { times = times; nodes = nodes_of after (set hosts place new) } ≡ record self { nodes = with_node self.nodes (node_of (after old.id.0) new) }
   put after node others same at =
-      ap (λ (ns : List Node). record { times = times; nodes = ns }) (changed kept after hosts place old new node are.distinct inside is_old same others (at_self node at)).1
+      ap (λ (ns : List Node). record { times = times; nodes = ns }) (changed stored after hosts place old new node are.distinct inside is_old same others (at_self node at)).1
       ∙ ap (λ (v : NodesView). record v { nodes = with_node v.nodes (node_of (after old.id.0) new) }) is_self
 
-  pub changes : (after : ℕ → List Record) (change : Node → Node) → AreOthers kept after old.id.0 → new.id ≡ old.id
-      → node_of (after old.id.0) new ≡ change (node_of (kept old.id.0) old) → Changes self place change (record { times = times; nodes = nodes_of after (set hosts place new) })
+  pub changes : (after : ℕ → Stored) (change : Node → Node) → AreOthers stored after old.id.0 → new.id ≡ old.id
+      → node_of (after old.id.0) new ≡ change (node_of (stored old.id.0) old) → Changes self place change (record { times = times; nodes = nodes_of after (set hosts place new) })
   changes after change others same is = λ node at.
       put after node others same at
       ∙ ap (λ (n : Node). record self { nodes = with_node self.nodes n }) (is ∙ ap change (sym (this_node node at)))
 
-  unchanged : new ≡ old → record { times = times; nodes = nodes_of kept (set hosts place new) } ≡ self
+  unchanged : new ≡ old → record { times = times; nodes = nodes_of stored (set hosts place new) } ≡ self
   unchanged same =
-      ap (λ (hs : List HostView). record { times = times; nodes = nodes_of kept hs })
+      ap (λ (hs : List HostView). record { times = times; nodes = nodes_of stored hs })
       (ap (set hosts place) (same ∙ is_old) ∙ set-get_or hosts place old)
       ∙ is_self
 
   took : (node : Node) (running : Running) (step : Step Core) (turned : Turned) → IsAt self.nodes place node → Took old running step new turned
-      → NodeTook self node running step (record { times = times; nodes = nodes_of kept (set hosts place new) }) turned
+      → NodeTook self node running step (record { times = times; nodes = nodes_of stored (set hosts place new) }) turned
   took node running step turned at is =
       let its = this_node node at in (
         ap (λ (n : Node). n.up) its ∙ is.0,
         is.2,
-        changes kept (λ (n : Node). record n { up = Some (record running { core = step.state }) }) (same_kept kept old.id.0) (ap (λ (h : HostView). h.id) is.1)
-            (ap (node_of (kept old.id.0)) is.1) node at,
+        changes stored (λ (n : Node). record n { up = Some (record running { core = step.state }) }) (same_stored stored old.id.0) (ap (λ (h : HostView). h.id) is.1)
+            (ap (node_of (stored old.id.0)) is.1) node at,
       )
 
   self_times : times ≡ self.times
@@ -143,91 +157,153 @@ module _ (kept : ℕ → List Record) (times : TimeSettings) (hosts : List HostV
   pub node_started : (folded : Folded) (boot : Boot) (clock : ℕ)
       → new ≡ record old { up = Some (runs boot clock (osd (osd_from (record { node = old.id; boot = boot; times = old.times; start = clock }) folded.files))) }
       → (node : Node) → IsAt self.nodes place node → folded ≡ fold_of node.kept
-      → record { times = times; nodes = nodes_of kept (set hosts place new) } ≡ record self { nodes = with_node self.nodes (record node { up = Some (runs boot clock (osd (osd_starting self.times node boot clock))) }) }
+      → record { times = times; nodes = nodes_of stored (set hosts place new) } ≡ record self { nodes = with_node self.nodes (record node { up = Some (runs boot clock (osd (osd_starting self.times node boot clock))) }) }
   node_started folded boot clock is node at said =
       let state : NodeId → TimeSettings → Folded → Running = λ id t f. runs boot clock (osd (osd_from (record { node = id; boot = boot; times = t; start = clock }) f.files)) in
-      let its : node ≡ node_of (kept old.id.0) old = this_node node at in
-      changes kept (λ (n : Node). record n { up = Some (state old.id old.times folded) }) (same_kept kept old.id.0) (ap (λ (h : HostView). h.id) is) (ap (node_of (kept old.id.0)) is) node at
+      let its : node ≡ node_of (stored old.id.0) old = this_node node at in
+      changes stored (λ (n : Node). record n { up = Some (state old.id old.times folded) }) (same_stored stored old.id.0) (ap (λ (h : HostView). h.id) is) (ap (node_of (stored old.id.0)) is) node at
       ∙ ap (λ (r : Running). record self { nodes = with_node self.nodes (record node { up = Some r }) })
       (ap (λ (i : NodeId). state i old.times folded) (sym (ap (λ (n : Node). n.id) its))
       ∙ ap (λ (t : TimeSettings). state node.id t folded) (its_times ∙ self_times) ∙ ap (state node.id self.times) said)
 
   -- an event came to it
-  pub node_handled : (happens : Event) (turned : Option Turned) → Handles (kept old.id.0) happens old new turned → (node : Node) → IsAt self.nodes place node
-      → NodeHandles happens self node (record { times = times; nodes = nodes_of kept (set hosts place new) }) turned
+  pub node_handled : (happens : Event) (turned : Option Turned) → Handles (stored old.id.0).kept happens old new turned → (node : Node) → IsAt self.nodes place node
+      → NodeHandles happens self node (record { times = times; nodes = nodes_of stored (set hosts place new) }) turned
   node_handled happens None is node at = (ap (λ (n : Node). n.up) (this_node node at) ∙ is.0, unchanged is.1)
   node_handled happens (Some turned) is node at = (
     is.0,
-    subst (λ (n : Node). NodeTook self node is.0 (core_step self.times n is.0.core is.0.clock happens) (record { times = times; nodes = nodes_of kept (set hosts place new) }) turned) (sym (this_node node at))
-        (subst (λ (t : TimeSettings). NodeTook self node is.0 (core_step t (node_of (kept old.id.0) old) is.0.core is.0.clock happens) (record { times = times; nodes = nodes_of kept (set hosts place new) }) turned) (its_times ∙ self_times)
-        (took node is.0 (core_step old.times (node_of (kept old.id.0) old) is.0.core is.0.clock happens) turned at is.1)),
+    subst (λ (n : Node). NodeTook self node is.0 (core_step self.times n is.0.core is.0.clock happens) (record { times = times; nodes = nodes_of stored (set hosts place new) }) turned) (sym (this_node node at))
+        (subst (λ (t : TimeSettings). NodeTook self node is.0 (core_step t (node_of (stored old.id.0) old) is.0.core is.0.clock happens) (record { times = times; nodes = nodes_of stored (set hosts place new) }) turned) (its_times ∙ self_times)
+        (took node is.0 (core_step old.times (node_of (stored old.id.0) old) is.0.core is.0.clock happens) turned at
+        (subst (λ (step : Step Core). Took old is.0 step new turned) (past_unseen old.times (stored old.id.0) old is.0.core is.0.clock happens) is.1))),
   )
 
   -- it made a call
   pub node_called : (c : Call) (number : ℕ) (location : Location) (asked : Op) (turned : Option Turned) → Calls c number location asked old new turned → (node : Node) → IsAt self.nodes place node
-      → NodeCalls c number location asked self node (record { times = times; nodes = nodes_of kept (set hosts place new) }) turned
+      → NodeCalls c number location asked self node (record { times = times; nodes = nodes_of stored (set hosts place new) }) turned
   node_called c number location asked None is node at =
       (λ running up. is.0 running (sym (ap (λ (n : Node). n.up) (this_node node at)) ∙ up), unchanged is.1)
   node_called c number location asked (Some turned) is node at = (
     is.0,
     is.1,
     is.2,
-    subst (λ (h : HostView). NodeTook self node is.0 (call_step h is.0.clock is.1 c number location asked) (record { times = times; nodes = nodes_of kept (set hosts place new) }) turned)
+    subst (λ (h : HostView). NodeTook self node is.0 (call_step h is.0.clock is.1 c number location asked) (record { times = times; nodes = nodes_of stored (set hosts place new) }) turned)
         (ap (λ (t : TimeSettings). record old { times = t }) (its_times ∙ self_times)
         ∙ ap (λ (n : Node). record { id = n.id; role = n.role; times = self.times; up = n.up }) (sym (this_node node at)))
         (took node is.0 (call_step old is.0.clock is.1 c number location asked) turned at is.3),
   )
 
--- ---- appends
+-- ---- what the hull does
 
-append_others : (kept after : ℕ → List Record) (id : NodeId) (rec : Record) (end : Kept) → after ≡ records_after kept id rec end → AreOthers kept after id.0
-append_others kept after id rec end is n other = ap (λ (f : ℕ → List Record). f n) is ∙ at end
+-- what the hull has stored for each node, by its records and by what was done to them
+abbrev pub stored_by : Logs → ℕ → Stored
+stored_by logs id = record { kept = logs.0 id; past = logs.1 id }
+
+itself : (n : ℕ) → (n == n) ≡ true
+itself n = grind (arith, nat_tests)
+
+pub all_same : (old new : Logs) → AreAllSame old new → stored_by new ≡ stored_by old
+all_same old new same =
+    ap (λ (kept : ℕ → List Record). stored_by (kept, new.1)) same.0 ∙ ap (λ (past : ℕ → List Deed). stored_by (old.0, past)) same.1
+
+pub none_other : (old new : Logs) (id : NodeId) → AreAllSame old new → AreOthers (stored_by old) (stored_by new) id.0
+none_other old new id same n other = ap (λ (f : ℕ → Stored). f n) (all_same old new same)
+
+pub others_same : (old new : Logs) (id : NodeId) → AreOthersSame old new id → AreOthers (stored_by old) (stored_by new) id.0
+others_same old new id same n other =
+    ap (λ (kept : List Record). record { kept = kept; past = new.1 n }) (same n other).0 ∙ ap (λ (past : List Deed). record { kept = old.0 n; past = past }) (same n other).1
+
+-- one thing more was done to a node's records
+abbrev deed_more : (ℕ → List Deed) → NodeId → Deed → ℕ → Bool → List Deed
+deed_more past id deed n here = cond here (past n ++ deed ∷ []) (past n)
+
+-- whatever becomes of an append, nothing is done to the others
+pub append_others : (old new : Logs) (id : NodeId) (rec : Record) (stop : Option Stop) (r : Result Kept WorldErr)
+    → IfOk r (λ (end : Kept). IsAppended old new id rec stop end) → OnErr r (AreOthersSame old new id) → AreOthers (stored_by old) (stored_by new) id.0
+append_others old new id rec stop (Err e) is same n other = others_same old new id same n other
+append_others old new id rec stop (Ok end) is same n other =
+    ap (λ (kept : ℕ → List Record). record { kept = kept n; past = new.1 n }) is.1 ∙ ap (λ (past : ℕ → List Deed). record { kept = records_after old.0 id rec end n; past = past n }) is.2 ∙ at end
   where
-    at : (end : Kept) → records_after kept id rec end n ≡ kept n
-    at ending.Done = ap (λ (b : Bool). cond b (kept n ++ rec ∷ []) (kept n)) other
-    at ending.StoppedKept = ap (λ (b : Bool). cond b (kept n ++ rec ∷ []) (kept n)) other
+    at : (end : Kept) → stored_by (records_after old.0 id rec end, past_after old.1 id rec end) n ≡ stored_by old n
+    at ending.Done = ap (λ (b : Bool). record { kept = cond b (old.0 n ++ rec ∷ []) (old.0 n); past = deed_more old.1 id (puts rec) n b }) other
+    at ending.StoppedKept = ap (λ (b : Bool). record { kept = cond b (old.0 n ++ rec ∷ []) (old.0 n); past = deed_more old.1 id (puts rec) n b }) other
     at ending.StoppedLost = refl
-
--- whatever becomes of an append, the others keep what they kept
-pub others_kept : (kept after : ℕ → List Record) (id : NodeId) (rec : Record) (stop : Option Stop) (r : Result Kept WorldErr)
-    → IfOk r (λ (end : Kept). IsAppended kept after id rec stop end) → OnErr r (AreOthersSame kept after id) → AreOthers kept after id.0
-others_kept kept after id rec stop (Ok end) is same = append_others kept after id rec end is.1
-others_kept kept after id rec stop (Err e) is same = same
 
 -- and the node keeps what the end of the append says
-pub own_kept : (kept after : ℕ → List Record) (id : NodeId) (rec : Record) (end : Kept) → after ≡ records_after kept id rec end → after id.0 ≡ kept_when (kept id.0) rec end
-own_kept kept after id rec end is = ap (λ (f : ℕ → List Record). f id.0) is ∙ at end
+pub append_own : (old new : Logs) (id : NodeId) (rec : Record) (end : Kept) → new.0 ≡ records_after old.0 id rec end → new.1 ≡ past_after old.1 id rec end
+    → (host : HostView) → node_of (stored_by new id.0) host ≡ after_append rec end (node_of (stored_by old id.0) host)
+append_own old new id rec end kept past host =
+    ap (λ (k : ℕ → List Record). node_of (record { kept = k id.0; past = new.1 id.0 }) host) kept
+    ∙ ap (λ (p : ℕ → List Deed). node_of (record { kept = records_after old.0 id rec end id.0; past = p id.0 }) host) past ∙ at end
   where
-    itself : (n : ℕ) → (n == n) ≡ true
-    itself n = grind (arith, nat_tests)
+    here : Bool → Node
+    here b = node_of (record { kept = cond b (old.0 id.0 ++ rec ∷ []) (old.0 id.0); past = deed_more old.1 id (puts rec) id.0 b }) host
 
-    at : (end : Kept) → records_after kept id rec end id.0 ≡ kept_when (kept id.0) rec end
-    at ending.Done = ap (λ (b : Bool). cond b (kept id.0 ++ rec ∷ []) (kept id.0)) (itself id.0)
-    at ending.StoppedKept = ap (λ (b : Bool). cond b (kept id.0 ++ rec ∷ []) (kept id.0)) (itself id.0)
+    at : (end : Kept) → node_of (stored_by (records_after old.0 id rec end, past_after old.1 id rec end) id.0) host ≡ after_append rec end (node_of (stored_by old id.0) host)
+    at ending.Done = ap here (itself id.0)
+    at ending.StoppedKept = ap here (itself id.0)
     at ending.StoppedLost = refl
 
-module _ (kept after : ℕ → List Record) (times : TimeSettings) (hosts : List HostView) (place : ℕ) (old : HostView) (self : NodesView) (are : AreHosts kept times hosts)
-    (is_self : record { times = times; nodes = nodes_of kept hosts } ≡ self) (lt : place < length self.nodes) (is_old : old ≡ get_or hosts place old)
+-- its records were loaded
+pub load_others : (old new : Logs) (id : NodeId) (found : List Record) → IsRevived old new id found → AreOthers (stored_by old) (stored_by new) id.0
+load_others old new id found is n other =
+    ap (λ (kept : ℕ → List Record). record { kept = kept n; past = new.1 n }) is.kept ∙ ap (λ (past : ℕ → List Deed). record { kept = old.0 n; past = past n }) is.past
+    ∙ ap (λ (b : Bool). record { kept = old.0 n; past = deed_more old.1 id loads n b }) other
+
+pub load_own : (old new : Logs) (id : NodeId) (found : List Record) → IsRevived old new id found → (host : HostView) → node_of (stored_by new id.0) host ≡ after_load (node_of (stored_by old id.0) host)
+load_own old new id found is host =
+    ap (λ (k : ℕ → List Record). node_of (record { kept = k id.0; past = new.1 id.0 }) host) is.kept
+    ∙ ap (λ (p : ℕ → List Deed). node_of (record { kept = old.0 id.0; past = p id.0 }) host) is.past
+    ∙ ap (λ (b : Bool). node_of (record { kept = old.0 id.0; past = deed_more old.1 id loads id.0 b }) host) (itself id.0)
+
+-- its records were rewritten, or weren't
+pub compact_others : (room : Room) (old new : Logs) (id : NodeId) (keep : List KeepBody) (r : Result Bool WorldErr)
+    → IfOk r (λ rewrote. IsCompacted room old new id keep rewrote) → OnErr r (AreOthersSame old new id) → AreOthers (stored_by old) (stored_by new) id.0
+compact_others room old new id keep (Err e) is same n other = others_same old new id same n other
+compact_others room old new id keep (Ok rewrote) is same n other =
+    ap (λ (kept : ℕ → List Record). record { kept = kept n; past = new.1 n }) is.kept ∙ ap (λ (past : ℕ → List Deed). record { kept = (logs_after old id keep rewrote).0 n; past = past n }) is.past ∙ at rewrote
+  where
+    at : (rewrote : Bool) → stored_by (logs_after old id keep rewrote) n ≡ stored_by old n
+    at true = ap (λ (b : Bool). record { kept = cond b (rewritten keep (old.0 n)) (old.0 n); past = deed_more old.1 id (rewrites keep) n b }) other
+    at false = refl
+
+pub compact_own : (room : Room) (old new : Logs) (id : NodeId) (keep : List KeepBody) → IsCompacted room old new id keep true
+    → (stored_by new id.0).kept ≡ rewritten keep (old.0 id.0)
+compact_own room old new id keep is =
+    ap (λ (k : ℕ → List Record). k id.0) is.kept ∙ ap (λ (b : Bool). cond b (rewritten keep (old.0 id.0)) (old.0 id.0)) (itself id.0)
+
+pub compact_past : (room : Room) (old new : Logs) (id : NodeId) (keep : List KeepBody) → IsCompacted room old new id keep true
+    → (stored_by new id.0).past ≡ old.1 id.0 ++ rewrites keep ∷ []
+compact_past room old new id keep is =
+    ap (λ (p : ℕ → List Deed). p id.0) is.past ∙ ap (λ (b : Bool). deed_more old.1 id (rewrites keep) id.0 b) (itself id.0)
+
+pub compact_not : (room : Room) (old new : Logs) (id : NodeId) (keep : List KeepBody) → IsCompacted room old new id keep false → stored_by new ≡ stored_by old
+compact_not room old new id keep is = all_same old new (is.kept, is.past)
+
+-- ---- what is stored for a node
+
+module _ (stored after : ℕ → Stored) (times : TimeSettings) (hosts : List HostView) (place : ℕ) (old : HostView) (self : NodesView) (are : AreHosts stored times hosts)
+    (is_self : record { times = times; nodes = nodes_of stored hosts } ≡ self) (lt : place < length self.nodes) (is_old : old ≡ get_or hosts place old)
     (id : NodeId) (is_id : id ≡ old.id) where
   back : set hosts place old ≡ hosts
   back = ap (set hosts place) is_old ∙ set-get_or hosts place old
 
-  pub again_kept : AreOthers kept after id.0 → AreHosts after times hosts
-  again_kept others =
+  -- it alone is changed, so they are in order again
+  pub again_stored : AreOthers stored after id.0 → AreHosts after times hosts
+  again_stored others =
       subst (AreHosts after times) back
-      (again kept times hosts place old old self are is_self lt is_old after (subst (λ (i : NodeId). AreOthers kept after i.0) is_id others) (refl, refl))
+      (again stored times hosts place old old self are is_self lt is_old after (subst (λ (i : NodeId). AreOthers stored after i.0) is_id others) (refl, refl))
 
-  pub kept_changes : (rec : Record) (end : Kept) → after ≡ records_after kept id rec end
-      → Changes self place (λ node. record node { kept = kept_when node.kept rec end }) (record { times = times; nodes = nodes_of after hosts })
-  kept_changes rec end is =
-      subst (λ (hs : List HostView). Changes self place (λ node. record node { kept = kept_when node.kept rec end }) (record { times = times; nodes = nodes_of after hs })) back
-      (changes kept times hosts place old old self are is_self lt is_old after (λ (node : Node). record node { kept = kept_when node.kept rec end })
-      (subst (λ (i : NodeId). AreOthers kept after i.0) is_id (append_others kept after id rec end is)) refl
-      (ap (λ (rs : List Record). node_of rs old) (subst (λ (i : NodeId). after i.0 ≡ kept_when (kept i.0) rec end) is_id (own_kept kept after id rec end is))))
+  pub stored_changes : (change : Node → Node) → AreOthers stored after id.0 → node_of (after id.0) old ≡ change (node_of (stored id.0) old)
+      → Changes self place change (record { times = times; nodes = nodes_of after hosts })
+  stored_changes change others is =
+      subst (λ (hs : List HostView). Changes self place change (record { times = times; nodes = nodes_of after hs })) back
+      (changes stored times hosts place old old self are is_self lt is_old after change (subst (λ (i : NodeId). AreOthers stored after i.0) is_id others) refl
+      (subst (λ (i : NodeId). node_of (after i.0) old ≡ change (node_of (stored i.0) old)) is_id is))
 
-  -- what the node in this place keeps
-  pub its_kept : (node : Node) → IsAt self.nodes place node → kept id.0 ≡ node.kept
-  its_kept node at = ap (λ (i : NodeId). kept i.0) is_id ∙ sym (ap (λ (n : Node). n.kept) (this_node kept times hosts place old old self are is_self lt is_old node at))
+  -- the node in this place, by what is stored for it
+  pub its_stored : (node : Node) → IsAt self.nodes place node → node_of (stored id.0) old ≡ node
+  its_stored node at = ap (λ (i : NodeId). node_of (stored i.0) old) is_id ∙ sym (this_node stored times hosts place old old self are is_self lt is_old node at)
 
 -- a node that stays as it is
 pub same_there : (self : NodesView) (place : ℕ) → Changes self place (λ node. node) self
@@ -239,14 +315,14 @@ same_there self place = λ node at. ap (λ (ns : List Node). record self { nodes
     set_got (y ∷ ys) (suc k) x is = ap (λ (zs : List Node). y ∷ zs) (set_got ys k x is)
 
 -- a node that is declared last
-pub declared_last : (kept : ℕ → List Record) (times : TimeSettings) (hosts after : List HostView) (new : HostView) (node : Node) (self : NodesView) → AreHosts kept times hosts
-    → record { times = times; nodes = nodes_of kept hosts } ≡ self → node_in self.nodes new.id.0 ≡ None → new.times ≡ times → node ≡ node_of [] new → after ≡ hosts ++ new ∷ []
-    → AreHosts kept times after × (record { times = times; nodes = nodes_of kept after } ≡ record self { nodes = self.nodes ++ node ∷ [] })
-declared_last kept times hosts after new node self are is_self free timed is_node is =
-    let none : has_host hosts new.id.0 ≡ false = sym (declared_is kept hosts new.id.0) ∙ ap is_some (ap (λ (v : NodesView). node_in v.nodes new.id.0) is_self ∙ free) in
-    let both = pushed kept times hosts new are none timed in (
-      subst (AreHosts kept times) (sym is) both.0,
-      ap (λ (hs : List HostView). record { times = times; nodes = nodes_of kept hs }) is
-          ∙ ap (λ (ns : List Node). record { times = times; nodes = ns }) (both.1 ∙ ap (λ (n : Node). nodes_of kept hosts ++ n ∷ []) (sym is_node))
+pub declared_last : (stored : ℕ → Stored) (times : TimeSettings) (hosts after : List HostView) (new : HostView) (node : Node) (self : NodesView) → AreHosts stored times hosts
+    → record { times = times; nodes = nodes_of stored hosts } ≡ self → node_in self.nodes new.id.0 ≡ None → new.times ≡ times → node ≡ node_of nothing_stored new → after ≡ hosts ++ new ∷ []
+    → AreHosts stored times after × (record { times = times; nodes = nodes_of stored after } ≡ record self { nodes = self.nodes ++ node ∷ [] })
+declared_last stored times hosts after new node self are is_self free timed is_node is =
+    let none : has_host hosts new.id.0 ≡ false = sym (declared_is stored hosts new.id.0) ∙ ap is_some (ap (λ (v : NodesView). node_in v.nodes new.id.0) is_self ∙ free) in
+    let both = pushed stored times hosts new are none timed in (
+      subst (AreHosts stored times) (sym is) both.0,
+      ap (λ (hs : List HostView). record { times = times; nodes = nodes_of stored hs }) is
+          ∙ ap (λ (ns : List Node). record { times = times; nodes = ns }) (both.1 ∙ ap (λ (n : Node). nodes_of stored hosts ++ n ∷ []) (sym is_node))
           ∙ ap (λ (v : NodesView). record v { nodes = v.nodes ++ node ∷ [] }) is_self,
     )

@@ -8,22 +8,21 @@ use Rattle.std.proofs.lemmas.List.{length-map, map-append, get_or_default, take_
 use Rattle.lease_runs.proofs.Tests.{same_node}
 use Rattle.xt_base.specs.TimeSettings.{TimeSettings}
 use Rattle.xt_base.specs.declared.ids.NodeId.{NodeId}
-use Rattle.xt_messages.specs.declared.record.Record.{Record}
 use Rattle.cluster_runs.specs.World.{Node, node_in, with_node}
-use Rattle.node_hosts.specs.Hosts.{HostView, node_of}
+use Rattle.node_hosts.specs.Hosts.{HostView, Stored, nothing_stored, node_of}
 use Rattle.node_clocks.specs.Hosts.{nodes_of}
 use Rattle.world_nodes.specs.Nodes.{has_host, AreDistinct, AreHosts, IsAt, IsPlace, IsHostPlace}
 
 -- ---- which ids are there
 
 -- whether a node of this id is declared
-pub declared_is : (kept : ℕ → List Record) (hosts : List HostView) (id : ℕ) → is_some (node_in (nodes_of kept hosts) id) ≡ has_host hosts id
+pub declared_is : (stored : ℕ → Stored) (hosts : List HostView) (id : ℕ) → is_some (node_in (nodes_of stored hosts) id) ≡ has_host hosts id
 unfolding node_in
-declared_is kept [] id = refl
-declared_is kept (h ∷ hs) id = at (h.id.0 == id) (declared_is kept hs id)
+declared_is stored [] id = refl
+declared_is stored (h ∷ hs) id = at (h.id.0 == id) (declared_is stored hs id)
   where
-    at : (same : Bool) → is_some (node_in (nodes_of kept hs) id) ≡ has_host hs id
-        → is_some (cond same (Some (node_of (kept h.id.0) h)) (node_in (nodes_of kept hs) id)) ≡ cond same true (has_host hs id)
+    at : (same : Bool) → is_some (node_in (nodes_of stored hs) id) ≡ has_host hs id
+        → is_some (cond same (Some (node_of (stored h.id.0) h)) (node_in (nodes_of stored hs) id)) ≡ cond same true (has_host hs id)
     at true rest = refl
     at false rest = rest
 
@@ -32,8 +31,8 @@ none_there None is = refl
 none_there (Some x) is = absurd (cc)
 
 -- none is
-pub none_of : (kept : ℕ → List Record) (hosts : List HostView) (id : ℕ) → has_host hosts id ≡ false → node_in (nodes_of kept hosts) id ≡ None
-none_of kept hosts id none = none_there (node_in (nodes_of kept hosts) id) (declared_is kept hosts id ∙ none)
+pub none_of : (stored : ℕ → Stored) (hosts : List HostView) (id : ℕ) → has_host hosts id ≡ false → node_in (nodes_of stored hosts) id ≡ None
+none_of stored hosts id none = none_there (node_in (nodes_of stored hosts) id) (declared_is stored hosts id ∙ none)
 
 -- a list of nodes with another one of the same id in a place
 pub has_host-set : (hosts : List HostView) (place : ℕ) (d new : HostView) (id : ℕ) → (get_or hosts place d).id ≡ new.id → place < length hosts → has_host (set hosts place new) id ≡ has_host hosts id
@@ -75,105 +74,105 @@ other_id h hs place d none lt = at (h.id.0 == (get_or hs place d).id.0) refl
 
 -- ---- the node in a place
 
-got : (kept : ℕ → List Record) (hosts : List HostView) (place : ℕ) (d : HostView) → place < length hosts
-    → slice_get (nodes_of kept hosts) place ≡ Some (node_of (kept (get_or hosts place d).id.0) (get_or hosts place d))
-got kept [] place d lt = absurd (omega arith)
-got kept (h ∷ hs) zero d lt = refl
-got kept (h ∷ hs) (suc place) d lt = got kept hs place d (omega arith)
+got : (stored : ℕ → Stored) (hosts : List HostView) (place : ℕ) (d : HostView) → place < length hosts
+    → slice_get (nodes_of stored hosts) place ≡ Some (node_of (stored (get_or hosts place d).id.0) (get_or hosts place d))
+got stored [] place d lt = absurd (omega arith)
+got stored (h ∷ hs) zero d lt = refl
+got stored (h ∷ hs) (suc place) d lt = got stored hs place d (omega arith)
 
-found : (kept : ℕ → List Record) (hosts : List HostView) (place : ℕ) (d : HostView) → AreDistinct hosts → place < length hosts
-    → node_in (nodes_of kept hosts) (get_or hosts place d).id.0 ≡ Some (node_of (kept (get_or hosts place d).id.0) (get_or hosts place d))
+found : (stored : ℕ → Stored) (hosts : List HostView) (place : ℕ) (d : HostView) → AreDistinct hosts → place < length hosts
+    → node_in (nodes_of stored hosts) (get_or hosts place d).id.0 ≡ Some (node_of (stored (get_or hosts place d).id.0) (get_or hosts place d))
 unfolding node_in
-found kept [] place d apart lt = absurd (omega arith)
-found kept (h ∷ hs) zero d apart lt = ap (λ (b : Bool). cond b (Some (node_of (kept h.id.0) h)) (node_in (nodes_of kept hs) h.id.0)) (itself h.id.0)
+found stored [] place d apart lt = absurd (omega arith)
+found stored (h ∷ hs) zero d apart lt = ap (λ (b : Bool). cond b (Some (node_of (stored h.id.0) h)) (node_in (nodes_of stored hs) h.id.0)) (itself h.id.0)
   where
     itself : (n : ℕ) → (n == n) ≡ true
     itself n = grind (arith, nat_tests)
-found kept (h ∷ hs) (suc place) d apart lt =
-    ap (λ (b : Bool). cond b (Some (node_of (kept h.id.0) h)) (node_in (nodes_of kept hs) (get_or hs place d).id.0)) (other_id h hs place d apart.0 (omega arith))
-    ∙ found kept hs place d apart.1 (omega arith)
+found stored (h ∷ hs) (suc place) d apart lt =
+    ap (λ (b : Bool). cond b (Some (node_of (stored h.id.0) h)) (node_in (nodes_of stored hs) (get_or hs place d).id.0)) (other_id h hs place d apart.0 (omega arith))
+    ∙ found stored hs place d apart.1 (omega arith)
 
-put : (kept : ℕ → List Record) (hosts : List HostView) (place : ℕ) (d : HostView) (next : Node) → AreDistinct hosts → place < length hosts → next.id ≡ (get_or hosts place d).id
-    → with_node (nodes_of kept hosts) next ≡ set (nodes_of kept hosts) place next
+put : (stored : ℕ → Stored) (hosts : List HostView) (place : ℕ) (d : HostView) (next : Node) → AreDistinct hosts → place < length hosts → next.id ≡ (get_or hosts place d).id
+    → with_node (nodes_of stored hosts) next ≡ set (nodes_of stored hosts) place next
 unfolding with_node
-put kept [] place d next apart lt same = absurd (omega arith)
-put kept (h ∷ hs) zero d next apart lt same =
-    ap (λ (b : Bool). cond b (next ∷ nodes_of kept hs) (node_of (kept h.id.0) h ∷ with_node (nodes_of kept hs) next))
+put stored [] place d next apart lt same = absurd (omega arith)
+put stored (h ∷ hs) zero d next apart lt same =
+    ap (λ (b : Bool). cond b (next ∷ nodes_of stored hs) (node_of (stored h.id.0) h ∷ with_node (nodes_of stored hs) next))
     (ap (λ (i : NodeId). h.id.0 == i.0) same ∙ itself h.id.0)
   where
     itself : (n : ℕ) → (n == n) ≡ true
     itself n = grind (arith, nat_tests)
-put kept (h ∷ hs) (suc place) d next apart lt same =
-    ap (λ (b : Bool). cond b (next ∷ nodes_of kept hs) (node_of (kept h.id.0) h ∷ with_node (nodes_of kept hs) next))
+put stored (h ∷ hs) (suc place) d next apart lt same =
+    ap (λ (b : Bool). cond b (next ∷ nodes_of stored hs) (node_of (stored h.id.0) h ∷ with_node (nodes_of stored hs) next))
     (ap (λ (i : NodeId). h.id.0 == i.0) same ∙ other_id h hs place d apart.0 (omega arith))
-    ∙ ap (λ (ns : List Node). node_of (kept h.id.0) h ∷ ns) (put kept hs place d next apart.1 (omega arith) same)
+    ∙ ap (λ (ns : List Node). node_of (stored h.id.0) h ∷ ns) (put stored hs place d next apart.1 (omega arith) same)
 
-pub at_place : (kept : ℕ → List Record) (hosts : List HostView) (place : ℕ) (d : HostView) → AreDistinct hosts → place < length hosts
-    → IsAt (nodes_of kept hosts) place (node_of (kept (get_or hosts place d).id.0) (get_or hosts place d))
-at_place kept hosts place d apart lt = record {
-  inside = subst (λ (n : ℕ). place < n) (sym (length-map hosts (λ (h : HostView). node_of (kept h.id.0) h))) lt;
-  here = got kept hosts place d lt;
-  found = found kept hosts place d apart lt;
-  put = λ next same. put kept hosts place d next apart lt same;
+pub at_place : (stored : ℕ → Stored) (hosts : List HostView) (place : ℕ) (d : HostView) → AreDistinct hosts → place < length hosts
+    → IsAt (nodes_of stored hosts) place (node_of (stored (get_or hosts place d).id.0) (get_or hosts place d))
+at_place stored hosts place d apart lt = record {
+  inside = subst (λ (n : ℕ). place < n) (sym (length-map hosts (λ (h : HostView). node_of (stored h.id.0) h))) lt;
+  here = got stored hosts place d lt;
+  found = found stored hosts place d apart lt;
+  put = λ next same. put stored hosts place d next apart lt same;
 }
 
 -- only one node stands in a place
-pub only_at : (kept : ℕ → List Record) (hosts : List HostView) (place : ℕ) (d : HostView) (node : Node) → place < length hosts → IsAt (nodes_of kept hosts) place node
-    → node ≡ node_of (kept (get_or hosts place d).id.0) (get_or hosts place d)
-only_at kept hosts place d node lt at = the_same _ _ (sym at.here ∙ got kept hosts place d lt)
+pub only_at : (stored : ℕ → Stored) (hosts : List HostView) (place : ℕ) (d : HostView) (node : Node) → place < length hosts → IsAt (nodes_of stored hosts) place node
+    → node ≡ node_of (stored (get_or hosts place d).id.0) (get_or hosts place d)
+only_at stored hosts place d node lt at = the_same _ _ (sym at.here ∙ got stored hosts place d lt)
   where
     the_same : (a b : Node) → Some a ≡ Some b → a ≡ b
     the_same a b is = cc
 
 -- a place of the code is one of the world
-pub is_place : (kept : ℕ → List Record) (hosts : List HostView) (id : NodeId) (place : Option ℕ) → AreDistinct hosts → IsHostPlace hosts id place → IsPlace (nodes_of kept hosts) id place
-is_place kept hosts id None apart none = none_of kept hosts id.0 none
-is_place kept [] id (Some place) apart is = absurd (let lt = is.0 in omega arith)
-is_place kept (h ∷ hs) id (Some place) apart is = (
-  node_of (kept (get_or (h ∷ hs) place h).id.0) (get_or (h ∷ hs) place h),
-  at_place kept (h ∷ hs) place h apart is.0,
+pub is_place : (stored : ℕ → Stored) (hosts : List HostView) (id : NodeId) (place : Option ℕ) → AreDistinct hosts → IsHostPlace hosts id place → IsPlace (nodes_of stored hosts) id place
+is_place stored hosts id None apart none = none_of stored hosts id.0 none
+is_place stored [] id (Some place) apart is = absurd (let lt = is.0 in omega arith)
+is_place stored (h ∷ hs) id (Some place) apart is = (
+  node_of (stored (get_or (h ∷ hs) place h).id.0) (get_or (h ∷ hs) place h),
+  at_place stored (h ∷ hs) place h apart is.0,
   is.1 h,
 )
 
 -- ---- a node changes
 
-abbrev pub AreOthers : (ℕ → List Record) → (ℕ → List Record) → ℕ → Type 0
-AreOthers kept after id = (n : ℕ) → (n == id) ≡ false → after n ≡ kept n
+abbrev pub AreOthers : (ℕ → Stored) → (ℕ → Stored) → ℕ → Type 0
+AreOthers stored after id = (n : ℕ) → (n == id) ≡ false → after n ≡ stored n
 
-pub same_kept : (kept : ℕ → List Record) (id : ℕ) → AreOthers kept kept id
-same_kept kept id n other = refl
+pub same_stored : (stored : ℕ → Stored) (id : ℕ) → AreOthers stored stored id
+same_stored stored id n other = refl
 
 -- the nodes that don't have this id
-others_same : (kept after : ℕ → List Record) (hosts : List HostView) (id : ℕ) → has_host hosts id ≡ false → AreOthers kept after id → nodes_of after hosts ≡ nodes_of kept hosts
-others_same kept after [] id none others = refl
-others_same kept after (h ∷ hs) id none others = at (h.id.0 == id) refl none (λ isnt. others_same kept after hs id isnt others)
+others_same : (stored after : ℕ → Stored) (hosts : List HostView) (id : ℕ) → has_host hosts id ≡ false → AreOthers stored after id → nodes_of after hosts ≡ nodes_of stored hosts
+others_same stored after [] id none others = refl
+others_same stored after (h ∷ hs) id none others = at (h.id.0 == id) refl none (λ isnt. others_same stored after hs id isnt others)
   where
-    at : (same : Bool) → (h.id.0 == id) ≡ same → cond same true (has_host hs id) ≡ false → (has_host hs id ≡ false → nodes_of after hs ≡ nodes_of kept hs)
-        → nodes_of after (h ∷ hs) ≡ nodes_of kept (h ∷ hs)
+    at : (same : Bool) → (h.id.0 == id) ≡ same → cond same true (has_host hs id) ≡ false → (has_host hs id ≡ false → nodes_of after hs ≡ nodes_of stored hs)
+        → nodes_of after (h ∷ hs) ≡ nodes_of stored (h ∷ hs)
     at true is isnt rest = absurd (cc)
     at false is isnt rest =
-        ap (λ (rs : List Record). node_of rs h ∷ nodes_of after hs) (others h.id.0 is) ∙ ap (λ (ns : List Node). node_of (kept h.id.0) h ∷ ns) (rest isnt)
+        ap (λ (rs : Stored). node_of rs h ∷ nodes_of after hs) (others h.id.0 is) ∙ ap (λ (ns : List Node). node_of (stored h.id.0) h ∷ ns) (rest isnt)
 
-nodes-set : (kept after : ℕ → List Record) (hosts : List HostView) (place : ℕ) (d new : HostView) → AreDistinct hosts → place < length hosts → (get_or hosts place d).id ≡ new.id → AreOthers kept after new.id.0
-    → nodes_of after (set hosts place new) ≡ set (nodes_of kept hosts) place (node_of (after new.id.0) new)
-nodes-set kept after [] place d new apart lt same others = absurd (omega arith)
-nodes-set kept after (h ∷ hs) zero d new apart lt same others =
+nodes-set : (stored after : ℕ → Stored) (hosts : List HostView) (place : ℕ) (d new : HostView) → AreDistinct hosts → place < length hosts → (get_or hosts place d).id ≡ new.id → AreOthers stored after new.id.0
+    → nodes_of after (set hosts place new) ≡ set (nodes_of stored hosts) place (node_of (after new.id.0) new)
+nodes-set stored after [] place d new apart lt same others = absurd (omega arith)
+nodes-set stored after (h ∷ hs) zero d new apart lt same others =
     ap (λ (ns : List Node). node_of (after new.id.0) new ∷ ns)
-    (others_same kept after hs new.id.0 (ap (λ (i : NodeId). has_host hs i.0) (sym same) ∙ apart.0) others)
-nodes-set kept after (h ∷ hs) (suc place) d new apart lt same others =
-    ap (λ (rs : List Record). node_of rs h ∷ nodes_of after (set hs place new)) (others h.id.0 (ap (λ (i : NodeId). h.id.0 == i.0) (sym same) ∙ other_id h hs place d apart.0 (omega arith)))
-    ∙ ap (λ (ns : List Node). node_of (kept h.id.0) h ∷ ns) (nodes-set kept after hs place d new apart.1 (omega arith) same others)
+    (others_same stored after hs new.id.0 (ap (λ (i : NodeId). has_host hs i.0) (sym same) ∙ apart.0) others)
+nodes-set stored after (h ∷ hs) (suc place) d new apart lt same others =
+    ap (λ (rs : Stored). node_of rs h ∷ nodes_of after (set hs place new)) (others h.id.0 (ap (λ (i : NodeId). h.id.0 == i.0) (sym same) ∙ other_id h hs place d apart.0 (omega arith)))
+    ∙ ap (λ (ns : List Node). node_of (stored h.id.0) h ∷ ns) (nodes-set stored after hs place d new apart.1 (omega arith) same others)
 
--- The node in a place is changed, and perhaps what it keeps.
-pub changed : (kept after : ℕ → List Record) (hosts : List HostView) (place : ℕ) (old new : HostView) (node : Node) → AreDistinct hosts → place < length hosts
-    → old ≡ get_or hosts place old → new.id ≡ old.id → AreOthers kept after old.id.0 → IsAt (nodes_of kept hosts) place node
-    → (node ≡ node_of (kept old.id.0) old) × (nodes_of after (set hosts place new) ≡ with_node (nodes_of kept hosts) (node_of (after old.id.0) new))
-changed kept after hosts place old new node apart lt is same others at =
-    let its : node ≡ node_of (kept old.id.0) old = only_at kept hosts place old node lt at ∙ sym (ap (λ (h : HostView). node_of (kept h.id.0) h) is) in
+-- The node in a place is changed, and perhaps what is stored for it.
+pub changed : (stored after : ℕ → Stored) (hosts : List HostView) (place : ℕ) (old new : HostView) (node : Node) → AreDistinct hosts → place < length hosts
+    → old ≡ get_or hosts place old → new.id ≡ old.id → AreOthers stored after old.id.0 → IsAt (nodes_of stored hosts) place node
+    → (node ≡ node_of (stored old.id.0) old) × (nodes_of after (set hosts place new) ≡ with_node (nodes_of stored hosts) (node_of (after old.id.0) new))
+changed stored after hosts place old new node apart lt is same others at =
+    let its : node ≡ node_of (stored old.id.0) old = only_at stored hosts place old node lt at ∙ sym (ap (λ (h : HostView). node_of (stored h.id.0) h) is) in
     let ids : (get_or hosts place old).id ≡ new.id = ap (λ (h : HostView). h.id) (sym is) ∙ sym same in (
       its,
-      nodes-set kept after hosts place old new apart lt ids (subst (λ (i : NodeId). AreOthers kept after i.0) (sym same) others)
-          ∙ ap (λ (i : NodeId). set (nodes_of kept hosts) place (node_of (after i.0) new)) same
+      nodes-set stored after hosts place old new apart lt ids (subst (λ (i : NodeId). AreOthers stored after i.0) (sym same) others)
+          ∙ ap (λ (i : NodeId). set (nodes_of stored hosts) place (node_of (after i.0) new)) same
           ∙ sym (at.put (node_of (after old.id.0) new) (same ∙ sym (ap (λ (n : Node). n.id) its))),
     )
 
@@ -187,16 +186,16 @@ all-at P [] place d all lt = absurd (omega arith)
 all-at P (h ∷ hs) zero d all lt = all.0
 all-at P (h ∷ hs) (suc place) d all lt = all-at P hs place d all.1 (omega arith)
 
-pub times_at : (kept : ℕ → List Record) (times : TimeSettings) (hosts : List HostView) (place : ℕ) (old : HostView) → AreHosts kept times hosts → place < length hosts → old ≡ get_or hosts place old → old.times ≡ times
-times_at kept times hosts place old are lt is = ap (λ (h : HostView). h.times) is ∙ all-at (λ (h : HostView). h.times ≡ times) hosts place old are.timed lt
+pub times_at : (stored : ℕ → Stored) (times : TimeSettings) (hosts : List HostView) (place : ℕ) (old : HostView) → AreHosts stored times hosts → place < length hosts → old ≡ get_or hosts place old → old.times ≡ times
+times_at stored times hosts place old are lt is = ap (λ (h : HostView). h.times) is ∙ all-at (λ (h : HostView). h.times ≡ times) hosts place old are.timed lt
 
 -- they are still in order
-pub still : (kept after : ℕ → List Record) (times : TimeSettings) (hosts : List HostView) (place : ℕ) (old new : HostView) → AreHosts kept times hosts → place < length hosts
-    → old ≡ get_or hosts place old → new.id ≡ old.id → new.times ≡ old.times → AreOthers kept after old.id.0 → AreHosts after times (set hosts place new)
-still kept after times hosts place old new are lt is same timed others =
+pub still : (stored after : ℕ → Stored) (times : TimeSettings) (hosts : List HostView) (place : ℕ) (old new : HostView) → AreHosts stored times hosts → place < length hosts
+    → old ≡ get_or hosts place old → new.id ≡ old.id → new.times ≡ old.times → AreOthers stored after old.id.0 → AreHosts after times (set hosts place new)
+still stored after times hosts place old new are lt is same timed others =
     let ids : (get_or hosts place old).id ≡ new.id = ap (λ (h : HostView). h.id) (sym is) ∙ sym same in record {
       distinct = distinct-set hosts place old new ids lt are.distinct;
-      timed = all-set (λ (h : HostView). h.times ≡ times) hosts place new are.timed (timed ∙ times_at kept times hosts place old are lt is);
+      timed = all-set (λ (h : HostView). h.times ≡ times) hosts place new are.timed (timed ∙ times_at stored times hosts place old are lt is);
       others = λ id none.
           let before : has_host hosts id ≡ false = sym (has_host-set hosts place old new id ids lt) ∙ none in
           others id (other id before) ∙ are.others id before;
@@ -241,15 +240,15 @@ shorter new (h ∷ hs) id isnt = at (h.id.0 == id) isnt (λ is. shorter new hs i
     at true is rest = is
     at false is rest = rest is
 
-pub pushed : (kept : ℕ → List Record) (times : TimeSettings) (hosts : List HostView) (new : HostView) → AreHosts kept times hosts → has_host hosts new.id.0 ≡ false → new.times ≡ times
-    → AreHosts kept times (hosts ++ new ∷ []) × (nodes_of kept (hosts ++ new ∷ []) ≡ nodes_of kept hosts ++ node_of [] new ∷ [])
-pushed kept times hosts new are none timed = (
+pub pushed : (stored : ℕ → Stored) (times : TimeSettings) (hosts : List HostView) (new : HostView) → AreHosts stored times hosts → has_host hosts new.id.0 ≡ false → new.times ≡ times
+    → AreHosts stored times (hosts ++ new ∷ []) × (nodes_of stored (hosts ++ new ∷ []) ≡ nodes_of stored hosts ++ node_of nothing_stored new ∷ [])
+pushed stored times hosts new are none timed = (
   record {
     distinct = distinct-push hosts new are.distinct none;
     timed = all-push hosts are.timed;
     others = λ id isnt. are.others id (shorter new hosts id isnt);
   },
-  map-append (λ (h : HostView). node_of (kept h.id.0) h) hosts (new ∷ []) ∙ ap (λ (rs : List Record). nodes_of kept hosts ++ node_of rs new ∷ []) (are.others new.id.0 none),
+  map-append (λ (h : HostView). node_of (stored h.id.0) h) hosts (new ∷ []) ∙ ap (λ (rs : Stored). nodes_of stored hosts ++ node_of rs new ∷ []) (are.others new.id.0 none),
 )
   where
     all-push : (hosts : List HostView) → AllByRecursion (λ (h : HostView). h.times ≡ times) hosts → AllByRecursion (λ (h : HostView). h.times ≡ times) (hosts ++ new ∷ [])

@@ -1,3 +1,4 @@
 pub mod Hosts
 pub mod Changes
+pub mod Forgetting
 pub mod Ticks

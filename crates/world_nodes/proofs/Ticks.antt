@@ -7,12 +7,11 @@ use Rattle.std.proofs.lemmas.Bool.Decides.{nat_tests}
 use Rattle.std.proofs.lemmas.List.{take_at}
 use Rattle.xt_base.specs.TimeSettings.{TimeSettings}
 use Rattle.xt_base.specs.declared.ids.NodeId.{NodeId}
-use Rattle.xt_messages.specs.declared.record.Record.{Record}
 use Rattle.xt_base.specs.declared.TheConstants.{COUNTS}
 use Rattle.cluster_runs.specs.World.{Node, Running}
 use Rattle.cluster_runs.specs.Rules.{Reading, lesser, reading_where, least_where, end_named, clock_ends}
 use Rattle.cluster_runs.specs.Lines.{ticked}
-use Rattle.node_hosts.specs.Hosts.{HostView, node_of, host_ticked}
+use Rattle.node_hosts.specs.Hosts.{HostView, Stored, node_of, host_ticked}
 use Rattle.node_clocks.specs.Hosts.{nodes_of, MayTick}
 use Rattle.world_nodes.specs.Nodes.{NodesView, has_host, AreDistinct, AreHosts}
 
@@ -29,13 +28,13 @@ both_none (Some a) (Some b) is = absurd (at (nat_lt b.node.0 a.node.0) is)
     at true e = cc
     at false e = cc
 
-may_each : (kept : ℕ → List Record) (hosts : List HostView) (count : ℕ) → least_where (λ (id : NodeId) (clock : ℕ). nat_le COUNTS (clock + count)) (nodes_of kept hosts) ≡ None
+may_each : (stored : ℕ → Stored) (hosts : List HostView) (count : ℕ) → least_where (λ (id : NodeId) (clock : ℕ). nat_le COUNTS (clock + count)) (nodes_of stored hosts) ≡ None
     → AllByRecursion (MayTick count) hosts
 unfolding least_where
-may_each kept [] count is = tt
-may_each kept (h ∷ hs) count is =
+may_each stored [] count is = tt
+may_each stored (h ∷ hs) count is =
     let parts = both_none (reading_where (λ (id : NodeId) (clock : ℕ). nat_le COUNTS (clock + count)) h.id h.up) _ is in
-    (at h.up parts.0, may_each kept hs count parts.1)
+    (at h.up parts.0, may_each stored hs count parts.1)
   where
     below : (a b : ℕ) → nat_le a b ≡ false → b < a
     below a b e = grind (arith, nat_tests)
@@ -49,9 +48,9 @@ may_each kept (h ∷ hs) count is =
     at (Some r) e = below COUNTS (r.clock + count) (clear _ _ e)
 
 -- no clock would reach the end
-pub may_tick : (kept : ℕ → List Record) (times : TimeSettings) (hosts : List HostView) (self : NodesView) (count : ℕ) → record { times = times; nodes = nodes_of kept hosts } ≡ self
+pub may_tick : (stored : ℕ → Stored) (times : TimeSettings) (hosts : List HostView) (self : NodesView) (count : ℕ) → record { times = times; nodes = nodes_of stored hosts } ≡ self
     → clock_ends count self.nodes ≡ None → AllByRecursion (MayTick count) hosts
-may_tick kept times hosts self count is none = may_each kept hosts count (no_reading _ (ap (λ (v : NodesView). clock_ends count v.nodes) is ∙ none))
+may_tick stored times hosts self count is none = may_each stored hosts count (no_reading _ (ap (λ (v : NodesView). clock_ends count v.nodes) is ∙ none))
 
 same_host : (count : ℕ) (hosts : List HostView) (id : ℕ) → has_host (map (host_ticked count) hosts) id ≡ has_host hosts id
 same_host count [] id = refl
@@ -65,22 +64,22 @@ timed_still : (count : ℕ) (times : TimeSettings) (hosts : List HostView) → A
 timed_still count times [] all = tt
 timed_still count times (h ∷ hs) all = (all.0, timed_still count times hs all.1)
 
-nodes_ticked : (kept : ℕ → List Record) (count : ℕ) (hosts : List HostView) → nodes_of kept (map (host_ticked count) hosts) ≡ map (ticked count) (nodes_of kept hosts)
-nodes_ticked kept count [] = refl
-nodes_ticked kept count (h ∷ hs) = ap (λ (ns : List Node). ticked count (node_of (kept h.id.0) h) ∷ ns) (nodes_ticked kept count hs)
+nodes_ticked : (stored : ℕ → Stored) (count : ℕ) (hosts : List HostView) → nodes_of stored (map (host_ticked count) hosts) ≡ map (ticked count) (nodes_of stored hosts)
+nodes_ticked stored count [] = refl
+nodes_ticked stored count (h ∷ hs) = ap (λ (ns : List Node). ticked count (node_of (stored h.id.0) h) ∷ ns) (nodes_ticked stored count hs)
 
 -- the nodes behind a tick
-pub ticked_hosts : (kept : ℕ → List Record) (times : TimeSettings) (hosts after : List HostView) (self : NodesView) (count : ℕ) → AreHosts kept times hosts
-    → record { times = times; nodes = nodes_of kept hosts } ≡ self → after ≡ map (host_ticked count) hosts
-    → AreHosts kept times after × (record { times = times; nodes = nodes_of kept after } ≡ record self { nodes = map (ticked count) self.nodes })
-ticked_hosts kept times hosts after self count are is_self is = (
-  subst (AreHosts kept times) (sym is) (record {
+pub ticked_hosts : (stored : ℕ → Stored) (times : TimeSettings) (hosts after : List HostView) (self : NodesView) (count : ℕ) → AreHosts stored times hosts
+    → record { times = times; nodes = nodes_of stored hosts } ≡ self → after ≡ map (host_ticked count) hosts
+    → AreHosts stored times after × (record { times = times; nodes = nodes_of stored after } ≡ record self { nodes = map (ticked count) self.nodes })
+ticked_hosts stored times hosts after self count are is_self is = (
+  subst (AreHosts stored times) (sym is) (record {
     distinct = distinct_still count hosts are.distinct;
     timed = timed_still count times hosts are.timed;
     others = λ id none. are.others id (sym (same_host count hosts id) ∙ none);
   }),
-  ap (λ (hs : List HostView). record { times = times; nodes = nodes_of kept hs }) is
-      ∙ ap (λ (ns : List Node). record { times = times; nodes = ns }) (nodes_ticked kept count hosts)
+  ap (λ (hs : List HostView). record { times = times; nodes = nodes_of stored hs }) is
+      ∙ ap (λ (ns : List Node). record { times = times; nodes = ns }) (nodes_ticked stored count hosts)
       ∙ ap (λ (v : NodesView). record v { nodes = map (ticked count) v.nodes }) is_self,
 )
 

@@ -1,5 +1,5 @@
 -- the declared nodes over a hull
-use Rattle.std.specs.Prelude.{ℕ, Bool, true, false, ◌≡◌, ◌<◌, ◌==◌, if◌then◌else◌, Option, Some, None, List, [], ◌∷◌, ◌++◌, ◌+◌, length, slice_get, slice_set, slice_index_or}
+use Rattle.std.specs.Prelude.{ℕ, Bool, true, false, ◌≡◌, ◌<◌, ◌==◌, if◌then◌else◌, Option, Some, None, List, [], ◌∷◌, ◌++◌, length, slice_get, slice_set, slice_index_or}
 use Rattle.std.specs.Option.{option_map}
 use Rattle.std.specs.List.{AllByRecursion}
 use Rattle.xt_base.specs.TimeSettings.{TimeSettings}
@@ -12,14 +12,14 @@ use Rattle.xt_messages.specs.declared.record.Record.{Record}
 use Rattle.xt_protocol.specs.declared.turned.Turned.{Turned}
 use Rattle.cluster_runs.specs.Steps.{Step}
 use Rattle.cluster_runs.specs.declared.ClientState.{ClientState}
-use Rattle.cluster_runs.specs.World.{World, Node, Running, Core, client, node_in, with_node}
-use Rattle.cluster_runs.specs.NodeSteps.{core_step}
+use Rattle.cluster_runs.specs.World.{World, Node, Deed, puts, loads, Running, Core, client, node_in, with_node}
+use Rattle.cluster_runs.specs.NodeSteps.{Room, core_step, one_more, one_put, forgets_in}
 use Rattle.world_hull.specs.declared.hull.Kept.{Kept}
 use Rattle.world_hull.specs.declared.hull.Kept.TheVariants as ending
-use Rattle.node_hosts.specs.Hosts.{HostView}
+use Rattle.node_hosts.specs.Hosts.{HostView, Stored, nothing_stored}
 use Rattle.node_hosts.specs.Turns.{IsOsd, call_step}
 
--- the times of a world, and its nodes with the records that the hull keeps for them
+-- the times of a world, and its nodes with what the hull has stored for them
 pub record NodesView : Type 0 where
   pub times : TimeSettings
   pub nodes : List Node
@@ -38,11 +38,11 @@ abbrev pub AreDistinct : List HostView → Type 0
 AreDistinct [] = Unit {0}
 AreDistinct (h ∷ hs) = (has_host hs h.id.0 ≡ false) × AreDistinct hs
 
--- No two nodes have one id, each steps by the world's times, and only a declared node has records.
-pub record AreHosts (kept : ℕ → List Record) (times : TimeSettings) (hosts : List HostView) : Type 0 where
+-- No two nodes have one id, each steps by the world's times, and something is stored for declared nodes only.
+pub record AreHosts (stored : ℕ → Stored) (times : TimeSettings) (hosts : List HostView) : Type 0 where
   pub distinct : AreDistinct hosts
   pub timed : AllByRecursion (λ (h : HostView). h.times ≡ times) hosts
-  pub others : (id : ℕ) → has_host hosts id ≡ false → kept id ≡ []
+  pub others : (id : ℕ) → has_host hosts id ≡ false → stored id ≡ nothing_stored
 
 -- ---- one node
 
@@ -95,6 +95,34 @@ abbrev pub kept_when : List Record → Record → Kept → List Record
 kept_when kept rec ending.Done = kept ++ rec ∷ []
 kept_when kept rec ending.StoppedKept = kept ++ rec ∷ []
 kept_when kept rec ending.StoppedLost = kept
+
+-- and what was done to its records then
+abbrev pub past_when : List Deed → Record → Kept → List Deed
+past_when past rec ending.Done = past ++ puts rec ∷ []
+past_when past rec ending.StoppedKept = past ++ puts rec ∷ []
+past_when past rec ending.StoppedLost = past
+
+-- a node after the append of a record that ended so
+abbrev pub after_append : Record → Kept → Node → Node
+after_append rec end node = record node { kept = kept_when node.kept rec end; past = past_when node.past rec end }
+
+-- a node whose records were loaded
+abbrev pub after_load : Node → Node
+after_load node = record node { past = node.past ++ loads ∷ [] }
+
+-- a node after the append of a step's record, if it has one
+abbrev pub after_put : Option Record → Node → Node
+after_put rec node = record node { kept = one_more node.kept rec; past = one_put node.past rec }
+
+-- ---- forgetting
+
+-- the nodes once this one of them, if it is there, forgot what it doesn't need: where it runs, and its records are rewritten now
+abbrev pub forgotten_in : Room → NodesView → Option Node → List Node
+forgotten_in room view found = (forgets_in room (bare view) found).nodes
+
+-- the node there forgot so
+abbrev pub Forgets : Room → NodesView → ℕ → NodesView → Type 0
+Forgets room old place new = (node : Node) → IsAt old.nodes place node → new ≡ record old { nodes = forgotten_in room old (Some node) }
 
 -- ---- lists of nodes as code has them
 

@@ -23,21 +23,26 @@ pub struct Nodes<C: NodeCore, H: Hull> {
 }
 
 impl<C: NodeCore, H: Hull> Model for Nodes<C, H> {
+    ghost use Rattle.node_hosts.specs.Hosts.{stored_in};
     ghost use Rattle.node_clocks.specs.Hosts.{nodes_of};
     ghost use Rattle.world_nodes.specs.Nodes.{NodesView, AreHosts};
 
     ghost Value = { NodesView };
 
-    ghost view = { λ n.
-        record { times = n.times; nodes = nodes_of (H.kept n.hull) n.hosts.items } };
+    ghost view = { λ n. record {
+      times = n.times;
+      nodes = nodes_of (stored_in H.kept H.past n.hull) n.hosts.items;
+    } };
 
-    ghost invariant = { λ n. AreHosts (H.kept n.hull) n.times n.hosts.items };
+    ghost invariant = { λ n.
+        AreHosts (stored_in H.kept H.past n.hull) n.times n.hosts.items };
 }
 
 impl<C: NodeCore, H: Hull> Nodes<C, H> {
     /// No node is declared, over a hull that keeps no record.
     pub fn new(alloc: Global, hull: H) -> Nodes<C, H>
-        requires { H.kept hull ≡ λ _. [] }
+        requires kept { H.kept hull ≡ λ _. [] }
+        requires past { H.past hull ≡ λ _. [] }
         ensures { result ≡ record { times = record { lease = 14000; drift = 1000 }; nodes = [] } }
     {
         Nodes {

@@ -2,4 +2,3 @@ pub mod Counts
 pub mod Limits
 pub mod Places
 pub mod Within64
-pub mod Own

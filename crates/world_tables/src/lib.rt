@@ -7,9 +7,8 @@
 
 mod files;
 mod lengths;
-mod own;
 mod sent;
 
 pub use files::DeclaredFiles;
-pub use own::OwnMessages;
+pub use own_messages::OwnMessages;
 pub use sent::SentMessages;

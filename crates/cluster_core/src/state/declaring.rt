@@ -19,7 +19,7 @@ impl<C: NodeCore, H: Hull> State<C, H> {
     pub fn set_times(&mut self, lease: u64, drift: u64) -> Result<(), WorldErr>
         requires times { AreTimes lease drift }
         requires first { self.old.doing.world.nodes ≡ [] }
-        ensures { IsStepped self.old (first_step H.overflow self.old.doing (Line.Times lease drift))
+        ensures { IsStepped self.old (first_step H.room self.old.doing (Line.Times lease drift))
             self.new result }
     {
         tell(&mut self.stepper.entries, Entry::Times { lease, drift })?;
@@ -32,7 +32,7 @@ impl<C: NodeCore, H: Hull> State<C, H> {
     /// Declares an OSD, where there is room for it.
     pub fn declare_osd(&mut self, node: NodeId) -> Result<(), WorldErr>
         requires { node_in self.old.doing.world.nodes node.0 ≡ None }
-        ensures { IsStepped self.old (first_step H.overflow self.old.doing (Line.Osd node)) self.new
+        ensures { IsStepped self.old (first_step H.room self.old.doing (Line.Osd node)) self.new
             result }
     {
         if self.stepper.nodes.len() as u64 >= NODES {
@@ -46,7 +46,7 @@ impl<C: NodeCore, H: Hull> State<C, H> {
     pub fn declare_client(&mut self, node: NodeId, clock: u64) -> Result<(), WorldErr>
         requires own { node_in self.old.doing.world.nodes node.0 ≡ None }
         requires clock { clock < 2 ^ 62 }
-        ensures { IsStepped self.old (first_step H.overflow self.old.doing (Line.Client node clock))
+        ensures { IsStepped self.old (first_step H.room self.old.doing (Line.Client node clock))
             self.new result }
     {
         if self.stepper.nodes.len() as u64 >= NODES {
@@ -62,7 +62,7 @@ impl<C: NodeCore, H: Hull> State<C, H> {
     pub fn declare_file(&mut self, number: u64, location: &Location) -> Result<(), WorldErr>
         requires { file_in self.old.doing.world.files number ≡ None }
         ensures { IsStepped self.old
-            (first_step H.overflow self.old.doing (Line.File number location.now)) self.new result }
+            (first_step H.room self.old.doing (Line.File number location.now)) self.new result }
     {
         self.files.declare(number, location)?;
         tell(

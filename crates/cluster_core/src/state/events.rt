@@ -17,7 +17,7 @@ impl<C: NodeCore, H: Hull> State<C, H> {
     /// An event comes to the node of this id. At one that doesn't run nothing comes of it.
     pub fn event_comes(&mut self, id: NodeId, ev: &Event) -> Result<(), WorldErr>
         requires { FitsComing self.old.doing.world id ev.now }
-        ensures { IsStepped self.old (event_comes H.overflow self.old.doing id ev.now) self.new
+        ensures { IsStepped self.old (event_comes H.room self.old.doing id ev.now) self.new
             result }
     {
         let Some(place) = self.stepper.nodes.find(id) else {
@@ -33,7 +33,7 @@ impl<C: NodeCore, H: Hull> State<C, H> {
     pub fn call(&mut self, client: NodeId, call: &Call) -> Result<(), WorldErr>
         requires { FitsCalling self.old.doing.world client call.now }
         ensures { IsStepped self.old
-            (calls H.overflow self.old.doing (node_in self.old.doing.world.nodes client.0) call.now)
+            (calls H.room self.old.doing (node_in self.old.doing.world.nodes client.0) call.now)
             self.new result }
     {
         let Some(place) = self.stepper.nodes.find(client) else {
@@ -58,7 +58,7 @@ impl<C: NodeCore, H: Hull> State<C, H> {
     pub fn hand(&mut self, message: Msg) -> Result<(), WorldErr>
         requires { FitsComing self.old.doing.world message.to (Event.Deliver message) }
         ensures { IsStepped self.old
-            (event_comes H.overflow self.old.doing message.to (Event.Deliver message)) self.new
+            (event_comes H.room self.old.doing message.to (Event.Deliver message)) self.new
             result }
     {
         self.event_comes(message.to, &Event::Deliver(message))
@@ -68,7 +68,7 @@ impl<C: NodeCore, H: Hull> State<C, H> {
     pub fn deliver(&mut self, number: u128) -> Result<(), WorldErr>
         requires sent { 1 ≤ number }
         requires fits { FitsDelivery self.old.doing.world number }
-        ensures { IsStepped self.old (delivers H.overflow self.old.doing number) self.new result }
+        ensures { IsStepped self.old (delivers H.room self.old.doing number) self.new result }
     {
         let Some(message) = self.stepper.sent.message(number) else {
             return Ok(());

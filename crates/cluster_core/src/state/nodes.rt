@@ -8,7 +8,7 @@ ghost use Rattle.xt_messages.specs.Limits.{FitsRecord};
 ghost use Rattle.xt_protocol.specs.Folds.{fold_of, IsInPlace};
 ghost use Rattle.world_hull.specs.Answers.{IsFullOrMemory, IsFullExactly};
 ghost use Rattle.world_hull.specs.Appends.{kept_by};
-ghost use Rattle.world_nodes.specs.Nodes.{IsAt, Changes, kept_when};
+ghost use Rattle.world_nodes.specs.Nodes.{IsAt, Changes, after_append};
 ghost use Rattle.cluster_core.specs.Boots.{boot_behind};
 ghost use Rattle.step_endings.specs.Steps.{WentOn, IsStepped};
 
@@ -29,7 +29,7 @@ impl<C: NodeCore, H: Hull> State<C, H> {
         requires clock { clock < 2 ^ 62 }
         requires kept { (found : Node) → node_in self.old.doing.world.nodes node.0 ≡ Some found →
             FitsKept found.kept }
-        ensures { IsStepped self.old (first_step H.overflow self.old.doing (Line.Start node clock))
+        ensures { IsStepped self.old (first_step H.room self.old.doing (Line.Start node clock))
             self.new result }
     {
         let Some(place) = self.stepper.nodes.find(node) else {
@@ -51,7 +51,7 @@ impl<C: NodeCore, H: Hull> State<C, H> {
     /// A running node stops between two steps.
     pub fn stop(&mut self, node: NodeId) -> Result<(), WorldErr>
         requires { self.old.doing.own ≡ [] }
-        ensures { IsStepped self.old (first_step H.overflow self.old.doing (Line.Stop node))
+        ensures { IsStepped self.old (first_step H.room self.old.doing (Line.Stop node))
             self.new result }
     {
         let Some(place) = self.stepper.nodes.find(node) else {
@@ -68,7 +68,7 @@ impl<C: NodeCore, H: Hull> State<C, H> {
 
     /// Plans where the next append of a running node stops.
     pub fn plan_crash(&mut self, node: NodeId, call: u8, fill: u8)
-        ensures step { first_step H.overflow self.old.doing (Line.Crash node call fill) ≡
+        ensures step { first_step H.room self.old.doing (Line.Crash node call fill) ≡
             Ok self.new.doing }
         ensures rest { WentOn self.old self.new }
     {
@@ -80,7 +80,7 @@ impl<C: NodeCore, H: Hull> State<C, H> {
 
     /// Plans behind how many messages the next step of a running node that sends stops.
     pub fn plan_cut(&mut self, node: NodeId, count: u128)
-        ensures step { first_step H.overflow self.old.doing (Line.Cut node count) ≡
+        ensures step { first_step H.room self.old.doing (Line.Cut node count) ≡
             Ok self.new.doing }
         ensures rest { WentOn self.old self.new }
     {
@@ -91,7 +91,7 @@ impl<C: NodeCore, H: Hull> State<C, H> {
 
     /// Sets a running clock.
     pub fn set_clock(&mut self, node: NodeId, clock: u64) -> Result<(), WorldErr>
-        ensures { IsStepped self.old (first_step H.overflow self.old.doing (Line.Clock node clock))
+        ensures { IsStepped self.old (first_step H.room self.old.doing (Line.Clock node clock))
             self.new result }
     {
         tell(&mut self.stepper.entries, Entry::Clock { node, clock })?;
@@ -104,7 +104,7 @@ impl<C: NodeCore, H: Hull> State<C, H> {
     /// Every running clock advances.
     pub fn tick(&mut self, count: u64) -> Result<(), WorldErr>
         requires { clock_ends count self.old.doing.world.nodes ≡ None }
-        ensures { IsStepped self.old (first_step H.overflow self.old.doing (Line.Tick count))
+        ensures { IsStepped self.old (first_step H.room self.old.doing (Line.Tick count))
             self.new result }
     {
         tell(&mut self.stepper.entries, Entry::Tick { count })?;
@@ -115,7 +115,7 @@ impl<C: NodeCore, H: Hull> State<C, H> {
     /// Sets a client's first target for a file.
     pub fn aim(&mut self, client: NodeId, file: u64, node: NodeId) -> Result<(), WorldErr>
         ensures { IsStepped self.old
-            (first_step H.overflow self.old.doing (Line.Aim client file node)) self.new result }
+            (first_step H.room self.old.doing (Line.Aim client file node)) self.new result }
     {
         if let Some(place) = self.stepper.nodes.find(client) {
             self.stepper.nodes.aim(place, file, node)?;
@@ -135,10 +135,9 @@ fn keep_boot<C: NodeCore, H: Hull>(
     requires fits { (node : Node) → IsAt nodes.old.nodes place node →
         FitsRecord (Record.Boot boot) × IsInPlace (fold_of node.kept) (Record.Boot boot) }
     ensures done { IfOk result (λ end. (end ≡ kept_by None)
-        × Changes nodes.old place (λ node.
-        record node { kept = kept_when node.kept (Record.Boot boot) end }) nodes.new) }
+        × Changes nodes.old place (after_append (Record.Boot boot) end) nodes.new) }
     ensures room { (node : Node) → IsAt nodes.old.nodes place node →
-        IsFullExactly (H.overflow node.kept (Record.Boot boot)) result }
+        IsFullExactly (H.room.overflow node.past (Record.Boot boot)) result }
     ensures error { IfErr result IsFullOrMemory }
 {
     nodes.append(alloc, place, &Record::Boot { boot }, None)

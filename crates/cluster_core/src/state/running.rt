@@ -23,7 +23,7 @@ impl<C: NodeCore, H: Hull> State<C, H> {
         requires values { MayStand self.old.doing.world line.now }
         requires own { self.old.doing.own ≡ [] }
         requires fits { FitsWorld self.old.doing.world [] }
-        ensures { IsStepped self.old (first_step H.overflow self.old.doing line.now) self.new
+        ensures { IsStepped self.old (first_step H.room self.old.doing line.now) self.new
             result }
     {
         match line {
@@ -59,7 +59,7 @@ impl<C: NodeCore, H: Hull> State<C, H> {
     fn settle(&mut self) -> Result<bool, WorldErr>
         requires own { self.old.doing.own ≡ [] }
         requires fits { FitsWorld self.old.doing.world [] }
-        ensures { IsTurned self.old (settles H.overflow self.old.doing self.old.doing.left) self.new
+        ensures { IsTurned self.old (settles H.room self.old.doing self.old.doing.left) self.new
             result }
     {
         if self.left == 0 {
@@ -76,7 +76,7 @@ impl<C: NodeCore, H: Hull> State<C, H> {
     /// One step of a line at work. True where the line is done.
     fn turn(&mut self) -> Result<bool, WorldErr>
         requires { FitsWorld self.old.doing.world self.old.doing.own }
-        ensures { IsTurned self.old (next_step H.overflow (goes_on self.old.doing)) self.new
+        ensures { IsTurned self.old (next_step H.room (goes_on self.old.doing)) self.new
             result }
     {
         let Some(message) = self.stepper.own.take() else {
@@ -88,8 +88,8 @@ impl<C: NodeCore, H: Hull> State<C, H> {
 
     /// So many steps of a line at work, or as many as it has. True where the line is done.
     fn turns(&mut self, count: u128) -> Result<bool, WorldErr>
-        requires { AllFit H.overflow (goes_on self.old.doing) }
-        ensures { HasTurned H.overflow self.old count (goes_on self.old.doing) self.new result }
+        requires { AllFit H.room (goes_on self.old.doing) }
+        ensures { HasTurned H.room self.old count (goes_on self.old.doing) self.new result }
     {
         for made in 0..count {
             if self.turn()? {
@@ -111,8 +111,8 @@ impl<C: NodeCore, H: Hull> State<C, H> {
         requires legal { refusal self.old.doing.world line.now ≡ None }
         requires values { MayStand self.old.doing.world line.now }
         requires begun { self.old.doing ≡ begun_with self.old.doing.world line.now }
-        requires fits { AllFit H.overflow (begins self.old.doing.world line.now) }
-        ensures { HasRun H.overflow self.old line.now self.new result }
+        requires fits { AllFit H.room (begins self.old.doing.world line.now) }
+        ensures { HasRun H.room self.old line.now self.new result }
     {
         let count = self.turns_of_event();
         self.open(line)?;

@@ -26,7 +26,7 @@ impl<C: NodeCore, H: Hull> Nodes<C, H> {
         ensures { OnOk result (self.new ≡
             record self.old {
               nodes = self.old.nodes
-                  ++ record { id = id; role = role.Osd; kept = []; up = None } ∷ [];
+                  ++ record { id = id; role = role.Osd; kept = []; past = []; up = None } ∷ [];
             }) }
     {
         self.hosts.push(Host::osd(id, self.times))?;
@@ -49,6 +49,7 @@ impl<C: NodeCore, H: Hull> Nodes<C, H> {
                     id = id;
                     role = role.Client;
                     kept = [];
+                    past = [];
                     up = Some (runs first_boot clock (client (new_client clock)));
                   } ∷ [];
             }) }

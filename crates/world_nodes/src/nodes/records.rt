@@ -1,15 +1,17 @@
-//! What the hull does for the declared nodes: it keeps their records, and carries their messages.
-ghost use Rattle.std.specs.Prelude.{◌≡◌, ◌<◌, ◌^◌, Some, None, IfOk, IfErr, OnOk, length};
+//! What the hull does for the declared nodes: it keeps their records, rewrites them, and carries their messages.
+ghost use Rattle.std.specs.Prelude.{◌≡◌, ◌<◌, ◌^◌, Some, None, IfOk, IfErr, IfSome, OnOk, length};
 ghost use Rattle.xt_messages.specs.Limits.{FitsMessage, FitsRecord};
 ghost use Rattle.xt_protocol.specs.Folds.{fold_of, IsInPlace};
+ghost use Rattle.xt_protocol.specs.Forgetting.{rewritten};
 ghost use Rattle.node_hosts.specs.Cores.{IsSaid};
+ghost use Rattle.node_hosts.specs.Forgetting.{needed_by};
 ghost use Rattle.cluster_runs.specs.World.{Node, osd, with_node};
-ghost use Rattle.cluster_runs.specs.NodeSteps.{one_more, overflow_of};
+ghost use Rattle.cluster_runs.specs.NodeSteps.{overflow_of};
 ghost use Rattle.cluster_runs.specs.Lines.{runs, osd_starting};
 ghost use Rattle.world_hull.specs.Answers.{IsFullOrMemory, IsFullExactly};
 ghost use Rattle.world_hull.specs.Appends.{IsInAppend, kept_by};
-ghost use Rattle.cluster_fits.specs.Fits.{FitsNext};
-ghost use Rattle.world_nodes.specs.Nodes.{IsAt, Changes, kept_when};
+ghost use Rattle.cluster_fits.specs.Fits.{FitsKept, FitsNext, MayForget};
+ghost use Rattle.world_nodes.specs.Nodes.{IsAt, Changes, Forgets, after_append, after_load, after_put};
 
 use crate::nodes::Nodes;
 use disk_model::Stop;
@@ -18,21 +20,21 @@ use replica_records::fold;
 use std::alloc::{AllocError, Global};
 use world_hull::{Hull, Kept, WorldErr};
 use xt_base::{Boot, OptionalBox, OutOfMemory};
-use xt_messages::{Folded, Msg, Record};
+use xt_messages::{Folded, Keep, Msg, Record};
 
 impl<C: NodeCore, H: Hull> Nodes<C, H> {
-    /// What the records of the node at a place say.
+    /// What the records of the node at a place say, which are loaded for that.
     pub fn said(&mut self, alloc: Global, place: usize) -> Result<Folded, OutOfMemory>
         requires { place < length self.old.nodes }
         ensures said { IfOk result (λ folded. (node : Node) → IsAt self.old.nodes place node →
             folded ≡ fold_of node.kept) }
-        ensures same { self.new ≡ self.old }
+        ensures loaded { OnOk result (Changes self.old place after_load self.new) }
     {
         let node = self.hosts[place].id();
-        match self.hull.revive(alloc, node) {
-            Ok(records) => fold(alloc, records.as_slice()),
-            Err(_) => Err(AllocError),
-        }
+        let Ok(records) = self.hull.revive(alloc, node) else {
+            return Err(AllocError);
+        };
+        fold(alloc, records.as_slice())
     }
 
     /// The OSD at a place starts as this boot, from what its records say.
@@ -74,10 +76,9 @@ impl<C: NodeCore, H: Hull> Nodes<C, H> {
             FitsRecord rec.now × IsInPlace (fold_of node.kept) rec.now }
         requires call { IsInAppend stop }
         ensures done { IfOk result (λ end. (end ≡ kept_by stop)
-            × Changes self.old place (λ node.
-            record node { kept = kept_when node.kept rec.now end }) self.new) }
+            × Changes self.old place (after_append rec.now end) self.new) }
         ensures room { (node : Node) → IsAt self.old.nodes place node →
-            IsFullExactly (H.overflow node.kept rec.now) result }
+            IsFullExactly (H.room.overflow node.past rec.now) result }
         ensures error { IfErr result IsFullOrMemory }
     {
         let node = self.hosts[place].id();
@@ -94,11 +95,9 @@ impl<C: NodeCore, H: Hull> Nodes<C, H> {
         requires inside { place < length self.old.nodes }
         requires fits { (node : Node) → IsAt self.old.nodes place node →
             FitsNext node.kept rec.now }
-        ensures done { OnOk result
-            (Changes self.old place (λ node. record node { kept = one_more node.kept rec.now })
-            self.new) }
+        ensures done { OnOk result (Changes self.old place (after_put rec.now) self.new) }
         ensures room { (node : Node) → IsAt self.old.nodes place node →
-            IsFullExactly (overflow_of H.overflow node.kept rec.now) result }
+            IsFullExactly (overflow_of H.room node.past rec.now) result }
         ensures error { IfErr result IsFullOrMemory }
     {
         match rec.get() {
@@ -108,6 +107,40 @@ impl<C: NodeCore, H: Hull> Nodes<C, H> {
                 Ok(())
             }
         }
+    }
+
+    /// Where the hull rewrites the records of the node at a place now, its OSD keeps the bodies that it needs, in memory
+    /// and in its records. Where it doesn't, they aren't counted.
+    pub fn forget(&mut self, alloc: Global, place: usize) -> Result<(), WorldErr>
+        requires inside { place < length self.old.nodes }
+        requires fits { (node : Node) → IsAt self.old.nodes place node →
+            IfSome node.up (λ running. MayForget node.kept running.core) }
+        ensures done { OnOk result (Forgets H.room self.old place self.new) }
+        ensures error { IfErr result (λ error. error ≡ WorldErr.OutOfMemory) }
+    {
+        if !self.hull.may_compact(self.hosts[place].id()) {
+            return Ok(());
+        }
+        match self.hosts[place].keep()? {
+            Some(keep) => self.rewrite(alloc, place, &keep),
+            None => Ok(()),
+        }
+    }
+
+    /// The hull rewrites the records of the OSD at a place with these bodies, which are all that it needs, if it does so now;
+    /// and the OSD forgets the others.
+    fn rewrite(&mut self, alloc: Global, place: usize, keep: &Keep) -> Result<(), WorldErr>
+        requires inside { place < length self.old.nodes }
+        requires fits { (node : Node) → IsAt self.old.nodes place node →
+            (needed_by node.up ≡ Some keep.now) × FitsKept (rewritten keep.now node.kept) }
+        ensures done { OnOk result (Forgets H.room self.old place self.new) }
+        ensures error { IfErr result (λ error. error ≡ WorldErr.OutOfMemory) }
+    {
+        let node = self.hosts[place].id();
+        if self.hull.compact(alloc, node, keep)? {
+            self.hosts[place].forget(keep);
+        }
+        Ok(())
     }
 
     /// The very message, carried.

@@ -3,7 +3,7 @@ use Rattle.xt_base.specs.declared.ids.NodeId.{NodeId}
 use Rattle.xt_base.specs.declared.ids.FileId.{FileId}
 use Rattle.xt_messages.specs.declared.file.FileHead.{FileHead}
 use Rattle.xt_messages.specs.declared.file.ObjectVersion.{ObjectVersion}
-use Rattle.xt_protocol.specs.FileStates.{stripe_of}
+use Rattle.xt_protocol.specs.FileStates.{stripe_of, staged_after}
 use Rattle.xt_protocol.specs.ReplicaRows.{kept_after}
 use Rattle.xt_protocol.specs.declared.turned.Turned.{Turned}
 use Rattle.xt_protocol.specs.Primaries.{Led}
@@ -39,10 +39,11 @@ returns-clause-row g c =
     record {
       here = refl;
       step =
-          led_row old.state f.replica c.noted.new.replica f.lead c.take.new.self (by f.awake.node f.replica.file f.replica.head f.replica.held) (by f.lead.node f.lead.file own held) given
+          led_row old.state f.replica c.noted.new.replica c.noted.new.staged f.lead c.take.new.self (by f.awake.node f.replica.file f.replica.head f.replica.held) (by f.lead.node f.lead.file own held) given
           (ap (λ (n : NodeId). by n f.replica.file f.replica.head f.replica.held) (sym f.node)
           ∙ ap (λ (x : FileId). by f.lead.node x f.replica.head f.replica.held) (sym f.file)
           ∙ ap (λ (h : FileHead). by f.lead.node f.lead.file h f.replica.held) (sym c.head.ensures.value)
           ∙ ap (λ (vs : List ObjectVersion). by f.lead.node f.lead.file own vs) (sym c.held.ensures))
-          c.in_ok-turned.ensures.state (is ∙ c.in_ok-turned.ensures.led) (c.in_ok-noted.ensures.ok f.lead.location ∙ ap (λ (t : Turned). kept_after (shown f).state.kept t.rec) (sym is));
+          c.in_ok-turned.ensures.state (is ∙ c.in_ok-turned.ensures.led) (c.in_ok-noted.ensures.ok f.lead.location ∙ ap (λ (t : Turned). kept_after (shown f).state.kept t.rec) (sym is))
+          (c.in_ok-noted.ensures.staged ∙ ap (λ (t : Turned). staged_after f.staged t.rec) (sym is));
     }

@@ -13,9 +13,9 @@ returns c =
     let best = c.index-reports-choose.result in
     let some : 0 < length reports = search rules in
     if_so _ _ c.head_chosen.result c.head_chosen.ensures
-    (λ next of learnt from records own held.
-    let stands = ground c.args.place.now records own held in
-    of learnt from records own held
+    (λ next of learnt from records own.
+    let stands = ground c.args.place.now records own c.args.held.now in
+    of learnt from records own
     ∙ ap (λ (head : FileHead). head_chosen stands learnt t (best.0, head)) c.in_ok-chosen.ensures
     ∙ chooses_best stands learnt t reports best
     (best_at c.args.place.now.node reports c.choose.result best some c.choose.ensures c.index-reports-choose.is))

@@ -9,19 +9,19 @@ use Rattle.replica_primary.proofs.gathering.head_chosen.Goals as goal
 
 pub returns-then-source-place : goal.returns-then-source-place
 returns-then-source-place c =
-    λ learnt from records own held.
-    own_chosen (ground c.args.place.now records own held) learnt c.args.tenure.now (c.args.source, c.args.chosen) c.if-source-place.true
+    λ learnt from records own.
+    own_chosen (ground c.args.place.now records own c.args.held.now) learnt c.args.tenure.now (c.args.source, c.args.chosen) c.if-source-place.true
 
 pub returns : goal.returns
 returns c =
     if_so _ _ c.fetches.result c.fetches.ensures
-    (λ next of learnt from records own held.
+    (λ next of learnt from records own.
     let t = c.args.tenure.now in
     let chosen = c.args.chosen in
     let source = c.args.source in
-    let stands = ground c.args.place.now records own held in
-    of learnt from records own held
+    let stands = ground c.args.place.now records own c.args.held.now in
+    of learnt from records own c.args.held.now
     ∙ keeps_none stands learnt t chosen source c.in_ok-wanted.wanted
     ∙ ap (λ (wanted : List ObjectVersion). fetches stands learnt t chosen source wanted)
-    (c.in_ok-wanted.ensures ∙ ap (λ (known : List ObjectVersion). difference known chosen.versions) c.new.ensures)
+    c.in_ok-wanted.ensures
     ∙ other_chosen stands learnt t (source, chosen) c.if-source-place.false)

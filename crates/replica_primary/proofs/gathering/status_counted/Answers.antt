@@ -13,7 +13,7 @@ use Rattle.replica_primary.proofs.gathering.status_counted.Goals as goal
 pub returns : goal.returns
 returns c =
     if_so _ _ c.chooses.result c.chooses.ensures
-    (λ next of learnt from records own held.
+    (λ next of learnt from records own.
     let t = c.args.tenure.now in
     let peers = c.as_slice-peers.result.now in
     let majority =
@@ -21,8 +21,8 @@ returns c =
     ∙ ap (λ (n : ℕ). nat_le (majority_among peers) n) (sym c.statuses_counted.ensures.counted)
     ∙ sym c.is_majority.ensures
     ∙ c.if-not-is_majority.false in
-    let stands = ground c.args.place.now records own held in
-    of learnt from records own held
+    let stands = ground c.args.place.now records own c.args.held.now in
+    of learnt from records own
     ∙ ap (λ (reports : List (NodeId × FileHead)). chooses stands learnt t reports)
     (c.as_slice.ensures ∙ c.in_ok-reports.ensures ∙ ap (λ (ps : List Peer). reports_of ps) c.as_slice-peers.ensures)
     ∙ majority_told stands learnt t majority)

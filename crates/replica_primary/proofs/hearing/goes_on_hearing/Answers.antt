@@ -19,7 +19,7 @@ returns-in-Status c =
     let own = c.args.own.now in
     let held = c.args.held.now in
     let stands = ground c.args.place.now records own held in
-    of learnt records own held state is ∙ ap (λ (content : Payload). hears_peer stands learnt c.args.tenure.now c.args.from state content) (sym c.in-Status.is))
+    of learnt records own state is ∙ ap (λ (content : Payload). hears_peer stands learnt c.args.tenure.now c.args.from state content) (sym c.in-Status.is))
 
 pub returns-in-Object : goal.returns-in-Object
 returns-in-Object c =

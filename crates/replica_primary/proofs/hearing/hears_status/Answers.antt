@@ -9,9 +9,9 @@ use Rattle.replica_primary.proofs.hearing.hears_status.Goals as goal
 pub returns : goal.returns
 returns c =
     if_so _ _ c.status_told.result c.status_told.ensures
-    (λ next of learnt records own held state is.
+    (λ next of learnt records own state is.
     let from = c.args.from in
     let told = ap (λ (peers : List Peer). peer_in peers from) c.as_slice.ensures ∙ is in
-    let stands = ground c.args.place.now records own held in
-    of learnt records own held
+    let stands = ground c.args.place.now records own c.args.held.now in
+    of learnt records own
     ∙ first_status stands learnt c.args.tenure.now from state c.args.head.now (sym (c.is_unknown.ensures state told) ∙ c.if-not-is_unknown.false))

@@ -6,7 +6,7 @@ pub apply-requires-clause-values : goal.apply-requires-clause-values
 apply-requires-clause-values g c = lines_fit _ (one_more _ c.args.line c.requires.run.formed c.requires.formed)
 
 pub returns-clause-grown : goal.returns-clause-grown
-returns-clause-grown g c = applied_grown g.H.Hull.overflow c.args.world.now c.apply.new.self c.args.line c.apply.result c.apply.ensures
+returns-clause-grown g c = applied_grown g.H.Hull.room c.args.world.now c.apply.new.self c.args.line c.apply.result c.apply.ensures
 
 pub returns-clause-safe : goal.returns-clause-safe
-returns-clause-safe g c = applied_safe g.H.Hull.overflow c.args.world.now c.apply.new.self c.args.line c.apply.result c.requires.run c.requires.formed c.apply.ensures
+returns-clause-safe g c = applied_safe g.H.Hull.room c.args.world.now c.apply.new.self c.args.line c.apply.result c.requires.run c.requires.formed c.apply.ensures

@@ -7,11 +7,11 @@ use Rattle.schedule_replay.proofs.Causes.{refused_cause}
 use Rattle.schedule_replay.proofs.step.replay_line.Goals as goal
 
 pub returns-in-End-clause-step : goal.returns-in-End-clause-step
-returns-in-End-clause-step g c = past_end g.H.Hull.overflow _ _ _ c.args.world.now c.in-End.ensures.reading.0 c.in-End.ensures.reading.1
+returns-in-End-clause-step g c = past_end g.H.Hull.room _ _ _ c.args.world.now c.in-End.ensures.reading.0 c.in-End.ensures.reading.1
 
 pub returns-in-Stopped-clause-step : goal.returns-in-Stopped-clause-step
 returns-in-Stopped-clause-step g c =
-    stopped_end g.H.Hull.overflow _ _ _ _ c.args.world.now c.lines.result.now c.in-Stopped.status c.finish.result c.requires.few c.lines.ensures c.in-Stopped.ensures.reading c.finish.ensures.finished
+    stopped_end g.H.Hull.room _ _ _ _ c.args.world.now c.lines.result.now c.in-Stopped.status c.finish.result c.requires.few c.lines.ensures c.in-Stopped.ensures.reading c.finish.ensures.finished
 
 pub returns-in-Stopped-clause-cause : goal.returns-in-Stopped-clause-cause
 returns-in-Stopped-clause-cause g c =
@@ -20,7 +20,7 @@ returns-in-Stopped-clause-cause g c =
 
 pub returns-in-Some-clause-step : goal.returns-in-Some-clause-step
 returns-in-Some-clause-step g c =
-    unshown_end g.H.Hull.overflow _ _ _ _ c.args.world.now c.apply-applied.new.world c.in-Line.line c.lines.result.now c.apply-applied.result c.apply-applied.ensures.grown _ c.in-Some.status
+    unshown_end g.H.Hull.room _ _ _ _ c.args.world.now c.apply-applied.new.world c.in-Line.line c.lines.result.now c.apply-applied.result c.apply-applied.ensures.grown _ c.in-Some.status
     c.requires.few c.lines.ensures c.in-Line.ensures.reading.1 c.in-Line.ensures.reading.0 c.apply-applied.ensures.applied c.apply-applied.ensures.safe
     (shown_more c.args.world.now.world.entries c.apply-applied.new.world.world.entries c.entries-printed.result.now c.entries.result.now c.apply-applied.ensures.grown c.entries-printed.ensures c.entries.ensures)
     c.in-Some.ensures.put
@@ -30,7 +30,7 @@ returns-in-Some-clause-cause g c = put_cause _ _ _ _ _ _ _ c.in-Some.status c.in
 
 pub returns-in-Ok-clause-step : goal.returns-in-Ok-clause-step
 returns-in-Ok-clause-step g c =
-    line_next g.H.Hull.overflow _ _ _ _ c.args.world.now c.apply-applied.new.world c.in-Line.line c.lines.result.now c.apply-applied.ensures.grown _ c.lines.ensures
+    line_next g.H.Hull.room _ _ _ _ c.args.world.now c.apply-applied.new.world c.in-Line.line c.lines.result.now c.apply-applied.ensures.grown _ c.lines.ensures
     c.in-Line.ensures.reading.1 c.in-Line.ensures.reading.0 c.in-Ok.ensures.applied
     (shown_more c.args.world.now.world.entries c.apply-applied.new.world.world.entries c.entries-printed.result.now c.entries.result.now c.apply-applied.ensures.grown c.entries-printed.ensures c.entries.ensures)
     c.in-None.ensures.put
@@ -41,7 +41,7 @@ returns-in-Ok-clause-cause g c =
 
 pub returns-in-Err-clause-step : goal.returns-in-Err-clause-step
 returns-in-Err-clause-step g c =
-    refused_end g.H.Hull.overflow _ _ _ _ _ c.args.world.now c.apply-applied.new.world c.in-Line.line c.in-Err.error c.lines.result.now c.apply-applied.ensures.grown _ c.status_of.result c.finish-in-Err.result c.requires.few c.lines.ensures
+    refused_end g.H.Hull.room _ _ _ _ _ c.args.world.now c.apply-applied.new.world c.in-Line.line c.in-Err.error c.lines.result.now c.apply-applied.ensures.grown _ c.status_of.result c.finish-in-Err.result c.requires.few c.lines.ensures
     c.in-Line.ensures.reading.1 c.in-Line.ensures.reading.0 c.in-Err.ensures.applied c.apply-applied.ensures.safe
     (shown_more c.args.world.now.world.entries c.apply-applied.new.world.world.entries c.entries-printed.result.now c.entries.result.now c.apply-applied.ensures.grown c.entries-printed.ensures c.entries.ensures)
     c.in-None.ensures.put c.status_of.ensures c.finish-in-Err.ensures.finished

@@ -7,9 +7,9 @@ use Rattle.cluster_core.proofs.state.State.aim.Goals as goal
 
 pub returns-in_ok-aim : goal.returns-in_ok-aim
 returns-in_ok-aim g c =
-    from_view _ _ _ (λ (d : Doing). first_step g.H.Hull.overflow d (line.Aim c.args.client c.args.file c.args.node)) c.self.view_is
-    (aim_placed g.H.Hull.overflow _ c.args.client c.args.file c.args.node c.in-Some.place c.aim.new.self c.in-Some.ensures c.in_ok-aim.ensures, record { rest = refl; lines = refl })
+    from_view _ _ _ (λ (d : Doing). first_step g.H.Hull.room d (line.Aim c.args.client c.args.file c.args.node)) c.self.view_is
+    (aim_placed g.H.Hull.room _ c.args.client c.args.file c.args.node c.in-Some.place c.aim.new.self c.in-Some.ensures c.in_ok-aim.ensures, record { rest = refl; lines = refl })
 
 pub returns-in_default : goal.returns-in_default
 returns-in_default g c =
-    stayed _ _ (λ (d : Doing). first_step g.H.Hull.overflow d (line.Aim c.args.client c.args.file c.args.node)) c.self.view_is (aim_nowhere g.H.Hull.overflow _ c.args.client c.args.file c.args.node c.in_default.ensures)
+    stayed _ _ (λ (d : Doing). first_step g.H.Hull.room d (line.Aim c.args.client c.args.file c.args.node)) c.self.view_is (aim_nowhere g.H.Hull.room _ c.args.client c.args.file c.args.node c.in_default.ensures)

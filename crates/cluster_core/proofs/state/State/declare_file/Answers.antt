@@ -7,5 +7,5 @@ use Rattle.cluster_core.proofs.state.State.declare_file.Goals as goal
 
 pub returns : goal.returns
 returns g c =
-    from_view _ _ _ (λ (d : Doing). first_step g.H.Hull.overflow d (line.File c.args.number c.args.location.now)) c.self.view_is
-    (file_declared g.H.Hull.overflow _ c.args.number c.args.location.now c.declare.new.self _ c.in_ok-declare.ensures.ok c.in_ok-tell.ensures.items, record { rest = refl; lines = refl })
+    from_view _ _ _ (λ (d : Doing). first_step g.H.Hull.room d (line.File c.args.number c.args.location.now)) c.self.view_is
+    (file_declared g.H.Hull.room _ c.args.number c.args.location.now c.declare.new.self _ c.in_ok-declare.ensures.ok c.in_ok-tell.ensures.items, record { rest = refl; lines = refl })

@@ -7,5 +7,5 @@ hand-requires g c =
 
 pub returns : goal.returns
 returns g c =
-    delivered_so (Unit {0}) g.H.Hull.overflow _ c.args.self.now c.hand.new.self c.args.number c.in-Some.message.now c.in_ok-message.message c.settle.new.self c.hand.result
+    delivered_so (Unit {0}) g.H.Hull.room _ c.args.self.now c.hand.new.self c.args.number c.in-Some.message.now c.in_ok-message.message c.settle.new.self c.hand.result
     c.self.view_is c.in-Some.ensures c.in_ok-message.ensures c.settle.ensures c.hand.ensures

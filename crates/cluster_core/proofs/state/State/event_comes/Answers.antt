@@ -7,7 +7,7 @@ use Rattle.cluster_core.proofs.Events.{event_nowhere, event_down, event_steps, r
 use Rattle.cluster_core.proofs.state.State.event_comes.Goals as goal
 
 pub returns-in_default : goal.returns-in_default
-returns-in_default g c = stayed _ _ (λ (d : Doing). event_comes g.H.Hull.overflow d c.args.id c.args.ev.now) c.self.view_is (event_nowhere g.H.Hull.overflow _ c.args.id c.args.ev.now c.in_default.ensures)
+returns-in_default g c = stayed _ _ (λ (d : Doing). event_comes g.H.Hull.room d c.args.id c.args.ev.now) c.self.view_is (event_nowhere g.H.Hull.room _ c.args.id c.args.ev.now c.in_default.ensures)
 
 pub handle-requires-clause-running : goal.handle-requires-clause-running
 handle-requires-clause-running g c = running_fits _ c.args.self.now c.args.id c.args.ev.now c.in-Some.place c.self.view_is c.requires c.in-Some.ensures
@@ -26,7 +26,7 @@ returns-in-Some-2 g c =
       begun = drop c.self.inside.shown c.self.inside.lines.items;
       ended = c.self.inside.ended;
     } in
-    event_steps (Unit {0}) g.H.Hull.overflow _ c.args.self.now _ (working around c.end_of_step.new.self) c.args.id c.args.ev.now c.in-Some.place c.in-Some.ensures.0 c.handle.new.self c.in-Some-2.turned c.end_of_step.result
+    event_steps (Unit {0}) g.H.Hull.room _ c.args.self.now _ (working around c.end_of_step.new.self) c.args.id c.args.ev.now c.in-Some.place c.in-Some.ensures.0 c.handle.new.self c.in-Some-2.turned c.end_of_step.result
     c.self.view_is c.in-Some.ensures.1 c.in-Some.ensures.2
     (subst (NodeHandles c.args.ev.now c.self.inside.stepper.nodes c.in-Some.ensures.0 c.handle.new.self) c.in-Some-2.is (c.in_ok-turned.ensures c.in-Some.ensures.0 c.in-Some.ensures.1))
     refl (c.end_of_step.ensures around)
@@ -34,8 +34,8 @@ returns-in-Some-2 g c =
 pub returns-in-None : goal.returns-in-None
 returns-in-None g c =
     let handles = (subst (NodeHandles c.args.ev.now c.self.inside.stepper.nodes c.in-Some.ensures.0 c.handle.new.self) c.in-None.is (c.in_ok-turned.ensures c.in-Some.ensures.0 c.in-Some.ensures.1)) in
-    from_view _ _ _ (λ (d : Doing). event_comes g.H.Hull.overflow d c.args.id c.args.ev.now) c.self.view_is (
-      event_down g.H.Hull.overflow _ c.args.id c.args.ev.now c.in-Some.place c.in-Some.ensures.0 c.in-Some.ensures.1 c.in-Some.ensures.2 handles.0
+    from_view _ _ _ (λ (d : Doing). event_comes g.H.Hull.room d c.args.id c.args.ev.now) c.self.view_is (
+      event_down g.H.Hull.room _ c.args.id c.args.ev.now c.in-Some.place c.in-Some.ensures.0 c.in-Some.ensures.1 c.in-Some.ensures.2 handles.0
           ∙ ap (λ (v : NodesView). Ok (record {
             world = record {
               times = v.times;

@@ -52,21 +52,21 @@ settle-requires g c =
 
 pub returns-in-Wake : goal.returns-in-Wake
 returns-in-Wake g c =
-    steps_as (Unit {0}) g.H.Hull.overflow c.args.self.now c.event_comes.new.self c.args.line.now (line.Wake c.in-Wake.node) _ c.event_comes.result c.in-Wake.is (wake_first g.H.Hull.overflow c.args.self.now.doing c.in-Wake.node) c.event_comes.ensures
+    steps_as (Unit {0}) g.H.Hull.room c.args.self.now c.event_comes.new.self c.args.line.now (line.Wake c.in-Wake.node) _ c.event_comes.result c.in-Wake.is (wake_first g.H.Hull.room c.args.self.now.doing c.in-Wake.node) c.event_comes.ensures
 
 pub returns-in-Call : goal.returns-in-Call
 returns-in-Call g c =
-    steps_as (Unit {0}) g.H.Hull.overflow c.args.self.now c.call.new.self c.args.line.now (line.Call c.in-Call.client c.in-Call.call) _ c.call.result c.in-Call.is (call_first g.H.Hull.overflow c.args.self.now.doing c.in-Call.client c.in-Call.call) c.call.ensures
+    steps_as (Unit {0}) g.H.Hull.room c.args.self.now c.call.new.self c.args.line.now (line.Call c.in-Call.client c.in-Call.call) _ c.call.result c.in-Call.is (call_first g.H.Hull.room c.args.self.now.doing c.in-Call.client c.in-Call.call) c.call.ensures
 
 pub returns-in-Deliver : goal.returns-in-Deliver
 returns-in-Deliver g c =
-    steps_as (Unit {0}) g.H.Hull.overflow c.args.self.now c.deliver.new.self c.args.line.now (line.Deliver c.in-Deliver.number) _ c.deliver.result c.in-Deliver.is (deliver_first g.H.Hull.overflow c.args.self.now.doing c.in-Deliver.number) c.deliver.ensures
+    steps_as (Unit {0}) g.H.Hull.room c.args.self.now c.deliver.new.self c.args.line.now (line.Deliver c.in-Deliver.number) _ c.deliver.result c.in-Deliver.is (deliver_first g.H.Hull.room c.args.self.now.doing c.in-Deliver.number) c.deliver.ensures
 
 pub returns-in-Drop : goal.returns-in-Drop
 returns-in-Drop g c =
-    from_view _ _ _ (λ (d : Doing). first_step g.H.Hull.overflow d c.args.line.now) c.self.view_is
-    (ap (first_step g.H.Hull.overflow _) c.in-Drop.is ∙ drop_first g.H.Hull.overflow _ c.in-Drop.number c.settle.new.self c.settle.ensures, record { rest = refl; lines = refl })
+    from_view _ _ _ (λ (d : Doing). first_step g.H.Hull.room d c.args.line.now) c.self.view_is
+    (ap (first_step g.H.Hull.room _) c.in-Drop.is ∙ drop_first g.H.Hull.room _ c.in-Drop.number c.settle.new.self c.settle.ensures, record { rest = refl; lines = refl })
 
 pub returns-in-Settle : goal.returns-in-Settle
 returns-in-Settle g c =
-    (ap (first_step g.H.Hull.overflow c.args.self.now.doing) c.in-Settle.is ∙ settle_first g.H.Hull.overflow c.args.self.now.doing c.in-Settle.count, record { rest = refl; lines = refl })
+    (ap (first_step g.H.Hull.room c.args.self.now.doing) c.in-Settle.is ∙ settle_first g.H.Hull.room c.args.self.now.doing c.in-Settle.count, record { rest = refl; lines = refl })

@@ -6,6 +6,6 @@ use Rattle.cluster_core.proofs.state.State.run.Given as goal
 abbrev pub invariant-loop-event : goal.invariant-loop-event
 invariant-loop-event g l =
     record {
-      came : steps (l.event * l.count) g.H.Hull.overflow (goes_on l.initial.self.doing) ≡ goes_on l.self.doing;
+      came : steps (l.event * l.count) g.H.Hull.room (goes_on l.initial.self.doing) ≡ goes_on l.self.doing;
       went_on : WentOn l.initial.self l.self;
     }

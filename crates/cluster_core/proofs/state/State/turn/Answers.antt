@@ -13,7 +13,7 @@ settle-requires-clause-fits g c =
 
 pub returns-in_default : goal.returns-in_default
 returns-in_default g c =
-    turn_settles g.H.Hull.overflow _ c.args.self.now _ c.settle.new.self c.settle.result c.self.view_is
+    turn_settles g.H.Hull.room _ c.args.self.now _ c.settle.new.self c.settle.result c.self.view_is
     c.in_default.ensures.0
     (ap (λ (own : List Msg). record {
       doing = record {
@@ -40,7 +40,7 @@ hand-requires g c =
 pub returns-in_err-hand : goal.returns-in_err-hand
 returns-in_err-hand g c =
     let p = err_from_is_err_and c.from_residual.result c.from_residual.ensures.1 in
-    rw (p.1, p.2) (turn_err (Unit {0}) g.H.Hull.overflow _ c.args.self.now c.hand.new.self c.in-Some.message c.take.new.self c.in_err-hand.field-0.0 c.self.view_is c.in-Some.ensures c.in_err-hand.ensures)
+    rw (p.1, p.2) (turn_err (Unit {0}) g.H.Hull.room _ c.args.self.now c.hand.new.self c.in-Some.message c.take.new.self c.in_err-hand.field-0.0 c.self.view_is c.in-Some.ensures c.in_err-hand.ensures)
 
 pub returns : goal.returns
-returns g c = turn_ok (Unit {0}) g.H.Hull.overflow _ c.args.self.now c.hand.new.self c.in-Some.message c.take.new.self tt c.self.view_is c.in-Some.ensures c.in_ok-hand.ensures
+returns g c = turn_ok (Unit {0}) g.H.Hull.room _ c.args.self.now c.hand.new.self c.in-Some.message c.take.new.self tt c.self.view_is c.in-Some.ensures c.in_ok-hand.ensures

@@ -6,6 +6,6 @@ use Rattle.cluster_core.proofs.state.State.turns.Given as goal
 abbrev pub invariant-loop-made : goal.invariant-loop-made
 invariant-loop-made g l =
     record {
-      came : steps l.made g.H.Hull.overflow (goes_on l.initial.self.doing) ≡ goes_on l.self.doing;
+      came : steps l.made g.H.Hull.room (goes_on l.initial.self.doing) ≡ goes_on l.self.doing;
       went_on : WentOn l.initial.self l.self;
     }

@@ -7,4 +7,4 @@ use Rattle.cluster_core.proofs.world.World.new.Goals as goal
 
 pub invariant_of-result : goal.invariant_of-result
 invariant_of-result g c = λ going.
-    subst (λ (x : Working). (x.doing.world ≡ run_of g.H.Hull.overflow x.doing.world.lines) × AreLines x.doing.world.lines) (sym c.new.ensures) (no_run g.H.Hull.overflow, tt)
+    subst (λ (x : Working). (x.doing.world ≡ run_of g.H.Hull.room x.doing.world.lines) × AreLines x.doing.world.lines) (sym c.new.ensures) (no_run g.H.Hull.room, tt)

@@ -1,7 +1,7 @@
 use Rattle.std.proofs.Common.{sym, ◌∙◌, ap, unwrap_or}
 use Rattle.xt_protocol.specs.Folds.{body_kept}
 use Rattle.xt_protocol.proofs.Folds.{body_kept-nothing}
-use Rattle.node_disks.specs.Stored.{none_stored}
+use Rattle.disk_hull.specs.Views.{none_stored}
 use Rattle.disk_hull.proofs.disk_hull.DiskHullHull.body.Goals as goal
 
 pub returns-in-None : goal.returns-in-None

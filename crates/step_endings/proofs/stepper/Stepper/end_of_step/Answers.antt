@@ -6,10 +6,10 @@ use Rattle.xt_messages.specs.declared.record.Record.{Record}
 use Rattle.xt_protocol.specs.declared.turned.Turned.{Turned}
 use Rattle.cluster_runs.specs.World.{Node, Running}
 use Rattle.cluster_runs.specs.NodeSteps.{end_of_step}
-use Rattle.cluster_fits.specs.Fits.{FitsRunning, FitsTurned}
+use Rattle.cluster_fits.specs.Fits.{FitsRunning}
 use Rattle.world_nodes.specs.Nodes.{IsAt}
 use Rattle.step_endings.specs.Steps.{Around, IsStepped, working}
-use Rattle.step_endings.specs.Endings.{given_by}
+use Rattle.step_endings.specs.Endings.{given_by, FitsGiven}
 use Rattle.step_endings.proofs.stepper.Stepper.end_of_step.Goals as goal
 
 -- what a step gives, put together of its parts
@@ -23,7 +23,7 @@ pub end_by_plans-requires-clause-fits : goal.end_by_plans-requires-clause-fits
 end_by_plans-requires-clause-fits g c =
     let parts = c.into_parts-rec.result in
     let told = c.into_parts-rec.ensures in
-    subst (λ (t : Turned). (node : Node) → IsAt c.args.self.now.nodes.nodes c.args.place node → FitsTurned node.kept t × IfSome node.up FitsRunning)
+    subst (λ (t : Turned). (node : Node) → IsAt c.args.self.now.nodes.nodes c.args.place node → FitsGiven node t × IfSome node.up FitsRunning)
     (sym (whole c.args.turned parts.0 parts.1 parts.2 told.rec told.outs told.marks)) c.requires.fits
 
 pub returns : goal.returns
@@ -31,5 +31,5 @@ returns g c =
     let parts = c.into_parts-rec.result in
     let told = c.into_parts-rec.ensures in
     subst (λ (t : Turned). (around : Around) (node : Node) (running : Running) → IsAt c.args.self.now.nodes.nodes c.args.place node → node.up ≡ Some running
-    → IsStepped (working around c.args.self.now) (end_of_step g.H.Hull.overflow (working around c.args.self.now).doing node running (record { state = running.core; turned = t })) (working around c.end_by_plans.new.self) c.end_by_plans.result)
+    → IsStepped (working around c.args.self.now) (end_of_step g.H.Hull.room (working around c.args.self.now).doing node running (record { state = running.core; turned = t })) (working around c.end_by_plans.new.self) c.end_by_plans.result)
     (whole c.args.turned parts.0 parts.1 parts.2 told.rec told.outs told.marks) c.end_by_plans.ensures

@@ -7,5 +7,5 @@ use Rattle.world_hull.proofs.list_hull.ListHullHull.body.Goals as goal
 
 pub returns-in-None : goal.returns-in-None
 returns-in-None c =
-    ap (λ log. body_kept (unwrap_or (option_map records_in log) []) c.args.file.now c.args.object c.args.version.now) (sym c.in-None.ensures.value)
+    ap (λ log. body_kept (unwrap_or (option_map (λ own. records_in own.log) log) []) c.args.file.now c.args.object c.args.version.now) (sym c.in-None.ensures.value)
     ∙ body_kept-nothing c.args.file.now c.args.object c.args.version.now

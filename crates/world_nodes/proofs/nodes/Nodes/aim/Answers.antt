@@ -1,23 +1,23 @@
 use Rattle.std.proofs.Common.{ap}
 use Rattle.std.specs.Option.{option_map}
-use Rattle.node_hosts.specs.Hosts.{node_of}
+use Rattle.node_hosts.specs.Hosts.{node_of, stored_in}
 use Rattle.cluster_runs.specs.World.{Node}
 use Rattle.cluster_runs.specs.Lines.{aims}
-use Rattle.world_nodes.proofs.Hosts.{same_kept}
+use Rattle.world_nodes.proofs.Hosts.{same_stored}
 use Rattle.world_nodes.proofs.Changes.{again, changes, same_but_up, either_way, map_ok}
 use Rattle.world_nodes.proofs.nodes.Nodes.aim.Goals as goal
 
 pub invariant_of-self : goal.invariant_of-self
 invariant_of-self g c =
-    again (g.H.Hull.kept c.self.inside.hull) c.self.inside.times c.self.inside.hosts.items c.args.place c.index_mut.result.now c.aim.new.self c.args.self.now c.self.invariant c.self.view_is c.requires c.index_mut.ensures.value
-    (g.H.Hull.kept c.self.inside.hull) (same_kept (g.H.Hull.kept c.self.inside.hull) c.index_mut.result.now.id.0)
+    again (stored_in g.H.Hull.kept g.H.Hull.past c.self.inside.hull) c.self.inside.times c.self.inside.hosts.items c.args.place c.index_mut.result.now c.aim.new.self c.args.self.now c.self.invariant c.self.view_is c.requires c.index_mut.ensures.value
+    (stored_in g.H.Hull.kept g.H.Hull.past c.self.inside.hull) (same_stored (stored_in g.H.Hull.kept g.H.Hull.past c.self.inside.hull) c.index_mut.result.now.id.0)
     (either_way c.aim.result (same_but_up c.index_mut.result.now c.aim.new.self _) (same_but_up c.index_mut.result.now c.aim.new.self _) c.aim.ensures.ok c.aim.ensures.err)
 
 pub returns : goal.returns
 returns g c =
     map_ok c.aim.result
     (λ is.
-    changes (g.H.Hull.kept c.self.inside.hull) c.self.inside.times c.self.inside.hosts.items c.args.place c.index_mut.result.now c.aim.new.self c.args.self.now c.self.invariant c.self.view_is c.requires c.index_mut.ensures.value
-    (g.H.Hull.kept c.self.inside.hull) (λ (node : Node). record node { up = option_map (aims c.args.number c.args.node) node.up }) (same_kept (g.H.Hull.kept c.self.inside.hull) c.index_mut.result.now.id.0)
-    (same_but_up c.index_mut.result.now c.aim.new.self _ is).0 (ap (node_of ((g.H.Hull.kept c.self.inside.hull) c.index_mut.result.now.id.0)) is))
+    changes (stored_in g.H.Hull.kept g.H.Hull.past c.self.inside.hull) c.self.inside.times c.self.inside.hosts.items c.args.place c.index_mut.result.now c.aim.new.self c.args.self.now c.self.invariant c.self.view_is c.requires c.index_mut.ensures.value
+    (stored_in g.H.Hull.kept g.H.Hull.past c.self.inside.hull) (λ (node : Node). record node { up = option_map (aims c.args.number c.args.node) node.up }) (same_stored (stored_in g.H.Hull.kept g.H.Hull.past c.self.inside.hull) c.index_mut.result.now.id.0)
+    (same_but_up c.index_mut.result.now c.aim.new.self _ is).0 (ap (node_of ((stored_in g.H.Hull.kept g.H.Hull.past c.self.inside.hull) c.index_mut.result.now.id.0)) is))
     c.aim.ensures.ok

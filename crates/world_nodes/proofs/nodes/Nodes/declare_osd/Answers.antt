@@ -1,18 +1,18 @@
 use Rattle.std.proofs.Common.{[], None, ap, sym, ◌∙◌}
 use Rattle.cluster_runs.specs.declared.Role.TheVariants as role
 use Rattle.cluster_runs.specs.World.{node_in}
-use Rattle.node_hosts.specs.Hosts.{HostView, node_of}
+use Rattle.node_hosts.specs.Hosts.{HostView, node_of, stored_in, nothing_stored}
 use Rattle.world_nodes.proofs.Changes.{declared_last}
 use Rattle.world_nodes.proofs.nodes.Nodes.declare_osd.Goals as goal
 
 pub invariant_of-self-2 : goal.invariant_of-self-2
 invariant_of-self-2 g c =
-    (declared_last (g.H.Hull.kept c.self.inside.hull) c.self.inside.times c.self.inside.hosts.items c.push.new.self.items c.osd.result
-    (record { id = c.args.id; role = role.Osd; kept = []; up = None }) c.args.self.now c.self.invariant c.self.view_is
-    (ap (λ (h : HostView). node_in c.args.self.now.nodes h.id.0) c.osd.ensures ∙ c.requires) (ap (λ (h : HostView). h.times) c.osd.ensures) (sym (ap (node_of []) c.osd.ensures)) c.in_ok-push.ensures.items).0
+    (declared_last (stored_in g.H.Hull.kept g.H.Hull.past c.self.inside.hull) c.self.inside.times c.self.inside.hosts.items c.push.new.self.items c.osd.result
+    (record { id = c.args.id; role = role.Osd; kept = []; past = []; up = None }) c.args.self.now c.self.invariant c.self.view_is
+    (ap (λ (h : HostView). node_in c.args.self.now.nodes h.id.0) c.osd.ensures ∙ c.requires) (ap (λ (h : HostView). h.times) c.osd.ensures) (sym (ap (node_of nothing_stored) c.osd.ensures)) c.in_ok-push.ensures.items).0
 
 pub returns : goal.returns
 returns g c =
-    (declared_last (g.H.Hull.kept c.self.inside.hull) c.self.inside.times c.self.inside.hosts.items c.push.new.self.items c.osd.result
-    (record { id = c.args.id; role = role.Osd; kept = []; up = None }) c.args.self.now c.self.invariant c.self.view_is
-    (ap (λ (h : HostView). node_in c.args.self.now.nodes h.id.0) c.osd.ensures ∙ c.requires) (ap (λ (h : HostView). h.times) c.osd.ensures) (sym (ap (node_of []) c.osd.ensures)) c.in_ok-push.ensures.items).1
+    (declared_last (stored_in g.H.Hull.kept g.H.Hull.past c.self.inside.hull) c.self.inside.times c.self.inside.hosts.items c.push.new.self.items c.osd.result
+    (record { id = c.args.id; role = role.Osd; kept = []; past = []; up = None }) c.args.self.now c.self.invariant c.self.view_is
+    (ap (λ (h : HostView). node_in c.args.self.now.nodes h.id.0) c.osd.ensures ∙ c.requires) (ap (λ (h : HostView). h.times) c.osd.ensures) (sym (ap (node_of nothing_stored) c.osd.ensures)) c.in_ok-push.ensures.items).1

@@ -1,7 +1,9 @@
 //! The messages of a node to itself that wait: they are handled first in first out, before anything else, and are lost with it.
+#![tactic(auto)]
+
 ghost use Rattle.std.specs.Prelude.{◌≡◌, ◌++◌, [], OnOk};
 ghost use Rattle.cluster_runs.specs.NodeSteps.{to_itself};
-ghost use Rattle.world_tables.specs.Own.{IsNext};
+ghost use Rattle.own_messages.specs.Own.{IsNext};
 
 use std::alloc::Global;
 use std::collections::VecDeque;
@@ -9,7 +11,7 @@ use std::marker::Model;
 use xt_base::{NodeId, OutOfMemory};
 use xt_messages::{Msg, Msgs};
 
-/// The messages of the stepping node to itself that it hasn't handled. Contracts see the list, the next one first.
+/// The messages of a node to itself that it hasn't handled. Contracts see the list, the next one first.
 #[derive(Drop)]
 pub struct OwnMessages {
     list: VecDeque<Msg>,
@@ -43,7 +45,7 @@ impl OwnMessages {
         }
     }
 
-    /// Those messages of a step that are to its own node come behind all others.
+    /// Those messages of a step that are to its own node come after all others.
     pub fn put(&mut self, node: NodeId, outs: Msgs) -> Result<(), OutOfMemory>
         ensures { OnOk result (self.new ≡ self.old ++ to_itself node outs) }
     {

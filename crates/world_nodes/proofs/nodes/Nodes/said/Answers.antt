@@ -1,0 +1,30 @@
+use Rattle.std.proofs.Common.{ap, ◌∙◌, ◌≡◌}
+use Rattle.xt_messages.specs.declared.record.Folded.{Folded}
+use Rattle.xt_protocol.specs.Folds.{fold_of}
+use Rattle.cluster_runs.specs.World.{Node}
+use Rattle.node_hosts.specs.Hosts.{stored_in}
+use Rattle.world_nodes.specs.Nodes.{after_load}
+use Rattle.world_nodes.proofs.Changes.{map_if, on_ok, none_other, load_others, load_own, again_stored, stored_changes, its_stored}
+use Rattle.world_nodes.proofs.nodes.Nodes.said.Goals as goal
+
+pub invariant_of-self : goal.invariant_of-self
+invariant_of-self g c =
+    again_stored (stored_in g.H.Hull.kept g.H.Hull.past c.self.inside.hull) (stored_in g.H.Hull.kept g.H.Hull.past c.revive.new.self) c.self.inside.times c.self.inside.hosts.items c.args.place c.index.result.now c.args.self.now c.self.invariant c.self.view_is c.requires c.index.ensures c.id-node.result c.id-node.ensures
+    (none_other (g.H.Hull.kept c.self.inside.hull, g.H.Hull.past c.self.inside.hull) (g.H.Hull.kept c.revive.new.self, g.H.Hull.past c.revive.new.self) c.id-node.result c.in_default.ensures.records)
+
+pub invariant_of-self-2 : goal.invariant_of-self-2
+invariant_of-self-2 g c =
+    again_stored (stored_in g.H.Hull.kept g.H.Hull.past c.self.inside.hull) (stored_in g.H.Hull.kept g.H.Hull.past c.revive.new.self) c.self.inside.times c.self.inside.hosts.items c.args.place c.index.result.now c.args.self.now c.self.invariant c.self.view_is c.requires c.index.ensures c.id-node.result c.id-node.ensures
+    (load_others (g.H.Hull.kept c.self.inside.hull, g.H.Hull.past c.self.inside.hull) (g.H.Hull.kept c.revive.new.self, g.H.Hull.past c.revive.new.self) c.id-node.result c.in-Ok.records.items c.in-Ok.ensures.found)
+
+pub returns-clause-said : goal.returns-clause-said
+returns-clause-said g c =
+    map_if (λ (folded : Folded). folded ≡ fold_of c.as_slice.result.now) _ c.fold.result
+    (λ folded is node at. is ∙ ap fold_of c.as_slice.ensures.value ∙ c.in-Ok.ensures.found.says
+    ∙ ap (λ (n : Node). fold_of n.kept) (its_stored (stored_in g.H.Hull.kept g.H.Hull.past c.self.inside.hull) (stored_in g.H.Hull.kept g.H.Hull.past c.revive.new.self) c.self.inside.times c.self.inside.hosts.items c.args.place c.index.result.now c.args.self.now c.self.invariant c.self.view_is c.requires c.index.ensures c.id-node.result c.id-node.ensures node at)) c.fold.ensures
+
+pub returns-clause-loaded : goal.returns-clause-loaded
+returns-clause-loaded g c =
+    on_ok c.fold.result (stored_changes (stored_in g.H.Hull.kept g.H.Hull.past c.self.inside.hull) (stored_in g.H.Hull.kept g.H.Hull.past c.revive.new.self) c.self.inside.times c.self.inside.hosts.items c.args.place c.index.result.now c.args.self.now c.self.invariant c.self.view_is c.requires c.index.ensures c.id-node.result c.id-node.ensures
+    after_load (load_others (g.H.Hull.kept c.self.inside.hull, g.H.Hull.past c.self.inside.hull) (g.H.Hull.kept c.revive.new.self, g.H.Hull.past c.revive.new.self) c.id-node.result c.in-Ok.records.items c.in-Ok.ensures.found)
+    (load_own (g.H.Hull.kept c.self.inside.hull, g.H.Hull.past c.self.inside.hull) (g.H.Hull.kept c.revive.new.self, g.H.Hull.past c.revive.new.self) c.id-node.result c.in-Ok.records.items c.in-Ok.ensures.found c.index.result.now))
