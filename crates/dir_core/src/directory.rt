@@ -1,10 +1,9 @@
-ghost use Rattle.std.specs.Prelude.{◌≡◌, ◌≤◌, [], ◌∷◌, length, None, IfOk, OnOk, OnErr, Ok, All};
+ghost use Rattle.std.specs.Prelude.{◌≡◌, ◌≤◌, [], ◌∷◌, length, None, IfOk, OnOk, OnErr, Ok};
 ghost use Rattle.kept_answers.specs.Standings.{with_answer};
-ghost use Rattle.xt_messages.specs.Limits.{FitsRecord};
 ghost use Rattle.capabilities.specs.Stops.{is_stop};
 ghost use Rattle.registry_table.specs.Registry.{is_recorded, outcome_of};
 ghost use Rattle.registry_table.specs.Plans.{applied};
-ghost use Rattle.dir_core.specs.Steps.{dir_of, after_record, fresh, recorded, record_of, requested, step_of_dir, reply_to};
+ghost use Rattle.server_rows.specs.Directory.{dir_of, after_record, after_registry, fresh, recorded, record_of, requested, step_of_dir, reply_to};
 
 use capabilities::is_stop;
 use kept_answers::{KeptAnswers, Standing};
@@ -35,7 +34,7 @@ impl Drop for Dir {
 
 impl Model for Dir {
     ghost use Rattle.std.specs.Prelude.{◌≤◌, length};
-    ghost use Rattle.dir_core.specs.Steps.{DirNode};
+    ghost use Rattle.server_rows.specs.Directory.{DirNode};
 
     ghost Value = { DirNode };
 
@@ -56,7 +55,7 @@ fn quiet(alloc: Global) -> Turned
     }
 }
 
-/// An answer to a client, behind the record on which it rests, if there is one.
+/// An answer to a client, after the record on which it rests, if there is one.
 fn answer(
     alloc: Global,
     rec: Option<Record>,
@@ -116,7 +115,6 @@ impl Dir {
     pub fn start(alloc: Global, key: &[u8], records: &[Record]) -> Result<Dir, OutOfMemory>
         requires some { 1 ≤ length key.now }
         requires short { length key.now ≤ 64 }
-        requires fit { All FitsRecord records.now }
         ensures { IfOk result (λ dir. dir ≡
             record { secret = key.now; state = dir_of records.now }) }
     {
@@ -146,7 +144,7 @@ impl Dir {
     }
 
     /// Handles an event. The service is unchanged if memory runs out.
-    #[tactic(auto, unfolding(crate::specs::Steps::step_of_dir))]
+    #[tactic(auto, unfolding(server_rows::specs::Directory::step_of_dir))]
     pub fn step(&mut self, alloc: Global, event: &Event) -> Result<Turned, OutOfMemory>
         ensures turned { IfOk result (λ turned. turned ≡
             (step_of_dir self.old.state event.now).turned) }
@@ -263,7 +261,6 @@ impl Dir {
 
     /// Takes what a record tells.
     fn take(&mut self, alloc: Global, rec: &Record) -> Result<(), OutOfMemory>
-        requires { FitsRecord rec.now }
         ensures ok { OnOk result (self.new ≡
             record { secret = self.old.secret; state = after_record self.old.state rec.now }) }
         ensures err { OnErr result (self.new ≡ self.old) }
@@ -274,11 +271,30 @@ impl Dir {
                 number,
                 request: Logged::Registry { request },
                 ..
-            } => {
-                let plan = self.registry.plan(alloc, request)?;
-                self.commit(*from, *number, plan)
-            }
+            } => self.repeat(alloc, *from, *number, request),
             _ => Ok(()),
         }
+    }
+
+    /// Does what a request does that is recorded; any other changes nothing, nor does want of memory.
+    fn repeat(
+        &mut self,
+        alloc: Global,
+        client: NodeId,
+        number: u64,
+        request: &RegistryReq,
+    ) -> Result<(), OutOfMemory>
+        ensures ok { OnOk result (self.new ≡
+            record {
+              secret = self.old.secret;
+              state = after_registry self.old.state client number request.now;
+            }) }
+        ensures err { OnErr result (self.new ≡ self.old) }
+    {
+        if self.registry.is_spent(request) || !is_recorded(request) {
+            return Ok(());
+        }
+        let plan = self.registry.plan(alloc, request)?;
+        self.commit(client, number, plan)
     }
 }

@@ -8,7 +8,7 @@ use Rattle.volume_rows.specs.Rows.{Volumes}
 use Rattle.volume_rows.specs.Requests.{Outcome}
 use Rattle.volume_tree.specs.declared.TreeErr.TheVariants as failed
 use Rattle.volume_tree.specs.Calls.{in_result, Comes}
-use Rattle.mrc_core.specs.Laws.{SettlesAs, Settles}
+use Rattle.server_rows.specs.Laws.{SettlesAs, Settles}
 
 -- a change that isn't refused is done
 pub done : (old new : Volumes) (what told : MetaAnswer) → SettlesAs old new what → Ok told ≡ in_result what → answer.Done ≡ what

@@ -5,7 +5,7 @@ use Rattle.std.proofs.lemmas.Grind.{common_steps}
 use Rattle.xt_base.specs.declared.ids.NodeId.{NodeId}
 use Rattle.xt_messages.specs.declared.registry.RegistryRow.{RegistryRow}
 use Rattle.xt_base.specs.MemberList.{has_node, are_distinct}
-use Rattle.mrc_core.specs.Steps.{with_node, nodes_of}
+use Rattle.server_rows.specs.Metadata.{with_node, nodes_of}
 
 flips : (a b : ℕ) → (a == b) ≡ false → (b == a) ≡ false
 flips a b h = grind (arith, common_steps)

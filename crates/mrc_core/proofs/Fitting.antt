@@ -1,5 +1,5 @@
 -- what is within the limits of its fields can be handled
-use Rattle.xt_messages.specs.Limits.{FitsMetaReq, FitsPayload, FitsRecord}
+use Rattle.xt_messages.specs.Limits.{FitsEvent, FitsMetaReq, FitsPayload, FitsRecord}
 use Rattle.xt_messages.specs.declared.meta.MetaReq.{MetaReq}
 use Rattle.xt_messages.specs.declared.meta.MetaReq.TheVariants as ask
 use Rattle.xt_messages.specs.declared.message.Payload.{Payload}
@@ -7,7 +7,9 @@ use Rattle.xt_messages.specs.declared.message.Payload.TheVariants as payload
 use Rattle.xt_messages.specs.declared.record.Logged.TheVariants as logged
 use Rattle.xt_messages.specs.declared.record.Record.{Record}
 use Rattle.xt_messages.specs.declared.record.Record.TheVariants as kept
-use Rattle.mrc_core.specs.Picking.{WantsSome, CanHear, CanTake}
+use Rattle.xt_messages.specs.declared.event.Event.{Event}
+use Rattle.xt_messages.specs.declared.event.Event.TheVariants as event
+use Rattle.mrc_core.specs.Picking.{WantsSome, CanHandle, CanHear, CanTake}
 
 wants : (request : MetaReq) → FitsMetaReq request → WantsSome request
 wants (ask.Create path mode kind n stripe) fits = (fits.2, fits.3)
@@ -16,6 +18,11 @@ wants _ fits = tt
 pub can_hear : (content : Payload) → FitsPayload content → CanHear content
 can_hear (payload.Meta number user group request) fits = wants request fits.3
 can_hear _ fits = tt
+
+pub can_handle : (happens : Event) → FitsEvent happens → CanHandle happens
+can_handle (event.Deliver msg) fits = can_hear msg.payload fits.content
+can_handle event.Wake fits = tt
+can_handle (event.Call call) fits = tt
 
 pub can_take : (rec : Record) → FitsRecord rec → CanTake rec
 can_take (kept.Meta client number now nodes (logged.Meta user group request)) fits = (fits.2, wants request fits.4.2)

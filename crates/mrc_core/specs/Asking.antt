@@ -4,8 +4,8 @@ use Rattle.xt_base.specs.MemberList.{are_distinct}
 use Rattle.xt_base.specs.declared.ids.NodeId.{NodeId}
 use Rattle.kept_answers.specs.Standings.{with_answer}
 use Rattle.volume_rows.specs.Requests.{Outcome}
-use Rattle.mrc_core.specs.Requests.{outcome_of, with_sizes}
-use Rattle.mrc_core.specs.Steps.{Catalogue, MrcState, MrcStep, after_meta, after_request, requested, fresh}
+use Rattle.server_rows.specs.Requests.{outcome_of, with_sizes}
+use Rattle.server_rows.specs.Metadata.{Catalogue, MrcState, MrcStep, after_meta, after_request, requested, fresh}
 use Rattle.mrc_core.specs.declared.asking.Site.{Site}
 use Rattle.mrc_core.specs.declared.asking.Asking.{Asking}
 use Rattle.mrc_core.specs.declared.settling.Settling.{Settling}

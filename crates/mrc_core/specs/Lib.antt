@@ -1,7 +1,4 @@
-pub mod Requests
-pub mod Steps
-pub mod Laws
-pub mod Examples
+pub mod Noting
 pub mod Settling
 pub mod Picking
 pub mod Asking

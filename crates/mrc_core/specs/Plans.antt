@@ -9,8 +9,9 @@ use Rattle.volume_rows.specs.declared.Asker.{Asker}
 use Rattle.volume_rows.specs.declared.Granting.{Granting}
 use Rattle.volume_rows.specs.declared.Picked.TheVariants as place
 use Rattle.volume_rows.specs.Rows.{Volumes}
-use Rattle.mrc_core.specs.Laws.{IsChange}
-use Rattle.mrc_core.specs.Requests.{outcome_of, settled, grant_settled, wants_truncating, is_last_epoch, is_recorded, is_spent, nodes_for, subject_of, place_of}
+use Rattle.server_rows.specs.Laws.{IsChange}
+use Rattle.server_rows.specs.Requests.{outcome_of, settled, grant_settled, wants_truncating, is_last_epoch, is_recorded, is_spent, nodes_for, made_by, place_of}
+use Rattle.server_rows.specs.declared.MadeFile.{MadeFile}
 use Rattle.mrc_core.specs.declared.asking.Site.{Site}
 use Rattle.mrc_core.specs.declared.plan.Plan.{Plan}
 use Rattle.mrc_core.specs.declared.plan.Plan.TheVariants as plan
@@ -35,7 +36,7 @@ pub record Sets (site : Site) (volumes : Volumes) (who : Asker) (request : MetaR
   pub kept : is_recorded site.key.now volumes site.clock request ≡ true
   pub outcome : (nodes : Option (List NodeId)) → outcome_of site.key.now volumes who site.clock nodes request ≡ settled volumes (settlement_of settling)
   pub no_nodes : (osds : List NodeId) → nodes_for osds volumes.next request ≡ None
-  pub no_file : subject_of volumes request ≡ None
+  pub no_file : (made : List (ℕ × MadeFile)) → made_by volumes site.clock None request made ≡ made
   pub no_place : place_of None request ≡ place.TooFew 0
 
 abbrev pub IsPlan : Site → Volumes → Asker → MetaReq → Plan → Type 0

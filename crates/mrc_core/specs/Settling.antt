@@ -4,7 +4,7 @@ use Rattle.xt_messages.specs.declared.meta.MetaAnswer.{MetaAnswer}
 use Rattle.xt_messages.specs.declared.meta.MetaAnswer.TheVariants as answer
 use Rattle.volume_rows.specs.Rows.{Volumes}
 use Rattle.volume_rows.specs.Requests.{Outcome}
-use Rattle.mrc_core.specs.Requests.{Settlement}
+use Rattle.server_rows.specs.Requests.{Settlement}
 use Rattle.mrc_core.specs.declared.settling.Settled.{Settled}
 use Rattle.mrc_core.specs.declared.settling.Settled.TheVariants as settled
 use Rattle.mrc_core.specs.declared.settling.Settling.{Settling}

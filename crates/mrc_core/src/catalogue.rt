@@ -1,5 +1,5 @@
-ghost use Rattle.std.specs.Prelude.{◌≡◌, ◌≤◌, ◌<◌, false, length, OnOk, OnErr, IfOk, Some};
-ghost use Rattle.indexmap.specs.IndexMap.{spare};
+ghost use Rattle.std.specs.Prelude.{◌≡◌, ◌≤◌, ◌<◌, false, length, nat_eq, OnOk, OnErr, IfOk, Some};
+ghost use Rattle.indexmap.specs.IndexMap.{insert_entry, spare};
 ghost use Rattle.xt_messages.specs.declared.meta.MetaReq.TheVariants as ask;
 ghost use Rattle.kept_answers.specs.Standings.{standing_of};
 ghost use Rattle.volume_rows.specs.Paths.{path_in};
@@ -8,9 +8,10 @@ ghost use Rattle.volume_rows.specs.Requests.{Outcome, applied};
 ghost use Rattle.volume_rows.specs.Grants.{sizes_in};
 ghost use Rattle.volume_rows.specs.declared.Picked.TheVariants.{TooFew};
 ghost use Rattle.volume_tree.specs.Calls.{Comes};
-ghost use Rattle.mrc_core.specs.Requests as rows;
-ghost use Rattle.mrc_core.specs.Laws.{IsChange, Settles, files_made};
-ghost use Rattle.mrc_core.specs.Steps.{empty_catalogue, after_record};
+ghost use Rattle.server_rows.specs.Requests as rows;
+ghost use Rattle.server_rows.specs.Laws.{IsChange, Settles, files_made};
+ghost use Rattle.server_rows.specs.Metadata.{empty_catalogue, after_record};
+ghost use Rattle.mrc_core.specs.Noting.{noted_of, subject_of};
 ghost use Rattle.mrc_core.specs.Picking.{WantsSome, CanTake};
 ghost use Rattle.mrc_core.specs.Settling.{answer_of, IsSettled};
 ghost use Rattle.mrc_core.specs.Asking.{IsSite, outcome_at, after_asking, after_meta_at, after_setting};
@@ -19,9 +20,9 @@ use crate::asking::{Asking, Site};
 use crate::picking::place_of;
 use crate::plan::Plan;
 use crate::settling::{Settled, Settling};
-use crate::{MadeFile, NewSizes};
 use indexmap::IndexMap;
 use kept_answers::{KeptAnswers, Standing};
+use server_rows::{MadeFile, NewSizes};
 use std::alloc::{AllocError, Global};
 use std::marker::Model;
 use volume_rows::{Asker, Granting, Picked, path_in, volume_id};
@@ -38,7 +39,7 @@ pub struct Catalogue {
 }
 
 impl Model for Catalogue {
-    ghost use Rattle.mrc_core.specs.Steps.{Catalogue as Known};
+    ghost use Rattle.server_rows.specs.Metadata.{Catalogue as Known};
 
     ghost Value = { Known };
 
@@ -46,26 +47,51 @@ impl Model for Catalogue {
         record { volumes = c.tree; made = c.made.entries; clients = c.clients.kept } };
 }
 
-/// When a file is unlinked that a request makes or unlinks.
-fn end_of(now: u64, request: &MetaReq) -> Option<u64>
-    ensures { result ≡ rows.end_of now request.now }
+/// Puts what is known of the file of a number. There is room for it.
+fn put(made: &mut IndexMap<u64, MadeFile>, number: u64, file: MadeFile)
+    requires { 0 < spare made.old }
+    ensures { made.new.entries ≡ insert_entry nat_eq made.old.entries number file }
 {
-    match request {
-        MetaReq::Unlink { .. } => Some(now),
-        _ => None,
+    match made.insert(number, file) {
+        Ok(_) => {}
+        Err(_) => unreachable!(),
     }
 }
 
-/// Notes what is known of a file, if there is one. There is room for it.
-fn note(made: &mut IndexMap<u64, MadeFile>, file: Option<FileId>, unlinked: Option<u64>)
+/// Notes what a request that is done did to the file that it makes or unlinks, if there is one. There is room for it.
+fn note(
+    made: &mut IndexMap<u64, MadeFile>,
+    file: Option<FileId>,
+    place: &Picked,
+    now: u64,
+    request: &MetaReq,
+)
     requires { 0 < spare made.old }
-    ensures { made.new.entries ≡ rows.noted file unlinked made.old.entries }
+    ensures { made.new.entries ≡ noted_of file place.now now request.now made.old.entries }
 {
     let Some(file) = file else { return };
-    let number = file.number;
-    match made.insert(number, MadeFile { file, unlinked }) {
-        Ok(_) => {}
-        Err(_) => unreachable!(),
+    match request {
+        MetaReq::Create { .. } => {
+            if let Picked::On { location } = place {
+                let new = MadeFile {
+                    file,
+                    location: *location,
+                    unlinked: None,
+                };
+                put(made, file.number, new);
+            }
+        }
+        MetaReq::Unlink { .. } => {
+            if let Some(known) = made.get(&file.number) {
+                let ended = MadeFile {
+                    file: known.file,
+                    location: known.location,
+                    unlinked: Some(now),
+                };
+                put(made, file.number, ended);
+            }
+        }
+        _ => {}
     }
 }
 
@@ -216,7 +242,7 @@ impl Catalogue {
 
     /// The file that a request makes or unlinks.
     fn subject(&self, alloc: Global, request: &MetaReq) -> Result<Option<FileId>, OutOfMemory>
-        ensures { IfOk result (λ file. file ≡ rows.subject_of self.now.volumes request.now) }
+        ensures { IfOk result (λ file. file ≡ subject_of self.now.volumes request.now) }
     {
         match request {
             MetaReq::Create { path, .. } => new_file(alloc, path, self.tree.next()),
@@ -226,6 +252,7 @@ impl Catalogue {
     }
 
     /// Makes a change of names, rights or files, and keeps its answer. Nothing changes if memory runs out.
+    #[tactic(auto, using(crate::proofs::Noting::noted_is_made))]
     pub fn change(
         &mut self,
         alloc: Global,
@@ -248,7 +275,7 @@ impl Catalogue {
         self.clients.reserve()?;
         let settled = change(&mut self.tree, asking.who, &place, asking.request)?;
         if settled.is_done() {
-            note(&mut self.made, file, end_of(site.clock, asking.request));
+            note(&mut self.made, file, &place, site.clock, asking.request);
         }
         self.clients
             .keep(asking.client, asking.number, settled.answer());

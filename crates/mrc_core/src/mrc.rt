@@ -1,9 +1,9 @@
 ghost use Rattle.std.specs.Prelude.{◌≡◌, ◌≤◌, ◌<◌, ◌^◌, [], length, IfOk, OnOk, OnErr, Ok, All};
 ghost use Rattle.capabilities.specs.Stops.{is_stop};
 ghost use Rattle.xt_protocol.specs.OsdSteps.{asks_dir};
-ghost use Rattle.mrc_core.specs.Laws.{files_made};
-ghost use Rattle.mrc_core.specs.Steps as steps;
-ghost use Rattle.mrc_core.specs.Steps.{catalogue_of};
+ghost use Rattle.server_rows.specs.Laws.{files_made};
+ghost use Rattle.server_rows.specs.Metadata as steps;
+ghost use Rattle.server_rows.specs.Metadata.{catalogue_of};
 ghost use Rattle.mrc_core.specs.Asking.{at_clock};
 ghost use Rattle.mrc_core.specs.Picking.{CanHandle, CanHear, CanTake};
 
@@ -46,7 +46,7 @@ impl Drop for Mrc {
 }
 
 impl Model for Mrc {
-    ghost use Rattle.mrc_core.specs.Steps.{MrcNode};
+    ghost use Rattle.server_rows.specs.Metadata.{MrcNode};
     ghost use Rattle.mrc_core.specs.Asking.{IsServer};
 
     ghost Value = { MrcNode };
@@ -137,7 +137,7 @@ impl Mrc {
         is_stop(self.key.as_slice(), &msg.payload)
     }
 
-    /// The files that were ever made, by rising number (`crate::made_files_rise`), each with the clock of the record that
+    /// The files that were ever made, by rising number (`server_rows::made_files_rise`), each with the clock of the record that
     /// unlinked it, in milliseconds, if it was unlinked.
     pub fn files(&self) -> Result<Vec<(FileId, Option<u64>)>, OutOfMemory>
         ensures { IfOk result (λ files. files.items ≡ files_made self.now.state.catalogue.made) }
@@ -211,7 +211,7 @@ impl Mrc {
     }
 
     /// Handles an event at a reading of the clock, in milliseconds. The server is unchanged if memory runs out.
-    #[tactic(auto, unfolding(crate::specs::Steps::step_of_mrc))]
+    #[tactic(auto, unfolding(server_rows::specs::Metadata::step_of_mrc))]
     pub fn step(&mut self, now: u64, event: &Event) -> Result<Turned, OutOfMemory>
         requires clock { now < 2 ^ 62 }
         requires can { CanHandle event.now }

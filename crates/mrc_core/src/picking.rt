@@ -1,7 +1,7 @@
 ghost use Rattle.std.specs.Prelude.{◌≡◌, ◌≤◌, IsTrue, IfOk};
 ghost use Rattle.xt_base.specs.MemberList.{are_distinct};
-ghost use Rattle.mrc_core.specs.Requests as rows;
-ghost use Rattle.mrc_core.specs.Steps.{nodes_of};
+ghost use Rattle.server_rows.specs.Requests as rows;
+ghost use Rattle.server_rows.specs.Metadata.{nodes_of};
 ghost use Rattle.mrc_core.specs.Picking.{WantsSome};
 
 use replica_lists::{PickErr, pick};

@@ -1,5 +1,5 @@
 ghost use Rattle.std.specs.Prelude.{◌≡◌, IfOk};
-ghost use Rattle.mrc_core.specs.Requests as rows;
+ghost use Rattle.server_rows.specs.Requests as rows;
 ghost use Rattle.mrc_core.specs.Asking.{IsSite};
 ghost use Rattle.mrc_core.specs.Plans.{IsPlan, IsGrantPlan, IsReportPlan};
 

@@ -1,7 +1,7 @@
 ghost use Rattle.std.specs.Prelude.{◌≡◌, ◌<◌, ◌∷◌, [], if◌then◌else◌, Some, IfOk, OnOk, OnErr};
 ghost use Rattle.std.specs.Vec.{vec_len, vec_capacity};
-ghost use Rattle.mrc_core.specs.Requests as rows;
-ghost use Rattle.mrc_core.specs.Steps as steps;
+ghost use Rattle.server_rows.specs.Requests as rows;
+ghost use Rattle.server_rows.specs.Metadata as steps;
 ghost use Rattle.mrc_core.specs.Asking.{IsSite, fresh_at, requested_at, server_at};
 ghost use Rattle.mrc_core.specs.Picking.{WantsSome};
 ghost use Rattle.mrc_core.specs.Plans.{Changes, Sets};

@@ -1,10 +1,10 @@
 ghost use Rattle.std.specs.Prelude.{◌≡◌, ◌≤◌, ◌<◌, ◌^◌, length, IfOk, None, true};
 ghost use Rattle.capabilities.specs.Denials.{denial_of};
-ghost use Rattle.mrc_core.specs.Requests as rows;
+ghost use Rattle.server_rows.specs.Requests as rows;
 ghost use Rattle.mrc_core.specs.Settling.{answer_of, settlement_of};
 
-use crate::{LIFE, NewSizes};
 use capabilities::{CapErr, check, seal};
+use server_rows::{LIFE, NewSizes};
 use std::alloc::{AllocError, Global};
 use truncate_epochs::merge;
 use volume_rows::Granting;

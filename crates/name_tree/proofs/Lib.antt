@@ -1,4 +1,5 @@
 pub mod Below
+pub mod Apart
 pub mod Grafting
 pub mod Moving
 pub mod Pages

@@ -1,5 +1,5 @@
 -- a tree of names as a flat list of rows, each with its path from the tree's top
-use Rattle.std.specs.Prelude.{◌≡◌, Bool, true, false, Option, Some, None, List, [], ◌∷◌, ◌++◌, map, fold, length, String, ◌+◌, ◌≤◌}
+use Rattle.std.specs.Prelude.{◌≡◌, ℕ, Bool, true, false, Option, Some, None, List, [], ◌∷◌, ◌++◌, map, fold, length, String, ◌+◌, ◌≤◌}
 use Rattle.std.specs.List.{AllByRecursion}
 use Rattle.std.specs.List.Sorted.{IsStrictlySortedBy}
 use Rattle.std.specs.Map.{keys_of}
@@ -88,6 +88,11 @@ grafted rows path tree = fold with_row (rows_outside path rows) (map (under path
 pub record IsMoved (old new : List Row) (from to : Path) : Type 0 where
   pub outside : rows_outside to new ≡ rows_outside from old
   pub within : rows_within to new ≡ map (moved from to) (rows_within from old)
+
+-- how many rows trees have together
+abbrev pub rows_in : List (List Row) → ℕ
+rows_in [] = 0
+rows_in (tree ∷ trees) = length tree + rows_in trees
 
 -- no subtree has more rows than all of them together
 pub most_le-length-inside : {A : Type 0} (kids : List (String A × List Row)) → most (λ k. length k + 1) (map (λ kid. kid.1) kids) ≤ length (inside kids) + 1

@@ -1,12 +1,13 @@
-ghost use Rattle.std.specs.Prelude.{◌≡◌, ◌<◌, [], ◌∷◌, ◌++◌, length, map, false, OnOk, OnErr, IfOk, IfSome, IfNone, IsSome, Some};
+ghost use Rattle.std.specs.Prelude.{◌≡◌, ◌<◌, ◌+◌, [], ◌∷◌, ◌++◌, length, map, false, OnOk, OnErr, IfOk, IfSome, IfNone, IsSome, Some};
 ghost use Rattle.volume_rows.specs.Paths.{parent_of, is_within};
 ghost use Rattle.volume_rows.specs.Rows.{entry_in, with_row, rows_outside, rows_within, renamed, names_in, page_of};
 ghost use Rattle.volume_rows.specs.Rights.{ancestors};
-ghost use Rattle.name_tree.specs.Trees.{HasPlace, SameKind, IsTree, under, rows_under, grafted, IsMoved};
+ghost use Rattle.name_tree.specs.Trees.{HasPlace, SameKind, IsTree, under, rows_under, grafted, rows_in, IsMoved};
 
 use std::alloc::Global;
 use std::collections::BTreeMap;
 use std::marker::Model;
+use std::mem::forget;
 use std::ops::Bound;
 use volume_rows::{Asker, Content, Entry, passes};
 use xt_base::{Name, OutOfMemory, Seq};
@@ -58,6 +59,18 @@ fn push_name(alloc: Global, page: &mut Names, name: &str) -> Result<(), OutOfMem
     ensures { OnOk result (page.new ≡ page.old ++ name.now ∷ []) }
 {
     page.push(Name::of(alloc, name)?)
+}
+
+/// Puts off what is right in a tree, and lets its top go. Where no memory is left for that, the rest stays where it is, unfreed.
+fn put_off(pending: &mut Vec<Node>, node: Node)
+    ensures { rows_in pending.new.items < rows_in pending.old.items + length node }
+{
+    let Node { entry: _, kids } = node;
+    for (_, kid) in kids {
+        if let Err(refused) = pending.push(kid) {
+            forget(refused.value);
+        }
+    }
 }
 
 impl Node {
@@ -178,6 +191,20 @@ impl Node {
         };
         self.replace(to, node);
         Ok(())
+    }
+
+    /// Lets a tree go, by a loop: after renames it may be deeper than a stack reaches. Where no memory is left for what is put off,
+    /// that stays where it is, unfreed.
+    pub fn take_apart(self, alloc: Global) {
+        let mut pending = Vec::new(alloc);
+        let mut node = self;
+        loop {
+            put_off(&mut pending, node);
+            match pending.pop() {
+                Some(next) => node = next,
+                None => return,
+            }
+        }
     }
 
     /// Why the ancestors of a path below turn an asker away, if they do: the first that fails, from the top down.

@@ -150,3 +150,44 @@ fn services_handle_requests(rt: HostRuntime) {
         ask(&rt, &mut mrc, number, request);
     }
 }
+
+/// How many names a path has below its volume and its last name, at most.
+const LEVELS: u64 = 14;
+
+/// How often directories are nested that deep, so that some lie below more than 100,000 others.
+const ROUNDS: u64 = 7_200;
+
+fn make_directory(rt: &impl Abort, alloc: Global, mrc: &mut Mrc, number: u64, path: &str) {
+    let path = name(rt, alloc, path);
+    ask(rt, mrc, number, MetaReq::Mkdir { path, mode: 0o755 });
+}
+
+fn rename(rt: &impl Abort, alloc: Global, mrc: &mut Mrc, number: u64, from: &str, to: &str) {
+    let from = name(rt, alloc, from);
+    let to = name(rt, alloc, to);
+    ask(rt, mrc, number, MetaReq::Rename { from, to });
+}
+
+/// New directories are nested in `/v/b`, the old ones are moved into the last of them, and all of them take their place.
+fn nest(rt: &impl Abort, alloc: Global, mrc: &mut Mrc, first: u64) {
+    let mut path = String::from_str(alloc, "/v").expect(rt, OTHERWISE);
+    for level in 0..LEVELS {
+        path.push_str("/b").expect(rt, OTHERWISE);
+        make_directory(rt, alloc, mrc, first.wrapping_add(level), path.as_str());
+    }
+    path.push_str("/a").expect(rt, OTHERWISE);
+    let number = first.wrapping_add(LEVELS);
+    rename(rt, alloc, mrc, number, "/v/a", path.as_str());
+    rename(rt, alloc, mrc, number.wrapping_add(1), "/v/b", "/v/a");
+}
+
+/// An MRC is let go though its directories are nested deeper than the stack reaches.
+#[test]
+fn deep_directories_are_let_go(rt: HostRuntime) {
+    let mut mrc = Mrc::start(rt.alloc(), &KEY, &[], 0).expect(&rt, OTHERWISE);
+    make_directory(&rt, rt.alloc(), &mut mrc, 1, "/v");
+    make_directory(&rt, rt.alloc(), &mut mrc, 2, "/v/a");
+    for round in 0..ROUNDS {
+        nest(&rt, rt.alloc(), &mut mrc, 3 + 16 * round);
+    }
+}

@@ -1,9 +1,10 @@
 -- what is granted of a file, and its sizes
-use Rattle.std.specs.Prelude.{ℕ, Bool, false, ◌==◌, ◌+◌, if◌then◌else◌, Option, Some, None, Result, Ok, Err, List, [], ◌∷◌, ◌++◌, map, take, replicate}
+use Rattle.std.specs.Prelude.{ℕ, Bool, false, ◌==◌, ◌+◌, nat_lt, if◌then◌else◌, Option, Some, None, Result, Ok, Err, List, [], ◌∷◌, ◌++◌, map, take, replicate}
 use Rattle.sha1.specs.Sha1.{sha1}
 use Rattle.uuid.specs.Parts.{with_version, with_variant}
 use Rattle.uuid.specs.declared.Variant.TheVariants as variant
 use Rattle.uuid.specs.declared.Version.TheVariants as version
+use Rattle.xt_base.specs.declared.TheConstants.{COUNTS}
 use Rattle.xt_base.specs.declared.ids.FileId.{FileId}
 use Rattle.xt_base.specs.declared.ids.SizeMark.{SizeMark}
 use Rattle.xt_messages.specs.declared.meta.MetaRefusal.{MetaRefusal}
@@ -28,9 +29,13 @@ abbrev pub wanted : Asker → ℕ → Option Entry → Option MetaRefusal
 wanted who want entry =
     if wants_reading want then allowed who reading rule_of_read entry else allowed who writing rule_of_write entry
 
+-- the epoch after the one that was issued last; after the last of all none comes
+abbrev pub next_epoch : ℕ → ℕ
+next_epoch issued = if nat_lt issued COUNTS then issued + 1 else issued
+
 -- a truncation is granted under the next truncate epoch, all else under the one that was issued last
 abbrev pub epoch_granted : ℕ → ℕ → ℕ
-epoch_granted want issued = if want == 3 then issued + 1 else issued
+epoch_granted want issued = if want == 3 then next_epoch issued else issued
 
 -- the UUID of a volume: that of its name, by version 5, in the namespace of the nil UUID
 abbrev pub volume_id : Name → List ℕ

@@ -5,7 +5,6 @@ ghost use Rattle.volume_rows.specs.Rights.{first_of, ancestors, there, absent, p
 ghost use Rattle.volume_rows.specs.Requests.{has_names, kind_of, directory_made, file_made, path_renamed, file_unlinked, directory_removed, entry_told, names_listed, mode_set};
 ghost use Rattle.volume_rows.specs.Grants.{granted_at, file_at, wanted, epoch_granted};
 ghost use Rattle.xt_messages.specs.declared.meta.MetaRefusal.TheVariants.{OtherVolume};
-ghost use Rattle.volume_tree.specs.declared.TreeErr.TheVariants.{OutOfMemory};
 ghost use Rattle.volume_tree.specs.Calls.{Comes, Grants, IsBadPath};
 
 use crate::TreeErr;
@@ -15,8 +14,11 @@ use volume_rows::{
     Asker, Content, Entry, Granting, NO_READ, NO_WRITE, NOT_OWNER, Picked, READ, WRITE, allows,
     is_directory, path_in, volume_of,
 };
-use xt_base::{FileId, Name, SizeMark};
+use xt_base::{COUNTS, FileId, Name, SizeMark};
 use xt_messages::{MetaAnswer, MetaRefusal, RowKind};
+
+/// The want of a grant that is to truncate.
+const TO_TRUNCATE: u8 = 3;
 
 /// The names of the path that a text spells, at least so many.
 pub fn names_of<'a>(alloc: Global, path: &'a Name, least: usize) -> Result<Vec<&'a str>, TreeErr>
@@ -112,16 +114,13 @@ fn no_granting(who: Asker, want: u8, entry: &Entry) -> Option<MetaRefusal>
 }
 
 /// The epoch of a capability: a truncation gets the next one, as long as one is left.
-fn epoch_granted(want: u8, issued: u64) -> Result<u64, TreeErr>
-    ensures ok { IfOk result (λ epoch. epoch ≡ epoch_granted want issued) }
-    ensures err { IfErr result (λ why. why ≡ OutOfMemory) }
+fn epoch_granted(want: u8, issued: u64) -> u64
+    ensures { result ≡ epoch_granted want issued }
 {
-    if want != 3 {
-        return Ok(issued);
-    }
-    match issued.checked_add(1) {
-        Some(next) => Ok(next),
-        None => Err(TreeErr::OutOfMemory),
+    if want == TO_TRUNCATE && issued < COUNTS {
+        issued + 1
+    } else {
+        issued
     }
 }
 
@@ -419,7 +418,7 @@ pub fn grant_file(table: &Table, who: Asker, want: u8, names: &[&str]) -> Result
                 number: stored.number,
             },
             location: stored.location,
-            epoch: epoch_granted(want, stored.epoch)?,
+            epoch: epoch_granted(want, stored.epoch),
             mark: stored.mark,
         }),
     }

@@ -40,12 +40,24 @@ pub struct Sizes {
 
 /// All volumes. Contracts see the flat list of their rows, and the number that the next file gets. The tree has each file with
 /// the sizes that it was made with; those that are told are kept beside it.
-#[derive(Drop)]
 pub struct Table {
     top: Node,
     sizes: BTreeMap<u64, Sizes>,
     next: u64,
     alloc: Global,
+}
+
+// After renames directories may be nested deeper than the stack reaches, so they are let go by a loop.
+impl Drop for Table {
+    fn drop(self) {
+        let Table {
+            top,
+            sizes: _,
+            next: _,
+            alloc,
+        } = self;
+        top.take_apart(alloc);
+    }
 }
 
 impl Model for Table {

@@ -171,8 +171,7 @@ impl Tree {
         }
     }
 
-    /// What a client that wants to read (1), write (2) or truncate (3) a file is granted. Nothing is granted where memory runs
-    /// out, or where the file's issued truncate epoch is the last that a number can tell and another one is wanted.
+    /// What a client that wants to read (1), write (2) or truncate (3) a file is granted.
     pub fn grant(&self, who: Asker, path: &Name, want: u8) -> Result<Granting, TreeErr>
         ensures { Grants result (granted self.now who want (has_names 1 (path_in path.now))) }
     {

@@ -11,7 +11,7 @@ use Rattle.xt_messages.specs.declared.message.Payload.TheVariants as payload
 use Rattle.xt_messages.specs.declared.message.Msg.{Msg}
 use Rattle.xt_messages.specs.declared.event.Event.TheVariants as event
 use Rattle.xt_protocol.specs.Turns.{message}
-use Rattle.dir_core.specs.Steps.{DirState, DirStep, reply_to, step_of_dir}
+use Rattle.server_rows.specs.Directory.{DirState, DirStep, reply_to, step_of_dir}
 
 -- who asks, under which number, and what; what is answered, and whether the request is recorded
 abbrev pub Row : Type 0

@@ -19,8 +19,8 @@ use Rattle.xt_messages.specs.declared.event.Mark.TheVariants as mark
 use Rattle.xt_messages.specs.declared.registry.RegistryReq.TheVariants as wish
 use Rattle.xt_protocol.specs.Turns.{message, sends}
 use Rattle.capabilities.specs.Tags.{sealed}
-use Rattle.mrc_core.specs.Steps.{MrcStep, step_of_mrc}
-use Rattle.mrc_core.specs.Examples.{key, new_server, rows_from}
+use Rattle.server_rows.specs.Metadata.{MrcStep, step_of_mrc}
+use Rattle.server_rows.specs.Examples.{key, new_server, rows_from}
 use Rattle.volume_rows.specs.Examples.{names_deep}
 use Rattle.worked_rows.specs.Sealing.{changed, tags}
 use Rattle.worked_rows.specs.Served.{Row, create, digests, file, location_on, on, seen_in}

@@ -20,10 +20,10 @@ use Rattle.xt_messages.specs.declared.event.Mark.TheVariants as mark
 use Rattle.xt_messages.specs.declared.event.Event.TheVariants as event
 use Rattle.sha1.specs.Sha1.{first_words, schedule, rounds, compress, hash_after, digest_bytes, sha1}
 use Rattle.xt_protocol.specs.Turns.{message}
-use Rattle.mrc_core.specs.Requests.{nodes_in}
-use Rattle.mrc_core.specs.Steps.{MrcState, MrcStep, reply_to, step_of_mrc}
-use Rattle.mrc_core.specs.Examples.{Coming, after, key, new_server, rows_from}
-use Rattle.mrc_core.specs.Laws.{files_made}
+use Rattle.server_rows.specs.Requests.{nodes_in}
+use Rattle.server_rows.specs.Metadata.{MrcState, MrcStep, reply_to, step_of_mrc}
+use Rattle.server_rows.specs.Examples.{Coming, after, key, new_server, rows_from}
+use Rattle.server_rows.specs.Laws.{files_made}
 use Rattle.volume_rows.specs.Examples.{mkdir}
 use Rattle.volume_rows.specs.Grants.{volume_id}
 

@@ -3,10 +3,10 @@ ghost use Rattle.std.specs.Prelude.{◌≡◌, codes, map};
 ghost use Rattle.std.specs.List.{flat_map};
 ghost use Rattle.xt_messages.specs.declared.event.Event.TheVariants.{Wake};
 ghost use Rattle.volume_rows.specs.Grants.{volume_id};
-ghost use Rattle.mrc_core.specs.Steps.{step_of_mrc};
-ghost use Rattle.mrc_core.specs.Examples.{key, new_server};
+ghost use Rattle.server_rows.specs.Metadata.{step_of_mrc};
+ghost use Rattle.server_rows.specs.Examples.{key, new_server};
 ghost use Rattle.worked_rows.specs.Served.{comings, fates, files, made_after, numbers, places, seen_in, steps_from, volume, wanted_of};
-ghost use Rattle.dir_core.specs.Steps.{empty_dir};
+ghost use Rattle.server_rows.specs.Directory.{empty_dir};
 ghost use Rattle.worked_rows.specs.Requests as requests;
 ghost use Rattle.worked_rows.specs.Registry as registry;
 
@@ -19,13 +19,13 @@ pub fn requests_are_answered()
 {}
 
 /// A request under a client's last recorded number gets the same answer, one under a lower number none.
-#[tactic(auto, unfolding(mrc_core::specs::Steps::step_of_mrc))]
+#[tactic(auto, unfolding(server_rows::specs::Metadata::step_of_mrc))]
 pub fn numbers_are_kept()
     ensures { map seen_in (steps_from new_server (comings numbers)) ≡ map wanted_of numbers }
 {}
 
 /// The OSDs of a new file are picked by its number, and the files that were ever made are known.
-#[tactic(auto, unfolding(mrc_core::specs::Steps::step_of_mrc))]
+#[tactic(auto, unfolding(server_rows::specs::Metadata::step_of_mrc))]
 pub fn files_are_made()
     ensures answers { map seen_in (steps_from new_server (comings files)) ≡ map wanted_of files }
     ensures places { flat_map (λ step. step.turned.marks) (steps_from new_server (comings files)) ≡
@@ -40,7 +40,7 @@ pub fn volumes_have_uuids()
 {}
 
 /// Requests to a directory service get their answers, and what may change the registry is recorded.
-#[tactic(auto, unfolding(dir_core::specs::Steps::step_of_dir))]
+#[tactic(auto, unfolding(server_rows::specs::Directory::step_of_dir))]
 pub fn registrations_are_answered()
     ensures { map registry.seen_in (registry.steps_from empty_dir registry.rows) ≡
         map registry.wanted_of registry.rows }

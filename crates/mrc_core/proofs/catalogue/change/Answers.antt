@@ -1,4 +1,4 @@
-use Rattle.mrc_core.proofs.Refusing.{changes_settle}
+use Rattle.server_rows.proofs.Refusing.{changes_settle}
 use Rattle.volume_rows.specs.Requests.{applied}
 use Rattle.mrc_core.proofs.catalogue.change.Goals as goal
 

@@ -1,7 +1,7 @@
 use Rattle.std.proofs.Common.{◌≡◌, ◌∙◌, map, ap, sym, List, ℕ, Bor}
 use Rattle.std.specs.Prelude.{Option, Some}
 use Rattle.volume_rows.specs.Paths.{Path, path_in}
-use Rattle.mrc_core.specs.Requests.{new_file}
+use Rattle.server_rows.specs.Requests.{new_file}
 use Rattle.mrc_core.proofs.catalogue.new_file.Goals as goal
 
 pub returns : goal.returns

@@ -1,5 +1,5 @@
 use Rattle.std.proofs.Common.{◌≡◌, take}
-use Rattle.mrc_core.specs.Steps.{catalogue_of}
+use Rattle.server_rows.specs.Metadata.{catalogue_of}
 use Rattle.mrc_core.proofs.mrc.take_all.Given as goal
 
 abbrev pub invariant-loop-rec : goal.invariant-loop-rec

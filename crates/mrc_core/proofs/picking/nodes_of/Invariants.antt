@@ -1,5 +1,5 @@
 use Rattle.std.proofs.Common.{◌≡◌, take}
-use Rattle.mrc_core.specs.Steps.{nodes_of}
+use Rattle.server_rows.specs.Metadata.{nodes_of}
 use Rattle.mrc_core.proofs.picking.nodes_of.Given as goal
 
 abbrev pub invariant-loop-row : goal.invariant-loop-row

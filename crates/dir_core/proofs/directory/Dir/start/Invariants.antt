@@ -1,5 +1,5 @@
 use Rattle.std.proofs.Common.{◌≡◌, take}
-use Rattle.dir_core.specs.Steps.{dir_of}
+use Rattle.server_rows.specs.Directory.{dir_of}
 use Rattle.dir_core.proofs.directory.Dir.start.Given as goal
 
 abbrev pub invariant-loop-rec : goal.invariant-loop-rec

@@ -1,0 +1,5 @@
+pub mod Metadata
+pub mod Directory
+pub mod Refusing
+pub mod Naming
+mod Rising
