@@ -15,7 +15,7 @@ source_moved sb sa kb ka status.OutOfMemory cause = cause.0
 source_moved sb sa kb ka _ cause = inl cause.0
 
 -- a status whose last line was put
-told_cause : (source_before source_after sink_before sink_after : ℕ) (s : Status)
+pub told_cause : (source_before source_after sink_before sink_after : ℕ) (s : Status)
     → CausesEnd sink_before sink_after s
     → HasCause source_before source_after sink_before sink_before s
     → HasCause source_before source_after sink_before sink_after s

@@ -12,4 +12,5 @@ mod writing;
 
 pub use ending::{finish, put_entries};
 pub use next::{NextLine, next_line};
-pub use reading::take_byte;
+pub use reading::{RawLine, read_raw, take_byte};
+pub use writing::put_all;

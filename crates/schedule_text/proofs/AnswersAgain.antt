@@ -1,9 +1,8 @@
 -- The answers of members that were written are read.
-use Rattle.std.proofs.Common.{◌≡◌, ◌≢◌, ℕ, ◌^◌, ◌<◌, ◌≤◌, ◌==◌, not, if◌then◌else◌, List, [], ◌∷◌, ◌++◌, length, refl, ap, ◌∙◌, arith, length-append, eq-eqb}
+use Rattle.std.proofs.Common.{◌≡◌, ◌≢◌, ℕ, ◌^◌, ◌<◌, ◌≤◌, ◌==◌, not, List, [], ◌∷◌, ◌++◌, length, refl, ap, ◌∙◌, arith, length-append, eq-eqb}
 use Rattle.std.specs.Prelude.{codes}
-use Rattle.std.specs.List.{AllByRecursion, position_or_len, before_first, after_first}
+use Rattle.std.specs.List.{AllByRecursion, position_or_len}
 use Rattle.std.specs.Fmt.{decimal}
-use Rattle.std.specs.Str.{bytes_eq}
 use Rattle.std.specs.Str.Parse.{AllDigits}
 use Rattle.std.proofs.lemmas.Bool.{ne_eqb}
 use Rattle.std.proofs.lemmas.Fmt.{decimal_is_IsNumeral_wide}
@@ -17,18 +16,11 @@ use Rattle.xt_messages.specs.declared.reply.Retry.TheVariants as retry
 use Rattle.time_line.specs.Bounds.{FitsRetry, FitsAnswered}
 use Rattle.schedule_text.specs.Words.{spaced}
 use Rattle.schedule_text.specs.OutcomeText.{retry_text, answer_word, answer_words}
-use Rattle.schedule_text.specs.Reading.{number_of, each_word}
+use Rattle.schedule_text.specs.Reading.{number_of}
 use Rattle.schedule_text.specs.LineReading.{node_of}
+use Rattle.schedule_text.specs.EntryReading.{front, back, retry_of, retry_in, answered_in, answers_in}
 use Rattle.schedule_text.proofs.WordsAgain.{IsWord, IsWord-tested, IsWord-append, decimal-IsWord, number_again}
 use Rattle.schedule_text.proofs.ManyAgain.{IsReadAgain, each_again, spaced_long}
-
--- The parts of a word, at a byte.
-
-abbrev front : ℕ → List ℕ → List ℕ
-front mark word = before_first (λ byte. byte == mark) word
-
-abbrev back : ℕ → List ℕ → List ℕ
-back mark word = after_first (λ byte. byte == mark) word
 
 -- no such byte stands in it
 abbrev Lacks : ℕ → List ℕ → Type 0
@@ -59,28 +51,6 @@ decimal-Lacks mark n wide none = lacks (decimal n) (decimal_is_IsNumeral_wide n 
     lacks [] d = tt
     lacks (c ∷ cs) d = (λ same. absurd (omega (arith, digit_from_value c d.0)), lacks cs d.1)
 
--- Readers.
-
--- a number, of any width that occurs
-abbrev number_in : List ℕ → ℕ
-number_in word = number_of 128 word
-
-retry_of : List ℕ → List ℕ → Retry
-retry_of name values =
-    if bytes_eq name (codes "nolease") then retry.NoLease (number_in values)
-    else if bytes_eq name (codes "nomajority") then retry.NoMajority (number_in (front 47 values)) (number_in (back 47 values))
-    else if bytes_eq name (codes "elsewhere") then retry.Elsewhere (node_of (number_in (front 58 values))) (number_in (back 58 values))
-    else retry.Silent
-
-retry_in : List ℕ → Retry
-retry_in word = retry_of (front 58 word) (back 58 word)
-
-pub answered_in : List ℕ → Answered
-answered_in word = record { node = node_of (number_in (front 61 word)); outcome = retry_in (back 61 word) }
-
-pub answers_in : List ℕ → List Answered
-answers_in words = each_word answered_in (length words) words
-
 -- What was written is read.
 
 -- what a member gave, behind the sign of equality
@@ -97,25 +67,25 @@ retry_text_is (retry.NoMajority have need) = refl
 retry_text_is (retry.Elsewhere node end) = refl
 retry_text_is retry.Silent = refl
 
-two_again : (mark first second : ℕ) → first < 2 ^ 128 → second < 2 ^ 128 → (48 ≤ mark → 57 < mark)
-    → (number_in (front mark (decimal first ++ mark ∷ decimal second)) ≡ first)
-    × (number_in (back mark (decimal first ++ mark ∷ decimal second)) ≡ second)
-two_again mark first second p q none =
-    let lacks = decimal-Lacks mark first (omega arith) none in (
-      ap number_in (front_again mark (decimal first) (decimal second) lacks) ∙ number_again 128 first p (omega arith),
-      ap number_in (back_again mark (decimal first) (decimal second) lacks) ∙ number_again 128 second q (omega arith),
+two_again : (mark one other first second : ℕ) → first < 2 ^ one → second < 2 ^ other → first < 10 ^ 64 → second < 10 ^ 64 → (48 ≤ mark → 57 < mark)
+    → (number_of one (front mark (decimal first ++ mark ∷ decimal second)) ≡ first)
+    × (number_of other (back mark (decimal first ++ mark ∷ decimal second)) ≡ second)
+two_again mark one other first second p q wide wide_too none =
+    let lacks = decimal-Lacks mark first wide none in (
+      ap (number_of one) (front_again mark (decimal first) (decimal second) lacks) ∙ number_again one first p wide,
+      ap (number_of other) (back_again mark (decimal first) (decimal second) lacks) ∙ number_again other second q wide_too,
     )
 
 retry_again : (given : Retry) → FitsRetry given → retry_in (retry_rest given) ≡ given
 unfolding retry_in retry_of
-retry_again (retry.NoLease end) fits = ap retry.NoLease (number_again 128 end (omega arith) (omega arith))
+retry_again (retry.NoLease end) fits = ap retry.NoLease (number_again 64 end fits (omega arith))
 retry_again (retry.NoMajority have need) (p, q) =
-    let both = two_again 47 have need (omega arith) (omega arith) (λ low. omega arith) in
-    ap (λ (n : ℕ). retry.NoMajority n (number_in (back 47 (decimal have ++ 47 ∷ decimal need)))) both.0
+    let both = two_again 47 8 8 have need p q (omega arith) (omega arith) (λ low. omega arith) in
+    ap (λ (n : ℕ). retry.NoMajority n (number_of 8 (back 47 (decimal have ++ 47 ∷ decimal need)))) both.0
     ∙ ap (λ (n : ℕ). retry.NoMajority have n) both.1
 retry_again (retry.Elsewhere node end) (p, q) =
-    let both = two_again 58 node.0 end (omega arith) (omega arith) (λ low. omega arith) in
-    ap (λ (n : ℕ). retry.Elsewhere (node_of n) (number_in (back 58 (decimal node.0 ++ 58 ∷ decimal end)))) both.0
+    let both = two_again 58 32 64 node.0 end p q (omega arith) (omega arith) (λ low. omega arith) in
+    ap (λ (n : ℕ). retry.Elsewhere (node_of n) (number_of 64 (back 58 (decimal node.0 ++ 58 ∷ decimal end)))) both.0
     ∙ ap (λ (n : ℕ). retry.Elsewhere node n) both.1
 retry_again retry.Silent fits = refl
 
@@ -147,10 +117,10 @@ answered_again given fits =
           omega (arith, length-append (decimal given.node.0) (retry_text given.outcome));
       again =
           ap answered_in text
-          ∙ ap (λ (n : List ℕ). let a : Answered = record { node = node_of (number_in n); outcome = retry_in (back 61 (decimal given.node.0 ++ 61 ∷ retry_rest given.outcome)) } in a)
+          ∙ ap (λ (n : List ℕ). let a : Answered = record { node = node_of (number_of 32 n); outcome = retry_in (back 61 (decimal given.node.0 ++ 61 ∷ retry_rest given.outcome)) } in a)
           (front_again 61 (decimal given.node.0) (retry_rest given.outcome) lacks)
           ∙ ap (λ (n : ℕ). let a : Answered = record { node = node_of n; outcome = retry_in (back 61 (decimal given.node.0 ++ 61 ∷ retry_rest given.outcome)) } in a)
-          (number_again 128 given.node.0 (omega arith) (omega arith))
+          (number_again 32 given.node.0 who (omega arith))
           ∙ ap (λ (rest : List ℕ). let a : Answered = record { node = given.node; outcome = retry_in rest } in a)
           (back_again 61 (decimal given.node.0) (retry_rest given.outcome) lacks)
           ∙ ap (λ (r : Retry). let a : Answered = record { node = given.node; outcome = r } in a) (retry_again given.outcome fits.gave);

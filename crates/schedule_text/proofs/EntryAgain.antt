@@ -1,8 +1,7 @@
 -- An entry that was written is read, so no two are spelled alike.
-use Rattle.std.proofs.Common.{◌≡◌, ℕ, ◌*◌, ◌^◌, ◌<◌, ◌≤◌, if◌then◌else◌, ◌==◌, Option, List, [], ◌∷◌, Some, None, refl, sym, ap, subst, ◌∙◌, arith}
-use Rattle.std.specs.Prelude.{codes, option_map}
+use Rattle.std.proofs.Common.{◌≡◌, ℕ, ◌*◌, ◌^◌, ◌<◌, ◌≤◌, List, [], ◌∷◌, Some, refl, sym, ap, subst, ◌∙◌, arith}
+use Rattle.std.specs.Prelude.{codes}
 use Rattle.std.specs.List.{AllByRecursion}
-use Rattle.std.specs.Str.{bytes_eq}
 use Rattle.std.specs.Fmt.{decimal}
 use Rattle.xt_base.specs.declared.ids.NodeId.{NodeId}
 use Rattle.xt_base.specs.declared.ids.OpId.{OpId}
@@ -29,171 +28,12 @@ use Rattle.schedule_text.specs.LineText.{IsPlace, IsCall}
 use Rattle.schedule_text.specs.CallText.{call_name, call_words, node_words, file_words}
 use Rattle.schedule_text.specs.OutcomeText.{denial_number, ask_refusal_words, answer_words, outcome_words}
 use Rattle.schedule_text.specs.EntryText.{update_words, halt_word, entry_words, entry_text, IsFileEnd, IsEntry}
-use Rattle.schedule_text.specs.Reading.{first_word, other_words, number_at, bytes_of}
-use Rattle.schedule_text.specs.LineReading.{node_of, members_at}
-use Rattle.schedule_text.proofs.AnswersAgain.{answers_in, answers_again}
+use Rattle.schedule_text.specs.Reading.{first_word, other_words, number_of, bytes_of}
+use Rattle.schedule_text.specs.EntryReading.{kept_on, times_in, file_in, clock_in, tick_in, up_in, halt_of, down_in, call_of, call_on, call_in, begin_in, held_in, id_of, update_in, answer_in, denial_of, refusal_of, refusal_in, outcome_in, done_in, node_entry, update_entry, entry_of, entry_at}
+use Rattle.schedule_text.proofs.AnswersAgain.{answers_again}
 use Rattle.schedule_text.proofs.ManyAgain.{members_again}
-use Rattle.schedule_text.proofs.LineAgain.{kept_on, place_of}
-use Rattle.schedule_text.proofs.WordsAgain.{IsWord, IsWord-tested, number_at_again, first_again, others_again, hex-IsWord, hex_again}
-
--- Readers, of what stands behind the name of an entry.
-
-times_in : List ℕ → Option Entry
-times_in words =
-    let lease = number_at 64 words in
-    let drift = number_at 64 lease.1 in
-    Some (entry.Times lease.0 drift.0)
-
-file_in : List ℕ → Option Entry
-file_in words =
-    let number = number_at 64 words in
-    let stripe = number_at 32 (other_words number.1) in
-    option_map (λ nodes. entry.File number.0 (kept_on stripe.0 nodes)) (members_at stripe.1)
-
-clock_in : List ℕ → Option Entry
-clock_in words =
-    let node = number_at 32 words in
-    let clock = number_at 64 node.1 in
-    Some (entry.Clock (node_of node.0) clock.0)
-
-tick_in : List ℕ → Option Entry
-tick_in words =
-    let count = number_at 64 words in
-    Some (entry.Tick count.0)
-
-up_in : List ℕ → Option Entry
-up_in words =
-    let node = number_at 32 words in
-    let boot = number_at 64 node.1 in
-    let clock = number_at 64 boot.1 in
-    Some (entry.Up (node_of node.0) (record { 0 = boot.0 }) clock.0)
-
-halt_of : List ℕ → Option Halt
-halt_of word =
-    if bytes_eq word (codes "idle") then Some halt.Idle
-    else if bytes_eq word (codes "kept") then Some halt.Kept
-    else if bytes_eq word (codes "lost") then Some halt.Lost
-    else Some halt.Cut
-
-down_in : List ℕ → Option Entry
-down_in words =
-    let node = number_at 32 words in
-    let clock = number_at 64 node.1 in
-    option_map (λ how. entry.Down (node_of node.0) clock.0 how) (halt_of (first_word clock.1))
-
-call_of : List ℕ → ℕ → ℕ → ℕ → List ℕ → Option Call
-call_of name file object at words =
-    if bytes_eq name (codes "read") then (
-    let len = number_at 32 words in
-    Some (call.Read file object at len.0))
-    else Some (call.Write file object at (bytes_of (first_word words)))
-
-call_on : List ℕ → ℕ → List ℕ → Option Call
-call_on name file words =
-    if bytes_eq name (codes "truncate") then (
-    let size = number_at 64 words in
-    let epoch = number_at 64 size.1 in
-    Some (call.Truncate file size.0 epoch.0))
-    else (
-    let object = number_at 64 words in
-    let at = number_at 32 object.1 in
-    call_of name file object.0 at.0 at.1)
-
-call_in : List ℕ → List ℕ → Option Call
-call_in name words =
-    let file = number_at 64 words in
-    call_on name file.0 file.1
-
-begin_in : List ℕ → Option Entry
-begin_in words =
-    let client = number_at 32 words in
-    let number = number_at 64 client.1 in
-    option_map (λ made. entry.Begin (node_of client.0) number.0 made) (call_in (first_word number.1) (other_words number.1))
-
-held_in : List ℕ → Option Entry
-held_in words =
-    let node = number_at 32 words in
-    let file = number_at 64 node.1 in
-    let end = number_at 64 file.1 in
-    Some (entry.Held (node_of node.0) file.0 end.0)
-
-id_of : ℕ → ℕ → OpId
-id_of client number = record { client = node_of client; number = number }
-
-update_in : (NodeId → ℕ → ℕ → OpId → Entry) → List ℕ → Option Entry
-update_in made words =
-    let node = number_at 32 words in
-    let file = number_at 64 node.1 in
-    let count = number_at 64 file.1 in
-    let client = number_at 32 count.1 in
-    let number = number_at 64 client.1 in
-    Some (made (node_of node.0) file.0 count.0 (id_of client.0 number.0))
-
-answer_in : List ℕ → Option Entry
-answer_in words =
-    let node = number_at 32 words in
-    let file = number_at 64 node.1 in
-    let client = number_at 32 file.1 in
-    let number = number_at 64 client.1 in
-    let count = number_at 64 number.1 in
-    Some (entry.Answer (node_of node.0) file.0 (id_of client.0 number.0) count.0 (bytes_of (first_word count.1)))
-
-denial_of : ℕ → Denial
-denial_of number =
-    if number == 1 then denial.Tag
-    else if number == 2 then denial.File
-    else if number == 3 then denial.Expired
-    else if number == 4 then denial.Mode
-    else if number == 5 then denial.List
-    else denial.Range
-
-refusal_of : List ℕ → ℕ → Option AskRefusal
-refusal_of name value =
-    if bytes_eq name (codes "denied") then Some (refusal.Denied (denial_of value))
-    else if bytes_eq name (codes "oldlist") then Some (refusal.OldList value)
-    else if bytes_eq name (codes "oldepoch") then Some (refusal.OldEpoch value)
-    else Some (refusal.TooFar value)
-
-refusal_in : List ℕ → List ℕ → Option AskRefusal
-refusal_in name words =
-    if bytes_eq name (codes "clientsfull") then Some refusal.ClientsFull
-    else (
-    let value = number_at 64 words in
-    refusal_of name value.0)
-
-outcome_in : List ℕ → List ℕ → Option Outcome
-outcome_in name words =
-    if bytes_eq name (codes "ok") then (
-    let count = number_at 64 words in
-    Some (outcome.Ok count.0 (bytes_of (first_word count.1))))
-    else if bytes_eq name (codes "retry") then Some (outcome.Retry (answers_in words))
-    else option_map (λ why. outcome.Refused why) (refusal_in name words)
-
-done_in : List ℕ → Option Entry
-done_in words =
-    let client = number_at 32 words in
-    let number = number_at 64 client.1 in
-    option_map (λ ended. entry.Done (node_of client.0) number.0 ended) (outcome_in (first_word number.1) (other_words number.1))
-
-entry_of : List ℕ → List ℕ → Option Entry
-entry_of name words =
-    if bytes_eq name (codes "times") then times_in words
-    else if bytes_eq name (codes "file") then file_in words
-    else if bytes_eq name (codes "clock") then clock_in words
-    else if bytes_eq name (codes "tick") then tick_in words
-    else if bytes_eq name (codes "up") then up_in words
-    else if bytes_eq name (codes "down") then down_in words
-    else if bytes_eq name (codes "begin") then begin_in words
-    else if bytes_eq name (codes "held") then held_in words
-    else if bytes_eq name (codes "active") then update_in entry.Active words
-    else if bytes_eq name (codes "issue") then update_in entry.Issue words
-    else if bytes_eq name (codes "commit") then update_in entry.Commit words
-    else if bytes_eq name (codes "answer") then answer_in words
-    else if bytes_eq name (codes "done") then done_in words
-    else None
-
-entry_at : List ℕ → Option Entry
-entry_at bytes = entry_of (first_word bytes) (other_words bytes)
+use Rattle.schedule_text.proofs.LineAgain.{place_of}
+use Rattle.schedule_text.proofs.WordsAgain.{IsWord, IsWord-tested, decimal-IsWord, number_again, number_at_again, first_again, others_again, hex-IsWord, hex_again}
 
 -- What was written is read, form by form.
 
@@ -398,13 +238,16 @@ refusal-IsWord (refusal.OldEpoch epoch) = (omega arith, (omega arith, (omega ari
 refusal-IsWord (refusal.TooFar object) = (omega arith, (omega arith, (omega arith, (omega arith, (omega arith, (omega arith, tt))))))
 refusal-IsWord refusal.ClientsFull = (omega arith, (omega arith, (omega arith, (omega arith, (omega arith, (omega arith, (omega arith, (omega arith, (omega arith, (omega arith, (omega arith, tt)))))))))))
 
+value_again : (bits n : ℕ) → n < 2 ^ bits → n < 10 ^ 64 → number_of bits (first_word (spaced (decimal n ∷ []))) ≡ n
+value_again bits n small wide = ap (number_of bits) (first_again (decimal n) [] (decimal-IsWord n wide)) ∙ number_again bits n small wide
+
 refusal_again : (why : AskRefusal) → FitsRefusal why → outcome_in (refusal_name why) (spaced (refusal_values why)) ≡ Some (outcome.Refused why)
 unfolding outcome_in refusal_in refusal_of
 refusal_again (refusal.Denied rule) fits =
-    rw (number_at_again 64 (denial_number rule) [] (denial_small rule) (let small = denial_small rule in omega arith), denial_again rule) refl
-refusal_again (refusal.OldList version) fits = rw (number_at_again 64 version [] (omega arith) (omega arith)) refl
-refusal_again (refusal.OldEpoch epoch) fits = rw (number_at_again 64 epoch [] (omega arith) (omega arith)) refl
-refusal_again (refusal.TooFar object) fits = rw (number_at_again 64 object [] fits (omega arith)) refl
+    rw (value_again 64 (denial_number rule) (denial_small rule) (let small = denial_small rule in omega arith), denial_again rule) refl
+refusal_again (refusal.OldList version) fits = rw (value_again 32 version (omega arith) (omega arith)) refl
+refusal_again (refusal.OldEpoch epoch) fits = rw (value_again 64 epoch (omega arith) (omega arith)) refl
+refusal_again (refusal.TooFar object) fits = rw (value_again 64 object fits (omega arith)) refl
 refusal_again refusal.ClientsFull fits = refl
 
 ok_again : (count : ℕ) (bytes : List ℕ) → count < 2 ^ 64 → AreBytes bytes → outcome_in (codes "ok") (spaced (decimal count ∷ hex_or_dash bytes ∷ [])) ≡ Some (outcome.Ok count bytes)
@@ -448,8 +291,8 @@ done_again client number (outcome.Meta answer) p q never fits = absurd never
 done_again client number (outcome.Registry answer) p q never fits = absurd never
 
 -- an entry that was written is read
-entry_again : (e : Entry) → IsEntry e → entry_at (entry_text e) ≡ Some e
-unfolding entry_text entry_words first_word other_words entry_at entry_of
+pub entry_again : (e : Entry) → IsEntry e → entry_at (entry_text e) ≡ Some e
+unfolding entry_text entry_words first_word other_words entry_at entry_of update_entry node_entry
 entry_again (entry.Times lease drift) (is, fits) =
     let short : 2 * drift < lease = fits.short in
     let small : lease < 2 ^ 40 = fits.small in

@@ -1,3 +1,4 @@
+pub mod AnswerSteps
 pub mod AnswersAgain
 pub mod Digits
 pub mod EntryAgain

@@ -17,6 +17,7 @@ use Rattle.time_line.specs.Bounds.{FitsCall}
 use Rattle.schedule_text.specs.LineText.{line_text, line_words, IsLine, IsPlace, IsCall}
 use Rattle.schedule_text.specs.CallText.{call_name, call_words, node_words, file_words}
 use Rattle.schedule_text.specs.Reading.{first_word, other_words}
+use Rattle.schedule_text.specs.EntryReading.{kept_on}
 use Rattle.schedule_text.specs.LineReading.{times_at, osd_at, client_at, file_at, start_at, stop_at, crash_at, cut_at, clock_at, tick_at, wake_at, read_at, truncate_at, aim_at, write_at, deliver_at, drop_at, settle_at, node_line, timed_line, named_line, line_at}
 use Rattle.schedule_text.proofs.ManyAgain.{node_at_again, members_again}
 use Rattle.schedule_text.proofs.WordsAgain.{number_at_again, first_again, others_again, hex-IsWord, hex_again, pair-IsWord, byte_again}
@@ -91,10 +92,6 @@ drop_again number p = rw (number_at_again 128 number [] p (omega arith)) refl
 settle_again : (count : ℕ) → count < 2 ^ 128 → IsRead (line.Settle count)
 unfolding line_text line_words line_at named_line settle_at first_word other_words
 settle_again count p = rw (number_at_again 128 count [] p (omega arith)) refl
-
--- where a replicated file lies that these OSDs keep
-abbrev pub kept_on : ℕ → List NodeId → Location
-kept_on stripe nodes = record { version = 1; kind = Replicated; stripe = stripe; members = nodes }
 
 -- other_words stays as it is here, so the name is passed by lemma
 file_again : (number stripe : ℕ) (nodes : List NodeId) → number < 2 ^ 64 → stripe < 2 ^ 32 → FitsMembers nodes → file_at (spaced (file_words number (kept_on stripe nodes))) ≡ Some (line.File number (kept_on stripe nodes))

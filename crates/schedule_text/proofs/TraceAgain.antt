@@ -106,11 +106,11 @@ entry_are (entry.Answer node file id count bytes) (is, ((p, q, r, s), fits)) =
 entry_are (entry.Done client number ended) (is, (p, q, fits)) =
     ((omega arith, (omega arith, (omega arith, (omega arith, tt)))), (number-IsWord client.0 (omega arith), (number-IsWord number (omega arith), outcome_are ended is fits)))
 
-entry_in_line : (e : Entry) → IsEntry e → HasNoFeed (entry_text e)
+pub entry_in_line : (e : Entry) → IsEntry e → HasNoFeed (entry_text e)
 unfolding entry_text
 entry_in_line e is = spaced_in_line (entry_words e) (entry_are e is)
 
-first_entry : (e : Entry) (es : List Entry) → trace_text (e ∷ es) ≡ entry_text e ++ 10 ∷ trace_text es
+pub first_entry : (e : Entry) (es : List Entry) → trace_text (e ∷ es) ≡ entry_text e ++ 10 ∷ trace_text es
 unfolding trace_text
 first_entry e es = append_assoc (entry_text e) (10 ∷ []) (trace_text es)
 

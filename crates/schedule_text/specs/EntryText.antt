@@ -1,5 +1,5 @@
 -- the lines of a trace: how each is spelled
-use Rattle.std.specs.Prelude.{ℕ, List, [], ◌∷◌, ◌++◌, codes}
+use Rattle.std.specs.Prelude.{ℕ, Bool, IsTrue, List, [], ◌∷◌, ◌++◌, codes}
 use Rattle.std.specs.List.{flat_map}
 use Rattle.std.specs.Fmt.{decimal}
 use Rattle.xt_base.specs.declared.ids.NodeId.{NodeId}
@@ -72,3 +72,12 @@ IsOfSchedule _ = Unit {0}
 -- an entry of a schedule's trace, within the limits of its values
 abbrev pub IsEntry : Entry → Type 0
 IsEntry e = IsOfSchedule e × FitsEntry e
+
+-- the times stand first, if anywhere
+abbrev pub IsInPlace : Bool → Entry → Type 0
+IsInPlace first (entry.Times lease drift) = IsTrue first
+IsInPlace first _ = Unit {0}
+
+-- an entry of a schedule's trace, as its first one or a later one
+abbrev pub IsEntryAt : Bool → Entry → Type 0
+IsEntryAt first e = IsInPlace first e × IsEntry e

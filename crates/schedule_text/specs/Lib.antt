@@ -7,3 +7,4 @@ pub mod EntryText
 pub mod StatusText
 pub mod Reading
 pub mod LineReading
+pub mod EntryReading

@@ -1,12 +1,14 @@
 ghost use Rattle.std.specs.Prelude.{◌≡◌, ◌<◌, ◌^◌, ◌↔◌, IsTrue, nat_lt};
-ghost use Rattle.std.specs.List.{list_all};
+ghost use Rattle.std.specs.List.{list_all, AllByRecursion};
 ghost use Rattle.xt_messages.specs.Limits.{FitsStripe, FitsMembers, FitsLocation};
-ghost use Rattle.time_line.specs.Bounds.{FitsCall};
+ghost use Rattle.time_line.specs.Bounds.{FitsCall, FitsRefusal, FitsRetry, FitsAnswered, FitsOutcome, FitsPosition};
+ghost use Rattle.xt_base.specs.FieldLimits.{FitsBytes};
+ghost use Rattle.schedule_text.specs.EntryText.{IsFileEnd, IsEntryAt};
 ghost use Rattle.schedule_text.specs.LineText.{IsLine, IsPlace, IsCall};
 
-use time_line::Line;
-use xt_base::{BODY, COUNTS, Members, NodeId, Times};
-use xt_messages::{Call, Kind, Location};
+use time_line::{Entry, Line};
+use xt_base::{BODY, COUNTS, Members, NodeId, OpId, Times};
+use xt_messages::{Answered, AskRefusal, Call, Kind, Location, Outcome, Retry};
 
 /// Whether a stripe is 1,024 to 131,072 bytes, in steps of 1,024.
 pub(crate) fn is_stripe(stripe: u32) -> bool
@@ -123,6 +125,161 @@ pub(crate) fn is_line(first: bool, line: &Line) -> bool
         Line::Deliver { number } | Line::Drop { number } | Line::Settle { count: number } => {
             let _fits = *number;
             true
+        }
+    }
+}
+
+/// Whether these are no more bytes than a message may carry.
+fn are_few(bytes: &[u8]) -> bool
+    ensures { IsTrue result ↔ FitsBytes bytes.now }
+{
+    bytes.len() <= BODY
+}
+
+/// Whether the values of a refusal are within their limits.
+fn is_refusal(refusal: &AskRefusal) -> bool
+    ensures { IsTrue result ↔ FitsRefusal refusal.now }
+{
+    match refusal {
+        AskRefusal::Denied { rule: _ } => true,
+        AskRefusal::OldList { version } => *version < 1 << 31,
+        AskRefusal::OldEpoch { epoch } => *epoch < COUNTS,
+        AskRefusal::TooFar { object } => {
+            let _fits = *object;
+            true
+        }
+        AskRefusal::ClientsFull => true,
+    }
+}
+
+/// Whether what a member gave is within the limits of its values, as it always is.
+fn is_answered(answered: &Answered) -> bool
+    ensures { IsTrue result ↔ FitsAnswered answered.now }
+{
+    let _who_fits = answered.node.0;
+    match answered.outcome {
+        Retry::NoLease { end } => {
+            let _fits = end;
+            true
+        }
+        Retry::NoMajority { have, need } => {
+            let _have_fits = have;
+            let _need_fits = need;
+            true
+        }
+        Retry::Elsewhere { node, end } => {
+            let _end_fits = end;
+            u64::from(node.0) < 1 << 32
+        }
+        Retry::Silent => true,
+    }
+}
+
+/// Whether what each member gave is within its limits.
+fn are_answers(answers: &[Answered]) -> bool
+    ensures { IsTrue result ↔ AllByRecursion FitsAnswered answers.now }
+{
+    let mut rest = answers;
+    while let [answered, behind @ ..] = rest {
+        if !is_answered(answered) {
+            return false;
+        }
+        rest = behind;
+    }
+    true
+}
+
+/// Whether a call on a file may end so.
+fn is_end(outcome: &Outcome) -> bool
+    ensures { IsTrue result ↔ (IsFileEnd outcome.now × FitsOutcome outcome.now) }
+{
+    match outcome {
+        Outcome::Ok { count, bytes } => *count < COUNTS && are_few(bytes.as_slice()),
+        Outcome::Retry { answers } => are_answers(answers.as_slice()),
+        Outcome::Refused { refusal } => is_refusal(refusal),
+        _ => false,
+    }
+}
+
+/// Whether the values of a write's place in a file's order are within their limits.
+fn is_position(node: NodeId, file: u64, count: u64, id: OpId) -> bool
+    ensures { IsTrue result ↔ FitsPosition node file count id }
+{
+    let _node_fits = node.0;
+    let _client_fits = id.client.0;
+    count < COUNTS && id.number < COUNTS
+}
+
+/// Whether the entry is in the language of traces, as the first one or a later one.
+pub(crate) fn is_entry(first: bool, entry: &Entry) -> bool
+    ensures { IsTrue result ↔ IsEntryAt first entry.now }
+{
+    match entry {
+        Entry::Times { lease, drift } => first && Times::new(*lease, *drift).is_ok(),
+        Entry::File { number, location } => *number < 1_000_000 && is_place(location),
+        Entry::Clock { node, clock } => {
+            let _fits = node.0;
+            *clock < COUNTS
+        }
+        Entry::Tick { count } => *count < 1 << 32,
+        Entry::Up { node, boot, clock } => {
+            let _fits = node.0;
+            boot.0 < COUNTS && *clock < COUNTS
+        }
+        Entry::Down {
+            node,
+            clock,
+            how: _,
+        } => {
+            let _fits = node.0;
+            *clock < COUNTS
+        }
+        Entry::Begin {
+            client,
+            number,
+            call,
+        } => {
+            let _fits = client.0;
+            *number < COUNTS && is_call(call)
+        }
+        Entry::Held { node, file, end } => {
+            let _node_fits = node.0;
+            let _file_fits = *file;
+            let _end_fits = *end;
+            true
+        }
+        Entry::Active {
+            node,
+            file,
+            count,
+            id,
+        } => is_position(*node, *file, *count, *id),
+        Entry::Issue {
+            node,
+            file,
+            count,
+            id,
+        } => is_position(*node, *file, *count, *id),
+        Entry::Commit {
+            node,
+            file,
+            count,
+            id,
+        } => is_position(*node, *file, *count, *id),
+        Entry::Answer {
+            node,
+            file,
+            id,
+            count,
+            bytes,
+        } => is_position(*node, *file, *count, *id) && are_few(bytes.as_slice()),
+        Entry::Done {
+            client,
+            number,
+            outcome,
+        } => {
+            let _fits = client.0;
+            *number < COUNTS && is_end(outcome)
         }
     }
 }

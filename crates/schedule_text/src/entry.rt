@@ -1,13 +1,16 @@
-ghost use Rattle.std.specs.Prelude.{◌≡◌, ◌++◌, ◌∷◌, [], List, OnOk, IfOk, codes};
+ghost use Rattle.std.specs.Prelude.{◌≡◌, ◌++◌, ◌∷◌, [], List, OnOk, IfOk, IsTrue, ◌↔◌, MatchResult, codes};
 ghost use Rattle.std.specs.List.{AllByRecursion};
 ghost use Rattle.std.specs.Fmt.{decimal};
 ghost use Rattle.schedule_text.specs.Words.{spaced, hex_or_dash};
 ghost use Rattle.schedule_text.specs.CallText.{call_name, call_words};
 ghost use Rattle.schedule_text.specs.OutcomeText.{outcome_words};
 ghost use Rattle.time_line.specs.declared.entry.Entry.{Entry};
-ghost use Rattle.schedule_text.specs.EntryText.{entry_text, trace_text, update_words, halt_word, IsEntry};
+ghost use Rattle.schedule_text.specs.EntryText.{entry_text, trace_text, update_words, halt_word, IsEntry, IsEntryAt};
 
+use crate::bounds::is_entry;
 use crate::call::{call_name, push_call};
+use crate::entry_forms::loose_entry;
+use crate::line::LineErr;
 use crate::outcome::push_outcome;
 use crate::spelling::{
     Word, hex_or_dash, push_clock, push_file_line, push_named, push_named_words, push_times,
@@ -237,6 +240,42 @@ pub fn print_entries(alloc: Global, entries: &[Entry]) -> Result<Octets, OutOfMe
         push_entry_line(&mut out, entry)?;
     }
     Ok(Octets::from(out))
+}
+
+/// Whether the entry is in the language and these bytes spell it.
+fn is_spelled(alloc: Global, entry: &Entry, bytes: &[u8], first: bool) -> Result<bool, OutOfMemory>
+    ensures { IfOk result (λ yes.
+        IsTrue yes ↔ (IsEntryAt first entry.now × (bytes.now ≡ entry_text entry.now))) }
+{
+    if !is_entry(first, entry) {
+        return Ok(false);
+    }
+    let mut text = Vec::with_capacity(alloc, bytes.len())?;
+    push_entry(&mut text, entry)?;
+    Ok(text.as_slice() == bytes)
+}
+
+/// The entry that these bytes, without a line feed, spell; `first` says whether they are a trace's first line, the only one that
+/// may tell the times. `Malformed` exactly where no entry of the language is spelled so.
+#[tactic(auto, using(crate::proofs::EntryAgain::entry_again))]
+pub fn read_entry(alloc: Global, bytes: &[u8], first: bool) -> Result<Entry, LineErr>
+    // What is read is in the language, and is spelled so.
+    ensures found { IfOk result (λ e. IsEntryAt first e × (bytes.now ≡ entry_text e)) }
+
+    // What is spelled so is read, unless memory runs out.
+    ensures only { (e : Entry) → IsEntryAt first e → bytes.now ≡ entry_text e →
+        MatchResult result (λ read. read ≡ e) (λ why. why ≡ LineErr.OutOfMemory) }
+{
+    let Some(entry) = loose_entry(alloc, bytes)? else {
+        return Err(LineErr::Malformed);
+    };
+    // one way out for all that is refused, since each drops the entry
+    let why = match is_spelled(alloc, &entry, bytes, first) {
+        Ok(true) => return Ok(entry),
+        Ok(false) => LineErr::Malformed,
+        Err(error) => LineErr::from(error),
+    };
+    Err(why)
 }
 
 /// Two entries of a schedule's trace, within the limits of their values, that are spelled alike are one entry.

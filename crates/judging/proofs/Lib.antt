@@ -1,0 +1,12 @@
+pub mod Tests
+pub mod Pushed
+pub mod Entries
+pub mod Fresh
+pub mod Apart
+pub mod Orders
+pub mod Distinct
+pub mod Contents
+pub mod Ends
+pub mod Kept
+pub mod Judged
+pub mod Audited

@@ -1,0 +1,4 @@
+pub mod Pass
+pub mod Samples
+pub mod Laws
+pub mod Audit

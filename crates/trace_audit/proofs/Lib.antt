@@ -1,0 +1,4 @@
+pub mod EntryByEntry
+pub mod Endings
+pub mod Verdicts
+pub mod Complete

@@ -1,0 +1,2 @@
+pub mod NextEntry
+pub mod Audit

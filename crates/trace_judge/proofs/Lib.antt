@@ -1,0 +1,5 @@
+pub mod Clocks
+pub mod Put
+pub mod Followed
+pub mod Lesser
+pub mod Walk

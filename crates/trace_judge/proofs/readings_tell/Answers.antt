@@ -1,0 +1,6 @@
+-- Each entry keeps what a reading tells.
+use Rattle.trace_judge.proofs.Clocks.{readings_tell as lemma}
+use Rattle.trace_judge.proofs.readings_tell.Goals as goal
+
+pub returns : goal.returns
+returns c = lemma

@@ -1,0 +1,5 @@
+pub mod Short
+pub mod Rows
+pub mod Views
+pub mod Following
+pub mod Found
