@@ -1,0 +1,4 @@
+pub mod Places
+pub mod Jobs
+pub mod Serving
+pub mod Osds

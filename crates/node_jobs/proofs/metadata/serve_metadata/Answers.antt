@@ -1,0 +1,37 @@
+use Rattle.std.proofs.Common.{ap, subst, sym, refl, ◌∙◌}
+use Rattle.server_rows.specs.Metadata.{MrcNode}
+use Rattle.node_loop.proofs.Coming.{cause_from}
+use Rattle.node_roles.specs.Roles.{mrc_role}
+use Rattle.node_jobs.specs.Jobs.{HasSinkCause}
+use Rattle.node_jobs.proofs.Jobs.{served_sink}
+use Rattle.node_jobs.proofs.Serving.{can_be_taken, has_done, mrc_ready, mrc_told}
+use Rattle.node_jobs.proofs.metadata.serve_metadata.Goals as goal
+
+pub start-requires-clause-can : goal.start-requires-clause-can
+start-requires-clause-can g c =
+    let ready = c.in-Ok-get_ready.ensures.ready in
+    can_be_taken ready.records _ ready.are ready.fits (c.records.ensures ∙ ready.kept)
+
+pub serve-requires-clause-runs : goal.serve-requires-clause-runs
+serve-requires-clause-runs g c =
+    let ready = c.in-Ok-get_ready.ensures.ready in
+    mrc_ready ready.records _ ready.are ready.fits ready.kept c.args.serving.now.key _ _ c.in-Ok-get_ready.ensures.small
+    (mrc_told _ _ _ _ _ _ c.in-Ok-start.ensures c.as_slice.ensures c.records.ensures)
+
+pub returns-clause-job : goal.returns-clause-job
+returns-clause-job g c =
+    let told = mrc_told _ _ _ _ _ _ c.in-Ok-start.ensures c.as_slice.ensures c.records.ensures in
+    has_done _ _ _ _ _ _ _ _ _ _ _ _ _ _ _ _ _ _ _ _ _ _ c.in-Ok-get_ready.ensures.ready
+    (ap (λ (m : MrcNode). mrc_role m.secret) told) (ap (λ (m : MrcNode). m.state) told)
+    c.new.ensures c.in-Ok-ears_with.ensures c.period_of-period.ensures.value refl
+    c.get_ready.ensures.given c.get_ready.ensures.sent.0 c.get_ready.ensures.sent.1 c.serve.ensures.served
+
+pub returns-clause-cause : goal.returns-clause-cause
+returns-clause-cause g c =
+    cause_from _ _ _ _ _ _ _ c.in-Ok-get_ready.ensures.faults.0 c.in-Ok-get_ready.ensures.faults.1 c.serve.ensures.cause
+
+pub returns-clause-sink : goal.returns-clause-sink
+returns-clause-sink g c =
+    let sink = g.K.Sink.fault_count c.args.out.now in
+    subst (λ n. HasSinkCause sink n c.serve.result.0) (sym c.in-Ok-get_ready.ensures.faults.2)
+    (served_sink _ _ _ _ _ _ _ _ _ _ _ _ _ sink c.serve.result.0 c.serve.ensures.served)

@@ -1,0 +1,40 @@
+use Rattle.std.proofs.Common.{ap, subst, sym, refl, ◌∙◌}
+use Rattle.osd_core.specs.Views.{OsdView}
+use Rattle.node_loop.proofs.Coming.{cause_from}
+use Rattle.node_roles.specs.Roles.{osd_role}
+use Rattle.node_jobs.specs.Jobs.{HasSinkCause}
+use Rattle.node_jobs.proofs.Jobs.{served_sink}
+use Rattle.node_jobs.proofs.Serving.{has_done, says_so}
+use Rattle.node_jobs.proofs.Osds.{osd_rows, osd_runs, osd_told}
+use Rattle.node_jobs.proofs.osd.serve_osd.Goals as goal
+
+pub started-requires-clause-rows : goal.started-requires-clause-rows
+started-requires-clause-rows g c =
+    let ready = c.in-Ok-get_ready.ensures.ready in
+    osd_rows ready.records _ ready.are ready.fits (c.records.ensures ∙ ready.kept)
+
+pub serve-requires-clause-runs : goal.serve-requires-clause-runs
+serve-requires-clause-runs g c =
+    let ready = c.in-Ok-get_ready.ensures.ready in
+    osd_runs ready.records _ ready.are ready.fits ready.kept c.args.id c.args.serving.now.settings.times _ c.args.serving.now.key _
+    c.ready_text.ensures.number c.period_of-period.ensures.times c.in-Ok-get_ready.ensures.small
+    (osd_told _ _ _ _ _ _ _ c.in-Ok-started.ensures c.records.ensures)
+
+pub returns-clause-job : goal.returns-clause-job
+returns-clause-job g c =
+    let told = osd_told _ _ _ _ _ _ _ c.in-Ok-started.ensures c.records.ensures in
+    has_done _ _ _ _ _ _ _ _ _ _ _ _ _ _ _ _ _ _ _ _ _ _
+    (says_so _ _ _ _ _ _ _ _ _ (c.as_bytes.ensures.value ∙ c.in-Ok-ready_text.ensures.text) c.in-Ok-get_ready.ensures.ready)
+    (ap (λ (v : OsdView). osd_role v.state.started.node v.key) told) (ap (λ (v : OsdView). v.state) told)
+    c.new.ensures c.in-Ok-ears_with.ensures c.period_of-period.ensures.value refl
+    c.get_ready.ensures.given c.get_ready.ensures.sent.0 c.get_ready.ensures.sent.1 c.serve.ensures.served
+
+pub returns-clause-cause : goal.returns-clause-cause
+returns-clause-cause g c =
+    cause_from _ _ _ _ _ _ _ c.in-Ok-get_ready.ensures.faults.0 c.in-Ok-get_ready.ensures.faults.1 c.serve.ensures.cause
+
+pub returns-clause-sink : goal.returns-clause-sink
+returns-clause-sink g c =
+    let sink = g.K.Sink.fault_count c.args.out.now in
+    subst (λ n. HasSinkCause sink n c.serve.result.0) (sym c.in-Ok-get_ready.ensures.faults.2)
+    (served_sink _ _ _ _ _ _ _ _ _ _ _ _ _ sink c.serve.result.0 c.serve.ensures.served)

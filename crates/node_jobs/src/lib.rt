@@ -1,0 +1,14 @@
+//! The job of a node: it binds its link, loads or makes its store, keeps its boot, reads the clock, says that it is ready, and serves.
+#![tactic(auto)]
+
+mod directory;
+mod loading;
+mod metadata;
+mod opening;
+mod osd;
+mod readiness;
+mod starting;
+
+pub use directory::serve_directory;
+pub use metadata::serve_metadata;
+pub use osd::serve_osd;

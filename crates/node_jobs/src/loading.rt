@@ -1,0 +1,106 @@
+ghost use Rattle.std.specs.Prelude.{◌≡◌, ◌<◌, ◌^◌, IfOk, IfErr};
+ghost use Rattle.xt_messages.specs.Limits.{FitsBoot};
+ghost use Rattle.xt_protocol.specs.Folds.{boot_after};
+ghost use Rattle.object_store.specs.Access.{records_of};
+ghost use Rattle.object_store.specs.Texts.{AreRecords};
+ghost use Rattle.node_jobs.specs.Jobs.{stored_boot, next_boot, booted, EndsInside};
+
+use disk_model::Disk;
+use node_loop::{Ended, keep};
+use object_store::{Store, StoreErr};
+use std::alloc::Global;
+use xt_base::Boot;
+use xt_journal::{Journal, LoadErr};
+use xt_messages::{Limited, Record, Status};
+
+/// The last boot that there is.
+const LAST_BOOT: u64 = (1 << 62) - 1;
+
+/// The store of the records that stand on a disk, which is made a journal where it is empty.
+#[tactic(auto, using(crate::proofs::Places::bad_inside))]
+pub fn loaded<D: Disk>(alloc: Global, disk: D, limit: u64) -> Result<Store<D>, Ended<D>>
+    ensures records { IfOk result (λ store. AreRecords (records_of store)) }
+    ensures ends { IfErr result (λ ended. EndsInside ended.status) }
+{
+    let (journal, placed) = match Journal::load(alloc, disk, limit) {
+        Ok(loaded) => loaded,
+        Err(LoadErr::DiskFault { count, disk }) => {
+            let status = Status::DiskFault { count };
+            return Err(Ended { status, disk });
+        }
+        Err(LoadErr::NotOurs { first, disk }) => {
+            let status = Status::NotOurs { first };
+            return Err(Ended { status, disk });
+        }
+        Err(LoadErr::Layout { version, disk }) => {
+            let status = Status::Layout { version };
+            return Err(Ended { status, disk });
+        }
+        Err(LoadErr::Damaged { place, disk }) => {
+            let status = Status::Damaged { place };
+            return Err(Ended { status, disk });
+        }
+        Err(LoadErr::OutOfMemory { disk }) => {
+            let status = Status::OutOfMemory;
+            return Err(Ended { status, disk });
+        }
+    };
+    match Store::load(alloc, journal, placed.as_slice()) {
+        Ok(store) => Ok(store),
+        Err(StoreErr::BadRecord { index, journal }) => Err(Ended {
+            status: Status::Damaged {
+                place: placed[index].gate,
+            },
+            disk: journal.close(),
+        }),
+        Err(StoreErr::OutOfMemory { journal }) => Err(Ended {
+            status: Status::OutOfMemory,
+            disk: journal.close(),
+        }),
+    }
+}
+
+/// The boot that a record tells, or else the one before it.
+fn boot_after(boot: u64, rec: &Record) -> u64
+    ensures { result ≡ boot_after boot rec.now }
+{
+    match rec {
+        Record::Boot { boot } => boot.0,
+        _ => boot,
+    }
+}
+
+/// The last boot of these records, or 0.
+fn stored_boot(records: &[Record]) -> u64
+    ensures { result ≡ stored_boot records.now }
+{
+    let mut boot = 0;
+    for rec in records {
+        boot = boot_after(boot, rec);
+    }
+    boot
+}
+
+/// Keeps the boot after the last one of the store.
+pub fn booted<D: Disk>(alloc: Global, store: Store<D>) -> Result<(Store<D>, Boot), Ended<D>>
+    ensures records { IfOk result (λ done. records_of done.0 ≡ booted (records_of store)) }
+    ensures boot { IfOk result (λ done. done.1 ≡ next_boot (records_of store)) }
+    ensures fits { IfOk result (λ done. FitsBoot done.1) }
+    ensures ends { IfErr result (λ ended. EndsInside ended.status) }
+{
+    let last = stored_boot(store.records());
+    if last >= LAST_BOOT {
+        return Err(Ended {
+            status: Status::Limit {
+                what: Limited::Boots,
+                limit: LAST_BOOT,
+            },
+            disk: store.close(),
+        });
+    }
+    let boot = Boot(last + 1);
+    match keep(alloc, store, &Record::Boot { boot }) {
+        Ok(store) => Ok((store, boot)),
+        Err(ended) => Err(ended),
+    }
+}

@@ -1,0 +1,53 @@
+ghost use Rattle.std.specs.Prelude.{◌≡◌, ℕ, IfOk, IfErr};
+ghost use Rattle.object_store.specs.Access.{records_of};
+ghost use Rattle.object_store.specs.Texts.{AreRecords};
+ghost use Rattle.node_runs.specs.Serving.{HasServeCause};
+ghost use Rattle.node_jobs.specs.Jobs.{EndsEarly, HasSinkCause};
+
+use crate::loading::loaded;
+use disk_model::Disk;
+use node_links::Link;
+use node_loop::Ended;
+use object_store::Store;
+use std::alloc::Global;
+use xt_messages::Status;
+
+/// Takes an address for the link, chooses the file of the store, and loads that.
+#[tactic(auto, using(crate::proofs::Jobs::inside_early, crate::proofs::Jobs::inside_cause, crate::proofs::Jobs::inside_sink))]
+pub fn opened<L: Link, D: Disk>(
+    alloc: Global,
+    listen: &str,
+    path: &str,
+    limit: u64,
+    link: &mut L,
+    disk: D,
+) -> Result<Store<D>, Ended<D>>
+    ensures given { L.given link.new ≡ L.given link.old }
+    ensures sent { (L.sent link.new ≡ L.sent link.old)
+        × (L.loss_count link.new ≡ L.loss_count link.old) }
+    ensures records { IfOk result (λ store. AreRecords (records_of store)) }
+    ensures faults { IfOk result (λ store. L.fault_count link.new ≡ L.fault_count link.old) }
+    ensures ends { IfErr result (λ ended. EndsEarly ended.status) }
+    ensures cause { (clock : ℕ) → IfErr result (λ ended.
+        HasServeCause (L.fault_count link.old) (L.fault_count link.new) clock clock ended.status) }
+    ensures sink { (sink : ℕ) → IfErr result (λ ended. HasSinkCause sink sink ended.status) }
+{
+    let mut disk = disk;
+    if link.bind(listen).is_err() {
+        return Err(Ended {
+            status: Status::LinkFault {
+                count: link.faults(),
+            },
+            disk,
+        });
+    }
+    if disk.attach(path).is_err() {
+        return Err(Ended {
+            status: Status::DiskFault {
+                count: disk.faults(),
+            },
+            disk,
+        });
+    }
+    loaded(alloc, disk, limit)
+}

@@ -1,0 +1,45 @@
+-- what an event leaves
+use Rattle.std.proofs.Common.{ℕ, ◌≡◌, sym, subst, Option, Some, List, ◌++◌, length, take, inl, inr, ◌⊎◌}
+use Rattle.std.proofs.Math.Seq.{take-length}
+use Rattle.std.specs.List.{All}
+use Rattle.std.proofs.lemmas.List.Elements.{All-append, All-filter}
+use Rattle.std.specs.Prelude.{◌==◌, []}
+use Rattle.xt_base.specs.declared.ids.NodeId.{NodeId}
+use Rattle.xt_base.specs.declared.ids.Boot.{Boot}
+use Rattle.xt_messages.specs.declared.message.Msg.{Msg}
+use Rattle.xt_messages.specs.Limits.{FitsMessage}
+use Rattle.xt_messages.specs.declared.record.Record.{Record}
+use Rattle.xt_messages.specs.declared.status.Status.{Status}
+use Rattle.xt_messages.specs.declared.status.Status.TheVariants as status
+use Rattle.cluster_runs.specs.Steps.{Step}
+use Rattle.cluster_runs.specs.NodeSteps.{to_itself}
+use Rattle.node_links.specs.declared.link.Datagram.{Datagram}
+use Rattle.node_runs.specs.Hearing.{Book}
+use Rattle.node_runs.specs.Posting.{posted, none_posted, HasPosted, HasSentFront}
+use Rattle.node_loop.specs.Events.{EndsEvent, EndsPut, LeavesPut}
+
+pub own_fits : (node : NodeId) (old outs own : List Msg) → own ≡ old ++ to_itself node outs → All FitsMessage old → All FitsMessage outs → All FitsMessage own
+own_fits node old outs own e before new =
+    subst (All FitsMessage) (sym e) (All-append FitsMessage old (to_itself node outs) before (All-filter (λ (m : Msg). m.to.0 == node.0) FitsMessage outs new))
+
+-- all of them are a front
+pub whole_sent : {W N : Type 0} (node home : NodeId) (boot : Boot) (book kept : Book) (before count : ℕ) (msgs : List Msg) (handed : List Datagram → Type 0) → node ≡ home → book ≡ kept
+    → HasPosted (posted node boot book (none_posted before) msgs) count handed → W → N ⊎ (HasSentFront home boot kept before msgs handed × W)
+whole_sent node home boot book kept before count msgs handed e same has with =
+    inr (
+      (
+        length msgs,
+        subst (λ b. handed (posted home boot b (none_posted before) (take (length msgs) msgs)).datagrams) same (subst (λ n. handed (posted n boot book (none_posted before) (take (length msgs) msgs)).datagrams) e
+            (subst (λ ms. handed (posted node boot book (none_posted before) ms).datagrams) (sym (take-length msgs)) has.went)),
+      ),
+      with,
+    )
+
+-- what a put leaves is what its event leaves; nothing of the event is sent
+pub ends_put : {S : Type 0} (step : Step S) (node : NodeId) (boot : Boot) (book : Book) (before : ℕ) (handed : List Datagram → Type 0)
+    (leaves : Option Record → Type 0) (rec : Record) (said : Status) → step.turned.rec ≡ Some rec → handed [] → EndsPut said
+    → LeavesPut leaves rec said → EndsEvent step node boot book before handed leaves said
+ends_put step node boot book before handed leaves rec (status.DiskFault count) is none ends left = (none, inl (subst leaves (sym is) left))
+ends_put step node boot book before handed leaves rec (status.JournalFull need limit) is none ends left = (none, left, (rec, is, ends))
+ends_put step node boot book before handed leaves rec status.OutOfMemory is none ends left = inr ((0, none), subst leaves (sym is) left)
+ends_put step node boot book before handed leaves rec _ is none ends left = absurd ends

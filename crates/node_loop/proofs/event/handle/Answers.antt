@@ -1,0 +1,80 @@
+use Rattle.std.proofs.Common.{rules, ◌≡◌, Some, sym, subst, inl, inr}
+use Rattle.cluster_runs.specs.NodeSteps.{one_more}
+use Rattle.node_runs.specs.Posting.{HasSentFront}
+use Rattle.node_runs.proofs.Keeping.{stays, stays_closed, closed_with}
+use Rattle.object_store.specs.Access.{records_of, disk_of}
+use Rattle.node_runs.specs.Links.{Sends}
+use Rattle.node_runs.specs.Keeping.{KeepsOn, KeepsWith}
+use Rattle.node_loop.proofs.Sent.{nothing_sent}
+use Rattle.node_loop.proofs.Acting.{ends_put}
+use Rattle.node_loop.proofs.event.handle.Goals.{in-None, in-Some+in-Ok-keep}
+use Rattle.node_loop.proofs.event.handle.Goals as goal
+
+pub returns-in-Err-clause-ends : goal.returns-in-Err-clause-ends
+returns-in-Err-clause-ends g c =
+    let node = c.args.node.now in
+    let s = c.args.sender.now in
+    let sent = g.L.Link.sent c.args.link.now in
+    let losses = g.L.Link.loss_count c.args.link.now in
+    let step = (g.N.Node.role node).step (records_of c.args.store) (g.N.Node.state node) c.args.now c.args.ev.now in
+    let kept : step.turned.rec ≡ Some c.in-Some.rec.now = search rules in
+    ends_put step s.node s.boot c.args.book.now s.count (Sends sent sent losses losses)
+    (KeepsWith g.D.Disk.is_told g.D.Disk.moment g.D.Disk.left_since (disk_of c.args.store) c.in-Err.ended.disk (records_of c.args.store)) c.in-Some.rec.now c.in-Err.ended.status kept
+    (nothing_sent sent losses) c.in-Err.ensures.ends c.in-Err.ensures.leaves
+
+pub returns-in-Err-OutOfMemory-clause-ends : goal.returns-in-Err-OutOfMemory-clause-ends
+returns-in-Err-OutOfMemory-clause-ends g c =
+    let D = g.D.Disk in
+    let store = c.args.store in
+    inl (
+      nothing_sent (g.L.Link.sent c.args.link.now) (g.L.Link.loss_count c.args.link.now),
+      stays_closed D.is_told D.kept D.moment D.left_since (disk_of store) c.close.result (records_of store) c.close.ensures store.keeps
+          (λ image told left. g.met.D.Disk.only_now (disk_of store) image told left),
+    )
+
+pub returns-in-Err-BodyFault-clause-ends : goal.returns-in-Err-BodyFault-clause-ends
+returns-in-Err-BodyFault-clause-ends g c =
+    let D = g.D.Disk in
+    let store = c.args.store in (
+      nothing_sent (g.L.Link.sent c.args.link.now) (g.L.Link.loss_count c.args.link.now),
+      inr (stays_closed D.is_told D.kept D.moment D.left_since (disk_of store) c.close-in-Err-BodyFault.result (records_of store)
+          c.close-in-Err-BodyFault.ensures store.keeps (λ image told left. g.met.D.Disk.only_now (disk_of store) image told left)),
+    )
+
+pub returns-in-Ok-send_all-clause-keeps : goal.returns-in-Ok-send_all-clause-keeps
+returns-in-Ok-send_all-clause-keeps g c =
+    let D = g.D.Disk in
+    let store = c.args.store in
+    let here : KeepsOn D.is_told D.moment D.left_since (disk_of store) (disk_of store) (records_of store) (records_of store) =
+    stays D.is_told D.kept D.moment D.left_since (disk_of store) (records_of store) store.keeps
+    (λ image told left. g.met.D.Disk.only_now (disk_of store) image told left) in
+    elim c.match-get.branch [
+      | in-None w ↦ subst (λ s. KeepsOn D.is_told D.moment D.left_since (disk_of store) (disk_of s) (records_of store) (records_of s)) (sym w.store-is) here
+      | in-Some+in-Ok-keep w ↦
+          subst (λ s. KeepsOn D.is_told D.moment D.left_since (disk_of store) (disk_of s) (records_of store) (records_of s)) (sym w.store-is) w.in-Ok-keep.ensures.keeps
+    ]
+
+pub returns-clause-ends : goal.returns-clause-ends
+returns-clause-ends g c =
+    let D = g.D.Disk in
+    let store = c.args.store in
+    let s = c.args.sender.now in
+    let step = (g.N.Node.role c.args.node.now).step (records_of store) (g.N.Node.state c.args.node.now) c.args.now c.args.ev.now in
+    let here : KeepsOn D.is_told D.moment D.left_since (disk_of store) (disk_of store) (records_of store) (records_of store) =
+    stays D.is_told D.kept D.moment D.left_since (disk_of store) (records_of store) store.keeps
+    (λ image told left. g.met.D.Disk.only_now (disk_of store) image told left) in
+    let put : KeepsOn D.is_told D.moment D.left_since (disk_of store) (disk_of c.match-get.store) (records_of store) (records_of c.match-get.store) =
+    elim c.match-get.branch [
+      | in-None w ↦ subst (λ s. KeepsOn D.is_told D.moment D.left_since (disk_of store) (disk_of s) (records_of store) (records_of s)) (sym w.store-is) here
+      | in-Some+in-Ok-keep w ↦
+          subst (λ s. KeepsOn D.is_told D.moment D.left_since (disk_of store) (disk_of s) (records_of store) (records_of s)) (sym w.store-is) w.in-Ok-keep.ensures.keeps
+    ] in
+    let kept : records_of c.match-get.store ≡ one_more (records_of store) step.turned.rec = search rules in
+    let front : HasSentFront s.node s.boot c.args.book.now s.count step.turned.outs
+    (Sends (g.L.Link.sent c.args.link.now) (g.L.Link.sent c.send_all.new.link) (g.L.Link.loss_count c.args.link.now) (g.L.Link.loss_count c.send_all.new.link)) =
+    search rules in
+    inr (
+      front,
+      closed_with D.is_told D.kept D.moment D.left_since (disk_of store) (disk_of c.match-get.store) c.close-in-Err-send_all.result
+          (records_of store) (records_of c.match-get.store) step.turned.rec c.close-in-Err-send_all.ensures kept put,
+    )

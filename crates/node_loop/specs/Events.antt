@@ -1,0 +1,54 @@
+-- what an event does to a served node
+use Rattle.std.specs.Prelude.{ℕ, ◌≡◌, ◌⊎◌, Option, Some, None, List, []}
+use Rattle.std.specs.Option.{IfSome}
+use Rattle.std.specs.List.{All}
+use Rattle.xt_base.specs.Faults.{Rose}
+use Rattle.xt_base.specs.declared.ids.NodeId.{NodeId}
+use Rattle.xt_base.specs.declared.ids.Boot.{Boot}
+use Rattle.xt_messages.specs.declared.message.Msg.{Msg}
+use Rattle.xt_messages.specs.declared.record.Record.{Record}
+use Rattle.xt_messages.specs.declared.status.Status.{Status}
+use Rattle.xt_messages.specs.declared.status.Status.TheVariants as status
+use Rattle.xt_messages.specs.Limits.{FitsMessage, FitsRecord}
+use Rattle.xt_protocol.specs.Folds.{fold_of, IsInPlace}
+use Rattle.xt_protocol.specs.declared.turned.Turned.{Turned}
+use Rattle.cluster_runs.specs.Steps.{Step}
+use Rattle.cluster_runs.specs.NodeSteps.{one_more}
+use Rattle.node_links.specs.declared.link.Datagram.{Datagram}
+use Rattle.node_runs.specs.Hearing.{Book}
+use Rattle.node_runs.specs.Posting.{posted, none_posted, HasPosted, HasSentFront}
+
+-- its record may be put after these, and its messages may be sent
+pub record Fits (records : List Record) (turned : Turned) : Type 0 where
+  pub record_next : IfSome turned.rec (λ rec. FitsRecord rec × IsInPlace (fold_of records) rec)
+  pub messages : All FitsMessage turned.outs
+
+-- The node is in the state of the step, has put its record and sent its messages.
+pub record HasStepped {S : Type 0} (step : Step S) (node : NodeId) (boot : Boot) (book : Book) (before : ℕ) (records : List Record)
+    (state : S) (kept : List Record) (outs : List Msg) (count : ℕ) (handed : List Datagram → Type 0) : Type 0 where
+  pub state_is : state ≡ step.state
+  pub kept_is : kept ≡ one_more records step.turned.rec
+  pub outs_are : outs ≡ step.turned.outs
+  pub sent : HasPosted (posted node boot book (none_posted before) step.turned.outs) count handed
+
+-- why a record isn't put
+abbrev pub EndsPut : Status → Type 0
+EndsPut (status.DiskFault count) = Unit {0}
+EndsPut (status.JournalFull need limit) = Rose limit need
+EndsPut status.OutOfMemory = Unit {0}
+EndsPut _ = ⊥
+
+-- What a put leaves that ends the node, where `left` says it of a record that a crash may leave: none where the journal is full.
+abbrev pub LeavesPut : (Option Record → Type 0) → Record → Status → Type 0
+LeavesPut left rec (status.JournalFull need limit) = left None
+LeavesPut left rec _ = left (Some rec)
+
+-- An event that ends the node: nothing of it is sent, but where memory runs out after its record, a front of its messages. And what
+-- it leaves on the disk, where `left` says so of the record that a crash may leave.
+abbrev pub EndsEvent : {S : Type 0} → Step S → NodeId → Boot → Book → ℕ → (List Datagram → Type 0) → (Option Record → Type 0) → Status → Type 0
+EndsEvent step node boot book before handed left (status.DiskFault count) = handed [] × (left step.turned.rec ⊎ left None)
+EndsEvent step node boot book before handed left (status.JournalFull need limit) =
+    handed [] × left None × ((rec : Record) × (step.turned.rec ≡ Some rec) × Rose limit need)
+EndsEvent step node boot book before handed left status.OutOfMemory =
+    (handed [] × left None) ⊎ (HasSentFront node boot book before step.turned.outs handed × left step.turned.rec)
+EndsEvent step node boot book before handed left _ = ⊥

@@ -1,0 +1,91 @@
+-- a turn, and one pass of the loop of a served node
+use Rattle.std.specs.Prelude.{ℕ, ◌≡◌, ◌≤◌, ◌<◌, ◌+◌, Option, List, [], ◌∷◌, ◌++◌, length, take}
+use Rattle.std.specs.Option.{IfSome}
+use Rattle.xt_base.specs.declared.ids.Boot.{Boot}
+use Rattle.xt_messages.specs.declared.message.Msg.{Msg}
+use Rattle.xt_messages.specs.declared.event.Event.{Event}
+use Rattle.xt_messages.specs.declared.record.Record.{Record}
+use Rattle.xt_messages.specs.declared.status.Status.{Status}
+use Rattle.xt_messages.specs.declared.status.Status.TheVariants as status
+use Rattle.node_links.specs.declared.link.Datagram.{Datagram}
+use Rattle.node_links.specs.Streams.{Takes}
+use Rattle.node_runs.specs.Links.{Sends, Reads}
+use Rattle.node_runs.specs.Hearing.{Ears}
+use Rattle.node_runs.specs.Runs.{Role, Served, Turn, woke, idle, came, Begins, Passes, Comes, handles, mails, datagrams_in, readings_in}
+use Rattle.node_runs.specs.Serving.{Undone, EndsServing}
+use Rattle.node_loop.specs.declared.opening.Opening.{Opening}
+use Rattle.node_loop.specs.declared.opening.Opening.TheVariants as opening
+
+-- the node as the loop holds it
+abbrev pub standing : {S : Type 0} → S → List Record → List Msg → Ears → ℕ → ℕ → ℕ → Served S
+standing state kept own ears clock due count =
+    record { state = state; kept = kept; own = own; ears = ears; clock = clock; due = due; count = count }
+
+-- how a receive went, where so much time was left
+abbrev pub Opened : ℕ → Option (List Datagram) → Option (List Datagram) → List ℕ → Opening → Type 0
+Opened left before after buf opening.NoTimeLeft = (left ≡ 0) × (after ≡ before)
+Opened left before after buf opening.NothingCame = (0 < left) × IfSome before (λ datagrams. datagrams ≡ []) × (after ≡ before)
+Opened left before after buf (opening.Piece from len) =
+    (0 < left) × (len ≤ length buf) × Takes before after (record { peer = from; bytes = take len buf } ∷ [])
+
+-- the turn that begins so
+abbrev pub turn_of : List ℕ → Opening → ℕ → Turn
+turn_of buf opening.NoTimeLeft reading = woke reading
+turn_of buf opening.NothingCame reading = idle reading
+turn_of buf (opening.Piece from len) reading = came (record { peer = from; bytes = take len buf }) reading
+
+abbrev pub IsWithin : List ℕ → Opening → Type 0
+IsWithin buf (opening.Piece from len) = len ≤ length buf
+IsWithin buf _ = Unit {0}
+
+-- a turn was begun: its datagram was received, and after that the clock was read
+pub record HasBegun (left : ℕ) (before after : Option (List Datagram)) (unread read : Option (List ℕ)) (turn : Turn) : Type 0 where
+  pub begins : Begins before left turn
+  pub received : Takes before after (datagrams_in (turn ∷ []))
+  pub reads : Reads unread read (readings_in (turn ∷ []))
+
+-- A turn could not be begun: the receive failed, or the clock after it.
+abbrev pub CannotBegin : ℕ → Option (List Datagram) → Option (List Datagram) → Option (List ℕ) → Option (List ℕ) → Status → Type 0
+CannotBegin left before after unread read (status.LinkFault count) = (0 < left) × (after ≡ before) × (read ≡ unread)
+CannotBegin left before after unread read (status.ClockFault count) =
+    (turn : Turn) × Begins before left turn × Takes before after (datagrams_in (turn ∷ [])) × (read ≡ unread)
+CannotBegin left before after unread read _ = ⊥
+
+-- one pass: a turn, or a message to itself
+pub record HasPassed {S : Type 0} (role : Role S) (boot : Boot) (period : ℕ) (old new : Served S) (spent now_spent : ℕ)
+    (before after sent_before sent_after : Option (List Datagram)) (losses_before losses_after : ℕ) (unread read : Option (List ℕ)) : Type 0 where
+  pub turns : List Turn
+  pub posts : List Datagram
+  pub passes : Passes role boot period before old turns posts new
+  pub received : Takes before after (datagrams_in turns)
+  pub reads : Reads unread read (readings_in turns)
+  pub sends : Sends sent_before sent_after losses_before losses_after posts
+  pub spends : now_spent ≡ spent + length turns
+
+-- a pass that ends the node, and what it leaves on the disk, where `left` says so of the record that a crash may leave
+pub record HasEnded {S : Type 0} (role : Role S) (boot : Boot) (period : ℕ) (limit spent : ℕ) (old : Served S)
+    (before after sent_before sent_after : Option (List Datagram)) (losses_before losses_after : ℕ) (unread read : Option (List ℕ))
+    (left : Option Record → Type 0) (said : Status) : Type 0 where
+  pub undone : Undone
+  pub received : Takes before after (datagrams_in undone.turn ++ undone.unread)
+  pub reads : Reads unread read (readings_in undone.turn)
+  pub sends : Sends sent_before sent_after losses_before losses_after undone.more
+  pub ending : EndsServing role boot period limit spent before old undone said
+  pub leaves : left undone.record_met
+
+-- the node has come so far
+pub record HasCome {S : Type 0} (role : Role S) (boot : Boot) (period : ℕ) (start now : Served S) (spent : ℕ)
+    (before after sent_before sent_after : Option (List Datagram)) (losses_before losses_after : ℕ) (unread read : Option (List ℕ)) : Type 0 where
+  pub turns : List Turn
+  pub posts : List Datagram
+  pub comes : Comes role boot period before start after turns posts now
+  pub received : Takes before after (datagrams_in turns)
+  pub reads : Reads unread read (readings_in turns)
+  pub sends : Sends sent_before sent_after losses_before losses_after posts
+  pub spends : spent ≡ length turns
+
+-- an event was handled
+pub record HasActed {S : Type 0} (role : Role S) (boot : Boot) (old : Served S) (happens : Event) (new : Served S)
+    (handed : List Datagram → Type 0) : Type 0 where
+  pub is : new ≡ handles role boot 0 old happens
+  pub sends : handed (mails role boot 0 old happens)

@@ -1,0 +1,130 @@
+ghost use Rattle.std.specs.Prelude.{◌≡◌, ◌<◌, ◌^◌, ◌++◌, ◌∷◌, [], IfOk, IfErr};
+ghost use Rattle.std.specs.List.{All};
+ghost use Rattle.xt_messages.specs.Limits.{FitsEvent, FitsMessage, FitsRecord};
+ghost use Rattle.xt_protocol.specs.Folds.{fold_of, IsInPlace};
+ghost use Rattle.object_store.specs.Access.{records_of, disk_of};
+ghost use Rattle.node_loop.specs.Events.{HasStepped, EndsEvent, EndsPut, LeavesPut};
+ghost use Rattle.node_runs.specs.Links.{Sends};
+ghost use Rattle.node_runs.specs.Keeping.{KeepsOn, KeepsWith};
+
+use crate::node::Node;
+use crate::reader::Reader;
+use crate::sending::send_all;
+use disk_model::Disk;
+use node_links::Link;
+use node_mail::{Book, Sender};
+use object_store::{AppendErr, Store};
+use object_versions::StepErr;
+use std::alloc::Global;
+use xt_messages::{Event, Msgs, Record, Status};
+
+/// How an event ended the node: the status, and the disk.
+#[derive(Drop)]
+pub struct Ended<D: Disk> {
+    pub status: Status,
+    pub disk: D,
+}
+
+/// What is left of an event: the store with its record, and its messages, of which those to others were sent.
+#[derive(Drop)]
+pub struct Handled<D: Disk> {
+    pub store: Store<D>,
+    pub outs: Msgs,
+}
+
+/// Puts a record after those of the store. A crash at any moment of it leaves those of the store, with this one or without it; where the
+/// journal is full, without it.
+pub fn keep<D: Disk>(alloc: Global, store: Store<D>, rec: &Record) -> Result<Store<D>, Ended<D>>
+    requires fits { FitsRecord rec.now }
+    requires placed { IsInPlace (fold_of (records_of store)) rec.now }
+    ensures kept { IfOk result (λ kept. records_of kept ≡ records_of store ++ rec.now ∷ []) }
+    ensures ends { IfErr result (λ ended. EndsPut ended.status) }
+    ensures keeps { IfOk result (λ kept. KeepsOn D.is_told D.moment D.left_since
+        (disk_of store) (disk_of kept) (records_of store) (records_of kept)) }
+    ensures leaves { IfErr result (λ ended. LeavesPut
+        (KeepsWith D.is_told D.moment D.left_since (disk_of store) ended.disk (records_of store))
+        rec.now ended.status) }
+{
+    match store.put(alloc, rec) {
+        Ok(store) => Ok(store),
+        Err(AppendErr::Broken { count, disk }) => Err(Ended {
+            status: Status::DiskFault { count },
+            disk,
+        }),
+        Err(AppendErr::Full { store, need, limit }) => Err(Ended {
+            status: Status::JournalFull { need, limit },
+            disk: store.close(),
+        }),
+        Err(AppendErr::OutOfMemory { store }) => Err(Ended {
+            status: Status::OutOfMemory,
+            disk: store.close(),
+        }),
+    }
+}
+
+/// An event: the step, its record, its messages. A crash at any moment of it leaves the records of the store, with the event's own or
+/// without it.
+pub fn handle<N: Node, L: Link, D: Disk>(
+    alloc: Global,
+    node: &mut N,
+    sender: &mut Sender,
+    book: &Book,
+    link: &mut L,
+    store: Store<D>,
+    now: u64,
+    ev: &Event,
+) -> Result<Handled<D>, Ended<D>>
+    requires clock { now < 2 ^ 62 }
+    requires event { FitsEvent ev.now }
+    requires runs { N.runs_on node.old (records_of store) }
+    ensures given { L.given link.new ≡ L.given link.old }
+    ensures faults { L.fault_count link.new ≡ L.fault_count link.old }
+    ensures same { (sender.new.node ≡ sender.old.node) × (sender.new.boot ≡ sender.old.boot) }
+    ensures role { IfOk result (λ done. N.role node.new ≡ N.role node.old) }
+    ensures runs { IfOk result (λ done. N.runs_on node.new (records_of done.store)) }
+    ensures fits { IfOk result (λ done. All FitsMessage done.outs) }
+    ensures stepped { IfOk result (λ done. HasStepped
+        ((N.role node.old).step (records_of store) (N.state node.old) now ev.now)
+        sender.old.node sender.old.boot book.now sender.old.count (records_of store)
+        (N.state node.new) (records_of done.store) done.outs sender.new.count
+        (Sends (L.sent link.old) (L.sent link.new) (L.loss_count link.old) (L.loss_count link.new))) }
+    ensures ends { IfErr result (λ ended. EndsEvent
+        ((N.role node.old).step (records_of store) (N.state node.old) now ev.now)
+        sender.old.node sender.old.boot book.now sender.old.count
+        (Sends (L.sent link.old) (L.sent link.new) (L.loss_count link.old) (L.loss_count link.new))
+        (KeepsWith D.is_told D.moment D.left_since (disk_of store) ended.disk (records_of store))
+        ended.status) }
+    ensures keeps { IfOk result (λ done. KeepsOn D.is_told D.moment D.left_since
+        (disk_of store) (disk_of done.store) (records_of store) (records_of done.store)) }
+{
+    let turned = match node.step(alloc, &mut Reader::new(&store), now, ev) {
+        Ok(turned) => turned,
+        Err(StepErr::OutOfMemory) => {
+            return Err(Ended {
+                status: Status::OutOfMemory,
+                disk: store.close(),
+            });
+        }
+        Err(StepErr::BodyFault { count }) => {
+            return Err(Ended {
+                status: Status::DiskFault { count },
+                disk: store.close(),
+            });
+        }
+    };
+    let (rec, outs, _marks) = turned.into_parts();
+    let store = match rec.get() {
+        None => store,
+        Some(rec) => match keep(alloc, store, rec) {
+            Ok(store) => store,
+            Err(ended) => return Err(ended),
+        },
+    };
+    match send_all(alloc, sender, book, outs.as_slice(), link) {
+        Ok(()) => Ok(Handled { store, outs }),
+        Err(_) => Err(Ended {
+            status: Status::OutOfMemory,
+            disk: store.close(),
+        }),
+    }
+}

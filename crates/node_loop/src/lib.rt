@@ -1,0 +1,18 @@
+//! Serving a node: its turns, its events (the step, its record, its messages), and its messages to itself.
+#![tactic(auto)]
+
+mod event;
+mod node;
+mod opening;
+mod reader;
+mod sending;
+mod serving;
+mod site;
+mod turn;
+
+pub use event::{Ended, Handled, handle, keep};
+pub use node::Node;
+pub use sending::send_all;
+pub use serving::serve;
+pub use site::Site;
+pub use turn::Bounds;

@@ -1,0 +1,58 @@
+ghost use Rattle.std.specs.Prelude.{◌≡◌, ◌<◌, ◌^◌, List, Ok, IfOk};
+ghost use Rattle.xt_messages.specs.Limits.{FitsEvent};
+ghost use Rattle.xt_messages.specs.declared.record.Record.{Record};
+ghost use Rattle.cluster_runs.specs.NodeSteps.{one_more};
+ghost use Rattle.object_versions.specs.KeptBodies.{fault_of, ReadsOnly};
+ghost use Rattle.node_loop.specs.Events.{Fits};
+
+use object_versions::{Bodies, StepErr};
+use std::alloc::Global;
+use xt_base::{NodeId, OutOfMemory};
+use xt_messages::{Event, Msg};
+use xt_protocol::Turned;
+
+/// The core of a node that is served.
+pub trait Node {
+    ghost use Rattle.node_runs.specs.Runs.{Role};
+
+    /// What its state is.
+    ghost State: { Type 0 };
+
+    /// What it is, which no step changes.
+    ghost role: { Self → Role State };
+
+    /// Its state.
+    ghost state: { Self → State };
+
+    /// What holds of it and of the records that it keeps, from its start on and wherever it comes to: what a step gives then is
+    /// within the limits.
+    ghost runs_on: { Self → List Record → Type 0 };
+
+    /// Which node it is.
+    fn id(&self) -> NodeId
+        ensures { result ≡ (role self.now).node };
+
+    /// Its step on an event, at a reading of the clock. Its record is kept before it steps again.
+    fn step<B: Bodies>(
+        &mut self,
+        alloc: Global,
+        bodies: &mut B,
+        now: u64,
+        ev: &Event,
+    ) -> Result<Turned, StepErr>
+        requires clock { now < 2 ^ 62 }
+        requires fits { FitsEvent ev.now }
+        requires runs { runs_on self.old (B.records bodies.old) }
+        ensures step { IfOk result (λ turned.
+            (role self.old).step (B.records bodies.old) (state self.old) now ev.now ≡
+            record { state = state self.new; turned = turned }) }
+        ensures fits { IfOk result (λ turned. Fits (B.records bodies.old) turned) }
+        ensures runs { IfOk result (λ turned.
+            runs_on self.new (one_more (B.records bodies.old) turned.rec)) }
+        ensures same { IfOk result (λ turned. role self.new ≡ role self.old) }
+        ensures reads { ReadsOnly B.records B.fault_count bodies.old bodies.new (fault_of result) };
+
+    /// Whether a message ends it.
+    fn stops(&self, msg: &Msg) -> Result<bool, OutOfMemory>
+        ensures { result ≡ Ok ((role self.now).stops msg.now) };
+}

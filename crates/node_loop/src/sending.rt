@@ -1,0 +1,66 @@
+ghost use Rattle.std.specs.Prelude.{◌≡◌, OnOk, OnErr};
+ghost use Rattle.std.specs.List.{All};
+ghost use Rattle.xt_messages.specs.Limits.{FitsMessage};
+ghost use Rattle.node_runs.specs.Posting.{one_posted, posted, none_posted, HasPosted, HasSentFront};
+ghost use Rattle.node_runs.specs.Links.{Sends};
+
+use node_links::Link;
+use node_mail::{Book, Sender};
+use std::alloc::Global;
+use xt_base::OutOfMemory;
+use xt_messages::Msg;
+
+/// Sends one of a step's messages, unless it is to the node itself or nobody knows where its receiver is.
+#[tactic(auto, using(crate::proofs::Sent::nothing_sent))]
+fn send_one<L: Link>(
+    alloc: Global,
+    sender: &mut Sender,
+    book: &Book,
+    msg: &Msg,
+    link: &mut L,
+) -> Result<(), OutOfMemory>
+    requires fits { FitsMessage msg.now }
+    ensures given { L.given link.new ≡ L.given link.old }
+    ensures faults { L.fault_count link.new ≡ L.fault_count link.old }
+    ensures same { (sender.new.node ≡ sender.old.node) × (sender.new.boot ≡ sender.old.boot) }
+    ensures sends { OnOk result (HasPosted
+        (one_posted sender.old.node sender.old.boot book.now (none_posted sender.old.count) msg.now)
+        sender.new.count
+        (Sends (L.sent link.old) (L.sent link.new) (L.loss_count link.old) (L.loss_count link.new))) }
+    ensures none { OnErr result ((L.sent link.new ≡ L.sent link.old)
+        × (L.loss_count link.new ≡ L.loss_count link.old)) }
+{
+    if msg.to == sender.node {
+        return Ok(());
+    }
+    match book.address(msg.to) {
+        None => Ok(()),
+        Some(address) => sender.send_to(alloc, &address, msg, link),
+    }
+}
+
+/// Sends a step's messages to others, in order. Where memory runs out, a front of them was sent.
+pub fn send_all<L: Link>(
+    alloc: Global,
+    sender: &mut Sender,
+    book: &Book,
+    msgs: &[Msg],
+    link: &mut L,
+) -> Result<(), OutOfMemory>
+    requires fits { All FitsMessage msgs.now }
+    ensures given { L.given link.new ≡ L.given link.old }
+    ensures faults { L.fault_count link.new ≡ L.fault_count link.old }
+    ensures same { (sender.new.node ≡ sender.old.node) × (sender.new.boot ≡ sender.old.boot) }
+    ensures sends { OnOk result (HasPosted
+        (posted sender.old.node sender.old.boot book.now (none_posted sender.old.count) msgs.now)
+        sender.new.count
+        (Sends (L.sent link.old) (L.sent link.new) (L.loss_count link.old) (L.loss_count link.new))) }
+    ensures front { OnErr result (HasSentFront
+        sender.old.node sender.old.boot book.now sender.old.count msgs.now
+        (Sends (L.sent link.old) (L.sent link.new) (L.loss_count link.old) (L.loss_count link.new))) }
+{
+    for msg in msgs {
+        send_one(alloc, sender, book, msg, link)?;
+    }
+    Ok(())
+}

@@ -1,0 +1,133 @@
+ghost use Rattle.std.specs.Prelude.{◌≡◌, ◌≤◌, ◌<◌, ◌^◌, ◌+◌, [], length, IfOk, IfErr};
+ghost use Rattle.std.specs.List.{All};
+ghost use Rattle.xt_messages.specs.Limits.{FitsMessage};
+ghost use Rattle.object_store.specs.Access.{records_of, disk_of};
+ghost use Rattle.node_runs.specs.Serving.{HasServeCause, IsServed};
+ghost use Rattle.node_runs.specs.Keeping.{KeepsOn, KeepsWith, KeepsServed};
+ghost use Rattle.node_loop.specs.Turns.{standing, HasPassed, HasEnded};
+
+use crate::event::Ended;
+use crate::node::Node;
+use crate::site::Site;
+use crate::turn::Bounds;
+use disk_model::Disk;
+use node_links::{Clock, Link};
+use object_store::Store;
+use std::alloc::Global;
+use xt_messages::{Event, Status};
+
+impl<N: Node> Site<N> {
+    /// A message of the node to itself, if there is one; else a turn, if one is left.
+    pub fn pass<L: Link, C: Clock, D: Disk>(
+        &mut self,
+        alloc: Global,
+        link: &mut L,
+        clock: &mut C,
+        store: Store<D>,
+        bounds: Bounds,
+        spent: &mut u64,
+        buf: &mut [u8],
+    ) -> Result<Store<D>, Ended<D>>
+        requires room { 65536 ≤ length buf.old }
+        requires clocks { (bounds.period < 2 ^ 62) × (self.old.clock < 2 ^ 62) }
+        requires home { self.old.sender.node ≡ (N.role self.old.node).node }
+        requires own { All FitsMessage self.old.own }
+        requires spent { spent.old ≤ bounds.turns }
+        requires runs { N.runs_on self.old.node (records_of store) }
+        ensures long { length buf.new ≡ length buf.old }
+        ensures same { IfOk result (λ kept. (self.new.sender.node ≡ self.old.sender.node)
+            × (self.new.sender.boot ≡ self.old.sender.boot)
+            × (N.role self.new.node ≡ N.role self.old.node)) }
+        ensures clocks { IfOk result (λ kept. (self.new.clock < 2 ^ 62) × (spent.new ≤ bounds.turns)) }
+        ensures own { IfOk result (λ kept. All FitsMessage self.new.own) }
+        ensures runs { IfOk result (λ kept. N.runs_on self.new.node (records_of kept)) }
+        ensures faults { IfOk result (λ kept. (L.fault_count link.new ≡ L.fault_count link.old)
+            × (C.fault_count clock.new ≡ C.fault_count clock.old)) }
+        ensures passed { IfOk result (λ kept. HasPassed (N.role self.old.node) self.old.sender.boot
+            bounds.period
+            (standing (N.state self.old.node) (records_of store) self.old.own self.old.ears
+            self.old.clock self.old.due self.old.sender.count)
+            (standing (N.state self.new.node) (records_of kept) self.new.own self.new.ears
+            self.new.clock self.new.due self.new.sender.count)
+            spent.old spent.new
+            (L.given link.old) (L.given link.new) (L.sent link.old) (L.sent link.new)
+            (L.loss_count link.old) (L.loss_count link.new)
+            (C.readings clock.old) (C.readings clock.new)) }
+        ensures ended { IfErr result (λ ended. HasEnded (N.role self.old.node) self.old.sender.boot
+            bounds.period bounds.turns spent.old
+            (standing (N.state self.old.node) (records_of store) self.old.own self.old.ears
+            self.old.clock self.old.due self.old.sender.count)
+            (L.given link.old) (L.given link.new) (L.sent link.old) (L.sent link.new)
+            (L.loss_count link.old) (L.loss_count link.new)
+            (C.readings clock.old) (C.readings clock.new)
+            (KeepsWith D.is_told D.moment D.left_since (disk_of store) ended.disk (records_of store))
+            ended.status) }
+        ensures keeps { IfOk result (λ kept. KeepsOn D.is_told D.moment D.left_since
+            (disk_of store) (disk_of kept) (records_of store) (records_of kept)) }
+        ensures cause { IfErr result (λ ended. HasServeCause
+            (L.fault_count link.old) (L.fault_count link.new)
+            (C.fault_count clock.old) (C.fault_count clock.new) ended.status) }
+    {
+        if let Some(msg) = self.own.take() {
+            return self.act(alloc, link, store, &Event::Deliver(msg));
+        }
+        if *spent == bounds.turns {
+            return Err(Ended {
+                status: Status::TurnsSpent {
+                    turns: bounds.turns,
+                },
+                disk: store.close(),
+            });
+        }
+        let store = self.turn(alloc, link, clock, store, bounds, *spent, buf)?;
+        *spent += 1;
+        Ok(store)
+    }
+}
+
+/// Serves a node from the reading of the clock at which it was started, until it ends.
+///
+/// A crash at any moment leaves the records of the store and those of the events that were handled, up to some one. The disk that is
+/// handed back has those of all of them; the record of an event in which the node ended may be there or not.
+pub fn serve<N: Node, L: Link, C: Clock, D: Disk>(
+    alloc: Global,
+    site: &mut Site<N>,
+    link: &mut L,
+    clock: &mut C,
+    store: Store<D>,
+    bounds: Bounds,
+    buf: &mut [u8],
+) -> (Status, D)
+    requires room { 65536 ≤ length buf.old }
+    requires clocks { (bounds.period < 2 ^ 62) × (site.old.clock < 2 ^ 62) }
+    requires home { site.old.sender.node ≡ (N.role site.old.node).node }
+    requires own { All FitsMessage site.old.own }
+    requires runs { N.runs_on site.old.node (records_of store) }
+    ensures served { IsServed (N.role site.old.node) site.old.sender.boot bounds.period
+        (standing (N.state site.old.node) (records_of store) site.old.own site.old.ears
+        site.old.clock site.old.due site.old.sender.count)
+        bounds.turns
+        (L.given link.old) (L.given link.new) (L.sent link.old) (L.sent link.new)
+        (L.loss_count link.old) (L.loss_count link.new)
+        (C.readings clock.old) (C.readings clock.new) result.0 }
+    ensures cause { HasServeCause (L.fault_count link.old) (L.fault_count link.new)
+        (C.fault_count clock.old) (C.fault_count clock.new) result.0 }
+    ensures keeps { let start = standing (N.state site.old.node) (records_of store) site.old.own
+        site.old.ears site.old.clock site.old.due site.old.sender.count in
+        (s : IsServed (N.role site.old.node) site.old.sender.boot bounds.period start bounds.turns
+        (L.given link.old) (L.given link.new) (L.sent link.old) (L.sent link.new)
+        (L.loss_count link.old) (L.loss_count link.new)
+        (C.readings clock.old) (C.readings clock.new) result.0)
+        × KeepsServed D.is_told D.kept D.moment D.left_since (disk_of store) result.1
+        start s.end s.undone }
+{
+    let mut store = store;
+    let mut spent = 0;
+    for _ in 0..u64::MAX {
+        match site.pass(alloc, link, clock, store, bounds, &mut spent, buf) {
+            Ok(kept) => store = kept,
+            Err(Ended { status, disk }) => return (status, disk),
+        }
+    }
+    (Status::OutOfMemory, store.close())
+}

@@ -1,0 +1,153 @@
+ghost use Rattle.std.specs.Prelude.{◌≡◌, ◌≤◌, ◌<◌, ◌^◌, [], length, max, Some, None, Ok, IfOk, IfErr};
+ghost use Rattle.std.specs.Option.{IfSome};
+ghost use Rattle.std.specs.List.{All};
+ghost use Rattle.xt_messages.specs.Limits.{FitsEvent, FitsMessage};
+ghost use Rattle.object_store.specs.Access.{records_of, disk_of};
+ghost use Rattle.node_runs.specs.Links.{Sends};
+ghost use Rattle.node_runs.specs.Keeping.{KeepsOn, KeepsWith};
+ghost use Rattle.node_runs.specs.Runs.{handles, mails, meets, event_in, ends_event, next_due};
+ghost use Rattle.node_loop.specs.Events.{EndsEvent};
+ghost use Rattle.node_loop.specs.Turns.{standing, turn_of, IsWithin, HasActed};
+
+use crate::event::{Ended, Handled, handle};
+use crate::node::Node;
+use crate::opening::Opening;
+use disk_model::Disk;
+use node_links::Link;
+use node_mail::{Ears, Sender};
+use object_store::Store;
+use own_messages::OwnMessages;
+use std::alloc::Global;
+use xt_base::OutOfMemory;
+use xt_messages::{Event, Status};
+
+/// What a served node holds beside its store and its link.
+#[derive(Drop)]
+pub struct Site<N: Node> {
+    pub node: N,
+    pub sender: Sender,
+    pub ears: Ears,
+    pub own: OwnMessages,
+    /// The reading that was used last.
+    pub clock: u64,
+    /// When the next Wake is due.
+    pub due: u64,
+}
+
+/// When the next Wake is due after one that was due then.
+fn later(period: u64, now: u64, due: u64) -> u64
+    requires { (period < 2 ^ 62) × (now < 2 ^ 62) }
+    ensures { result ≡ next_due period now due }
+{
+    let next = due.saturating_add(period);
+    if next <= now { now + period } else { next }
+}
+
+impl<N: Node> Site<N> {
+    /// What happens in a turn that has begun so.
+    pub fn meet(
+        &mut self,
+        period: u64,
+        opening: Opening,
+        reading: u64,
+        buf: &[u8],
+    ) -> Result<Option<Event>, OutOfMemory>
+        requires clocks { (period < 2 ^ 62) × (self.old.clock < 2 ^ 62) × (reading < 2 ^ 62) }
+        requires within { IsWithin buf.now opening }
+        requires home { self.old.sender.node ≡ (N.role self.old.node).node }
+        ensures met { (kept : _) → IfOk result (λ happens.
+            standing (N.state self.new.node) kept self.new.own self.new.ears self.new.clock self.new.due
+            self.new.sender.count
+            ≡ meets (N.role self.old.node) self.old.sender.boot period
+            (standing (N.state self.old.node) kept self.old.own self.old.ears self.old.clock self.old.due
+            self.old.sender.count) (turn_of buf.now opening reading)) }
+        ensures happens { (kept : _) → IfOk result (λ happens. happens ≡
+            event_in (N.role self.old.node) self.old.sender.boot period
+            (standing (N.state self.old.node) kept self.old.own self.old.ears self.old.clock self.old.due
+            self.old.sender.count) (turn_of buf.now opening reading)) }
+        ensures fits { IfOk result (λ happens. IfSome happens FitsEvent) }
+        ensures same { (self.new.node ≡ self.old.node) × (self.new.sender ≡ self.old.sender)
+            × (self.new.own ≡ self.old.own) }
+        ensures clock { (self.old.clock ≤ self.new.clock) × (self.new.clock < 2 ^ 62) }
+    {
+        self.clock = self.clock.max(reading);
+        match opening {
+            Opening::NoTimeLeft | Opening::NothingCame => {
+                self.due = later(period, self.clock, self.due);
+                Ok(Some(Event::Wake))
+            }
+            Opening::Piece { from, len } => {
+                match self.ears.hear(self.sender.node, from, &buf[..len])? {
+                    Some(msg) => Ok(Some(Event::Deliver(msg))),
+                    None => Ok(None),
+                }
+            }
+        }
+    }
+
+    /// Whether an event ends the node.
+    pub fn ends(&self, happens: &Event) -> Result<bool, OutOfMemory>
+        ensures { IfOk result (λ ends. ends ≡
+            ends_event (N.role self.now.node) self.now.sender.boot 0 (Some happens.now)) }
+    {
+        match happens {
+            Event::Deliver(msg) => self.node.stops(msg),
+            Event::Wake | Event::Call(_) => Ok(false),
+        }
+    }
+
+    /// An event: the step, its record, its messages; those to the node itself wait after the others.
+    pub fn act<L: Link, D: Disk>(
+        &mut self,
+        alloc: Global,
+        link: &mut L,
+        store: Store<D>,
+        happens: &Event,
+    ) -> Result<Store<D>, Ended<D>>
+        requires clock { self.old.clock < 2 ^ 62 }
+        requires event { FitsEvent happens.now }
+        requires home { self.old.sender.node ≡ (N.role self.old.node).node }
+        requires runs { N.runs_on self.old.node (records_of store) }
+        requires own { All FitsMessage self.old.own }
+        ensures given { L.given link.new ≡ L.given link.old }
+        ensures faults { L.fault_count link.new ≡ L.fault_count link.old }
+        ensures same { (self.new.sender.node ≡ self.old.sender.node)
+            × (self.new.sender.boot ≡ self.old.sender.boot)
+            × (self.new.clock ≡ self.old.clock) }
+        ensures role { IfOk result (λ kept. N.role self.new.node ≡ N.role self.old.node) }
+        ensures runs { IfOk result (λ kept. N.runs_on self.new.node (records_of kept)) }
+        ensures own { IfOk result (λ kept. All FitsMessage self.new.own) }
+        ensures acted { IfOk result (λ kept. HasActed (N.role self.old.node) self.old.sender.boot
+            (standing (N.state self.old.node) (records_of store) self.old.own self.old.ears self.old.clock
+            self.old.due self.old.sender.count) happens.now
+            (standing (N.state self.new.node) (records_of kept) self.new.own self.new.ears self.new.clock
+            self.new.due self.new.sender.count)
+            (Sends (L.sent link.old) (L.sent link.new) (L.loss_count link.old) (L.loss_count link.new))) }
+        ensures ends { IfErr result (λ ended. EndsEvent
+            ((N.role self.old.node).step (records_of store) (N.state self.old.node) self.old.clock happens.now)
+            (N.role self.old.node).node self.old.sender.boot self.old.ears.book self.old.sender.count
+            (Sends (L.sent link.old) (L.sent link.new) (L.loss_count link.old) (L.loss_count link.new))
+            (KeepsWith D.is_told D.moment D.left_since (disk_of store) ended.disk (records_of store))
+            ended.status) }
+        ensures keeps { IfOk result (λ kept. KeepsOn D.is_told D.moment D.left_since
+            (disk_of store) (disk_of kept) (records_of store) (records_of kept)) }
+    {
+        let Handled { store, outs } = handle(
+            alloc,
+            &mut self.node,
+            &mut self.sender,
+            self.ears.book(),
+            link,
+            store,
+            self.clock,
+            happens,
+        )?;
+        match self.own.put(self.sender.node, outs) {
+            Ok(()) => Ok(store),
+            Err(_) => Err(Ended {
+                status: Status::OutOfMemory,
+                disk: store.close(),
+            }),
+        }
+    }
+}

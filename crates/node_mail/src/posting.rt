@@ -1,0 +1,107 @@
+ghost use Rattle.std.specs.Prelude.{◌≡◌, ◌+◌, IfOk, OnOk, OnErr};
+ghost use Rattle.std.specs.List.{list_all};
+ghost use Rattle.xt_messages.specs.Limits.{FitsMessage};
+ghost use Rattle.node_runs.specs.Links.{Sends, OneSent};
+ghost use Rattle.node_runs.specs.Posting.{sent_to, datagrams_to};
+
+use crate::book::Book;
+use node_links::Link;
+use std::alloc::{AllocError, Global};
+use xt_base::{Address, Boot, NodeId, Octets, OutOfMemory};
+use xt_frames::encode;
+use xt_messages::Msg;
+use xt_parts::cut;
+
+/// What a node sends in a boot, and how many messages it has sent.
+#[derive(Clone, Copy)]
+pub struct Sender {
+    pub node: NodeId,
+    pub boot: Boot,
+    pub count: u64,
+}
+
+/// Hands a part to a link, and says whether it was taken.
+fn hand<L: Link>(link: &mut L, to: &Address, part: &[u8]) -> bool
+    ensures given { L.given link.new ≡ L.given link.old }
+    ensures faults { L.fault_count link.new ≡ L.fault_count link.old }
+    ensures sent { OneSent (L.sent link.old) (L.sent link.new) (L.loss_count link.old)
+        (L.loss_count link.new) (record { peer = to.now; bytes = part.now }) result }
+{
+    match link.send(to, part) {
+        Ok(()) => true,
+        Err(_) => false,
+    }
+}
+
+/// Hands parts to a link, one after the other, and says whether each was taken. What fails is lost.
+fn send_parts<L: Link>(link: &mut L, to: &Address, parts: &[Octets]) -> bool
+    ensures given { L.given link.new ≡ L.given link.old }
+    ensures faults { L.fault_count link.new ≡ L.fault_count link.old }
+    ensures sends { (sends : Sends (L.sent link.old) (L.sent link.new) (L.loss_count link.old)
+        (L.loss_count link.new) (sent_to to.now parts.now))
+        × (result ≡ list_all (λ ok. ok) sends.taken) }
+{
+    let mut all = true;
+    for part in parts {
+        all &= hand(link, to, part.as_slice());
+    }
+    all
+}
+
+impl Sender {
+    /// Sends a message to a node that has an address, and tells whether each of its parts was taken. Where no number is left,
+    /// there is want of memory.
+    pub fn post<L: Link>(
+        &mut self,
+        alloc: Global,
+        address: &Address,
+        msg: &Msg,
+        link: &mut L,
+    ) -> Result<bool, OutOfMemory>
+        requires fits { FitsMessage msg.now }
+        ensures given { L.given link.new ≡ L.given link.old }
+        ensures faults { L.fault_count link.new ≡ L.fault_count link.old }
+        ensures count { OnOk result (self.new ≡ record self.old { count = self.old.count + 1 }) }
+        ensures sends { IfOk result (λ all.
+            (sends : Sends (L.sent link.old) (L.sent link.new) (L.loss_count link.old)
+            (L.loss_count link.new) (datagrams_to address.now
+            (record { sender = self.old.node; boot = self.old.boot; number = self.old.count + 1 })
+            msg.now)) × (all ≡ list_all (λ ok. ok) sends.taken)) }
+        ensures none { OnErr result ((self.new ≡ self.old) × (L.sent link.new ≡ L.sent link.old)
+            × (L.loss_count link.new ≡ L.loss_count link.old)) }
+    {
+        let frame = encode(alloc, msg)?;
+        let Some(number) = self.count.checked_add(1) else {
+            return Err(AllocError);
+        };
+        let Ok(parts) = cut(alloc, self.node, self.boot, number, frame.as_slice()) else {
+            return Err(AllocError);
+        };
+        self.count = number;
+        Ok(send_parts(link, address, parts.as_slice()))
+    }
+
+    /// Sends a message to a node that has an address. What fails is lost.
+    pub fn send_to<L: Link>(
+        &mut self,
+        alloc: Global,
+        address: &Address,
+        msg: &Msg,
+        link: &mut L,
+    ) -> Result<(), OutOfMemory>
+        requires fits { FitsMessage msg.now }
+        ensures given { L.given link.new ≡ L.given link.old }
+        ensures faults { L.fault_count link.new ≡ L.fault_count link.old }
+        ensures same { (self.new.node ≡ self.old.node) × (self.new.boot ≡ self.old.boot) }
+        ensures count { OnOk result (self.new ≡ record self.old { count = self.old.count + 1 }) }
+        ensures sends { OnOk result (Sends (L.sent link.old) (L.sent link.new) (L.loss_count link.old)
+            (L.loss_count link.new) (datagrams_to address.now
+            (record { sender = self.old.node; boot = self.old.boot; number = self.old.count + 1 })
+            msg.now)) }
+        ensures none { OnErr result ((L.sent link.new ≡ L.sent link.old)
+            × (L.loss_count link.new ≡ L.loss_count link.old)) }
+    {
+        self.post(alloc, address, msg, link)?;
+        Ok(())
+    }
+}

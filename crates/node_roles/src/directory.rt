@@ -1,0 +1,48 @@
+use dir_core::Dir;
+use node_loop::Node;
+use object_versions::{Bodies, StepErr};
+use std::alloc::Global;
+use xt_base::{NodeId, OutOfMemory};
+use xt_messages::{Event, Msg};
+use xt_protocol::Turned;
+
+/// The directory service as a node that is served.
+#[derive(Drop)]
+pub struct ServedDir {
+    pub dir: Dir,
+}
+
+impl Node for ServedDir {
+    ghost use Rattle.server_rows.specs.Directory.{DirState};
+    ghost use Rattle.server_limits.specs.Keeping.{DirRunsOn};
+    ghost use Rattle.node_roles.specs.Roles.{dir_role};
+
+    ghost State = { DirState };
+
+    ghost role = { λ d. dir_role d.dir.secret };
+
+    ghost state = { λ d. d.dir.state };
+
+    ghost runs_on = { λ d records. DirRunsOn records d.dir.state };
+
+    fn id(&self) -> NodeId {
+        self.dir.id()
+    }
+
+    fn step<B: Bodies>(
+        &mut self,
+        alloc: Global,
+        _bodies: &mut B,
+        _now: u64,
+        ev: &Event,
+    ) -> Result<Turned, StepErr> {
+        match self.dir.step(alloc, ev) {
+            Ok(turned) => Ok(turned),
+            Err(_) => Err(StepErr::OutOfMemory),
+        }
+    }
+
+    fn stops(&self, msg: &Msg) -> Result<bool, OutOfMemory> {
+        self.dir.stops(msg)
+    }
+}

@@ -1,0 +1,47 @@
+use node_loop::Node;
+use object_versions::{Bodies, StepErr};
+use osd_core::Osd;
+use std::alloc::Global;
+use xt_base::{NodeId, OutOfMemory};
+use xt_messages::{Event, Msg};
+use xt_protocol::Turned;
+
+/// An OSD as a node that is served.
+#[derive(Drop)]
+pub struct ServedOsd {
+    pub osd: Osd,
+}
+
+impl Node for ServedOsd {
+    ghost use Rattle.xt_protocol.specs.OsdSteps.{OsdState};
+    ghost use Rattle.node_roles.specs.Roles.{osd_role, OsdRunsOn};
+
+    ghost State = { OsdState };
+
+    ghost role = { λ o. osd_role o.osd.state.started.node o.osd.key };
+
+    ghost state = { λ o. o.osd.state };
+
+    ghost runs_on = { λ o records. OsdRunsOn records o.osd.state };
+
+    fn id(&self) -> NodeId {
+        self.osd.id()
+    }
+
+    fn step<B: Bodies>(
+        &mut self,
+        _alloc: Global,
+        bodies: &mut B,
+        now: u64,
+        ev: &Event,
+    ) -> Result<Turned, StepErr> {
+        match self.osd.step(bodies, now, ev) {
+            Ok(turned) => Ok(turned),
+            Err(error) => Err(error),
+        }
+    }
+
+    fn stops(&self, msg: &Msg) -> Result<bool, OutOfMemory> {
+        self.osd.stops(msg)
+    }
+}

@@ -1,0 +1,155 @@
+-- A node that is served: the run of its core on what comes, with its records, its messages to itself and what it posts.
+use Rattle.std.specs.Prelude.{ℕ, ◌≡◌, ◌<◌, ◌+◌, ◌-◌, max, nat_le, if◌then◌else◌, Bool, false, Option, Some, None, List, [], ◌∷◌, ◌++◌}
+use Rattle.std.specs.Option.{IfSome}
+use Rattle.xt_base.specs.Faults.{counted}
+use Rattle.xt_base.specs.declared.ids.NodeId.{NodeId}
+use Rattle.xt_base.specs.declared.ids.Boot.{Boot}
+use Rattle.xt_messages.specs.declared.message.Msg.{Msg}
+use Rattle.xt_messages.specs.declared.event.Event.{Event}
+use Rattle.xt_messages.specs.declared.event.Event.TheVariants as event
+use Rattle.xt_messages.specs.declared.record.Record.{Record}
+use Rattle.cluster_runs.specs.Steps.{Step}
+use Rattle.cluster_runs.specs.NodeSteps.{to_itself, one_more}
+use Rattle.node_links.specs.declared.link.Datagram.{Datagram}
+use Rattle.node_links.specs.Streams.{Takes}
+use Rattle.node_runs.specs.Hearing.{Ears, hears}
+use Rattle.node_runs.specs.Posting.{Posted, posted, none_posted}
+
+-- The core of a node: its step on the records that it keeps, at a clock, on an event; and which message ends it.
+pub record Role (S : Type 0) : Type 0 where
+  pub node : NodeId
+  pub step : List Record → S → ℕ → Event → Step S
+  pub stops : Msg → Bool
+
+-- A turn of a served node, and what the clock read in it: a Wake, since no time was left to it, or since the link had nothing to
+-- give; or a datagram.
+pub data Turn : Type 0 where
+  woke : ℕ → Turn
+  idle : ℕ → Turn
+  came : Datagram → ℕ → Turn
+
+-- the datagrams of turns, and what the clock read in them
+abbrev pub datagrams_in : List Turn → List Datagram
+datagrams_in [] = []
+datagrams_in (woke reading ∷ turns) = datagrams_in turns
+datagrams_in (idle reading ∷ turns) = datagrams_in turns
+datagrams_in (came datagram reading ∷ turns) = datagram ∷ datagrams_in turns
+
+abbrev pub reading_in : Turn → ℕ
+reading_in (woke reading) = reading
+reading_in (idle reading) = reading
+reading_in (came datagram reading) = reading
+
+abbrev pub readings_in : List Turn → List ℕ
+readings_in [] = []
+readings_in (turn ∷ turns) = reading_in turn ∷ readings_in turns
+
+-- A served node: its state, what it keeps, its messages to itself that it hasn't handled, what it keeps of its link, the clock that
+-- it used last, when its next Wake is due, and how many messages it posted.
+pub record Served (S : Type 0) : Type 0 where
+  pub state : S
+  pub kept : List Record
+  pub own : List Msg
+  pub ears : Ears
+  pub clock : ℕ
+  pub due : ℕ
+  pub count : ℕ
+
+-- Wakes stand on a grid: the next one is due a period after this one was, or, where that has passed, a period after now.
+abbrev pub next_due : ℕ → ℕ → ℕ → ℕ
+next_due period now due = if nat_le (counted (due + period)) now then now + period else counted (due + period)
+
+-- how a turn begins, where so much time is left to the next Wake: with none left no receive is made
+abbrev pub Begins : Option (List Datagram) → ℕ → Turn → Type 0
+Begins to_come left (woke reading) = left ≡ 0
+Begins to_come left (idle reading) = (0 < left) × IfSome to_come (λ datagrams. datagrams ≡ [])
+Begins to_come left (came datagram reading) = 0 < left
+
+abbrev pub delivered : Option Msg → Option Event
+delivered None = None
+delivered (Some msg) = Some (event.Deliver msg)
+
+module _ {S : Type 0} (role : Role S) (boot : Boot) (period : ℕ) where
+  -- what the step of an event posts
+  abbrev pub posts : Served S → Step S → Posted
+  posts s step = posted role.node boot s.ears.book (none_posted s.count) step.turned.outs
+
+  -- the step of an event
+  abbrev pub step_at : Served S → Event → Step S
+  step_at s happens = role.step s.kept s.state s.clock happens
+
+  -- Its record is kept, its messages to itself wait after the others, and its other messages are posted.
+  abbrev pub stepped : Served S → Step S → Served S
+  stepped s step = record s {
+    state = step.state;
+    kept = one_more s.kept step.turned.rec;
+    own = s.own ++ to_itself role.node step.turned.outs;
+    count = (posts s step).count;
+  }
+
+  -- an event is handled
+  abbrev pub handles : Served S → Event → Served S
+  handles s happens = stepped s (step_at s happens)
+
+  abbrev pub mails : Served S → Event → List Datagram
+  mails s happens = (posts s (step_at s happens)).datagrams
+
+  -- no event is used at an earlier clock than the one before
+  abbrev pub at_reading : Served S → ℕ → Served S
+  at_reading s reading = record s { clock = max reading s.clock }
+
+  abbrev pub wakes_at : Served S → ℕ → Served S
+  wakes_at s now = record s { clock = now; due = next_due period now s.due }
+
+  -- the node at the clock of a turn, with what it heard in it, and what happens then
+  abbrev pub meets : Served S → Turn → Served S
+  meets s (woke reading) = wakes_at s (max reading s.clock)
+  meets s (idle reading) = wakes_at s (max reading s.clock)
+  meets s (came datagram reading) = record (at_reading s reading) { ears = (hears role.node s.ears datagram).ears }
+
+  abbrev pub event_in : Served S → Turn → Option Event
+  event_in s (woke reading) = Some event.Wake
+  event_in s (idle reading) = Some event.Wake
+  event_in s (came datagram reading) = delivered (hears role.node s.ears datagram).message
+
+  abbrev pub goes_through : Served S → Option Event → Served S
+  goes_through s None = s
+  goes_through s (Some happens) = handles s happens
+
+  abbrev pub mails_in : Served S → Option Event → List Datagram
+  mails_in s None = []
+  mails_in s (Some happens) = mails s happens
+
+  -- a turn, and what is posted in it
+  abbrev pub takes : Served S → Turn → Served S
+  takes s turn = goes_through (meets s turn) (event_in s turn)
+
+  abbrev pub posts_in : Served S → Turn → List Datagram
+  posts_in s turn = mails_in (meets s turn) (event_in s turn)
+
+  -- whether an event ends the node
+  abbrev pub ends_event : Option Event → Bool
+  ends_event (Some (event.Deliver msg)) = role.stops msg
+  ends_event _ = false
+
+  -- One turn, or one message of the node to itself, and what it posts. Messages to itself come before the next turn, first in
+  -- first out, at the clock of the turn that they follow.
+  pub data Passes (to_come : Option (List Datagram)) (s : Served S) : List Turn → List Datagram → Served S → Type 0 where
+    by_turn : (turn : Turn) → s.own ≡ [] → Begins to_come (s.due - s.clock) turn → ends_event (event_in s turn) ≡ false
+        → Passes to_come s (turn ∷ []) (posts_in s turn) (takes s turn)
+    by_own : (msg : Msg) (rest : List Msg) → s.own ≡ msg ∷ rest
+        → Passes to_come s [] (mails (record s { own = rest }) (event.Deliver msg)) (handles (record s { own = rest }) (event.Deliver msg))
+
+  -- The node has come so far from its start by these turns, and posted these datagrams; and what is to come then.
+  pub data Comes (to_come : Option (List Datagram)) (start : Served S)
+      : Option (List Datagram) → List Turn → List Datagram → Served S → Type 0 where
+    begun : Comes to_come start to_come [] [] start
+    passed : (left after : Option (List Datagram)) (turns more : List Turn) (before mailed : List Datagram) (s next : Served S)
+        → Comes to_come start left turns before s → Passes left s more mailed next → Takes left after (datagrams_in more)
+        → Comes to_come start after (turns ++ more) (before ++ mailed) next
+
+  -- The node is in the midst of this event: all before it is done, and of the event nothing. The turn that it is of is told.
+  pub data Meets (to_come : Option (List Datagram)) (s : Served S) : Event → Served S → List Turn → Type 0 where
+    in_turn : (turn : Turn) (happens : Event) → s.own ≡ [] → Begins to_come (s.due - s.clock) turn → event_in s turn ≡ Some happens
+        → Meets to_come s happens (meets s turn) (turn ∷ [])
+    of_itself : (msg : Msg) (rest : List Msg) → s.own ≡ msg ∷ rest → Meets to_come s (event.Deliver msg) (record s { own = rest }) []

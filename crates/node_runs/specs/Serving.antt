@@ -1,0 +1,104 @@
+-- What serving a node does to its link and its clock, and why it ends.
+use Rattle.std.specs.Prelude.{ℕ, ◌≡◌, ◌≤◌, ◌<◌, ◌-◌, ◌⊎◌, true, Option, Some, None, List, [], ◌∷◌, ◌++◌, length, take}
+use Rattle.xt_base.specs.declared.ids.Boot.{Boot}
+use Rattle.xt_messages.specs.declared.event.Event.{Event}
+use Rattle.xt_messages.specs.declared.record.Record.{Record}
+use Rattle.xt_messages.specs.declared.status.Status.{Status}
+use Rattle.xt_messages.specs.declared.status.Status.TheVariants as status
+use Rattle.xt_base.specs.Faults.{Rose}
+use Rattle.node_links.specs.declared.link.Datagram.{Datagram}
+use Rattle.node_links.specs.Streams.{Takes}
+use Rattle.node_runs.specs.Links.{Sends, Reads}
+use Rattle.node_runs.specs.Posting.{posted, none_posted}
+use Rattle.node_runs.specs.Runs.{Role, Turn, Served, Begins, Comes, Meets, event_in, ends_event, step_at, datagrams_in, readings_in}
+
+-- What a job left undone: the turn that it was in; a datagram that was received, where the clock failed after it; the record of the
+-- event that it was in, if it may be on the disk; and what it posted of that event.
+pub record Undone : Type 0 where
+  pub turn : List Turn
+  pub unread : List Datagram
+  pub record_met : Option Record
+  pub more : List Datagram
+
+abbrev pub nothing_undone : Undone
+nothing_undone = record { turn = []; unread = []; record_met = None; more = [] }
+
+-- of an event nothing was posted, and its record isn't on the disk
+abbrev pub IsUntouched : Undone → Type 0
+IsUntouched undone = (undone.unread ≡ []) × (undone.record_met ≡ None) × (undone.more ≡ [])
+
+module _ {S : Type 0} (role : Role S) (boot : Boot) (period : ℕ) where
+  -- the node is in an event, of a turn or of a message to itself, and has done nothing of it
+  pub record IsIn (to_come : Option (List Datagram)) (s : Served S) : Type 0 where
+    pub happens : Event
+    pub met : Served S
+    pub turn : List Turn
+    pub is_met : Meets role boot period to_come s happens met turn
+
+  -- the record of the event, and its datagrams where so many of its messages were posted
+  abbrev pub record_in : (to_come : Option (List Datagram)) (s : Served S) → IsIn to_come s → Option Record
+  record_in to_come s it = (step_at role boot period it.met it.happens).turned.rec
+
+  abbrev pub front_in : (to_come : Option (List Datagram)) (s : Served S) → IsIn to_come s → ℕ → List Datagram
+  front_in to_come s it count =
+      (posted role.node boot it.met.ears.book (none_posted it.met.count) (take count (step_at role boot period it.met it.happens).turned.outs)).datagrams
+
+  -- A turn is to begin: no message to itself is left, and not all turns were taken.
+  abbrev pub MayTurn : ℕ → ℕ → Served S → Type 0
+  MayTurn limit spent s = (s.own ≡ []) × (spent < limit)
+
+  -- Why serving ends, where the node has come so far, by so many turns of those that are allowed.
+  abbrev pub EndsServing : ℕ → ℕ → Option (List Datagram) → Served S → Undone → Status → Type 0
+  -- a good Stop came
+  EndsServing limit spent to_come s undone status.Done =
+      MayTurn limit spent s × IsUntouched undone
+      × ((turn : Turn) × Begins to_come (s.due - s.clock) turn × (undone.turn ≡ turn ∷ []) × (ends_event role boot period (event_in role boot period s turn) ≡ true))
+  -- all turns were taken, and no message of the node to itself is left
+  EndsServing limit spent to_come s undone (status.TurnsSpent turns) = (s.own ≡ []) × (spent ≡ limit) × (turns ≡ limit) × (undone ≡ nothing_undone)
+  -- a receive failed
+  EndsServing limit spent to_come s undone (status.LinkFault count) = MayTurn limit spent s × (s.clock < s.due) × (undone ≡ nothing_undone)
+  -- The clock failed in a turn: its datagram was received, and isn't handled.
+  EndsServing limit spent to_come s undone (status.ClockFault count) =
+      MayTurn limit spent s
+      × ((turn : Turn) × Begins to_come (s.due - s.clock) turn × (undone ≡ record nothing_undone { unread = datagrams_in (turn ∷ []) }))
+  -- The disk failed as the record of an event was put, or as a body was read: nothing of that event was posted.
+  EndsServing limit spent to_come s undone (status.DiskFault count) =
+      (it : IsIn to_come s) × (undone.turn ≡ it.turn) × (undone.unread ≡ []) × (undone.more ≡ [])
+      × ((undone.record_met ≡ record_in to_come s it) ⊎ (undone.record_met ≡ None))
+  -- the record of an event has no room
+  EndsServing limit spent to_come s undone (status.JournalFull need most) =
+      (it : IsIn to_come s) × (undone.turn ≡ it.turn) × IsUntouched undone
+      × ((rec : Record) × (record_in to_come s it ≡ Some rec) × Rose most need)
+  -- Memory ran out: before the record of an event was put, or as it was put or after it, with a front of its messages posted.
+  EndsServing limit spent to_come s undone status.OutOfMemory =
+      ((length undone.turn ≤ 1) × IsUntouched undone)
+      ⊎ ((it : IsIn to_come s) × (undone.turn ≡ it.turn) × (undone.unread ≡ []) × (undone.record_met ≡ record_in to_come s it)
+      × ((count : ℕ) × (undone.more ≡ front_in to_come s it count)))
+  EndsServing limit spent to_come s undone _ = ⊥
+
+  -- A served node: the turns that it took, what was received, read and posted, and why it ended. It began at a reading of the clock.
+  pub record IsServed (start : Served S) (limit : ℕ)
+      (given_before given_after sent_before sent_after : Option (List Datagram)) (losses_before losses_after : ℕ)
+      (readings_before readings_after : Option (List ℕ)) (said : Status) : Type 0 where
+    pub turns : List Turn
+    pub posts : List Datagram
+    pub end : Served S
+    pub to_come : Option (List Datagram)
+    pub undone : Undone
+    pub comes : Comes role boot period given_before start to_come turns posts end
+    -- the datagrams of the turns, and of the last one of which no turn came
+    pub received : Takes given_before given_after (datagrams_in turns ++ (datagrams_in undone.turn ++ undone.unread))
+    -- one reading a turn
+    pub read : Reads readings_before readings_after (readings_in turns ++ readings_in undone.turn)
+    -- no message goes out before the record of its step is kept
+    pub sends : Sends sent_before sent_after losses_before losses_after (posts ++ undone.more)
+    pub ending : EndsServing limit (length turns) to_come end undone said
+
+-- the counts of faults of the link and the clock rose exactly where the status tells of them
+abbrev pub HasServeCause : ℕ → ℕ → ℕ → ℕ → Status → Type 0
+HasServeCause link_before link_after clock_before clock_after (status.LinkFault count) =
+    Rose link_before link_after × (count ≡ link_after) × (clock_after ≡ clock_before)
+HasServeCause link_before link_after clock_before clock_after (status.ClockFault count) =
+    Rose clock_before clock_after × (count ≡ clock_after) × (link_after ≡ link_before)
+HasServeCause link_before link_after clock_before clock_after _ =
+    (link_after ≡ link_before) × (clock_after ≡ clock_before)
