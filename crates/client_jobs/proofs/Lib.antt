@@ -1,0 +1,4 @@
+pub mod Counting
+pub mod Pattern
+pub mod Taken
+pub mod Working

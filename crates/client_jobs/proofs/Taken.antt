@@ -1,0 +1,14 @@
+-- what is taken of a source, byte by byte
+use Rattle.std.proofs.Common.{◌≡◌, ℕ, MatchOption, subst, Option, Some, None, List, [], ◌∷◌, ◌++◌, append-nil}
+use Rattle.node_links.specs.Streams.{Takes, IsAtEnd}
+use Rattle.schedule_lines.proofs.Streamed.{Takes-append, byte_taken, none_taken}
+
+pub taken_more : (a b c : Option (List ℕ)) (xs : List ℕ) (found : Option ℕ) (byte : ℕ) → Takes a b xs → found ≡ Some byte
+    → MatchOption found (IsAtEnd b × Takes b c []) (λ x. Takes b c (x ∷ [])) → Takes a c (xs ++ byte ∷ [])
+taken_more a b c xs found byte before same took = Takes-append a b c xs (byte ∷ []) before (byte_taken b c found byte same took)
+
+pub taken_all : (a b c : Option (List ℕ)) (xs : List ℕ) (found : Option ℕ) → Takes a b xs → found ≡ None
+    → MatchOption found (IsAtEnd b × Takes b c []) (λ x. Takes b c (x ∷ [])) → Takes a c xs × IsAtEnd c
+taken_all a b c xs found before same took =
+    let end = none_taken b c found same took in
+    (subst (Takes a c) (append-nil xs) (Takes-append a b c xs [] before end.0), end.1)

@@ -1,0 +1,5 @@
+use Rattle.client_jobs.proofs.Working.{runs_are_planned}
+use Rattle.client_jobs.proofs.running.commands_keep_their_plans.Goals as goal
+
+pub returns : goal.returns
+returns c command from now start s count text runs = runs_are_planned command from start now s count text runs

@@ -1,0 +1,33 @@
+use Rattle.std.proofs.Common.{◌≡◌}
+use Rattle.client_plans.specs.Plans.{begins}
+use Rattle.client_jobs.specs.Content.{bytes_of}
+use Rattle.client_jobs.specs.Running.{CanAsk, IsUnderWay, command_of}
+use Rattle.client_jobs.proofs.running.work.Given as goal
+
+-- so many operations were carried out, and no count rose
+abbrev pub invariant-loop : goal.invariant-loop
+invariant-loop g l =
+    record {
+      asks : CanAsk l.working.client;
+      content : l.working.content ≡ l.fn.working.content;
+      link : g.L.Link.fault_count l.link ≡ g.L.Link.fault_count l.fn.link;
+      clock : g.C.Clock.fault_count l.clock ≡ g.C.Clock.fault_count l.fn.clock;
+      sink : g.K.Sink.fault_count l.out ≡ g.K.Sink.fault_count l.fn.out;
+      way :
+          IsUnderWay (command_of l.job (bytes_of l.fn.working.content))
+          (record {
+            to_come = g.L.Link.given l.fn.link;
+            sent = g.L.Link.sent l.fn.link;
+            losses = g.L.Link.loss_count l.fn.link;
+            to_read = g.C.Clock.readings l.fn.clock;
+          })
+          (record { driver = l.fn.working.driver; client = l.fn.working.client; stage = begins l.job.order })
+          (g.K.Sink.held l.fn.out) l.counter
+          (record {
+            to_come = g.L.Link.given l.link;
+            sent = g.L.Link.sent l.link;
+            losses = g.L.Link.loss_count l.link;
+            to_read = g.C.Clock.readings l.clock;
+          })
+          (record { driver = l.working.driver; client = l.working.client; stage = l.stage }) (g.K.Sink.held l.out);
+    }

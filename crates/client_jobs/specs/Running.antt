@@ -1,0 +1,298 @@
+-- a client command from its start to its end
+use Rattle.std.specs.Prelude.{ℕ, ◌≡◌, ◌⊎◌, ◌+◌, ◌*◌, ◌^◌, ◌%◌, Bool, true, false, ◌&&◌, IsSome, Option, Some, None, List, [], ◌∷◌, ◌++◌, length}
+use Rattle.xt_base.specs.Faults.{Rose}
+use Rattle.xt_messages.specs.declared.event.Call.{Call}
+use Rattle.xt_messages.specs.Limits.{FitsNode}
+use Rattle.xt_messages.specs.declared.status.Limited.TheVariants as limited
+use Rattle.xt_messages.specs.declared.status.Status.{Status}
+use Rattle.xt_messages.specs.declared.status.Status.TheVariants as status
+use Rattle.node_links.specs.Streams.{Takes, IsAtEnd, Puts}
+use Rattle.node_runs.specs.Links.{Reads}
+use Rattle.node_runs.specs.Hearing.{with_address}
+use Rattle.schedule_lines.specs.Fronts.{PutsFront}
+use Rattle.schedule_lines.specs.Putting.{IsFinished}
+use Rattle.schedule_lines.specs.Causes.{CausesEnd}
+use Rattle.client_core.specs.declared.requests.CallResult.{CallResult}
+use Rattle.client_core.specs.Requests.{is_ready}
+use Rattle.client_core.specs.Rows as rows
+use Rattle.client_core.specs.Views.{ClientView}
+use Rattle.client_fits.specs.Fits.{FitsClient}
+use Rattle.client_loop.specs.declared.errors.DriveErr.{DriveErr}
+use Rattle.client_loop.specs.declared.errors.DriveErr.TheVariants as error
+use Rattle.client_loop.specs.Listening.{DriverView}
+use Rattle.client_loop.specs.Carrying.{Around, HasCarried, CannotCarry, Task as Carried}
+use Rattle.command_words.specs.declared.job.ClientJob.{ClientJob}
+use Rattle.command_words.specs.declared.job.Order.{Order}
+use Rattle.command_words.specs.declared.job.Order.TheVariants as order
+use Rattle.client_plans.specs.declared.stage.Stage.{Stage}
+use Rattle.client_plans.specs.Plans.{Task, task_of, begins, operation_of, goes_on, after, status_at}
+use Rattle.client_jobs.specs.Content.{pattern_from}
+use Rattle.client_jobs.specs.Limits.{fits_call, unasked}
+use Rattle.client_jobs.specs.declared.running.Advanced.{Advanced}
+use Rattle.client_jobs.specs.declared.running.Advanced.TheVariants as to
+
+-- ---- what is around a command
+
+-- how often a link, a clock and a source have failed
+pub record Counts : Type 0 where
+  pub link : ℕ
+  pub clock : ℕ
+  pub source : ℕ
+
+-- a count rose exactly where the status tells of it, and is what it tells
+abbrev pub HasWhy : Counts → Counts → Status → Type 0
+HasWhy before after (status.LinkFault count) =
+    Rose before.link after.link × (count ≡ after.link) × (after.clock ≡ before.clock) × (after.source ≡ before.source)
+HasWhy before after (status.ClockFault count) =
+    Rose before.clock after.clock × (count ≡ after.clock) × (after.link ≡ before.link) × (after.source ≡ before.source)
+HasWhy before after (status.SourceFault count) =
+    Rose before.source after.source × (count ≡ after.source) × (after.link ≡ before.link) × (after.clock ≡ before.clock)
+HasWhy before after _ = (after.link ≡ before.link) × (after.clock ≡ before.clock) × (after.source ≡ before.source)
+
+-- ---- how a command begins
+
+-- the number of its first call, by the clock's first reading; its boot has this number too
+abbrev pub first_number : ℕ → ℕ
+first_number reading = reading % 2 ^ 46 * 65536
+
+abbrev pub address_in : Option (List ℕ) → List ℕ
+address_in None = []
+address_in (Some address) = address
+
+-- It knows where the DIR is, and nobody else.
+abbrev pub driver_of : ClientJob → ℕ → DriverView
+driver_of job reading = record {
+  sender = record { node = job.who.id; boot = record { 0 = first_number reading }; count = 0 };
+  times = job.settings.times;
+  listener = record {
+    node = job.who.id;
+    ears = record { halves = []; book = with_address [] (record { 0 = 900 }) (address_in job.dir) };
+    turns = job.settings.turns;
+    spent = 0;
+  };
+}
+
+abbrev pub client_of : ClientJob → ℕ → ClientView
+client_of job reading = record {
+  node = job.who.id;
+  times = job.settings.times;
+  state = record {
+    replicas = record { last = 0; next = first_number reading; running = None; files = [] };
+    held = [];
+    made = None;
+  };
+}
+
+-- whether a command writes to a file, and how many bytes of the pattern, if not those of the source
+abbrev pub put_in : Order → Option (Option ℕ)
+put_in (order.Put path pattern lies stripe) = Some pattern
+put_in _ = None
+
+-- What `put` writes: the source, to its end, or the pattern. No other command takes of the source.
+abbrev pub IsPutContent : Option (Option ℕ) → Option (List ℕ) → Option (List ℕ) → List ℕ → Type 0
+IsPutContent None before after bytes = (bytes ≡ []) × (after ≡ before)
+IsPutContent (Some None) before after bytes = Takes before after bytes × IsAtEnd after
+IsPutContent (Some (Some size)) before after bytes = (bytes ≡ pattern_from 0 size) × (after ≡ before)
+
+abbrev pub IsContent : Order → Option (List ℕ) → Option (List ℕ) → List ℕ → Type 0
+IsContent wish before after bytes = IsPutContent (put_in wish) before after bytes
+
+-- ---- its operations
+
+-- what is asked for, and how often each operation is tried at most
+pub record Command : Type 0 where
+  pub task : Task
+  pub tries : ℕ
+
+abbrev pub command_of : ClientJob → List ℕ → Command
+command_of job bytes = record { task = task_of job bytes; tries = job.who.tries }
+
+-- how far it is
+pub record Standing : Type 0 where
+  pub driver : DriverView
+  pub client : ClientView
+  pub stage : Stage
+
+-- A call was carried out over the link, by the clock, and has a result.
+pub record HasCalled (call : Carried) (before after : Around) (driver : DriverView) (client : ClientView) : Type 0 where
+  pub carried : HasCarried call before after driver client
+  pub ended : IsSome (rows.result_in client.state.made)
+
+-- The operation of a stage was carried out, and ended so.
+pub record HasOperated (c : Command) (before after : Around) (s : Standing) (driver : DriverView) (client : ClientView) (ended : CallResult) : Type 0 where
+  pub asked : Call
+  pub is : operation_of c.task s.stage ≡ Some asked
+  pub carried : HasCarried (record { driver = s.driver; client = s.client; call = asked; tries = c.tries }) before after driver client
+  pub result : rows.result_in client.state.made ≡ Some ended
+
+-- So many operations were carried out, one after the other, each that of its stage; this is what they came to, and what is to be
+-- written.
+pub data Runs (c : Command) (from : Around) (start : Standing) : ℕ → Around → Standing → List ℕ → Type 0 where
+  begun : Runs c from start 0 from start []
+  carried : (count : ℕ) (between after : Around) (s : Standing) (text : List ℕ) (driver : DriverView) (client : ClientView) (ended : CallResult)
+      → Runs c from start count between s text → HasOperated c between after s driver client ended
+      → Runs c from start (count + 1) after (record { driver = driver; client = client; stage = (goes_on c.task s.stage ended).stage })
+      (text ++ (goes_on c.task s.stage ended).text)
+
+-- There are so many results that the plan comes to this by them.
+pub record IsPlanned (c : Command) (start s : Standing) (count : ℕ) (text : List ℕ) : Type 0 where
+  pub results : List CallResult
+  pub each : length results ≡ count
+  pub is : after c.task start.stage results ≡ record { stage = s.stage; text = text }
+
+-- ---- why it ends
+
+-- the status of a call that isn't carried out
+abbrev pub status_of : DriveErr → Status
+status_of (error.Link count) = status.LinkFault count
+status_of (error.Clock count) = status.ClockFault count
+status_of (error.TurnsSpent turns) = status.TurnsSpent turns
+status_of error.NumbersSpent = status.Limit limited.Numbers 4611686018427387903
+status_of error.OutOfMemory = status.OutOfMemory
+
+-- A call isn't carried out: it uses a file that isn't held, or no message holds it; or the link, the clock, the turns, the numbers or
+-- memory end it.
+abbrev pub CannotCall : Carried → Around → Around → Status → Type 0
+CannotCall call before after why =
+    ((is_ready call.client.state.held call.call && fits_call call.call) ≡ false) × (why ≡ unasked call.call) × (after ≡ before)
+    ⊎ (failed : DriveErr) × (driver : DriverView) × (client : ClientView) × (why ≡ status_of failed) × CannotCarry call before after driver client failed
+
+-- the operation of a stage isn't carried out
+pub record CannotOperate (c : Command) (before after : Around) (s : Standing) (why : Status) : Type 0 where
+  pub asked : Call
+  pub is : operation_of c.task s.stage ≡ Some asked
+  pub ends : CannotCall (record { driver = s.driver; client = s.client; call = asked; tries = c.tries }) before after why
+
+-- Where memory runs out over an operation or over what is written of it, nothing of that is written.
+abbrev pub EndsAt : Command → Around → Around → Standing → Status → Type 0
+EndsAt c before after s why = CannotOperate c before after s why ⊎ (why ≡ status.OutOfMemory)
+
+-- what one operation comes to
+abbrev pub HasAdvanced : Command → Around → Around → Standing → Option (List ℕ) → Option (List ℕ) → DriverView → ClientView → Advanced → Type 0
+HasAdvanced c before after s held later driver client (to.On stage) =
+    (ended : CallResult) × HasOperated c before after s driver client ended × (stage ≡ (goes_on c.task s.stage ended).stage)
+    × Puts held later (goes_on c.task s.stage ended).text
+HasAdvanced c before after s held later driver client (to.Cut count) =
+    (ended : CallResult) × HasOperated c before after s driver client ended × PutsFront held later (goes_on c.task s.stage ended).text
+HasAdvanced c before after s held later driver client to.Over = (operation_of c.task s.stage ≡ None) × (after ≡ before) × (later ≡ held)
+HasAdvanced c before after s held later driver client (to.Ends why) = EndsAt c before after s why × (later ≡ held)
+
+-- which counts rose in it: those of the link and the clock as its status tells, or the sink's
+abbrev pub HasAdvanceCause : Counts → Counts → ℕ → ℕ → Advanced → Type 0
+HasAdvanceCause before after sink later (to.On stage) =
+    (after.link ≡ before.link) × (after.clock ≡ before.clock) × (later ≡ sink)
+HasAdvanceCause before after sink later to.Over =
+    (after.link ≡ before.link) × (after.clock ≡ before.clock) × (later ≡ sink)
+HasAdvanceCause before after sink later (to.Cut count) =
+    Rose sink later × (count ≡ later) × (after.link ≡ before.link) × (after.clock ≡ before.clock)
+HasAdvanceCause before after sink later (to.Ends why) = HasWhy before after why × (later ≡ sink)
+
+-- ---- its end
+
+-- a command that is done has no last line, and neither has one whose sink failed
+abbrev pub has_last_line : Status → Bool
+has_last_line status.Done = false
+has_last_line (status.SinkFault count) = false
+has_last_line _ = true
+
+abbrev pub ClosesIf : Bool → Option (List ℕ) → Option (List ℕ) → ℕ → ℕ → Status → Status → Type 0
+ClosesIf true held later sink risen why ended = IsFinished held later why ended × CausesEnd sink risen ended
+ClosesIf false held later sink risen why ended = (ended ≡ why) × (later ≡ held) × (risen ≡ sink)
+
+-- The last line is put, and this is the status then.
+abbrev pub Closes : Option (List ℕ) → Option (List ℕ) → ℕ → ℕ → Status → Status → Type 0
+Closes held later sink risen why ended = ClosesIf (has_last_line why) held later sink risen why ended
+
+-- a client that may make its next call
+pub record CanAsk (client : ClientView) : Type 0 where
+  pub idle : rows.is_busy client.state.made ≡ false
+  pub node : FitsNode client.node
+  pub fits : FitsClient client.state
+
+abbrev pub GoesOn : Advanced → Type 0
+GoesOn (to.On stage) = Unit {0}
+GoesOn _ = ⊥
+
+-- ---- the whole
+
+-- its clock has been read once, and what `put` writes is known
+pub record Begins (job : ClientJob) (left rest : Option (List ℕ)) (to_read unread : Option (List ℕ)) (driver : DriverView) (client : ClientView)
+    (bytes : List ℕ) : Type 0 where
+  pub reading : ℕ
+  pub reads : Reads to_read unread (reading ∷ [])
+  pub content : IsContent job.order left rest bytes
+  pub knows : driver ≡ driver_of job reading
+  pub starts : client ≡ client_of job reading
+
+-- So many operations were carried out, and what they were to write was put.
+pub record IsUnderWay (c : Command) (from : Around) (start : Standing) (held : Option (List ℕ)) (count : ℕ) (now : Around) (s : Standing)
+    (later : Option (List ℕ)) : Type 0 where
+  pub text : List ℕ
+  pub runs : Runs c from start count now s text
+  pub puts : Puts held later text
+
+-- neither the link nor the clock failed
+abbrev pub IsSound : Counts → Counts → Type 0
+IsSound before now = (now.link ≡ before.link) × (now.clock ≡ before.clock)
+
+-- A stage has no operation; or its operation isn't carried out, or memory runs out over what it writes; or as many were carried out as
+-- a client has numbers.
+abbrev pub EndsBy : Command → ℕ → Around → Around → Standing → Counts → Counts → Status → Type 0
+EndsBy c count between after s before now why =
+    ((operation_of c.task s.stage ≡ None) × (why ≡ status_at s.stage) × (after ≡ between) × IsSound before now)
+    ⊎ ((EndsAt c between after s why × HasWhy before now why)
+    ⊎ ((count ≡ 2 ^ 62) × (why ≡ status_of error.NumbersSpent) × (after ≡ between) × IsSound before now))
+
+-- How its operations end: what they were to write was put, and the last line of the status after it; or the sink failed over a front
+-- of what they were to write; or as many were carried out as a client has numbers.
+pub record HasEnded (c : Command) (from after : Around) (start : Standing) (held later : Option (List ℕ)) (sink risen : ℕ) (before now : Counts) (ended : Status)
+    : Type 0 where
+  pub count : ℕ
+  pub between : Around
+  pub s : Standing
+  pub text : List ℕ
+  pub runs : Runs c from start count between s text
+  pub why : Status
+  pub ends : EndsBy c count between after s before now why
+  pub put : Option (List ℕ)
+  pub puts : Puts held put text
+  pub closes : Closes put later sink risen why ended
+
+pub record IsCut (c : Command) (from after : Around) (start : Standing) (held later : Option (List ℕ)) (sink risen : ℕ) (before now : Counts) (ended : Status)
+    : Type 0 where
+  pub count : ℕ
+  pub s : Standing
+  pub text : List ℕ
+  pub runs : Runs c from start count after s text
+  pub puts : PutsFront held later text
+  pub times : ℕ
+  pub is : ended ≡ status.SinkFault times
+  pub rose : Rose sink risen
+  pub told : times ≡ risen
+  pub sound : IsSound before now
+
+abbrev pub HasWorked : Command → Around → Around → Standing → Option (List ℕ) → Option (List ℕ) → ℕ → ℕ → Counts → Counts → Status → Type 0
+HasWorked c from after start held later sink risen before now ended =
+    HasEnded c from after start held later sink risen before now ended ⊎ IsCut c from after start held later sink risen before now ended
+
+-- it ends before its first operation: the link can't be bound, the clock can't be read, the source can't, or memory runs out
+pub record EndsEarly (after : Around) (before : Around) (held later : Option (List ℕ)) (sink risen : ℕ) (counts now : Counts) (ended : Status) : Type 0 where
+  pub quiet : (after.to_come ≡ before.to_come) × (after.sent ≡ before.sent) × (after.losses ≡ before.losses)
+  pub why : Status
+  pub cause : HasWhy counts now why
+  pub closes : Closes held later sink risen why ended
+
+pub record HasBegun (job : ClientJob) (before after : Around) (left rest held later : Option (List ℕ)) (sink risen : ℕ) (counts now : Counts) (ended : Status)
+    : Type 0 where
+  pub bytes : List ℕ
+  pub unread : Option (List ℕ)
+  pub driver : DriverView
+  pub client : ClientView
+  pub starts : Begins job left rest before.to_read unread driver client bytes
+  pub works : HasWorked (command_of job bytes) (record before { to_read = unread }) after
+      (record { driver = driver; client = client; stage = begins job.order }) held later sink risen counts now ended
+
+-- What a client command does.
+abbrev pub IsClientJob : ClientJob → Around → Around → Option (List ℕ) → Option (List ℕ) → Option (List ℕ) → Option (List ℕ) → ℕ → ℕ → Counts → Counts → Status → Type 0
+IsClientJob job before after left rest held later sink risen counts now ended =
+    EndsEarly after before held later sink risen counts now ended ⊎ HasBegun job before after left rest held later sink risen counts now ended

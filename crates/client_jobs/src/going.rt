@@ -1,0 +1,550 @@
+//! How a command goes on after the result of an operation.
+ghost use Rattle.std.specs.Prelude.{◌≡◌, ◌≤◌, ◌<◌, ◌^◌, [], IfOk};
+ghost use Rattle.client_plans.specs.Plans as plan;
+ghost use Rattle.client_plans.specs.Plans.{goes_by, end_in, end_of};
+
+use crate::pieces::{end_in, first_in, object_size, piece_length, place_of};
+use crate::showing::{lines_of, number_line, push_line_end, row_line, shown_as};
+use client_core::CallResult;
+use client_plans::{Goes, Stage};
+use command_words::Order;
+use std::alloc::Global;
+use truncate_epochs::merge;
+use xt_base::{Copies, Name, NodeId, Octets, OutOfMemory, SizeMark};
+use xt_messages::{
+    Capability, MetaAnswer, MetaRefusal, Refusal, RegistryAnswer, RegistryRow, Status,
+};
+
+/// Nobody has this number.
+const NOBODY: NodeId = NodeId(0);
+
+/// A page with fewer rows is the last one.
+const PAGE_ROWS: usize = 256;
+
+/// A page with fewer names is the last one.
+const PAGE_NAMES: usize = 512;
+
+/// The first object that `get` doesn't ask for.
+const END_OF_OBJECTS: u64 = 4_294_967_295;
+
+/// The command is at this stage, and writes nothing.
+fn goes_to(alloc: Global, stage: Stage) -> Goes
+    ensures { result ≡ plan.goes_to stage }
+{
+    Goes {
+        stage,
+        text: Octets::new(alloc),
+    }
+}
+
+/// The command is done, and writes this.
+fn ends_with(text: Octets) -> Goes
+    ensures { result ≡ plan.ends_with text }
+{
+    Goes {
+        stage: Stage::Over {
+            status: Status::Done,
+        },
+        text,
+    }
+}
+
+/// The command is done, and writes nothing.
+fn ends(alloc: Global) -> Goes
+    ensures { result ≡ plan.ends_with [] }
+{
+    ends_with(Octets::new(alloc))
+}
+
+/// The command is refused.
+fn refused(alloc: Global, rule: Refusal) -> Goes
+    ensures { result ≡ plan.refused rule }
+{
+    goes_to(
+        alloc,
+        Stage::Over {
+            status: Status::Refused { rule },
+        },
+    )
+}
+
+/// The stage after the lists.
+fn main_stage(alloc: Global, order: &Order) -> Result<Stage, OutOfMemory>
+    ensures { IfOk result (λ stage. stage ≡ plan.main_stage order.now) }
+{
+    match order {
+        Order::Ls { .. } => Ok(Stage::Pages {
+            above: Name::of(alloc, "")?,
+        }),
+        Order::Put { .. } => Ok(Stage::Creates),
+        Order::Get { .. } | Order::Truncate { .. } => Ok(Stage::Grants),
+        _ => Ok(Stage::AsksOnce),
+    }
+}
+
+/// The next piece of a file of so many bytes is written, or its size is reported.
+fn write_on(size: u64, capability: &Capability, done: u64, mark: SizeMark) -> Stage
+    ensures { result ≡ plan.write_on size capability.now done mark }
+{
+    let capability = *capability;
+    if done < size {
+        Stage::Writes {
+            capability,
+            done,
+            mark,
+        }
+    } else {
+        Stage::Reports { capability, mark }
+    }
+}
+
+/// Whether the piece at this place is asked for.
+fn reads_on(range: Option<(u64, u64)>, capability: &Capability, from: u64, mark: SizeMark) -> bool
+    requires { end_in range ≤ 281474976710656 }
+    ensures { result ≡ plan.reads_on range capability.now from mark }
+{
+    let (object, _) = place_of(object_size(capability), from);
+    from < end_in(range) && (from == first_in(range) || from < mark.size) && object < END_OF_OBJECTS
+}
+
+/// Writes what came, and asks for the piece at this place where it is due.
+fn read_on(
+    alloc: Global,
+    range: Option<(u64, u64)>,
+    hex: bool,
+    capability: &Capability,
+    from: u64,
+    mark: SizeMark,
+    bytes: &[u8],
+) -> Result<Goes, OutOfMemory>
+    requires { end_in range ≤ 281474976710656 }
+    ensures { IfOk result (λ goes.
+        goes ≡ plan.read_on range hex capability.now from mark bytes.now) }
+{
+    let mut text = shown_as(alloc, hex, bytes)?;
+    if reads_on(range, capability, from, mark) {
+        let capability = *capability;
+        return Ok(Goes {
+            stage: Stage::Reads {
+                capability,
+                from,
+                mark,
+            },
+            text: Octets::from(text),
+        });
+    }
+    push_line_end(&mut text, hex)?;
+    Ok(ends_with(Octets::from(text)))
+}
+
+/// A capability was granted.
+fn granted_to(
+    alloc: Global,
+    size: u64,
+    order: &Order,
+    capability: &Capability,
+    mark: SizeMark,
+) -> Result<Goes, OutOfMemory>
+    requires { end_of order.now ≤ 281474976710656 }
+    ensures { IfOk result (λ goes.
+        goes ≡ plan.granted_to size order.now capability.now mark) }
+{
+    match order {
+        Order::Put { .. } => Ok(goes_to(alloc, write_on(size, capability, 0, mark))),
+        Order::Get { range, hex, .. } => read_on(
+            alloc,
+            *range,
+            *hex,
+            capability,
+            first_in(*range),
+            mark,
+            &[],
+        ),
+        _ => {
+            let capability = *capability;
+            Ok(goes_to(alloc, Stage::Truncates { capability, mark }))
+        }
+    }
+}
+
+/// A piece was written.
+fn written(
+    alloc: Global,
+    size: u64,
+    order: &Order,
+    capability: &Capability,
+    done: u64,
+    mark: SizeMark,
+) -> Goes
+    ensures { result ≡ plan.written size order.now capability.now done mark }
+{
+    match order {
+        Order::Put { .. } => {
+            let count = piece_length(object_size(capability), done, size);
+            let stage = write_on(size, capability, done + u64::from(count), mark);
+            goes_to(alloc, stage)
+        }
+        _ => ends(alloc),
+    }
+}
+
+/// A piece was read.
+fn was_read(
+    alloc: Global,
+    order: &Order,
+    capability: &Capability,
+    from: u64,
+    mark: SizeMark,
+    bytes: &[u8],
+) -> Result<Goes, OutOfMemory>
+    requires { end_of order.now ≤ 281474976710656 }
+    ensures { IfOk result (λ goes.
+        goes ≡ plan.was_read order.now capability.now from mark bytes.now) }
+{
+    match order {
+        Order::Get { range, hex, .. } => {
+            let count = piece_length(object_size(capability), from, end_in(*range));
+            read_on(
+                alloc,
+                *range,
+                *hex,
+                capability,
+                from + u64::from(count),
+                mark,
+                bytes,
+            )
+        }
+        _ => Ok(ends(alloc)),
+    }
+}
+
+/// An operation on a file was done.
+fn done_at(
+    alloc: Global,
+    size: u64,
+    order: &Order,
+    stage: &Stage,
+    learnt: SizeMark,
+    bytes: &[u8],
+) -> Result<Goes, OutOfMemory>
+    requires { end_of order.now ≤ 281474976710656 }
+    ensures { IfOk result (λ goes.
+        goes ≡ plan.done_at size order.now stage.now learnt bytes.now) }
+{
+    match stage {
+        Stage::Writes {
+            capability,
+            done,
+            mark,
+        } => {
+            let mark = merge(*mark, learnt);
+            Ok(written(alloc, size, order, capability, *done, mark))
+        }
+        Stage::Reads {
+            capability,
+            from,
+            mark,
+        } => was_read(alloc, order, capability, *from, merge(*mark, learnt), bytes),
+        Stage::Truncates { capability, mark } => Ok(goes_to(
+            alloc,
+            Stage::Reports {
+                capability: *capability,
+                mark: merge(*mark, learnt),
+            },
+        )),
+        _ => Ok(ends(alloc)),
+    }
+}
+
+/// The last of these names, or the empty one.
+fn last_of(alloc: Global, names: &[Name]) -> Result<Name, OutOfMemory>
+    ensures { IfOk result (λ name. name ≡ plan.last_of names.now) }
+{
+    match names.last() {
+        None => Name::of(alloc, ""),
+        Some(name) => name.copy(alloc),
+    }
+}
+
+/// Names of a directory came.
+fn names_told(alloc: Global, names: &[Name]) -> Result<Goes, OutOfMemory>
+    ensures { IfOk result (λ goes. goes ≡ plan.names_told names.now) }
+{
+    let text = lines_of(alloc, names)?;
+    if names.len() < PAGE_NAMES {
+        return Ok(ends_with(text));
+    }
+    let above = last_of(alloc, names)?;
+    Ok(Goes {
+        stage: Stage::Pages { above },
+        text,
+    })
+}
+
+/// What is written once a file's size was reported.
+fn size_told(alloc: Global, order: &Order, mark: SizeMark) -> Result<Octets, OutOfMemory>
+    ensures { IfOk result (λ text. text ≡ plan.size_told order.now mark) }
+{
+    match order {
+        Order::Put { .. } => number_line(alloc, mark.size),
+        _ => Ok(Octets::new(alloc)),
+    }
+}
+
+/// A file was to be made.
+fn created(alloc: Global, answer: &MetaAnswer) -> Goes
+    ensures { result ≡ plan.created answer.now }
+{
+    match answer {
+        MetaAnswer::Refused {
+            refusal: MetaRefusal::Exists,
+        } => goes_to(alloc, Stage::Grants),
+        MetaAnswer::Refused { refusal } => refused(alloc, Refusal::Meta { refusal: *refusal }),
+        _ => goes_to(alloc, Stage::Grants),
+    }
+}
+
+/// A capability was asked for.
+fn granted(
+    alloc: Global,
+    size: u64,
+    order: &Order,
+    answer: &MetaAnswer,
+) -> Result<Goes, OutOfMemory>
+    requires { end_of order.now ≤ 281474976710656 }
+    ensures { IfOk result (λ goes. goes ≡ plan.granted size order.now answer.now) }
+{
+    match answer {
+        MetaAnswer::Granted { capability, mark } => {
+            granted_to(alloc, size, order, capability, *mark)
+        }
+        _ => Ok(ends(alloc)),
+    }
+}
+
+/// Names were asked for.
+fn listed(alloc: Global, answer: &MetaAnswer) -> Result<Goes, OutOfMemory>
+    ensures { IfOk result (λ goes. goes ≡ plan.listed answer.now) }
+{
+    match answer {
+        MetaAnswer::Names { names } => names_told(alloc, names.as_slice()),
+        _ => Ok(ends(alloc)),
+    }
+}
+
+/// A size was reported.
+fn reported(
+    alloc: Global,
+    order: &Order,
+    mark: SizeMark,
+    answer: &MetaAnswer,
+) -> Result<Goes, OutOfMemory>
+    ensures { IfOk result (λ goes. goes ≡ plan.reported order.now mark answer.now) }
+{
+    match answer {
+        MetaAnswer::Done => Ok(ends_with(size_told(alloc, order, mark)?)),
+        _ => Ok(ends(alloc)),
+    }
+}
+
+/// The one metadata call of a command was answered.
+fn shown(alloc: Global, answer: &MetaAnswer) -> Result<Goes, OutOfMemory>
+    ensures { IfOk result (λ goes. goes ≡ plan.shown answer.now) }
+{
+    match answer {
+        MetaAnswer::Row {
+            kind,
+            owner,
+            group,
+            mode,
+            mark,
+        } => Ok(ends_with(row_line(alloc, *kind, *owner, *group, *mode, *mark)?)),
+        _ => Ok(ends(alloc)),
+    }
+}
+
+/// The MRC answered, and refused nothing.
+fn accepted(
+    alloc: Global,
+    size: u64,
+    order: &Order,
+    stage: &Stage,
+    answer: &MetaAnswer,
+) -> Result<Goes, OutOfMemory>
+    requires { end_of order.now ≤ 281474976710656 }
+    ensures { IfOk result (λ goes.
+        goes ≡ plan.accepted size order.now stage.now answer.now) }
+{
+    match stage {
+        Stage::Grants => granted(alloc, size, order, answer),
+        Stage::Pages { .. } => listed(alloc, answer),
+        Stage::Reports { mark, .. } => reported(alloc, order, *mark, answer),
+        Stage::AsksOnce => shown(alloc, answer),
+        _ => Ok(ends(alloc)),
+    }
+}
+
+/// The MRC answered something else than a creation.
+fn unless_refused(
+    alloc: Global,
+    size: u64,
+    order: &Order,
+    stage: &Stage,
+    answer: &MetaAnswer,
+) -> Result<Goes, OutOfMemory>
+    requires { end_of order.now ≤ 281474976710656 }
+    ensures { IfOk result (λ goes.
+        goes ≡ plan.unless_refused size order.now stage.now answer.now) }
+{
+    match answer {
+        MetaAnswer::Refused { refusal } => Ok(refused(alloc, Refusal::Meta { refusal: *refusal })),
+        _ => accepted(alloc, size, order, stage, answer),
+    }
+}
+
+/// The MRC answered.
+fn answered(
+    alloc: Global,
+    size: u64,
+    order: &Order,
+    stage: &Stage,
+    answer: &MetaAnswer,
+) -> Result<Goes, OutOfMemory>
+    requires { end_of order.now ≤ 281474976710656 }
+    ensures { IfOk result (λ goes.
+        goes ≡ plan.answered size order.now stage.now answer.now) }
+{
+    match stage {
+        Stage::Creates => Ok(created(alloc, answer)),
+        _ => unless_refused(alloc, size, order, stage, answer),
+    }
+}
+
+/// The node of the last of these rows.
+fn last_node(rows: &[RegistryRow]) -> NodeId
+    ensures { result ≡ plan.last_node rows.now }
+{
+    match rows.last() {
+        None => NOBODY,
+        Some(row) => row.node,
+    }
+}
+
+/// Rows of a kind came.
+fn rows_told(
+    alloc: Global,
+    order: &Order,
+    kind: u8,
+    rows: &[RegistryRow],
+) -> Result<Stage, OutOfMemory>
+    ensures { IfOk result (λ stage. stage ≡ plan.rows_told order.now kind rows.now) }
+{
+    if rows.len() >= PAGE_ROWS {
+        return Ok(Stage::Lists {
+            kind,
+            above: last_node(rows),
+        });
+    }
+    if kind == 2 {
+        Ok(Stage::Lists {
+            kind: 1,
+            above: NOBODY,
+        })
+    } else {
+        main_stage(alloc, order)
+    }
+}
+
+/// The version of a row, and 0 where it isn't there.
+fn version_told(answer: &RegistryAnswer) -> u64
+    ensures { result ≡ plan.version_told answer.now }
+{
+    match answer {
+        RegistryAnswer::Row { row } => row.version,
+        _ => 0,
+    }
+}
+
+/// Rows were asked for.
+fn rows_listed(
+    alloc: Global,
+    order: &Order,
+    kind: u8,
+    answer: &RegistryAnswer,
+) -> Result<Goes, OutOfMemory>
+    ensures { IfOk result (λ goes. goes ≡ plan.rows_listed order.now kind answer.now) }
+{
+    match answer {
+        RegistryAnswer::Rows { rows } => {
+            let stage = rows_told(alloc, order, kind, rows.as_slice())?;
+            Ok(goes_to(alloc, stage))
+        }
+        _ => Ok(ends(alloc)),
+    }
+}
+
+/// A row was to be set.
+fn row_set(alloc: Global, answer: &RegistryAnswer) -> Goes
+    ensures { result ≡ plan.row_set answer.now }
+{
+    match answer {
+        RegistryAnswer::Changed { version } => {
+            refused(alloc, Refusal::Changed { version: *version })
+        }
+        RegistryAnswer::Absent => refused(alloc, Refusal::Absent),
+        _ => ends(alloc),
+    }
+}
+
+/// The DIR answered.
+fn registered(
+    alloc: Global,
+    order: &Order,
+    stage: &Stage,
+    answer: &RegistryAnswer,
+) -> Result<Goes, OutOfMemory>
+    ensures { IfOk result (λ goes. goes ≡ plan.registered order.now stage.now answer.now) }
+{
+    match stage {
+        Stage::Lists { kind, .. } => rows_listed(alloc, order, *kind, answer),
+        Stage::Looks => Ok(goes_to(
+            alloc,
+            Stage::Sets {
+                version: version_told(answer),
+            },
+        )),
+        Stage::Sets { .. } => Ok(row_set(alloc, answer)),
+        _ => Ok(ends(alloc)),
+    }
+}
+
+/// How a command that asks for this, with so many bytes to write, goes on after the result of its operation.
+#[tactic(auto, unfolding(client_plans::specs::Plans::goes_by))]
+pub fn goes_by(
+    alloc: Global,
+    size: u64,
+    order: &Order,
+    stage: &Stage,
+    ended: &CallResult,
+) -> Result<Goes, OutOfMemory>
+    requires { end_of order.now ≤ 281474976710656 }
+    ensures { IfOk result (λ goes. goes ≡ goes_by size order.now stage.now ended.now) }
+{
+    match ended {
+        CallResult::Ok { mark, bytes, .. } => {
+            done_at(alloc, size, order, stage, *mark, bytes.as_slice())
+        }
+        CallResult::Retry { answers } => {
+            let answers = answers.copy(alloc)?;
+            Ok(goes_to(
+                alloc,
+                Stage::Over {
+                    status: Status::Retry { answers },
+                },
+            ))
+        }
+        CallResult::Refused { reply } => Ok(refused(alloc, Refusal::Ask { refusal: *reply })),
+        CallResult::Meta { answer } => answered(alloc, size, order, stage, answer),
+        CallResult::Registry { answer } => registered(alloc, order, stage, answer),
+    }
+}

@@ -1,0 +1,503 @@
+//! A client command from its start to its end.
+ghost use Rattle.std.specs.Prelude.{◌≡◌, ◌≤◌, ◌<◌, ◌^◌, ◌∷◌, [], ℕ, List, IsSome, IfOk, IfErr, IfSome};
+ghost use Rattle.node_runs.specs.Links.{Reads};
+ghost use Rattle.client_plans.specs.Plans.{begins, end_of};
+ghost use Rattle.client_jobs.specs.Content.{bytes_of, HasReadCause};
+ghost use Rattle.client_jobs.specs.Running as spec;
+ghost use Rattle.client_loop.specs.Carrying.{Around};
+ghost use Rattle.client_jobs.specs.Running.{Command, Standing, Runs, IsPlanned, HasWhy, first_number, driver_of, client_of, IsContent, command_of, CannotCall, HasCalled, HasAdvanced, HasAdvanceCause, has_last_line, Closes, CanAsk, GoesOn, Begins, IsClientJob, HasWorked};
+
+use crate::asking::operation_of;
+use crate::content::{Content, ReadErr, read_all};
+use crate::going::goes_by;
+use crate::limits::{fits_call, unasked};
+use client_core::Client;
+use client_loop::{DriveErr, Driver};
+use client_plans::Stage;
+use command_words::{ClientJob, Order};
+use node_links::{Clock, Link, Sink, Source};
+use schedule_lines::{finish, put_all};
+use std::alloc::Global;
+use xt_base::{Boot, COUNTS, NodeId, Octets};
+use xt_messages::{Call, Limited, Status};
+
+/// What a command goes on with.
+#[derive(Drop)]
+pub struct Working {
+    pub driver: Driver,
+    pub client: Client,
+    pub content: Content,
+}
+
+/// What an operation came to.
+#[derive(Drop)]
+pub enum Advanced {
+    /// The command is at this stage now.
+    On { stage: Stage },
+    /// The stage has no operation.
+    Over,
+    /// The operation wasn't carried out, or memory ran out over what it wrote.
+    Ends { status: Status },
+    /// The sink failed over what was to be written; it has had so many faults.
+    Cut { count: u64 },
+}
+
+/// The number of the first call of a client that begins at this reading.
+fn first_number(reading: u64) -> u64
+    ensures value { result ≡ first_number reading }
+    ensures small { result < 2 ^ 62 }
+{
+    (reading % (1 << 46)) * 65_536
+}
+
+/// Where a command begins.
+fn begins(order: &Order) -> Stage
+    ensures { result ≡ begins order.now }
+{
+    match order {
+        Order::Register { .. } => Stage::Looks,
+        _ => Stage::Lists {
+            kind: 2,
+            above: NodeId(0),
+        },
+    }
+}
+
+/// The status of a call that isn't carried out.
+fn status_of(error: DriveErr) -> Status
+    ensures { result ≡ spec.status_of error }
+{
+    match error {
+        DriveErr::Link { count } => Status::LinkFault { count },
+        DriveErr::Clock { count } => Status::ClockFault { count },
+        DriveErr::TurnsSpent { turns } => Status::TurnsSpent { turns },
+        DriveErr::NumbersSpent => Status::Limit {
+            what: Limited::Numbers,
+            limit: COUNTS - 1,
+        },
+        DriveErr::OutOfMemory => Status::OutOfMemory,
+    }
+}
+
+/// The status of a source that isn't read to its end.
+fn unread(error: ReadErr) -> Status
+    ensures { (link clock : ℕ) (before later : ℕ) → HasReadCause before later error →
+        HasWhy (record { link = link; clock = clock; source = before })
+        (record { link = link; clock = clock; source = later }) result }
+{
+    match error {
+        ReadErr::Failed { count } => Status::SourceFault { count },
+        ReadErr::OutOfMemory => Status::OutOfMemory,
+    }
+}
+
+/// Whether a command writes to a file, and how many bytes of the pattern, if not those of the source.
+fn put_in(order: &Order) -> Option<Option<u64>>
+    ensures { result ≡ spec.put_in order.now }
+{
+    match order {
+        Order::Put { pattern, .. } => Some(*pattern),
+        _ => None,
+    }
+}
+
+/// What a command writes to a file.
+fn content_of<S: Source>(alloc: Global, order: &Order, src: &mut S) -> Result<Content, Status>
+    ensures content { IfOk result (λ content.
+        IsContent order.now (S.left src.old) (S.left src.new) (bytes_of content)) }
+    ensures sound { IfOk result (λ content. S.fault_count src.new ≡ S.fault_count src.old) }
+    ensures cause { (link clock : ℕ) → IfErr result (HasWhy
+        (record { link = link; clock = clock; source = S.fault_count src.old })
+        (record { link = link; clock = clock; source = S.fault_count src.new })) }
+{
+    match put_in(order) {
+        None => Ok(Content::Bytes {
+            bytes: Octets::new(alloc),
+        }),
+        Some(Some(size)) => Ok(Content::Pattern { size }),
+        Some(None) => match read_all(alloc, src) {
+            Ok(bytes) => Ok(Content::Bytes { bytes }),
+            Err(error) => Err(unread(error)),
+        },
+    }
+}
+
+/// A client whose first call has this number, and its end of the link.
+fn worker(alloc: Global, job: &ClientJob, content: Content, reading: u64) -> Option<Working>
+    requires dir { IsSome job.now.dir }
+    requires turns { job.now.settings.turns < 2 ^ 62 }
+    ensures { IfSome result (λ working. (working.driver ≡ driver_of job.now reading)
+        × (working.client ≡ client_of job.now reading) × (working.content ≡ content)
+        × CanAsk working.client) }
+{
+    let Some(dir) = &job.dir else { unreachable!() };
+    let first = first_number(reading);
+    let (node, times) = (job.who.id, job.settings.times);
+    let boot = Boot(first);
+    match Driver::new(alloc, node, boot, times, dir, job.settings.turns) {
+        Ok(driver) => Some(Working {
+            driver,
+            client: Client::new(alloc, node, times, first),
+            content,
+        }),
+        Err(_) => None,
+    }
+}
+
+/// Takes an address for the link, and reads the clock.
+fn opened<L: Link, C: Clock>(link: &mut L, clock: &mut C) -> Result<u64, Status>
+    ensures link { (L.given link.new ≡ L.given link.old) × (L.sent link.new ≡ L.sent link.old)
+        × (L.loss_count link.new ≡ L.loss_count link.old) }
+    ensures reads { IfOk result (λ reading. Reads (C.readings clock.old) (C.readings clock.new)
+        (reading ∷ [])) }
+    ensures link_sound { IfOk result (λ reading. L.fault_count link.new ≡ L.fault_count link.old) }
+    ensures clock_sound { IfOk result (λ reading.
+        C.fault_count clock.new ≡ C.fault_count clock.old) }
+    ensures cause { (source : ℕ) → IfErr result (HasWhy
+        (record {
+          link = L.fault_count link.old;
+          clock = C.fault_count clock.old;
+          source = source;
+        })
+        (record {
+          link = L.fault_count link.new;
+          clock = C.fault_count clock.new;
+          source = source;
+        })) }
+{
+    if link.bind("127.0.0.1:0").is_err() {
+        return Err(Status::LinkFault {
+            count: link.faults(),
+        });
+    }
+    let Ok(reading) = clock.now() else {
+        return Err(Status::ClockFault {
+            count: clock.faults(),
+        });
+    };
+    Ok(reading)
+}
+
+/// Takes an address for the link, reads the clock, and then reads what `put` writes.
+fn begin<S: Source, L: Link, C: Clock>(
+    alloc: Global,
+    job: &ClientJob,
+    src: &mut S,
+    link: &mut L,
+    clock: &mut C,
+) -> Result<Working, Status>
+    requires dir { IsSome job.now.dir }
+    requires turns { job.now.settings.turns < 2 ^ 62 }
+    ensures link { (L.given link.new ≡ L.given link.old) × (L.sent link.new ≡ L.sent link.old)
+        × (L.loss_count link.new ≡ L.loss_count link.old) }
+    ensures begins { IfOk result (λ working. Begins job.now (S.left src.old) (S.left src.new)
+        (C.readings clock.old) (C.readings clock.new) working.driver working.client
+        (bytes_of working.content)) }
+    ensures asks { IfOk result (λ working. CanAsk working.client) }
+    ensures sound { IfOk result (λ working. (L.fault_count link.new ≡ L.fault_count link.old)
+        × (C.fault_count clock.new ≡ C.fault_count clock.old)
+        × (S.fault_count src.new ≡ S.fault_count src.old)) }
+    ensures cause { IfErr result (HasWhy
+        (record {
+          link = L.fault_count link.old;
+          clock = C.fault_count clock.old;
+          source = S.fault_count src.old;
+        })
+        (record {
+          link = L.fault_count link.new;
+          clock = C.fault_count clock.new;
+          source = S.fault_count src.new;
+        })) }
+{
+    let reading = match opened(link, clock) {
+        Ok(reading) => reading,
+        Err(status) => return Err(status),
+    };
+    let content = match content_of(alloc, &job.order, src) {
+        Ok(content) => content,
+        Err(status) => return Err(status),
+    };
+    match worker(alloc, job, content, reading) {
+        Some(working) => Ok(working),
+        None => Err(Status::OutOfMemory),
+    }
+}
+
+/// Carries a call out.
+fn operate<L: Link, C: Clock>(
+    working: &mut Working,
+    call: &Call,
+    tries: u32,
+    link: &mut L,
+    clock: &mut C,
+) -> Result<(), Status>
+    requires asks { CanAsk working.old.client }
+    ensures asks { IfOk result (λ done. CanAsk working.new.client) }
+    ensures content { working.new.content ≡ working.old.content }
+    ensures called { IfOk result (λ done. HasCalled
+        (record {
+          driver = working.old.driver;
+          client = working.old.client;
+          call = call.now;
+          tries = tries;
+        })
+        (record {
+          to_come = L.given link.old;
+          sent = L.sent link.old;
+          losses = L.loss_count link.old;
+          to_read = C.readings clock.old;
+        })
+        (record {
+          to_come = L.given link.new;
+          sent = L.sent link.new;
+          losses = L.loss_count link.new;
+          to_read = C.readings clock.new;
+        })
+        working.new.driver working.new.client) }
+    ensures cannot { IfErr result (CannotCall
+        (record {
+          driver = working.old.driver;
+          client = working.old.client;
+          call = call.now;
+          tries = tries;
+        })
+        (record {
+          to_come = L.given link.old;
+          sent = L.sent link.old;
+          losses = L.loss_count link.old;
+          to_read = C.readings clock.old;
+        })
+        (record {
+          to_come = L.given link.new;
+          sent = L.sent link.new;
+          losses = L.loss_count link.new;
+          to_read = C.readings clock.new;
+        })) }
+    ensures cause { (source : ℕ) → IfErr result (HasWhy
+        (record {
+          link = L.fault_count link.old;
+          clock = C.fault_count clock.old;
+          source = source;
+        })
+        (record {
+          link = L.fault_count link.new;
+          clock = C.fault_count clock.new;
+          source = source;
+        })) }
+    ensures sound { IfOk result (λ done. (L.fault_count link.new ≡ L.fault_count link.old)
+        × (C.fault_count clock.new ≡ C.fault_count clock.old)) }
+{
+    if !working.client.is_ready(call) || !fits_call(call) {
+        return Err(unasked(call));
+    }
+    match working
+        .driver
+        .carry_out(&mut working.client, call, tries, link, clock)
+    {
+        Ok(()) => Ok(()),
+        Err(error) => Err(status_of(error)),
+    }
+}
+
+/// Whether a status has a last line here.
+fn has_last_line(status: &Status) -> bool
+    ensures { result ≡ has_last_line status.now }
+{
+    match status {
+        Status::Done | Status::SinkFault { .. } => false,
+        _ => true,
+    }
+}
+
+/// Puts the last line of a status.
+fn close<K: Sink>(alloc: Global, out: &mut K, status: Status) -> Status
+    ensures { Closes (K.held out.old) (K.held out.new) (K.fault_count out.old)
+        (K.fault_count out.new) status result }
+{
+    if !has_last_line(&status) {
+        return status;
+    }
+    finish(alloc, out, status)
+}
+
+/// Carries out the operation of a stage and writes what comes of it.
+fn advance<K: Sink, L: Link, C: Clock>(
+    alloc: Global,
+    job: &ClientJob,
+    working: &mut Working,
+    stage: &Stage,
+    out: &mut K,
+    link: &mut L,
+    clock: &mut C,
+) -> Advanced
+    requires range { end_of job.now.order ≤ 281474976710656 }
+    requires asks { CanAsk working.old.client }
+    ensures asks { GoesOn result → CanAsk working.new.client }
+    ensures content { working.new.content ≡ working.old.content }
+    ensures advanced { HasAdvanced (command_of job.now (bytes_of working.old.content))
+        (record {
+          to_come = L.given link.old;
+          sent = L.sent link.old;
+          losses = L.loss_count link.old;
+          to_read = C.readings clock.old;
+        })
+        (record {
+          to_come = L.given link.new;
+          sent = L.sent link.new;
+          losses = L.loss_count link.new;
+          to_read = C.readings clock.new;
+        })
+        (record { driver = working.old.driver; client = working.old.client; stage = stage.now })
+        (K.held out.old) (K.held out.new) working.new.driver working.new.client result }
+    ensures cause { (source : ℕ) → HasAdvanceCause
+        (record {
+          link = L.fault_count link.old;
+          clock = C.fault_count clock.old;
+          source = source;
+        })
+        (record {
+          link = L.fault_count link.new;
+          clock = C.fault_count clock.new;
+          source = source;
+        })
+        (K.fault_count out.old) (K.fault_count out.new) result }
+{
+    let call = match operation_of(alloc, job, &working.content, stage) {
+        Ok(Some(call)) => call,
+        Ok(None) => return Advanced::Over,
+        Err(_) => {
+            return Advanced::Ends {
+                status: Status::OutOfMemory,
+            };
+        }
+    };
+    match operate(working, &call, job.who.tries, link, clock) {
+        Ok(()) => {}
+        Err(status) => return Advanced::Ends { status },
+    }
+    let Some(ended) = working.client.result() else {
+        unreachable!()
+    };
+    let size = working.content.size();
+    let goes = match goes_by(alloc, size, &job.order, stage, ended) {
+        Ok(goes) => goes,
+        Err(_) => {
+            return Advanced::Ends {
+                status: Status::OutOfMemory,
+            };
+        }
+    };
+    match put_all(out, goes.text.as_slice()) {
+        Ok(()) => Advanced::On { stage: goes.stage },
+        Err(_) => Advanced::Cut {
+            count: out.faults(),
+        },
+    }
+}
+
+/// Carries out the operations of a command, from its first stage on.
+fn work<K: Sink, L: Link, C: Clock>(
+    alloc: Global,
+    job: &ClientJob,
+    working: &mut Working,
+    out: &mut K,
+    link: &mut L,
+    clock: &mut C,
+) -> Status
+    requires range { end_of job.now.order ≤ 281474976710656 }
+    requires asks { CanAsk working.old.client }
+    ensures { (source : ℕ) → HasWorked (command_of job.now (bytes_of working.old.content))
+        (record {
+          to_come = L.given link.old;
+          sent = L.sent link.old;
+          losses = L.loss_count link.old;
+          to_read = C.readings clock.old;
+        })
+        (record {
+          to_come = L.given link.new;
+          sent = L.sent link.new;
+          losses = L.loss_count link.new;
+          to_read = C.readings clock.new;
+        })
+        (record {
+          driver = working.old.driver;
+          client = working.old.client;
+          stage = begins job.now.order;
+        })
+        (K.held out.old) (K.held out.new) (K.fault_count out.old) (K.fault_count out.new)
+        (record {
+          link = L.fault_count link.old;
+          clock = C.fault_count clock.old;
+          source = source;
+        })
+        (record {
+          link = L.fault_count link.new;
+          clock = C.fault_count clock.new;
+          source = source;
+        })
+        result }
+{
+    let mut stage = begins(&job.order);
+    for _ in 0..COUNTS {
+        match advance(alloc, job, working, &stage, out, link, clock) {
+            Advanced::On { stage: next } => stage = next,
+            Advanced::Over => return close(alloc, out, stage.into_status()),
+            Advanced::Ends { status } => return close(alloc, out, status),
+            Advanced::Cut { count } => return Status::SinkFault { count },
+        }
+    }
+    close(alloc, out, status_of(DriveErr::NumbersSpent))
+}
+
+/// Runs a client command that names the DIR: over the link, by the clock, with what the source has for `put` and what it writes
+/// put to the sink.
+pub fn run_client<S: Source, K: Sink, L: Link, C: Clock>(
+    alloc: Global,
+    job: &ClientJob,
+    src: &mut S,
+    out: &mut K,
+    link: &mut L,
+    clock: &mut C,
+) -> Status
+    requires dir { IsSome job.now.dir }
+    requires turns { job.now.settings.turns < 2 ^ 62 }
+    requires range { end_of job.now.order ≤ 281474976710656 }
+    ensures { IsClientJob job.now
+        (record {
+          to_come = L.given link.old;
+          sent = L.sent link.old;
+          losses = L.loss_count link.old;
+          to_read = C.readings clock.old;
+        })
+        (record {
+          to_come = L.given link.new;
+          sent = L.sent link.new;
+          losses = L.loss_count link.new;
+          to_read = C.readings clock.new;
+        })
+        (S.left src.old) (S.left src.new) (K.held out.old) (K.held out.new)
+        (K.fault_count out.old) (K.fault_count out.new)
+        (record {
+          link = L.fault_count link.old;
+          clock = C.fault_count clock.old;
+          source = S.fault_count src.old;
+        })
+        (record {
+          link = L.fault_count link.new;
+          clock = C.fault_count clock.new;
+          source = S.fault_count src.new;
+        })
+        result }
+{
+    let mut working = match begin(alloc, job, src, link, clock) {
+        Ok(working) => working,
+        Err(status) => return close(alloc, out, status),
+    };
+    work(alloc, job, &mut working, out, link, clock)
+}
+
+/// What a command does is its plan: by the results of its operations the plan comes to where the command is, and to what it writes.
+pub fn commands_keep_their_plans()
+    ensures { (c : Command) (from now : Around) (start s : Standing) (count : ℕ) (text : List ℕ) →
+        Runs c from start count now s text → IsPlanned c start s count text }
+{}

@@ -1,0 +1,4 @@
+pub mod Carrying
+pub mod Listening
+pub mod Mailing
+pub mod Waiting

@@ -1,0 +1,393 @@
+-- What each client command does: its operations, one after the other, each by the results of those before it, and what it writes.
+use Rattle.std.specs.Prelude.{ℕ, ◌+◌, ◌-◌, ◌/◌, ◌%◌, ◌==◌, ◌&&◌, ◌||◌, nat_lt, min, max, Bool, true, false, if◌then◌else◌, Option, Some, None, List, [], ◌∷◌, ◌++◌, length, take, drop, slice_get, codes}
+use Rattle.std.specs.List.{flat_map}
+use Rattle.std.specs.Fmt.{decimal}
+use Rattle.xt_base.specs.declared.ids.NodeId.{NodeId}
+use Rattle.xt_base.specs.declared.ids.SizeMark.{SizeMark}
+use Rattle.xt_messages.specs.declared.event.Call.{Call}
+use Rattle.xt_messages.specs.declared.event.Call.TheVariants as call
+use Rattle.xt_messages.specs.declared.file.Kind.{Kind}
+use Rattle.xt_messages.specs.declared.file.Kind.TheVariants as kind
+use Rattle.xt_messages.specs.declared.file.Capability.{Capability}
+use Rattle.xt_messages.specs.declared.meta.MetaReq.{MetaReq}
+use Rattle.xt_messages.specs.declared.meta.MetaReq.TheVariants as meta
+use Rattle.xt_messages.specs.declared.meta.MetaAnswer.{MetaAnswer}
+use Rattle.xt_messages.specs.declared.meta.MetaAnswer.TheVariants as told
+use Rattle.xt_messages.specs.declared.meta.MetaRefusal.TheVariants as refusal_of
+use Rattle.xt_messages.specs.declared.meta.RowKind.{RowKind}
+use Rattle.xt_messages.specs.declared.meta.RowKind.TheVariants as row_kind
+use Rattle.xt_messages.specs.declared.registry.RegistryReq.TheVariants as registry
+use Rattle.xt_messages.specs.declared.registry.RegistryRow.{RegistryRow}
+use Rattle.xt_messages.specs.declared.registry.RegistryAnswer.{RegistryAnswer}
+use Rattle.xt_messages.specs.declared.registry.RegistryAnswer.TheVariants as row
+use Rattle.xt_messages.specs.declared.status.Refusal.{Refusal}
+use Rattle.xt_messages.specs.declared.status.Refusal.TheVariants as ends_by
+use Rattle.xt_messages.specs.declared.status.Status.{Status}
+use Rattle.xt_messages.specs.declared.status.Status.TheVariants as status
+use Rattle.truncate_epochs.specs.SizeMarks.{merged}
+use Rattle.client_core.specs.declared.requests.CallResult.{CallResult}
+use Rattle.client_core.specs.declared.requests.CallResult.TheVariants as how
+use Rattle.client_plans.specs.declared.stage.Stage.{Stage}
+use Rattle.client_plans.specs.declared.stage.Stage.TheVariants as next
+use Rattle.client_plans.specs.declared.stage.Goes.{Goes}
+use Rattle.command_words.specs.declared.job.ClientJob.{ClientJob}
+use Rattle.command_words.specs.declared.job.Layout.{Layout}
+use Rattle.command_words.specs.declared.job.Layout.TheVariants as layout
+use Rattle.command_words.specs.declared.job.Order.{Order}
+use Rattle.command_words.specs.declared.job.Order.TheVariants as order
+
+-- ---- a command
+
+-- what is asked for, who asks, and the bytes that `put` writes
+pub record Task : Type 0 where
+  pub wish : Order
+  pub user : ℕ
+  pub group : ℕ
+  pub bytes : List ℕ
+
+-- what a client job asks for, where `put` writes these bytes
+abbrev pub task_of : ClientJob → List ℕ → Task
+task_of job bytes = record { wish = job.order; user = job.who.user; group = job.who.group; bytes = bytes }
+
+abbrev pub goes_to : Stage → Goes
+goes_to stage = record { stage = stage; text = [] }
+
+abbrev pub ends_with : List ℕ → Goes
+ends_with text = record { stage = next.Over status.Done; text = text }
+
+abbrev pub refused : Refusal → Goes
+refused why = goes_to (next.Over (status.Refused why))
+
+abbrev pub nobody : NodeId
+nobody = record { 0 = 0 }
+
+-- A registration asks the DIR alone. Every other command first learns where the MRC is, and then where the OSDs are.
+abbrev pub begins : Order → Stage
+begins (order.Register node kind address) = next.Looks
+begins _ = next.Lists 2 nobody
+
+-- after these lists
+abbrev pub main_stage : Order → Stage
+main_stage (order.Ls path) = next.Pages []
+main_stage (order.Put path pattern lies stripe) = next.Creates
+main_stage (order.Get path range hex) = next.Grants
+main_stage (order.Truncate path size) = next.Grants
+main_stage _ = next.AsksOnce
+
+-- ---- pieces
+
+-- an object has at least one byte
+abbrev pub object_size : Capability → ℕ
+object_size cap = max 1 cap.location.stripe
+
+-- A piece ends where its object does, and no later than the whole.
+abbrev pub piece_length : ℕ → ℕ → ℕ → ℕ
+piece_length stripe from end = min (stripe - from % stripe) (end - from)
+
+-- where a range begins and ends: without one it is all that a file may have
+abbrev pub first_in : Option (ℕ × ℕ) → ℕ
+first_in None = 0
+first_in (Some range) = range.0
+
+abbrev pub end_in : Option (ℕ × ℕ) → ℕ
+end_in None = 281474976710656
+end_in (Some range) = range.0 + range.1
+
+-- where the range of `get` ends
+abbrev pub end_of : Order → ℕ
+end_of (order.Get path range hex) = end_in range
+end_of _ = 0
+
+-- ---- what is written
+
+abbrev pub hex_digit : ℕ → ℕ
+hex_digit n = if nat_lt n 10 then 48 + n else 87 + n
+
+abbrev pub hex_pair : ℕ → List ℕ
+hex_pair byte = hex_digit (byte / 16) ∷ hex_digit (byte % 16) ∷ []
+
+abbrev pub hex_text : List ℕ → List ℕ
+hex_text bytes = flat_map hex_pair bytes
+
+abbrev pub shown_as : Bool → List ℕ → List ℕ
+shown_as true bytes = hex_text bytes
+shown_as false bytes = bytes
+
+-- the line end of what is shown in hex, also where that is nothing
+abbrev pub line_end : Bool → List ℕ
+line_end true = 10 ∷ []
+line_end false = []
+
+-- words, a space before each
+abbrev pub spaced : List (List ℕ) → List ℕ
+spaced words = flat_map (λ word. 32 ∷ word) words
+
+abbrev pub row_word : RowKind → List ℕ
+row_word row_kind.Directory = codes "dir"
+row_word row_kind.File = codes "file"
+
+-- a directory has no size
+abbrev pub row_mark : RowKind → SizeMark → SizeMark
+row_mark row_kind.Directory mark = record { epoch = 0; size = 0 }
+row_mark row_kind.File mark = mark
+
+-- three octal digits
+abbrev pub mode_word : ℕ → List ℕ
+mode_word mode = (48 + mode / 64 % 8) ∷ (48 + mode / 8 % 8) ∷ (48 + mode % 8) ∷ []
+
+abbrev pub row_line : RowKind → ℕ → ℕ → ℕ → SizeMark → List ℕ
+row_line kind owner group mode mark =
+    row_word kind ++ spaced (decimal owner ∷ decimal group ∷ mode_word mode ∷ decimal mark.epoch ∷ decimal mark.size ∷ []) ++ 10 ∷ []
+
+abbrev pub lines_of : List (List ℕ) → List ℕ
+lines_of names = flat_map (λ name. name ++ 10 ∷ []) names
+
+-- ---- after a grant, and after a piece
+
+-- A file's bytes, so many of them, are written piece by piece, and its size is reported after the last one. No bytes need no write.
+abbrev pub write_on : ℕ → Capability → ℕ → SizeMark → Stage
+write_on size cap done mark = if nat_lt done size then next.Writes cap done mark else next.Reports cap mark
+
+-- The piece of a read at this place is asked for while none was asked for yet, or the file's known size is above it.
+abbrev pub reads_on : Option (ℕ × ℕ) → Capability → ℕ → SizeMark → Bool
+reads_on range cap from mark =
+    nat_lt from (end_in range) && (from == first_in range || nat_lt from mark.size)
+    && nat_lt (from / object_size cap) 4294967295
+
+abbrev pub read_on : Option (ℕ × ℕ) → Bool → Capability → ℕ → SizeMark → List ℕ → Goes
+read_on range hex cap from mark bytes =
+    if reads_on range cap from mark then record { stage = next.Reads cap from mark; text = shown_as hex bytes }
+    else ends_with (shown_as hex bytes ++ line_end hex)
+
+abbrev pub granted_to : ℕ → Order → Capability → SizeMark → Goes
+granted_to size (order.Put path pattern lies stripe) cap mark = goes_to (write_on size cap 0 mark)
+granted_to size (order.Get path range hex) cap mark = read_on range hex cap (first_in range) mark []
+granted_to size _ cap mark = goes_to (next.Truncates cap mark)
+
+-- a piece was written
+abbrev pub written : ℕ → Order → Capability → ℕ → SizeMark → Goes
+written size (order.Put path pattern lies stripe) cap done mark =
+    goes_to (write_on size cap (done + piece_length (object_size cap) done size) mark)
+written size _ cap done mark = ends_with []
+
+-- a piece was read
+abbrev pub was_read : Order → Capability → ℕ → SizeMark → List ℕ → Goes
+was_read (order.Get path range hex) cap from mark bytes =
+    read_on range hex cap (from + piece_length (object_size cap) from (end_in range)) mark bytes
+was_read _ cap from mark bytes = ends_with []
+
+abbrev pub done_at : ℕ → Order → Stage → SizeMark → List ℕ → Goes
+done_at size wish (next.Writes cap done mark) learnt bytes = written size wish cap done (merged mark learnt)
+done_at size wish (next.Reads cap from mark) learnt bytes = was_read wish cap from (merged mark learnt) bytes
+done_at size wish (next.Truncates cap mark) learnt bytes = goes_to (next.Reports cap (merged mark learnt))
+done_at size wish stage learnt bytes = ends_with []
+
+-- ---- after an answer of the MRC
+
+abbrev pub or_empty : Option (List ℕ) → List ℕ
+or_empty None = []
+or_empty (Some name) = name
+
+abbrev pub last_of : List (List ℕ) → List ℕ
+last_of names = or_empty (slice_get names (length names - 1))
+
+-- a page with fewer than 512 names is the last one
+abbrev pub names_told : List (List ℕ) → Goes
+names_told names =
+    if nat_lt (length names) 512 then ends_with (lines_of names)
+    else record { stage = next.Pages (last_of names); text = lines_of names }
+
+-- after the report of a file's size `put` writes that size
+abbrev pub size_told : Order → SizeMark → List ℕ
+size_told (order.Put path pattern lies stripe) mark = decimal mark.size ++ 10 ∷ []
+size_told _ mark = []
+
+-- a file that is there already is written
+abbrev pub created : MetaAnswer → Goes
+created (told.Refused refusal_of.Exists) = goes_to next.Grants
+created (told.Refused why) = refused (ends_by.Meta why)
+created _ = goes_to next.Grants
+
+-- what is answered to a request that isn't refused
+abbrev pub granted : ℕ → Order → MetaAnswer → Goes
+granted size wish (told.Granted cap mark) = granted_to size wish cap mark
+granted size wish _ = ends_with []
+
+abbrev pub listed : MetaAnswer → Goes
+listed (told.Names names) = names_told names
+listed _ = ends_with []
+
+abbrev pub reported : Order → SizeMark → MetaAnswer → Goes
+reported wish mark told.Done = ends_with (size_told wish mark)
+reported wish mark _ = ends_with []
+
+abbrev pub shown : MetaAnswer → Goes
+shown (told.Row kind owner group mode mark) = ends_with (row_line kind owner group mode (row_mark kind mark))
+shown _ = ends_with []
+
+abbrev pub accepted : ℕ → Order → Stage → MetaAnswer → Goes
+accepted size wish next.Grants what = granted size wish what
+accepted size wish (next.Pages above) what = listed what
+accepted size wish (next.Reports cap mark) what = reported wish mark what
+accepted size wish next.AsksOnce what = shown what
+accepted size wish stage what = ends_with []
+
+abbrev pub unless_refused : ℕ → Order → Stage → MetaAnswer → Goes
+unless_refused size wish stage (told.Refused why) = refused (ends_by.Meta why)
+unless_refused size wish stage what = accepted size wish stage what
+
+abbrev pub answered : ℕ → Order → Stage → MetaAnswer → Goes
+answered size wish next.Creates what = created what
+answered size wish stage what = unless_refused size wish stage what
+
+-- ---- after an answer of the DIR
+
+abbrev pub node_in : Option RegistryRow → NodeId
+node_in None = nobody
+node_in (Some r) = r.node
+
+abbrev pub last_node : List RegistryRow → NodeId
+last_node rows = node_in (slice_get rows (length rows - 1))
+
+-- a page with fewer than 256 rows is the last one; the rows of MRCs come before those of OSDs
+abbrev pub rows_told : Order → ℕ → List RegistryRow → Stage
+rows_told wish kind rows =
+    if nat_lt (length rows) 256 then (if kind == 2 then next.Lists 1 nobody else main_stage wish)
+    else next.Lists kind (last_node rows)
+
+-- a row that isn't there has the version 0
+abbrev pub version_told : RegistryAnswer → ℕ
+version_told (row.Row found) = found.version
+version_told _ = 0
+
+abbrev pub rows_listed : Order → ℕ → RegistryAnswer → Goes
+rows_listed wish kind (row.Rows rows) = goes_to (rows_told wish kind rows)
+rows_listed wish kind _ = ends_with []
+
+abbrev pub row_set : RegistryAnswer → Goes
+row_set (row.Changed now) = refused (ends_by.Changed now)
+row_set row.Absent = refused ends_by.Absent
+row_set _ = ends_with []
+
+abbrev pub registered : Order → Stage → RegistryAnswer → Goes
+registered wish (next.Lists kind above) what = rows_listed wish kind what
+registered wish next.Looks what = goes_to (next.Sets (version_told what))
+registered wish (next.Sets version) what = row_set what
+registered wish stage _ = ends_with []
+
+-- ---- how a command goes on
+
+-- How a command that asks for this, with so many bytes to write, goes on after the result of its operation. An operation that ends
+-- otherwise than it should ends the command.
+unfoldable pub goes_by : ℕ → Order → Stage → CallResult → Goes
+goes_by size wish stage (how.Ok count mark bytes) = done_at size wish stage mark bytes
+goes_by size wish stage (how.Retry answers) = goes_to (next.Over (status.Retry answers))
+goes_by size wish stage (how.Refused why) = refused (ends_by.Ask why)
+goes_by size wish stage (how.Meta what) = answered size wish stage what
+goes_by size wish stage (how.Registry what) = registered wish stage what
+
+abbrev pub goes_on : Task → Stage → CallResult → Goes
+goes_on task stage result = goes_by (length task.bytes) task.wish stage result
+
+-- ---- the operation of a stage
+
+abbrev pub once : Order → Option MetaReq
+once (order.Mkdir path) = Some (meta.Mkdir path 493)
+once (order.Rmdir path) = Some (meta.Rmdir path)
+once (order.Rm path) = Some (meta.Unlink path)
+once (order.Mv from to) = Some (meta.Rename from to)
+once (order.Chmod path mode) = Some (meta.Chmod path mode)
+once (order.Stat path) = Some (meta.Stat path)
+once _ = None
+
+abbrev pub names_above : Order → List ℕ → Option MetaReq
+names_above (order.Ls path) above = Some (meta.List path above)
+names_above _ above = None
+
+abbrev pub lies_on : Layout → Kind × ℕ
+lies_on (layout.Replicated n) = (kind.Replicated, n)
+lies_on (layout.Striped n) = (kind.Striped, n)
+
+-- a new file may be read by all, and written by its owner
+abbrev pub create_of : Order → Option MetaReq
+create_of (order.Put path pattern lies stripe) = Some (meta.Create path 420 (lies_on lies).0 (lies_on lies).1 stripe)
+create_of _ = None
+
+abbrev pub grant : List ℕ → ℕ → Option MetaReq
+grant path want = Some (meta.Grant path want)
+
+-- 1 to read, 2 to write, 3 to truncate
+abbrev pub grant_of : Order → Option MetaReq
+grant_of (order.Get path range hex) = grant path 1
+grant_of (order.Put path pattern lies stripe) = grant path 2
+grant_of (order.Truncate path size) = grant path 3
+grant_of _ = None
+
+-- the metadata request of a stage
+abbrev pub request_of : Order → Stage → Option MetaReq
+request_of wish next.AsksOnce = once wish
+request_of wish (next.Pages above) = names_above wish above
+request_of wish next.Creates = create_of wish
+request_of wish next.Grants = grant_of wish
+request_of wish _ = None
+
+abbrev pub meta_call : ℕ → ℕ → Option MetaReq → Option Call
+meta_call user group None = None
+meta_call user group (Some request) = Some (call.Meta user group request)
+
+abbrev pub get_of : Order → Option Call
+get_of (order.Register node kind address) = Some (call.Registry (registry.Get node))
+get_of _ = None
+
+abbrev pub set : NodeId → ℕ → List ℕ → ℕ → Option Call
+set node kind address version = Some (call.Registry (registry.Set node kind address version))
+
+abbrev pub set_of : Order → ℕ → Option Call
+set_of (order.Register node kind address) version = set node kind address version
+set_of _ version = None
+
+abbrev pub write_of : List ℕ → Capability → ℕ → Option Call
+write_of bytes cap done =
+    Some (call.Write cap.file.number (done / object_size cap) (done % object_size cap)
+    (take (piece_length (object_size cap) done (length bytes)) (drop done bytes)))
+
+abbrev pub read_of : Order → Capability → ℕ → Option Call
+read_of (order.Get path range hex) cap from =
+    Some (call.Read cap.file.number (from / object_size cap) (from % object_size cap)
+    (piece_length (object_size cap) from (end_in range)))
+read_of _ cap from = None
+
+abbrev pub truncate_of : Order → Capability → Option Call
+truncate_of (order.Truncate path size) cap = Some (call.Truncate cap.file.number size cap.epoch)
+truncate_of _ cap = None
+
+abbrev pub rows_above : ℕ → NodeId → Option Call
+rows_above kind above = Some (call.Registry (registry.List kind above))
+
+abbrev pub report_of : ℕ → ℕ → Capability → Option Call
+report_of user group cap = Some (call.Report user group cap.file.number)
+
+-- the call of a stage; none where the command is over
+unfoldable pub operation_of : Task → Stage → Option Call
+operation_of task (next.Lists kind above) = rows_above kind above
+operation_of task next.Looks = get_of task.wish
+operation_of task (next.Sets version) = set_of task.wish version
+operation_of task (next.Writes cap done mark) = write_of task.bytes cap done
+operation_of task (next.Reads cap from mark) = read_of task.wish cap from
+operation_of task (next.Truncates cap mark) = truncate_of task.wish cap
+operation_of task (next.Reports cap mark) = report_of task.user task.group cap
+operation_of task (next.Over ended) = None
+operation_of task stage = meta_call task.user task.group (request_of task.wish stage)
+
+-- the status with which a command ends that has no operation at this stage
+abbrev pub status_at : Stage → Status
+status_at (next.Over ended) = ended
+status_at _ = status.Done
+
+-- A command after the results of its operations: how far it is, and what it has written.
+unfoldable pub after : Task → Stage → List CallResult → Goes
+after task stage [] = goes_to stage
+after task stage (result ∷ results) =
+    let went = goes_on task stage result in
+    let rest = after task went.stage results in
+    record { stage = rest.stage; text = went.text ++ rest.text }

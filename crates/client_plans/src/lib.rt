@@ -1,0 +1,31 @@
+//! What each client command does: its operations, one after the other, each by the results of those before it, and what it writes.
+//!
+//! A command is a stage and two functions: `operation_of`, the call of a stage, and `goes_on`, the next stage and what is written
+//! after a result. Definitions, the types that they speak of and worked commands; nothing runs here.
+#![tactic(auto)]
+
+mod stage;
+
+ghost use Rattle.client_plans.specs.Worked.{IsStat, IsStatOfRoot, IsListed, IsEmptyPut, IsPut, IsExisting, IsGet, IsHexGet, IsPastEnd, IsTruncate, IsRegistered, IsAbsent, IsRefused, IsRetried, AsksPages, AsksPieces};
+
+pub use stage::{Goes, Stage};
+
+/// Worked commands: what they ask, what they come to and what they write.
+pub fn worked_commands()
+    ensures stat { IsStat }
+    ensures directory { IsStatOfRoot }
+    ensures listed { IsListed }
+    ensures empty { IsEmptyPut }
+    ensures put { IsPut }
+    ensures existing { IsExisting }
+    ensures get { IsGet }
+    ensures hex { IsHexGet }
+    ensures past { IsPastEnd }
+    ensures truncate { IsTruncate }
+    ensures registered { IsRegistered }
+    ensures absent { IsAbsent }
+    ensures refused { IsRefused }
+    ensures retried { IsRetried }
+    ensures pages { AsksPages }
+    ensures pieces { AsksPieces }
+{}

@@ -1,0 +1,165 @@
+//! What the words ask for.
+
+use xt_base::{Address, Name, NodeId, Octets, Times};
+
+/// The options of nodes and clients.
+#[derive(Clone, Copy)]
+pub struct Settings {
+    /// How long a lease lasts, and how far clocks may differ.
+    pub times: Times,
+    /// How many turns are taken at most, below 2^62.
+    pub turns: u64,
+    /// How many bytes a journal may have, up to 2^30.
+    pub limit: u64,
+}
+
+/// Who a client is, for whom it asks, and how often it tries an operation, at least once.
+#[derive(Clone, Copy)]
+pub struct Who {
+    pub id: NodeId,
+    pub user: u32,
+    pub group: u32,
+    pub tries: u32,
+}
+
+/// What stands for an option that isn't given. In a line of a cluster it is what the cluster has.
+#[derive(Clone, Copy)]
+pub struct Defaults {
+    pub settings: Settings,
+    pub who: Who,
+}
+
+/// The options of nodes that a cluster was given: its children are given the same ones.
+#[derive(Clone, Copy)]
+pub struct Given {
+    pub lease: Option<u64>,
+    pub drift: Option<u64>,
+    pub turns: Option<u64>,
+    pub limit: Option<u64>,
+}
+
+/// What each node takes.
+#[derive(Drop)]
+pub struct Serving {
+    pub settings: Settings,
+    /// Where it is reached.
+    pub listen: Address,
+    /// The path of the file that it keeps its records in, at most 65,535 bytes.
+    pub store: Name,
+    /// The secret of the site, 1 to 64 bytes.
+    pub key: Octets,
+}
+
+/// How the objects of a new file lie on 1 to 9 OSDs.
+#[derive(Clone, Copy)]
+pub enum Layout {
+    /// Each of so many OSDs has all of them.
+    Replicated(u8),
+    /// Each of so many OSDs has the next one, in turn.
+    Striped(u8),
+}
+
+/// What a client command does.
+#[derive(Drop)]
+pub enum Order {
+    /// The kind is 1 for an OSD and 2 for an MRC.
+    Register {
+        node: NodeId,
+        kind: u8,
+        address: Address,
+    },
+    Mkdir {
+        path: Name,
+    },
+    Rmdir {
+        path: Name,
+    },
+    Rm {
+        path: Name,
+    },
+    Mv {
+        from: Name,
+        to: Name,
+    },
+    /// A mode has nine bits.
+    Chmod {
+        path: Name,
+        mode: u16,
+    },
+    Ls {
+        path: Name,
+    },
+    Stat {
+        path: Name,
+    },
+    /// Writes the source, or so many bytes of a pattern, to a file, which is made if it is absent. A stripe has 1 to 128 times 1,024
+    /// bytes.
+    Put {
+        path: Name,
+        pattern: Option<u64>,
+        layout: Layout,
+        stripe: u32,
+    },
+    /// The range is the first byte and how many there are, which end at 2^48 at most.
+    Get {
+        path: Name,
+        range: Option<(u64, u64)>,
+        hex: bool,
+    },
+    /// A size is at most 2^48.
+    Truncate {
+        path: Name,
+        size: u64,
+    },
+}
+
+/// A client command. A line of a cluster has no address of the DIR: it is the cluster's.
+#[derive(Drop)]
+pub struct ClientJob {
+    pub settings: Settings,
+    pub who: Who,
+    pub dir: Option<Address>,
+    pub key: Option<Octets>,
+    pub order: Order,
+}
+
+/// A cluster on this machine, with its client commands on the standard input.
+#[derive(Drop)]
+pub struct ClusterJob {
+    /// How many OSDs, 1 to 50.
+    pub osds: u8,
+    /// The port of the DIR, 1 to 65,000. The other nodes have the ports after it.
+    pub port: u16,
+    /// What the paths of the stores begin with.
+    pub store: Name,
+    pub key: Octets,
+    pub settings: Settings,
+    pub who: Who,
+    pub given: Given,
+}
+
+/// What the words ask for.
+#[derive(Drop)]
+pub enum Job {
+    Replay,
+    Audit,
+    /// A seed, and the length of a generated schedule, at most 4,096.
+    Make {
+        number: u64,
+        size: u64,
+    },
+    Osd {
+        id: NodeId,
+        dir: Address,
+        serving: Serving,
+    },
+    Mrc {
+        dir: Address,
+        serving: Serving,
+    },
+    Dir {
+        serving: Serving,
+    },
+    Cluster(ClusterJob),
+    Client(ClientJob),
+}

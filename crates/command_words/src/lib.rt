@@ -1,0 +1,17 @@
+//! The words of the command line, and what they ask for.
+//!
+//! `read_words` gives exactly the job that `job_of` defines: that of the command that `clap`'s definition of simple commands
+//! matches to the words, where each value is in its range. A command is a function of `commands.rt`, which makes its grammar, and
+//! one of `reading.rt`, which makes its job; beside each stands its definition in `specs/`.
+#![tactic(auto)]
+
+mod commands;
+mod job;
+mod ranges;
+mod reading;
+mod words;
+mod worked;
+
+pub use job::{ClientJob, ClusterJob, Defaults, Given, Job, Layout, Order, Serving, Settings, Who};
+pub use words::{help_text, read_words};
+pub use worked::worked_words;

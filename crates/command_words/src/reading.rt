@@ -1,0 +1,756 @@
+//! From what a parse found to a job.
+
+ghost use Rattle.std.specs.Prelude.{◌≡◌, ◌≤◌, IfSome, IfOk, codes, option_map};
+ghost use Rattle.clap.specs.Words.{first_of, subcommand_rows_of};
+ghost use Rattle.command_words.specs.Jobs.{rows_in, number_at, number_or_at, number_if_at, node_at, node_or_at, path_at, address_at, mode_at, settings_of, who_of, register_of, mv_of, chmod_of, mkdir_of, rmdir_of, rm_of, ls_of, stat_of, flag_at, key_at, key_if_at, layout_at, stripe_at, pattern_at, put_of, range_at, get_of, truncate_of, file_order, order_of, directory_at, client_of, serving_of, make_of, osd_of, mrc_of, dir_of, given_of, cluster_of, node_job, job_in, chosen_in};
+ghost use Rattle.std.specs.Str.{bytes_eq};
+
+use crate::job::{
+    ClientJob, ClusterJob, Defaults, Given, Job, Layout, Order, Serving, Settings, Who,
+};
+use crate::ranges::{address_of, key_of, mode_of, name_of, number_in, times_of};
+use clap::ArgMatches;
+use std::alloc::Global;
+use xt_base::{Address, Name, NodeId, Octets, OutOfMemory};
+
+/// The text of an argument.
+fn text_at<'a>(found: &ArgMatches<'a>, id: &str) -> Option<&'a str>
+    ensures { option_map (λ text. text.now) result ≡ first_of id.now (rows_in found.now) }
+{
+    found.get_str(id)
+}
+
+/// The number of an argument, where it is in this range.
+#[tactic(auto, unfolding(crate::specs::Jobs::number_at))]
+fn number_at(found: &ArgMatches<'_>, id: &str, least: u64, most: u64) -> Option<u64>
+    ensures value { result ≡ number_at least most id.now (rows_in found.now) }
+    ensures within { IfSome result (λ number. number ≤ most) }
+{
+    match text_at(found, id) {
+        Some(text) => number_in(text, least, most),
+        None => None,
+    }
+}
+
+/// The number of an argument, where it is in this range or wasn't given.
+#[tactic(auto, unfolding(crate::specs::Jobs::number_or_at, crate::specs::Ranges::number_or))]
+fn number_or_at(
+    found: &ArgMatches<'_>,
+    id: &str,
+    least: u64,
+    most: u64,
+    default: u64,
+) -> Option<u64>
+    ensures { result ≡ number_or_at least most default id.now (rows_in found.now) }
+{
+    match text_at(found, id) {
+        Some(text) => number_in(text, least, most),
+        None => Some(default),
+    }
+}
+
+/// The number of an argument, where it is in this range, or none where it wasn't given.
+#[tactic(auto, unfolding(crate::specs::Jobs::number_if_at, crate::specs::Ranges::number_if))]
+fn number_if_at(found: &ArgMatches<'_>, id: &str, least: u64, most: u64) -> Option<Option<u64>>
+    ensures { result ≡ number_if_at least most id.now (rows_in found.now) }
+{
+    match text_at(found, id) {
+        Some(text) => match number_in(text, least, most) {
+            Some(number) => Some(Some(number)),
+            None => None,
+        },
+        None => Some(None),
+    }
+}
+
+/// The node that an argument names.
+#[tactic(auto, unfolding(crate::specs::Jobs::node_at))]
+fn node_at(found: &ArgMatches<'_>, id: &str) -> Option<NodeId>
+    ensures { result ≡ node_at id.now (rows_in found.now) }
+{
+    match number_at(found, id, 0, 4_294_967_295) {
+        Some(number) => Some(NodeId(number as u32)),
+        None => None,
+    }
+}
+
+/// The node that an argument names, or this one where it wasn't given.
+#[tactic(auto, unfolding(crate::specs::Jobs::node_or_at, crate::specs::Jobs::number_or_at, crate::specs::Ranges::number_or))]
+fn node_or_at(found: &ArgMatches<'_>, id: &str, default: NodeId) -> Option<NodeId>
+    ensures { result ≡ node_or_at default id.now (rows_in found.now) }
+{
+    match text_at(found, id) {
+        Some(text) => match number_in(text, 0, 4_294_967_295) {
+            Some(number) => Some(NodeId(number as u32)),
+            None => None,
+        },
+        None => Some(default),
+    }
+}
+
+/// The number of an argument below 2^8, where it is in this range.
+fn byte_at(found: &ArgMatches<'_>, id: &str, least: u8, most: u8) -> Option<u8>
+    ensures { result ≡ number_at least most id.now (rows_in found.now) }
+{
+    match number_at(found, id, u64::from(least), u64::from(most)) {
+        Some(number) => Some(number as u8),
+        None => None,
+    }
+}
+
+/// The number of an argument below 2^16, where it is in this range.
+fn short_at(found: &ArgMatches<'_>, id: &str, least: u16, most: u16) -> Option<u16>
+    ensures { result ≡ number_at least most id.now (rows_in found.now) }
+{
+    match number_at(found, id, u64::from(least), u64::from(most)) {
+        Some(number) => Some(number as u16),
+        None => None,
+    }
+}
+
+/// The number of an argument below 2^32, where it is in this range or wasn't given.
+#[tactic(auto, unfolding(crate::specs::Jobs::number_or_at, crate::specs::Ranges::number_or))]
+fn small_or_at(found: &ArgMatches<'_>, id: &str, least: u32, most: u32, default: u32) -> Option<u32>
+    ensures { result ≡ number_or_at least most default id.now (rows_in found.now) }
+{
+    match text_at(found, id) {
+        Some(text) => match number_in(text, u64::from(least), u64::from(most)) {
+            Some(number) => Some(number as u32),
+            None => None,
+        },
+        None => Some(default),
+    }
+}
+
+/// A path: a text of at most 65,535 bytes.
+#[tactic(auto, unfolding(crate::specs::Jobs::path_at))]
+fn path_at(alloc: Global, found: &ArgMatches<'_>, id: &str) -> Result<Option<Name>, OutOfMemory>
+    ensures { IfOk result (λ path. path ≡ path_at id.now (rows_in found.now)) }
+{
+    match text_at(found, id) {
+        Some(text) => name_of(alloc, text, 65_535),
+        None => Ok(None),
+    }
+}
+
+/// An address: a text of at most 64 bytes.
+#[tactic(auto, unfolding(crate::specs::Jobs::address_at))]
+fn address_at(found: &ArgMatches<'_>, id: &str) -> Option<Address>
+    ensures { result ≡ address_at id.now (rows_in found.now) }
+{
+    match text_at(found, id) {
+        Some(text) => address_of(text),
+        None => None,
+    }
+}
+
+/// Three octal digits.
+#[tactic(auto, unfolding(crate::specs::Jobs::mode_at))]
+fn mode_at(found: &ArgMatches<'_>, id: &str) -> Option<u16>
+    ensures { result ≡ mode_at id.now (rows_in found.now) }
+{
+    match text_at(found, id) {
+        Some(text) => mode_of(text),
+        None => None,
+    }
+}
+
+/// What all nodes and clients take. What isn't given is as here.
+#[tactic(auto, unfolding(crate::specs::Jobs::settings_of))]
+pub(crate) fn settings_of(base: &Settings, found: &ArgMatches<'_>) -> Option<Settings>
+    ensures { result ≡ settings_of base.now (rows_in found.now) }
+{
+    let lease = number_or_at(found, "lease", 1, 1_099_511_627_775, base.times.lease())?;
+    let drift = number_or_at(found, "drift", 1, 1_099_511_627_775, base.times.drift())?;
+    let turns = number_or_at(found, "turns", 1, 4_611_686_018_427_387_903, base.turns)?;
+    let limit = number_or_at(found, "limit", 1, 1_073_741_824, base.limit)?;
+    let times = times_of(lease, drift)?;
+    Some(Settings {
+        times,
+        turns,
+        limit,
+    })
+}
+
+/// Who a client is. What isn't given is as here.
+#[tactic(auto, unfolding(crate::specs::Jobs::who_of))]
+pub(crate) fn who_of(base: &Who, found: &ArgMatches<'_>) -> Option<Who>
+    ensures { result ≡ who_of base.now (rows_in found.now) }
+{
+    let id = node_or_at(found, "id", base.id)?;
+    let user = small_or_at(found, "user", 0, 4_294_967_295, base.user)?;
+    let group = small_or_at(found, "group", 0, 4_294_967_295, base.group)?;
+    let tries = small_or_at(found, "tries", 1, 4_294_967_295, base.tries)?;
+    Some(Who {
+        id,
+        user,
+        group,
+        tries,
+    })
+}
+
+/// `register`
+#[tactic(auto, unfolding(crate::specs::Jobs::register_of))]
+pub(crate) fn register_of(found: &ArgMatches<'_>) -> Option<Order>
+    ensures { result ≡ register_of (rows_in found.now) }
+{
+    let node = node_at(found, "node")?;
+    let kind = byte_at(found, "kind", 1, 2)?;
+    let address = address_at(found, "addr")?;
+    Some(Order::Register {
+        node,
+        kind,
+        address,
+    })
+}
+
+/// `mv`
+#[tactic(auto, unfolding(crate::specs::Jobs::mv_of))]
+pub(crate) fn mv_of(alloc: Global, found: &ArgMatches<'_>) -> Result<Option<Order>, OutOfMemory>
+    ensures { IfOk result (λ order. order ≡ mv_of (rows_in found.now)) }
+{
+    let Some(from) = path_at(alloc, found, "from")? else {
+        return Ok(None);
+    };
+    let Some(to) = path_at(alloc, found, "to")? else {
+        return Ok(None);
+    };
+    Ok(Some(Order::Mv { from, to }))
+}
+
+/// `chmod`
+#[tactic(auto, unfolding(crate::specs::Jobs::chmod_of))]
+pub(crate) fn chmod_of(alloc: Global, found: &ArgMatches<'_>) -> Result<Option<Order>, OutOfMemory>
+    ensures { IfOk result (λ order. order ≡ chmod_of (rows_in found.now)) }
+{
+    let Some(mode) = mode_at(found, "mode") else {
+        return Ok(None);
+    };
+    let Some(path) = path_at(alloc, found, "path")? else {
+        return Ok(None);
+    };
+    Ok(Some(Order::Chmod { path, mode }))
+}
+
+/// `mkdir`
+#[tactic(auto, unfolding(crate::specs::Jobs::mkdir_of))]
+fn mkdir_of(alloc: Global, found: &ArgMatches<'_>) -> Result<Option<Order>, OutOfMemory>
+    ensures { IfOk result (λ order. order ≡ mkdir_of (rows_in found.now)) }
+{
+    match path_at(alloc, found, "path")? {
+        Some(path) => Ok(Some(Order::Mkdir { path })),
+        None => Ok(None),
+    }
+}
+
+/// `rmdir`
+#[tactic(auto, unfolding(crate::specs::Jobs::rmdir_of))]
+fn rmdir_of(alloc: Global, found: &ArgMatches<'_>) -> Result<Option<Order>, OutOfMemory>
+    ensures { IfOk result (λ order. order ≡ rmdir_of (rows_in found.now)) }
+{
+    match path_at(alloc, found, "path")? {
+        Some(path) => Ok(Some(Order::Rmdir { path })),
+        None => Ok(None),
+    }
+}
+
+/// `rm`
+#[tactic(auto, unfolding(crate::specs::Jobs::rm_of))]
+fn rm_of(alloc: Global, found: &ArgMatches<'_>) -> Result<Option<Order>, OutOfMemory>
+    ensures { IfOk result (λ order. order ≡ rm_of (rows_in found.now)) }
+{
+    match path_at(alloc, found, "path")? {
+        Some(path) => Ok(Some(Order::Rm { path })),
+        None => Ok(None),
+    }
+}
+
+/// `ls`
+#[tactic(auto, unfolding(crate::specs::Jobs::ls_of))]
+fn ls_of(alloc: Global, found: &ArgMatches<'_>) -> Result<Option<Order>, OutOfMemory>
+    ensures { IfOk result (λ order. order ≡ ls_of (rows_in found.now)) }
+{
+    match path_at(alloc, found, "path")? {
+        Some(path) => Ok(Some(Order::Ls { path })),
+        None => Ok(None),
+    }
+}
+
+/// `stat`
+#[tactic(auto, unfolding(crate::specs::Jobs::stat_of))]
+fn stat_of(alloc: Global, found: &ArgMatches<'_>) -> Result<Option<Order>, OutOfMemory>
+    ensures { IfOk result (λ order. order ≡ stat_of (rows_in found.now)) }
+{
+    match path_at(alloc, found, "path")? {
+        Some(path) => Ok(Some(Order::Stat { path })),
+        None => Ok(None),
+    }
+}
+
+/// Whether the flag was given.
+#[tactic(auto, unfolding(crate::specs::Jobs::flag_at))]
+fn flag_at(found: &ArgMatches<'_>, id: &str) -> bool
+    ensures { result ≡ flag_at id.now (rows_in found.now) }
+{
+    match text_at(found, id) {
+        Some(text) => is_word(text, "true"),
+        None => false,
+    }
+}
+
+/// Whether these are the same.
+fn is_word(name: &str, word: &str) -> bool
+    ensures { result ≡ bytes_eq name.now word.now }
+{
+    name == word
+}
+
+/// The key.
+#[tactic(auto, unfolding(crate::specs::Jobs::key_at))]
+fn key_at(alloc: Global, found: &ArgMatches<'_>) -> Result<Option<Octets>, OutOfMemory>
+    ensures { IfOk result (λ key. key ≡ key_at (rows_in found.now)) }
+{
+    match text_at(found, "key") {
+        Some(text) => key_of(alloc, text),
+        None => Ok(None),
+    }
+}
+
+/// The key, or none where it wasn't given.
+#[tactic(auto, unfolding(crate::specs::Jobs::key_if_at))]
+fn key_if_at(alloc: Global, found: &ArgMatches<'_>) -> Result<Option<Option<Octets>>, OutOfMemory>
+    ensures { IfOk result (λ key. key ≡ key_if_at (rows_in found.now)) }
+{
+    match text_at(found, "key") {
+        Some(text) => match key_of(alloc, text)? {
+            Some(key) => Ok(Some(Some(key))),
+            None => Ok(None),
+        },
+        None => Ok(Some(None)),
+    }
+}
+
+/// A number below 2^8, where it is in this range, or none where it wasn't given.
+#[tactic(auto, unfolding(crate::specs::Jobs::number_if_at, crate::specs::Ranges::number_if))]
+fn byte_if_at(found: &ArgMatches<'_>, id: &str, least: u8, most: u8) -> Option<Option<u8>>
+    ensures { result ≡ number_if_at least most id.now (rows_in found.now) }
+{
+    match text_at(found, id) {
+        Some(text) => match number_in(text, u64::from(least), u64::from(most)) {
+            Some(number) => Some(Some(number as u8)),
+            None => None,
+        },
+        None => Some(None),
+    }
+}
+
+/// How a new file lies: replicated or striped.
+#[tactic(auto, unfolding(crate::specs::Jobs::layout_at))]
+fn layout_at(found: &ArgMatches<'_>) -> Option<Layout>
+    ensures { result ≡ layout_at (rows_in found.now) }
+{
+    let replicas = byte_if_at(found, "replicas", 1, 9)?;
+    let striped = byte_if_at(found, "striped", 1, 9)?;
+    match (replicas, striped) {
+        (None, None) => Some(Layout::Replicated(1)),
+        (Some(members), None) => Some(Layout::Replicated(members)),
+        (None, Some(members)) => Some(Layout::Striped(members)),
+        (Some(_), Some(_)) => None,
+    }
+}
+
+/// The bytes of an object of a new file.
+#[tactic(auto, unfolding(crate::specs::Jobs::stripe_at))]
+fn stripe_at(found: &ArgMatches<'_>) -> Option<u32>
+    ensures { result ≡ stripe_at (rows_in found.now) }
+{
+    let stripe = small_or_at(found, "stripe", 1024, 131_072, 131_072)?;
+    if stripe % 1024 == 0 {
+        Some(stripe)
+    } else {
+        None
+    }
+}
+
+/// The length of a pattern, which a line of a cluster names.
+#[tactic(auto, unfolding(crate::specs::Jobs::pattern_at))]
+fn pattern_at(inside: bool, found: &ArgMatches<'_>) -> Option<Option<u64>>
+    ensures { result ≡ pattern_at inside (rows_in found.now) }
+{
+    let pattern = number_if_at(found, "pattern", 0, 281_474_976_710_656)?;
+    if inside && !pattern.is_some() {
+        None
+    } else {
+        Some(pattern)
+    }
+}
+
+/// `put`
+#[tactic(auto, unfolding(crate::specs::Jobs::put_of))]
+fn put_of(alloc: Global, inside: bool, found: &ArgMatches<'_>) -> Result<Option<Order>, OutOfMemory>
+    ensures { IfOk result (λ order. order ≡ put_of inside (rows_in found.now)) }
+{
+    let Some(pattern) = pattern_at(inside, found) else {
+        return Ok(None);
+    };
+    let Some(layout) = layout_at(found) else {
+        return Ok(None);
+    };
+    let Some(stripe) = stripe_at(found) else {
+        return Ok(None);
+    };
+    match path_at(alloc, found, "path")? {
+        Some(path) => Ok(Some(Order::Put {
+            path,
+            pattern,
+            layout,
+            stripe,
+        })),
+        None => Ok(None),
+    }
+}
+
+/// The bytes that are asked for.
+#[tactic(auto, unfolding(crate::specs::Jobs::range_at))]
+fn range_at(found: &ArgMatches<'_>) -> Option<Option<(u64, u64)>>
+    ensures { result ≡ range_at (rows_in found.now) }
+{
+    let at = number_if_at(found, "at", 0, 281_474_976_710_656)?;
+    let len = number_if_at(found, "len", 0, 281_474_976_710_656)?;
+    match (at, len) {
+        (None, None) => Some(None),
+        (Some(at), Some(len)) => {
+            if u128::from(at) + u128::from(len) <= 281_474_976_710_656 {
+                Some(Some((at, len)))
+            } else {
+                None
+            }
+        }
+        _ => None,
+    }
+}
+
+/// `get`
+#[tactic(auto, unfolding(crate::specs::Jobs::get_of))]
+fn get_of(alloc: Global, found: &ArgMatches<'_>) -> Result<Option<Order>, OutOfMemory>
+    ensures { IfOk result (λ order. order ≡ get_of (rows_in found.now)) }
+{
+    let Some(range) = range_at(found) else {
+        return Ok(None);
+    };
+    let hex = flag_at(found, "hex");
+    match path_at(alloc, found, "path")? {
+        Some(path) => Ok(Some(Order::Get { path, range, hex })),
+        None => Ok(None),
+    }
+}
+
+/// `truncate`
+#[tactic(auto, unfolding(crate::specs::Jobs::truncate_of))]
+fn truncate_of(alloc: Global, found: &ArgMatches<'_>) -> Result<Option<Order>, OutOfMemory>
+    ensures { IfOk result (λ order. order ≡ truncate_of (rows_in found.now)) }
+{
+    let Some(size) = number_at(found, "size", 0, 281_474_976_710_656) else {
+        return Ok(None);
+    };
+    match path_at(alloc, found, "path")? {
+        Some(path) => Ok(Some(Order::Truncate { path, size })),
+        None => Ok(None),
+    }
+}
+
+/// The commands on what a path names.
+#[tactic(auto, unfolding(crate::specs::Jobs::file_order))]
+fn file_order(
+    alloc: Global,
+    inside: bool,
+    name: &str,
+    found: &ArgMatches<'_>,
+) -> Result<Option<Order>, OutOfMemory>
+    ensures { IfOk result (λ order. order ≡ file_order inside name.now (rows_in found.now)) }
+{
+    if is_word(name, "ls") {
+        ls_of(alloc, found)
+    } else if is_word(name, "stat") {
+        stat_of(alloc, found)
+    } else if is_word(name, "put") {
+        put_of(alloc, inside, found)
+    } else if is_word(name, "get") {
+        get_of(alloc, found)
+    } else if is_word(name, "truncate") {
+        truncate_of(alloc, found)
+    } else {
+        Ok(None)
+    }
+}
+
+/// The commands of a client.
+#[tactic(auto, unfolding(crate::specs::Jobs::order_of))]
+fn order_of(
+    alloc: Global,
+    inside: bool,
+    name: &str,
+    found: &ArgMatches<'_>,
+) -> Result<Option<Order>, OutOfMemory>
+    ensures { IfOk result (λ order. order ≡ order_of inside name.now (rows_in found.now)) }
+{
+    if is_word(name, "register") {
+        Ok(register_of(found))
+    } else if is_word(name, "mkdir") {
+        mkdir_of(alloc, found)
+    } else if is_word(name, "rmdir") {
+        rmdir_of(alloc, found)
+    } else if is_word(name, "rm") {
+        rm_of(alloc, found)
+    } else if is_word(name, "mv") {
+        mv_of(alloc, found)
+    } else if is_word(name, "chmod") {
+        chmod_of(alloc, found)
+    } else {
+        file_order(alloc, inside, name, found)
+    }
+}
+
+/// Where the DIR is reached. A line of a cluster doesn't say it.
+#[tactic(auto, unfolding(crate::specs::Jobs::directory_at))]
+fn directory_at(inside: bool, found: &ArgMatches<'_>) -> Option<Option<Address>>
+    ensures { result ≡ directory_at inside (rows_in found.now) }
+{
+    if inside {
+        Some(None)
+    } else {
+        match address_at(found, "dir") {
+            Some(address) => Some(Some(address)),
+            None => None,
+        }
+    }
+}
+
+/// A client command.
+#[tactic(auto, unfolding(crate::specs::Jobs::client_of))]
+fn client_of(
+    alloc: Global,
+    base: &Defaults,
+    inside: bool,
+    name: &str,
+    found: &ArgMatches<'_>,
+) -> Result<Option<ClientJob>, OutOfMemory>
+    ensures { IfOk result (λ made. made ≡ client_of base.now inside name.now (rows_in found.now)) }
+{
+    let Some(settings) = settings_of(&base.settings, found) else {
+        return Ok(None);
+    };
+    let Some(who) = who_of(&base.who, found) else {
+        return Ok(None);
+    };
+    let Some(dir) = directory_at(inside, found) else {
+        return Ok(None);
+    };
+    let Some(key) = key_if_at(alloc, found)? else {
+        return Ok(None);
+    };
+    match order_of(alloc, inside, name, found)? {
+        Some(order) => Ok(Some(ClientJob {
+            settings,
+            who,
+            dir,
+            key,
+            order,
+        })),
+        None => Ok(None),
+    }
+}
+
+/// What each node takes.
+#[tactic(auto, unfolding(crate::specs::Jobs::serving_of))]
+fn serving_of(
+    alloc: Global,
+    base: &Settings,
+    found: &ArgMatches<'_>,
+) -> Result<Option<Serving>, OutOfMemory>
+    ensures { IfOk result (λ made. made ≡ serving_of base.now (rows_in found.now)) }
+{
+    let Some(settings) = settings_of(base, found) else {
+        return Ok(None);
+    };
+    let Some(listen) = address_at(found, "listen") else {
+        return Ok(None);
+    };
+    let Some(key) = key_at(alloc, found)? else {
+        return Ok(None);
+    };
+    match path_at(alloc, found, "store")? {
+        Some(store) => Ok(Some(Serving {
+            settings,
+            listen,
+            store,
+            key,
+        })),
+        None => Ok(None),
+    }
+}
+
+/// `make`
+#[tactic(auto, unfolding(crate::specs::Jobs::make_of))]
+fn make_of(found: &ArgMatches<'_>) -> Option<Job>
+    ensures { result ≡ make_of (rows_in found.now) }
+{
+    let number = number_at(found, "number", 0, 18_446_744_073_709_551_615)?;
+    let size = number_at(found, "size", 0, 4_096)?;
+    Some(Job::Make { number, size })
+}
+
+/// `osd`
+#[tactic(auto, unfolding(crate::specs::Jobs::osd_of))]
+fn osd_of(
+    alloc: Global,
+    base: &Settings,
+    found: &ArgMatches<'_>,
+) -> Result<Option<Job>, OutOfMemory>
+    ensures { IfOk result (λ made. made ≡ osd_of base.now (rows_in found.now)) }
+{
+    let Some(id) = node_at(found, "id") else {
+        return Ok(None);
+    };
+    let Some(dir) = address_at(found, "dir") else {
+        return Ok(None);
+    };
+    match serving_of(alloc, base, found)? {
+        Some(serving) => Ok(Some(Job::Osd { id, dir, serving })),
+        None => Ok(None),
+    }
+}
+
+/// `mrc`
+#[tactic(auto, unfolding(crate::specs::Jobs::mrc_of))]
+fn mrc_of(
+    alloc: Global,
+    base: &Settings,
+    found: &ArgMatches<'_>,
+) -> Result<Option<Job>, OutOfMemory>
+    ensures { IfOk result (λ made. made ≡ mrc_of base.now (rows_in found.now)) }
+{
+    let Some(dir) = address_at(found, "dir") else {
+        return Ok(None);
+    };
+    match serving_of(alloc, base, found)? {
+        Some(serving) => Ok(Some(Job::Mrc { dir, serving })),
+        None => Ok(None),
+    }
+}
+
+/// `dir`
+#[tactic(auto, unfolding(crate::specs::Jobs::dir_of))]
+fn dir_of(
+    alloc: Global,
+    base: &Settings,
+    found: &ArgMatches<'_>,
+) -> Result<Option<Job>, OutOfMemory>
+    ensures { IfOk result (λ made. made ≡ dir_of base.now (rows_in found.now)) }
+{
+    match serving_of(alloc, base, found)? {
+        Some(serving) => Ok(Some(Job::Dir { serving })),
+        None => Ok(None),
+    }
+}
+
+/// The options that were given, for the children.
+#[tactic(auto, unfolding(crate::specs::Jobs::given_of))]
+fn given_of(found: &ArgMatches<'_>) -> Given
+    ensures { result ≡ given_of (rows_in found.now) }
+{
+    Given {
+        lease: number_at(found, "lease", 1, 1_099_511_627_775),
+        drift: number_at(found, "drift", 1, 1_099_511_627_775),
+        turns: number_at(found, "turns", 1, 4_611_686_018_427_387_903),
+        limit: number_at(found, "limit", 1, 1_073_741_824),
+    }
+}
+
+/// `cluster`
+#[tactic(auto, unfolding(crate::specs::Jobs::cluster_of))]
+fn cluster_of(
+    alloc: Global,
+    base: &Defaults,
+    found: &ArgMatches<'_>,
+) -> Result<Option<Job>, OutOfMemory>
+    ensures { IfOk result (λ made. made ≡ cluster_of base.now (rows_in found.now)) }
+{
+    let Some(osds) = byte_at(found, "osds", 1, 50) else {
+        return Ok(None);
+    };
+    let Some(port) = short_at(found, "port", 1, 65_000) else {
+        return Ok(None);
+    };
+    let Some(settings) = settings_of(&base.settings, found) else {
+        return Ok(None);
+    };
+    let Some(who) = who_of(&base.who, found) else {
+        return Ok(None);
+    };
+    let Some(key) = key_at(alloc, found)? else {
+        return Ok(None);
+    };
+    let given = given_of(found);
+    match path_at(alloc, found, "store")? {
+        Some(store) => Ok(Some(Job::Cluster(ClusterJob {
+            osds,
+            port,
+            store,
+            key,
+            settings,
+            who,
+            given,
+        }))),
+        None => Ok(None),
+    }
+}
+
+/// A node, a cluster or a client.
+#[tactic(auto, unfolding(crate::specs::Jobs::node_job))]
+fn node_job(
+    alloc: Global,
+    base: &Defaults,
+    inside: bool,
+    name: &str,
+    found: &ArgMatches<'_>,
+) -> Result<Option<Job>, OutOfMemory>
+    ensures { IfOk result (λ made. made ≡ node_job base.now inside name.now (rows_in found.now)) }
+{
+    if is_word(name, "osd") {
+        osd_of(alloc, &base.settings, found)
+    } else if is_word(name, "mrc") {
+        mrc_of(alloc, &base.settings, found)
+    } else if is_word(name, "dir") {
+        dir_of(alloc, &base.settings, found)
+    } else if is_word(name, "cluster") {
+        cluster_of(alloc, base, found)
+    } else {
+        match client_of(alloc, base, inside, name, found)? {
+            Some(client) => Ok(Some(Job::Client(client))),
+            None => Ok(None),
+        }
+    }
+}
+
+/// The job of a command.
+#[tactic(auto, unfolding(crate::specs::Jobs::job_in))]
+pub(crate) fn job_in(
+    alloc: Global,
+    base: &Defaults,
+    inside: bool,
+    name: &str,
+    found: &ArgMatches<'_>,
+) -> Result<Option<Job>, OutOfMemory>
+    ensures { IfOk result (λ made. made ≡ job_in base.now inside name.now (rows_in found.now)) }
+{
+    if is_word(name, "replay") {
+        Ok(Some(Job::Replay))
+    } else if is_word(name, "audit") {
+        Ok(Some(Job::Audit))
+    } else if is_word(name, "make") {
+        Ok(make_of(found))
+    } else {
+        node_job(alloc, base, inside, name, found)
+    }
+}
