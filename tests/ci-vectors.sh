@@ -1,6 +1,6 @@
 #!/usr/bin/env bash
 # The built program over the vectors, whose traces come of a model that was written apart from it, and over the
-# examples, whose traces were worked out by hand.
+# examples, whose traces were worked out by hand; and its audit of traces whose verdicts come of such models too.
 set -u
 here=$(cd "$(dirname "$0")" && pwd)
 program=$(bash "$here/build.sh") || exit 1
@@ -8,4 +8,5 @@ failed=0
 for folder in "$here/vectors" "$here/../examples"; do
     bash "$here/vectors.sh" "$folder" "$program" || failed=1
 done
+bash "$here/audits.sh" "$here/vectors-audit" "$program" || failed=1
 exit $failed

@@ -1,13 +1,23 @@
-//! `xtfs`: takes a recorded schedule from the standard input and writes the trace of the nodes that it drives.
+//! `xtfs`: replays a schedule, judges a trace, serves a node, or carries out a client command, as the words of the command line ask.
 //!
-//! `main` reads the words of the command line, lends the standard streams to `xtfs_job::run`, which carries all that is
-//! promised, and ends with its status.
+//! `main` makes what stands for the standard streams, a socket, a file and the clock of this machine, and ends with the status of the
+//! job. A replay is `xtfs_job::run`'s, an audit `trace_audit`'s, a node is `node_jobs`', a client command is `client_jobs`', which carry all
+//! that is promised; which of them is called for which words is said here alone. Where words are refused, the commands are told on standard
+//! error.
 #![tactic(auto)]
 
-use node_links::{StdinSource, StdoutSink};
+mod choosing;
+
+use choosing::{asked, do_job, is_audit};
+use command_words::help_text;
+use disk_model::FileDisk;
+use node_links::{StdinSource, StdoutSink, SystemClock, UdpLink};
+use par_halves::NoGate;
 use std::process::ExitCode;
 use std::{env, io};
+use trace_audit::audit_text;
 use xt_base::Words;
+use xt_messages::Status;
 use xtfs_job::run;
 
 fn main(rt: HostRuntime) -> io::Result<ExitCode> {
@@ -20,6 +30,26 @@ fn main(rt: HostRuntime) -> io::Result<ExitCode> {
     }
     let mut source = StdinSource::new(alloc, rt.reader())?;
     let mut sink = StdoutSink::new(io::writer(&rt));
-    let status = run(alloc, &words, &mut source, &mut sink);
+    let status = match asked(alloc, &words) {
+        Some(job) => {
+            let mut link = UdpLink::new(alloc, &rt);
+            let mut clock = SystemClock::new(&rt);
+            let disk = FileDisk::new(&rt);
+            do_job(
+                alloc,
+                &job,
+                &mut source,
+                &mut sink,
+                &mut link,
+                disk,
+                &mut clock,
+            )
+        }
+        None if is_audit(&words) => audit_text(&rt, alloc, &mut source, &mut sink, &NoGate),
+        None => run(alloc, &words, &mut source, &mut sink),
+    };
+    if matches!(&status, Status::Usage) {
+        eprint!(rt; "{}", help_text(alloc)?)?;
+    }
     Ok(ExitCode::from(status.code()))
 }

@@ -1,7 +1,7 @@
 ghost use Rattle.std.specs.Prelude.{◌≡◌, ◌≢◌, ◌↔◌, IsTrue, codes};
 ghost use Rattle.xt_messages.specs.declared.status.Status.TheVariants as status;
 ghost use Rattle.xt_base.specs.Faults.{Rose};
-ghost use Rattle.node_disks.specs.Room.{journal_overflow};
+ghost use Rattle.node_disks.specs.Room.{journal_room};
 ghost use Rattle.schedule_lines.specs.Causes.{HasCause};
 ghost use Rattle.schedule_lines.specs.Putting.{IsFinished};
 ghost use Rattle.schedule_replay.specs.Replay.{IsReplay, Completes};
@@ -45,7 +45,7 @@ pub fn run<S: Source, K: Sink>(alloc: Global, words: &Words, src: &mut S, out: &
     // The trace is the run of the lines that were taken, over journals of a limited length, and it is safe for each replicated
     // file: one holder, acts of the holder, one order, each write once, answers that show the file, fresh ends.
     ensures replay { words.now ≡ replay_words →
-        IsReplay journal_overflow (S.left src.old) (S.left src.new) (K.held out.old)
+        IsReplay journal_room (S.left src.old) (S.left src.new) (K.held out.old)
         (K.held out.new) result }
 
     // A fault ends the job and is told, where its object's count rose; with any other status no count did.
@@ -56,7 +56,7 @@ pub fn run<S: Source, K: Sink>(alloc: Global, words: &Words, src: &mut S, out: &
     ensures complete { words.now ≡ replay_words →
         (Rose (S.fault_count src.old) (S.fault_count src.new) → ⊥) →
         (Rose (K.fault_count out.old) (K.fault_count out.new) → ⊥) →
-        Completes journal_overflow (S.left src.old) (K.held out.old) (K.held out.new) result }
+        Completes journal_room (S.left src.old) (K.held out.old) (K.held out.new) result }
 {
     if is_replay(words.as_slice()) {
         let mut world: World<Core, DiskHull> = World::new(alloc, DiskHull::new(alloc));

@@ -1,0 +1,187 @@
+#!/usr/bin/env bash
+# Three OSDs, the MRC and the DIR as processes of the built program on the loopback. Files are written and read while each node in
+# turn is killed by SIGKILL and started again. Every byte that was acknowledged is read back, and at the end all journals load.
+#   tests/cluster.sh [--rounds N] [PROGRAM]
+# Ends by itself: in 30 rounds, after about four minutes. Prints a line a round, and what it counted.
+set -u
+here=$(cd "$(dirname "$0")" && pwd)
+rounds=30
+if [ "${1:-}" = --rounds ]; then
+    rounds=$2
+    shift 2
+fi
+program=${1:-$(bash "$here/build.sh")} || exit 1
+exec python3 - "$program" "$rounds" <<'PYTHON'
+import os
+import random
+import signal
+import socket
+import subprocess
+import sys
+import tempfile
+import time
+
+PROGRAM, ROUNDS = sys.argv[1], int(sys.argv[2])
+STRIPE = 4096
+LEASE, DRIFT = 1000, 100
+KEY = "00"
+random.seed(20)
+
+
+def free_ports(count):
+    """Ports of the loopback that nobody has bound now."""
+    sockets = [socket.socket(socket.AF_INET, socket.SOCK_DGRAM) for _ in range(count)]
+    for s in sockets:
+        s.bind(("127.0.0.1", 0))
+    ports = [s.getsockname()[1] for s in sockets]
+    for s in sockets:
+        s.close()
+    return ports
+
+
+class Cluster:
+    """The processes, by the number of their node."""
+
+    def __init__(self, folder):
+        self.folder = folder
+        names = [900, 901, 1, 2, 3]
+        self.addresses = {n: f"127.0.0.1:{p}" for n, p in zip(names, free_ports(len(names)))}
+        self.running = {}
+
+    def words(self, node):
+        """The words that start a node."""
+        role = {900: ["dir"], 901: ["mrc"]}.get(node, ["osd", "--id", str(node)])
+        words = role + ["--listen", self.addresses[node], "--store", f"{self.folder}/{node}", "--key", KEY]
+        if node != 900:
+            words += ["--dir", self.addresses[900]]
+        return words + ["--lease", str(LEASE), "--drift", str(DRIFT)]
+
+    def start(self, node):
+        """Starts a node and waits until it has said that it is ready."""
+        child = subprocess.Popen([PROGRAM] + self.words(node), stdin=subprocess.DEVNULL, stdout=subprocess.PIPE)
+        line = child.stdout.readline()
+        if line != f"ready {node}\n".encode():
+            raise SystemExit(f"node {node} isn't ready: {line!r}, status {child.wait()}")
+        self.running[node] = child
+
+    def kill(self, node):
+        child = self.running.pop(node)
+        child.send_signal(signal.SIGKILL)
+        child.wait()
+
+    def stop(self):
+        for node in list(self.running):
+            self.kill(node)
+
+    def client(self, words, given=b"", tries=20):
+        """A client command: its status, and what it wrote."""
+        words = words + ["--dir", self.addresses[900], "--lease", str(LEASE), "--drift", str(DRIFT), "--tries", str(tries)]
+        done = subprocess.run([PROGRAM] + words, input=given, stdout=subprocess.PIPE, timeout=300)
+        return done.returncode, done.stdout
+
+
+class File:
+    """A file, with what each of its objects may be: what was acknowledged last, or anything that was tried since."""
+
+    def __init__(self, path, objects):
+        self.path = path
+        self.objects = objects
+        self.may_be = [None] * objects
+        self.acknowledged = 0
+
+    def put(self, cluster, tries):
+        content = [random.randbytes(STRIPE) for _ in range(self.objects)]
+        words = ["put", self.path, "--replicas", "3", "--stripe", str(STRIPE)]
+        status, wrote = cluster.client(words, b"".join(content), tries)
+        if status == 0:
+            if wrote != f"{self.objects * STRIPE}\n".encode():
+                raise SystemExit(f"put {self.path} wrote {wrote!r}")
+            self.may_be = [{o} for o in content]
+            self.acknowledged += 1
+        elif status == 20:
+            for place, new in enumerate(content):
+                if self.may_be[place] is not None:
+                    self.may_be[place].add(new)
+        else:
+            raise SystemExit(f"put {self.path} ended with {status}: {wrote!r}")
+        return status
+
+    def get(self, cluster, tries):
+        status, wrote = cluster.client(["get", self.path], tries=tries)
+        if status == 20:
+            return status
+        if status != 0:
+            raise SystemExit(f"get {self.path} ended with {status}: {wrote!r}")
+        if len(wrote) != self.objects * STRIPE:
+            raise SystemExit(f"get {self.path} gave {len(wrote)} bytes")
+        for place, may_be in enumerate(self.may_be):
+            if wrote[place * STRIPE:(place + 1) * STRIPE] not in may_be:
+                raise SystemExit(f"object {place} of {self.path} isn't what was acknowledged")
+        return status
+
+
+def wait_for(cluster, words, what, seconds=60):
+    """Tries a command until it ends well."""
+    until = time.monotonic() + seconds
+    while True:
+        status, wrote = cluster.client(words)
+        if status == 0:
+            return
+        if time.monotonic() > until:
+            raise SystemExit(f"{what}: {status} {wrote!r}")
+        time.sleep(0.2)
+
+
+def main():
+    began = time.monotonic()
+    with tempfile.TemporaryDirectory() as folder:
+        cluster = Cluster(folder)
+        try:
+            for node in [900, 901, 1, 2, 3]:
+                cluster.start(node)
+            for node, kind in [(901, 2), (1, 1), (2, 1), (3, 1)]:
+                wait_for(cluster, ["register", str(node), str(kind), cluster.addresses[node]], f"register {node}")
+            wait_for(cluster, ["mkdir", "/v"], "mkdir /v")
+            files = [File(f"/v/f{n}", 4) for n in range(3)]
+            for file in files:
+                until = time.monotonic() + 60
+                while file.put(cluster, 20) != 0:
+                    if time.monotonic() > until:
+                        raise SystemExit("the first put never ended well")
+            order = [1, 2, 3, 901, 900]
+            counts = {"put": 0, "get": 0, "retry": 0}
+            for number in range(ROUNDS):
+                node = order[number % len(order)]
+                said = []
+                cluster.kill(node)
+                # Without the MRC or the DIR no command can end well; without an OSD each may.
+                tries = 20 if node < 900 else 2
+                for file in random.sample(files, 2 if node < 900 else 1):
+                    for name, call in [("put", file.put), ("get", file.get)]:
+                        status = call(cluster, tries)
+                        counts[name if status == 0 else "retry"] += 1
+                        said.append(f"{name} {status}")
+                        if node < 900 and status != 0:
+                            raise SystemExit(f"{name} {file.path} with OSD {node} killed ended with {status}")
+                cluster.start(node)
+                for file in files:
+                    until = time.monotonic() + 60
+                    while file.get(cluster, 20) != 0:
+                        counts["retry"] += 1
+                        if time.monotonic() > until:
+                            raise SystemExit(f"{file.path} can't be read again")
+                    counts["get"] += 1
+                print(f"round {number + 1}: node {node} killed: {', '.join(said)}; all read again", flush=True)
+        finally:
+            cluster.stop()
+        for node in [900, 901, 1, 2, 3]:
+            done = subprocess.run([PROGRAM] + cluster.words(node) + ["--turns", "1"], stdin=subprocess.DEVNULL,
+                                  stdout=subprocess.PIPE, timeout=60)
+            if done.stdout != f"ready {node}\n! turns 1\n".encode() or done.returncode != 11:
+                raise SystemExit(f"the journal of {node} doesn't load: {done.stdout!r}, status {done.returncode}")
+        print(f"{counts['put']} puts and {counts['get']} gets ended well while nodes were killed, {counts['retry']} were to be tried "
+              f"again; every acknowledged byte was read back, and all journals load; {time.monotonic() - began:.0f} s")
+
+
+main()
+PYTHON
