@@ -1,7 +1,7 @@
 #!/usr/bin/env bash
 # A cluster of three OSDs on this machine stores a file; an OSD is killed, and the file is read again. Each command is printed before it
 # is run. The nodes are processes of the proved program (`tests/build.sh` builds it), with their stores in a new folder; all end with
-# this script, after some ten seconds. The status is 0 where the file was read back both times.
+# this script, after some five seconds. The status is 0 where the file was read back both times.
 #   examples/first-file.sh [PORT]
 # PORT is the first of five that are used, 7400 where none is given.
 set -u
@@ -24,6 +24,7 @@ start() {
     "$xtfs" "$@" --listen "127.0.0.1:$((port + place))" --store "$folder/$store" --key 5ec7e7 --lease 2000 --drift 200 \
         >"$folder/said" </dev/null &
     nodes[place]=$!
+    disown
     head -n 1 "$folder/said"
     rm "$folder/said"
 }

@@ -98,6 +98,9 @@ class File:
                 raise SystemExit(f"put {self.path} wrote {wrote!r}")
             self.may_be = [{o} for o in content]
             self.acknowledged += 1
+        elif status == 21 and b"toofew" in wrote:
+            # The MRC knows the OSDs once it has listed them at a Wake after their registration.
+            pass
         elif status == 20:
             for place, new in enumerate(content):
                 if self.may_be[place] is not None:
@@ -148,6 +151,7 @@ def main():
                 while file.put(cluster, 20) != 0:
                     if time.monotonic() > until:
                         raise SystemExit("the first put never ended well")
+                    time.sleep(0.1)
             order = [1, 2, 3, 901, 900]
             counts = {"put": 0, "get": 0, "retry": 0}
             for number in range(ROUNDS):
