@@ -9,7 +9,7 @@ use node_jobs::{serve_directory, serve_metadata, serve_osd};
 use node_links::{Clock, Link, Sink, Source};
 use schedule_lines::finish;
 use std::alloc::Global;
-use xt_base::{NodeId, Times, Words};
+use xt_base::{NodeId, OutOfMemory, Times, Words};
 use xt_messages::Status;
 
 /// What stands for what the words leave out.
@@ -43,10 +43,10 @@ fn is_chosen(job: &Job) -> bool {
 }
 
 /// The job of a node, or the client command, that the words ask for. None for a replay, an audit, and words that are refused.
-pub fn asked(alloc: Global, words: &Words) -> Option<Job> {
-    match read_words(alloc, &usual(), false, words) {
-        Ok(Some(job)) if is_chosen(&job) => Some(job),
-        Ok(_) | Err(_) => None,
+pub fn asked(alloc: Global, words: &Words) -> Result<Option<Job>, OutOfMemory> {
+    match read_words(alloc, &usual(), false, words)? {
+        Some(job) if is_chosen(&job) => Ok(Some(job)),
+        _ => Ok(None),
     }
 }
 

@@ -13,12 +13,19 @@ use command_words::help_text;
 use disk_model::FileDisk;
 use node_links::{StdinSource, StdoutSink, SystemClock, UdpLink};
 use par_halves::NoGate;
+use schedule_lines::finish;
 use std::process::ExitCode;
 use std::{env, io};
 use trace_audit::audit_text;
 use xt_base::Words;
 use xt_messages::Status;
 use xtfs_job::run;
+
+/// Tells on standard error what the commands are.
+fn help(rt: &HostRuntime) -> io::Result<()> {
+    eprint!(rt; "{}", help_text(rt.alloc())?)?;
+    eprintln!(rt; "make and cluster aren't built yet.")
+}
 
 fn main(rt: HostRuntime) -> io::Result<ExitCode> {
     let alloc = rt.alloc();
@@ -31,7 +38,7 @@ fn main(rt: HostRuntime) -> io::Result<ExitCode> {
     let mut source = StdinSource::new(alloc, rt.reader())?;
     let mut sink = StdoutSink::new(io::writer(&rt));
     let status = match asked(alloc, &words) {
-        Some(job) => {
+        Ok(Some(job)) => {
             let mut link = UdpLink::new(alloc, &rt);
             let mut clock = SystemClock::new(&rt);
             let disk = FileDisk::new(&rt);
@@ -45,11 +52,13 @@ fn main(rt: HostRuntime) -> io::Result<ExitCode> {
                 &mut clock,
             )
         }
-        None if is_audit(&words) => audit_text(&rt, alloc, &mut source, &mut sink, &NoGate),
-        None => run(alloc, &words, &mut source, &mut sink),
+        Ok(None) if is_audit(&words) => audit_text(&rt, alloc, &mut source, &mut sink, &NoGate),
+        Ok(None) => run(alloc, &words, &mut source, &mut sink),
+        Err(_) => finish(alloc, &mut sink, Status::OutOfMemory),
     };
     if matches!(&status, Status::Usage) {
-        eprint!(rt; "{}", help_text(alloc)?)?;
+        // The status stands, whether or not anybody can be told more.
+        let _told = help(&rt);
     }
     Ok(ExitCode::from(status.code()))
 }
