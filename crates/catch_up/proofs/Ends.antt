@@ -3,7 +3,6 @@ use Rattle.std.proofs.Common.{◌≡◌, ◌&&◌, ◌||◌, ℕ, suc, zero, ◌
 use Rattle.std.specs.Prelude.{not}
 use Rattle.std.specs.List.{sum_by}
 use Rattle.std.proofs.lemmas.Bool.Decides.{nat_tests}
-use Rattle.std.proofs.lemmas.List.Folds.{list_any-append}
 use Rattle.std.proofs.lemmas.List.Sums.{sum_by-cons}
 use Rattle.xt_base.specs.declared.ids.Epoch.{Epoch}
 use Rattle.xt_base.specs.declared.ids.Stamp.{Stamp}
@@ -13,7 +12,7 @@ use Rattle.xt_messages.specs.declared.message.Payload.TheVariants as payload
 use Rattle.xt_messages.specs.declared.record.FileRow.{FileRow}
 use Rattle.xt_messages.specs.declared.record.Record.TheVariants as kept
 use Rattle.xt_protocol.specs.Stamps.{is_epoch, is_earlier, is_below, is_version, has_version, with_held, without_version}
-use Rattle.xt_protocol.specs.Primaries.{fed, fed_next, with_known}
+use Rattle.xt_protocol.specs.Primaries.{fed, fed_next}
 use Rattle.xt_protocol.specs.declared.states.Acted.{Acted}
 use Rattle.xt_protocol.specs.ReplicaRows.{staged, headed, head_offered, head_taken, first_missing, as_promised, refused, behind, unanswered, only}
 use Rattle.xt_protocol.proofs.Stamps.{version-equal, version-itself, has_version-with_held}
@@ -72,22 +71,9 @@ none_is p q (x ∷ xs) v none found = at (p x) (q x) refl none found (none_is p 
 same_held : (vs : List ObjectVersion) (v w : ObjectVersion) → is_version w v ≡ true → has_version vs w ≡ has_version vs v
 same_held vs v w same = ap (has_version vs) (version-equal w v same)
 
-or_last : (a b : Bool) → (a || (b || false)) ≡ (b || a)
-or_last true true = refl
-or_last true false = refl
-or_last false true = refl
-or_last false false = refl
-
 hides : (a b : Bool) → (a ≡ true → b ≡ true) → b ≡ (a || b)
 hides true b so = so refl
 hides false b so = refl
-
-known_with : (known : List ObjectVersion) (v w : ObjectVersion) → has_version (with_known known v) w ≡ (is_version w v || has_version known w)
-known_with known v w = at (has_version known v) refl
-  where
-    at : (b : Bool) → has_version known v ≡ b → has_version (cond b known (known ++ v ∷ [])) w ≡ (is_version w v || has_version known w)
-    at true is = hides (is_version w v) (has_version known w) (λ same. same_held known v w same ∙ is)
-    at false is = list_any-append (is_version w) known (v ∷ []) ∙ or_last (has_version known w) (is_version w v)
 
 known_without : (known : List ObjectVersion) (v w : ObjectVersion) → has_version (without_version known v) w ≡ (not (is_version v w) && has_version known w)
 known_without [] v w = at (is_version v w)
@@ -134,7 +120,7 @@ module _ (body : ℕ → Stamp → List ℕ) (epoch : Epoch) (target : FileHead)
   row_then row v = record row { held = held_then row.held v (has_version row.held v) }
 
   stages : (known : List ObjectVersion) (row : FileRow) (v : ObjectVersion) (bytes : List ℕ) → row.head.promised ≡ epoch
-      → acts body epoch target known row (staged row.file row.head row.held epoch v.object v.version bytes) ≡ feeds (with_known known v) (row_then row v)
+      → acts body epoch target known row (staged row.file row.head row.held epoch v.object v.version bytes) ≡ feeds (with_held known v) (row_then row v)
   unfolding staged
   stages known row v bytes is =
       let by : Bool → Acted = λ b.
@@ -142,7 +128,7 @@ module _ (body : ℕ → Stamp → List ℕ) (epoch : Epoch) (target : FileHead)
       ap (acts body epoch target known row) (in_promise row.file row.head (by (has_version row.held v)) is) ∙ at (has_version row.held v)
     where
       at : (b : Bool) → acts body epoch target known row (record { rec = cond b None (Some (kept.Stage row.file v.object v.version bytes)); answer = Some (payload.Staged row.file epoch v.object v.version) })
-          ≡ feeds (with_known known v) (record row { held = held_then row.held v b })
+          ≡ feeds (with_held known v) (record row { held = held_then row.held v b })
       at true = refl
       at false = refl
 
@@ -152,26 +138,26 @@ module _ (body : ℕ → Stamp → List ℕ) (epoch : Epoch) (target : FileHead)
 
   -- a body that is staged is known and held
   stage_less : (known held : List ObjectVersion) (v : ObjectVersion) → find (λ w. not (has_version known w)) target.versions ≡ Some v
-      → all_left (with_known known v) (held_then held v (has_version held v)) + 1 ≤ all_left known held
+      → all_left (with_held known v) (held_then held v (has_version held v)) + 1 ≤ all_left known held
   stage_less known held v found =
-      found_less (λ w. left_of (has_version known w) (has_version held w)) (λ w. left_of (has_version (with_known known v) w) (has_version (held_then held v (has_version held v)) w))
+      found_less (λ w. left_of (has_version known w) (has_version held w)) (λ w. left_of (has_version (with_held known v) w) (has_version (held_then held v (has_version held v)) w))
       (λ w. not (has_version known w)) each target.versions v found at_it
     where
       of_both : (s k h k' h' : Bool) → k' ≡ (s || k) → h' ≡ (s || h) → left_of k' h' ≤ left_of k h
       of_both true k h k' h' p q = subst (λ (t : Bool). left_of t h' ≤ left_of k h) (sym p) (subst (λ (t : Bool). left_of true t ≤ left_of k h) (sym q) (omega arith))
       of_both false k h k' h' p q = subst (λ (t : Bool). left_of t h' ≤ left_of k h) (sym p) (subst (λ (t : Bool). left_of k t ≤ left_of k h) (sym q) (omega arith))
 
-      each : (w : ObjectVersion) → left_of (has_version (with_known known v) w) (has_version (held_then held v (has_version held v)) w) ≤ left_of (has_version known w) (has_version held w)
-      each w = of_both (is_version w v) _ _ _ _ (known_with known v w) (then_holds held v w (has_version held v) refl)
+      each : (w : ObjectVersion) → left_of (has_version (with_held known v) w) (has_version (held_then held v (has_version held v)) w) ≤ left_of (has_version known w) (has_version held w)
+      each w = of_both (is_version w v) _ _ _ _ (has_version-with_held known v w) (then_holds held v w (has_version held v) refl)
 
       new : (s k h k' h' : Bool) → s ≡ true → k ≡ false → k' ≡ (s || k) → h' ≡ (s || h) → left_of k' h' + 1 ≤ left_of k h
       new true false h k' h' is none p q = subst (λ (t : Bool). left_of t h' + 1 ≤ 1) (sym p) (subst (λ (t : Bool). left_of true t + 1 ≤ 1) (sym q) (omega arith))
       new true true h k' h' is none p q = absurd cc
       new false k h k' h' is none p q = absurd cc
 
-      at_it : left_of (has_version (with_known known v) v) (has_version (held_then held v (has_version held v)) v) + 1 ≤ left_of (has_version known v) (has_version held v)
+      at_it : left_of (has_version (with_held known v) v) (has_version (held_then held v (has_version held v)) v) + 1 ≤ left_of (has_version known v) (has_version held v)
       at_it =
-          new (is_version v v) _ _ _ _ (version-itself v) (not_true (has_version known v) (found_is (λ w. not (has_version known w)) target.versions v found)) (known_with known v v)
+          new (is_version v v) _ _ _ _ (version-itself v) (not_true (has_version known v) (found_is (λ w. not (has_version known w)) target.versions v found)) (has_version-with_held known v v)
           (then_holds held v v (has_version held v) refl)
 
   -- a body that is missing isn't known any more
@@ -246,7 +232,7 @@ module _ (body : ℕ → Stamp → List ℕ) (epoch : Epoch) (target : FileHead)
         at : (o : Option ObjectVersion) → find (λ v. not (has_version known v)) target.versions ≡ o → Acknowledges (suc k) (feeds known row)
         at (Some v) found =
             let less = stage_less known row.held v found in
-            go (Some v) found (subst (Acknowledges k) (sym (stages known row v (body v.object v.version) is)) (later (with_known known v) (row_then row v) is (omega arith)))
+            go (Some v) found (subst (Acknowledges k) (sym (stages known row v (body v.object v.version) is)) (later (with_held known v) (row_then row v) is (omega arith)))
         at None none =
             go None none (subst (λ a. Acknowledges k (acts body epoch target known row a)) (sym (offers row is)) (offered (is_below row.head.stamp target.stamp)))
           where

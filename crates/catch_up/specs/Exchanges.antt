@@ -9,11 +9,11 @@ use Rattle.xt_messages.specs.declared.message.Payload.{Payload}
 use Rattle.xt_messages.specs.declared.message.Payload.TheVariants as payload
 use Rattle.xt_messages.specs.declared.record.FileRow.{FileRow}
 use Rattle.xt_protocol.specs.Folds.{body_of}
-use Rattle.xt_protocol.specs.Stamps.{has_version, is_below, without_version}
+use Rattle.xt_protocol.specs.Stamps.{has_version, is_below, without_version, with_held}
 use Rattle.xt_protocol.specs.declared.states.Acted.{Acted}
 use Rattle.xt_protocol.specs.declared.states.PeerState.{PeerState}
 use Rattle.xt_protocol.specs.declared.states.PeerState.TheVariants as peer
-use Rattle.xt_protocol.specs.Primaries.{with_known, fed}
+use Rattle.xt_protocol.specs.Primaries.{fed}
 use Rattle.xt_protocol.specs.ReplicaRows.{kept_after, staged, headed}
 
 -- a peer is fed: what is known of it, and what it keeps; or it has acknowledged the head, and keeps this
@@ -24,7 +24,7 @@ pub data Exchange : Type 0 where
 module _ (body : ℕ → Stamp → List ℕ) (epoch : Epoch) (target : FileHead) where
   -- what the primary makes of an answer: a staged body is known, a missing one isn't, and the peer is fed on
   abbrev pub answered : List ObjectVersion → FileRow → Option Payload → Exchange
-  answered known row (Some (payload.Staged file e object version)) = feeds (with_known known (body_of object version)) row
+  answered known row (Some (payload.Staged file e object version)) = feeds (with_held known (body_of object version)) row
   answered known row (Some (payload.Missing file e object version)) = feeds (without_version known (body_of object version)) row
   answered known row (Some (payload.Ack file stamp)) = acknowledged row
   answered known row _ = feeds known row

@@ -1,5 +1,5 @@
 -- a step of a file at an OSD: its state, its record and its messages are within the limits
-use Rattle.std.proofs.Common.{◌≡◌, ◌==◌, ◌&&◌, ◌<◌, ◌≤◌, ◌+◌, ◌^◌, ℕ, nat_lt, nat_le, List, [], ◌∷◌, ◌++◌, length, map, refl, sym, ap, subst, Option, Some, None, Bool, true, false, arith}
+use Rattle.std.proofs.Common.{◌≡◌, ◌==◌, ◌&&◌, ◌<◌, ◌≤◌, ◌+◌, ◌*◌, ◌^◌, ◌⊎◌, inr, ℕ, drop, nat_lt, nat_le, List, [], ◌∷◌, ◌++◌, length, map, refl, sym, ap, subst, Option, Some, None, Bool, true, false, arith}
 use Rattle.std.specs.Prelude.{cond, not, filter, if◌then◌else◌}
 use Rattle.std.specs.Option.{IfSome}
 use Rattle.std.specs.List.{AllByRecursion}
@@ -11,12 +11,15 @@ use Rattle.xt_base.specs.declared.ids.Boot.{Boot}
 use Rattle.xt_base.specs.declared.ids.Ballot.{Ballot}
 use Rattle.xt_base.specs.declared.ids.Lease.{Lease}
 use Rattle.xt_base.specs.declared.ids.OpId.{OpId}
+use Rattle.xt_base.specs.declared.ids.Stamp.{Stamp}
 use Rattle.xt_messages.specs.declared.file.Capability.{Capability}
 use Rattle.xt_messages.specs.declared.file.Kind.{Kind}
 use Rattle.xt_messages.specs.declared.file.Kind.TheVariants as kind
+use Rattle.xt_messages.specs.declared.file.FileHead.{FileHead}
 use Rattle.xt_messages.specs.declared.file.Location.{Location}
 use Rattle.xt_messages.specs.declared.file.Op.{Op}
 use Rattle.xt_messages.specs.declared.file.Op.TheVariants as op
+use Rattle.xt_messages.specs.declared.file.Update.{Update}
 use Rattle.xt_messages.specs.declared.message.Payload.{Payload}
 use Rattle.xt_messages.specs.declared.message.Payload.TheVariants as payload
 use Rattle.xt_messages.specs.declared.record.FileRow.{FileRow}
@@ -26,7 +29,10 @@ use Rattle.xt_messages.specs.declared.reply.Denial.{Denial}
 use Rattle.xt_messages.specs.declared.reply.Denial.TheVariants as denial
 use Rattle.xt_messages.specs.declared.reply.Reply.{Reply}
 use Rattle.xt_messages.specs.declared.reply.Reply.TheVariants as reply
-use Rattle.xt_messages.specs.Limits.{FitsNode, FitsFile, FitsBoot, FitsBallot, FitsLease, FitsLocation, FitsMessage, FitsPayload, FitsReply, FitsCapability, FitsOp, FitsOpId}
+use Rattle.xt_base.specs.FieldLimits.{FitsBytes}
+use Rattle.xt_base.specs.Overlay.{cut_or_filled}
+use Rattle.xt_base.specs.declared.TheConstants.{OBJECTS, COUNTS}
+use Rattle.xt_messages.specs.Limits.{FitsNode, FitsFile, FitsBoot, FitsBallot, FitsLease, FitsLocation, FitsMessage, FitsPayload, FitsReply, FitsCapability, FitsOp, FitsOpId, FitsUpdate}
 use Rattle.xt_protocol.specs.declared.turned.Turned.{Turned}
 use Rattle.xt_protocol.specs.Register.{Acceptor, ReadAnswer, promise, read_refused, WriteAnswer, write_refused, on_read, read_under, read_promised, read_outrun, on_write, write_under, write_accepted, write_outrun, write_other_boot, no_ballot, ballot_lt, same_ballot}
 use Rattle.xt_protocol.specs.LeaseRows.{LeaseState, running_round, Proposer, Held, free, asking, writing, held, LeaseNews, sends_write, holds, finds, ends, on_answer, can_ask, round_starts, is_renewal_due, renewal_starts, renewal_takes_under, lease_expired}
@@ -46,17 +52,25 @@ use Rattle.xt_protocol.specs.FileStates.{FileState, Site, FileStep, nothing, ste
 use Rattle.xt_protocol.specs.Overdue.{is_due, issued_due, newly_due, deadlines_under, lease_became, expired}
 use Rattle.xt_protocol.specs.AskRows.{capability_refused, same_list, list_against, with_member, leaves_object, list_and_range, capability_list_range, refusal_of, waiting_ask, ask_waits, ask_served, round_for, elsewhere, ask_without_lease, ask_under, ask_rows, view_record, ask_let_in, ask_handled}
 use Rattle.xt_protocol.specs.FileLeases.{answer_to_read, read_comes, answers_to_write, end_after_write, write_comes, reported_end, end_after_answer, waiting_told, led_on, lease_news, answer_comes}
+use Rattle.xt_protocol.specs.Heads.{first_epoch, plain_stamp, version_of}
+use Rattle.xt_protocol.specs.Objects.{present_body}
+use Rattle.xt_protocol.specs.PlainRows.{read_served}
+use Rattle.xt_protocol.specs.StripedRows.{striped_handled}
 use Rattle.xt_protocol.specs.FileSteps.{replica_acts, ask_comes, primary_hears, message_comes, step_of_file, renews, wakes_under_lease, wake_of_file}
 use Rattle.osd_invariants.specs.Sound.{IsStored, ListUnder, IsSound}
 use Rattle.osd_invariants.proofs.Kept.{wake_keeps}
 use Rattle.osd_invariants.proofs.SoundSteps.{expired_so}
+use Rattle.osd_invariants.proofs.StripedAsks.{tells_client, striped_standing, KeepsUpdate, striped_cases}
+use Rattle.lease_runs.proofs.StripedUpdates.{next_stamp}
 use Rattle.lease_runs.proofs.LeaseSteps.{expired_keeps}
+use Rattle.replica_records.proofs.AfterUpdate.{follows}
 use Rattle.object_versions.proofs.HeadLimits.{either, when}
 use Rattle.cluster_fits.proofs.Lists.{all_append, all_filter}
 use Rattle.cluster_fits.specs.States.{AreSent, AcceptorIs, ProposerIs, LeaseIs, TargetIs, TenureIs, AskIs, AsksAre, IsInside, RowIs, FileIs, NextIs, SiteIs, StepIs}
 use Rattle.cluster_fits.proofs.States.{sent}
 use Rattle.cluster_fits.proofs.Lease.{answer_is, NewsIs, starts_is, renewing_is, expires_is}
-use Rattle.cluster_fits.proofs.Replica.{kept_is, ActedIs, gathers, fetches_from, stages, takes_head, takes_update}
+use Rattle.cluster_fits.proofs.Updates.{no_bytes, present_is, filled_is, StandingIs, standing_is, update_is}
+use Rattle.cluster_fits.proofs.Replica.{lists_of, room_of, kept_is, ActedIs, gathers, fetches_from, stages, takes_head, takes_update}
 use Rattle.cluster_fits.proofs.Primary.{each_sent, any_sent, LedRec, GroundIs, drawn_is, hears_is}
 use Rattle.cluster_fits.proofs.Serving.{wakes_is}
 use Rattle.cluster_fits.proofs.Asks.{told_sent, each_told, untold_told, have_is, need_is, none_are, waits_are, ServedIs, serves_is, follow_is}
@@ -418,11 +432,88 @@ module _ (site : Site) (here : SiteIs site) where
           then_is s.kept (steps_to (record s { used = site.now }) (keeps None)) (λ state. ask_rows site state (waiting_ask site id capability.epoch asked)) (steps_is (record s { used = site.now }) (keeps None) (used_is s is) tt tt) (λ none. refl)
           (rows_is (record s { used = site.now }) ask (used_is s is) (is_there s.kept.location location there) ask_fits)
 
+  acts_is : (s : FileState) (from : NodeId) (acted : Acted) → FileIs s → FitsNode from → ActedIs s.kept acted → StepIs s.kept (replica_acts site s from acted)
+  acts_is s from acted is to fits = steps_is s _ is fits.next (any_sent site.node from acted.answer here.who to fits.answer)
+
+  -- what an ask on a striped file gives
+  striped_is : (s : FileState) (id : OpId) (capability : Capability) (asked : Op) → FileIs s → FitsOpId id → FitsCapability capability → FitsOp asked → ActedIs s.kept (striped_handled site s.kept id capability asked)
+  striped_is s id capability asked is who seal fits =
+      striped_cases (ActedIs s.kept) site s.kept id capability asked
+      (record {
+        nothing = record { next = tt; answer = tt };
+        denied = λ why. told (reply.Denied why) tt;
+        read = λ object at len same goes. told (read_served body head object at len) (is.row.stands.place.writes, is.row.stands.after, shown object at len (subst FitsOp same fits));
+        again = λ count stands. told (reply.Ok count head.mark []) (subst (StandingIs objects stripe asked) stands standing_fits, is.row.stands.after, no_bytes);
+        turned = λ answer stands. told answer (subst (StandingIs objects stripe asked) stands standing_fits);
+        keeps = λ update keeps.
+            let one = update_fits update keeps in
+            record {
+              next = record {
+                limits = (is.row.which, one);
+                own = refl;
+                place = (follows head update (lists_of head is.row.stands) one (follows_plain update (next_stamp site s.kept id capability asked update keeps))).0 (room_of head update keeps.fits);
+              };
+              answer = (who.operation, is.row.which, (one.place.writes, one.after, no_bytes));
+            };
+      })
+    where
+      head : FileHead
+      head = s.kept.head
+
+      body : ℕ → Stamp → List ℕ
+      body = site.body s.kept.file
+
+      stripe : ℕ
+      stripe = capability.location.stripe
+
+      objects : ℕ
+      objects = OBJECTS * length capability.location.members
+
+      told : (answer : Reply) → FitsReply answer → ActedIs s.kept (tells_client s.kept id answer)
+      told answer fit = record { next = tt; answer = (who.operation, is.row.which, fit) }
+
+      some : 1 ≤ capability.location.stripe
+      some = (let least = seal.place.size.least in omega (arith, least))
+
+      few : OBJECTS * length capability.location.members ≤ 36864
+      few = (let nine = members_few (Some capability.location) seal.place in omega (arith, nine))
+
+      shown : (object at len : ℕ) → FitsOp (op.Read object at len) → FitsBytes (cut_or_filled (drop at (present_body (site.body s.kept.file) (version_of s.kept.head.versions object) object)) len)
+      shown object at len fit =
+          filled_is (present_body body (version_of head.versions object) object) len (present_is body (version_of head.versions object) object (here.bodies s.kept.file)) fit.3 at
+
+      standing_fits : StandingIs (OBJECTS * length capability.location.members) capability.location.stripe asked (striped_standing s.kept id capability asked)
+      standing_fits = standing_is objects stripe head capability.epoch asked some is.row.stands fits id
+
+      below : (n : ℕ) → nat_lt n COUNTS ≡ true → n < 2 ^ 62
+      below n less = grind (arith, nat_tests)
+
+      follows_plain : (update : Update) → update.stamp ≡ plain_stamp (s.kept.head.stamp.count + 1)
+          → ((update.stamp.epoch ≡ s.kept.head.promised) ⊎ (update.stamp.epoch ≡ first_epoch)) × (update.stamp.count ≡ s.kept.head.stamp.count + 1)
+      follows_plain update same = (inr (ap (λ (x : Stamp). x.epoch) same), ap (λ (x : Stamp). x.count) same)
+
+      update_fits : (update : Update) → KeepsUpdate site s.kept id capability asked update → FitsUpdate update
+      update_fits update keeps =
+          subst (λ (o : Option Update). IfSome o FitsUpdate) keeps.made
+          (update_is objects stripe body head (plain_stamp (head.stamp.count + 1)) id capability.epoch asked (record {
+            few = few;
+            least = some;
+            most = seal.place.size.most;
+            bodies = here.bodies s.kept.file;
+            whole = is.row.stands;
+            place = record { tenure = record { place = omega arith; primary = omega arith }; writes = below (head.stamp.count + 1) keeps.left };
+            who = who;
+            truncation = seal.truncation;
+            limits = fits;
+            inside = stays_inside stripe asked seal.place.size.most keeps.goes.inside;
+            near = subst (StandingIs objects stripe asked) keeps.stands standing_fits;
+          }))
+
   asks_is : (s : FileState) (k : Kind) (id : OpId) (capability : Capability) (asked : Op) → FileIs s → FitsOpId id → FitsCapability capability → FitsOp asked → StepIs s.kept (ask_comes site s k id capability asked)
   unfolding ask_handled
   asks_is s kind.Replicated id capability asked is who seal fits =
       let_in_is s id capability asked (refusal_of site s.kept.location capability asked) refl is who seal fits (refused_is s.kept.location capability asked is.row.place)
-  asks_is s kind.Striped id capability asked is who seal fits = still_is s is
+  asks_is s kind.Striped id capability asked is who seal fits = acts_is s id.client (striped_handled site s.kept id capability asked) is who.who (striped_is s id capability asked is who seal fits)
 
   -- ---- a message
 
@@ -435,9 +526,6 @@ module _ (site : Site) (here : SiteIs site) where
   heard_is s (free p) from content is stored to fits = still_is s is
   heard_is s (asking r) from content is stored to fits = still_is s is
   heard_is s (writing r) from content is stored to fits = still_is s is
-
-  acts_is : (s : FileState) (from : NodeId) (acted : Acted) → FileIs s → FitsNode from → ActedIs s.kept acted → StepIs s.kept (replica_acts site s from acted)
-  acts_is s from acted is to fits = steps_is s _ is fits.next (any_sent site.node from acted.answer here.who to fits.answer)
 
   message_is : (s : FileState) (from : NodeId) (content : Payload) → FileIs s → ListUnder s.lease s.kept.location → FitsNode from → FitsPayload content → StepIs s.kept (message_comes site s from content)
   message_is s from (payload.Ask number capability asked) is stored to fits =

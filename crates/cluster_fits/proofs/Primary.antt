@@ -20,7 +20,7 @@ use Rattle.xt_base.specs.FieldLimits.{FitsBytes, IsCount}
 use Rattle.xt_messages.specs.Limits.{FitsNode, FitsFile, FitsEpoch, FitsStamp, FitsHead, FitsUpdate, FitsVersion, FitsMessage, FitsPayload, IsObject, is_at_most}
 use Rattle.xt_protocol.specs.Folds.{body_of}
 use Rattle.xt_protocol.specs.FileIds.{is_file}
-use Rattle.xt_protocol.specs.Stamps.{is_epoch, is_earlier, is_below, is_stamp, is_version, has_version, without_version}
+use Rattle.xt_protocol.specs.Stamps.{is_epoch, is_earlier, is_below, is_stamp, is_version, has_version, without_version, with_held}
 use Rattle.xt_protocol.specs.declared.states.Place.{Place}
 use Rattle.xt_protocol.specs.declared.states.IssuedUpdate.{IssuedUpdate}
 use Rattle.xt_protocol.specs.declared.states.Peer.{Peer}
@@ -33,7 +33,7 @@ use Rattle.xt_protocol.specs.declared.states.Tenure.{Tenure}
 use Rattle.xt_protocol.specs.Choice.{chosen_of, difference}
 use Rattle.xt_protocol.specs.Turns.{to_each}
 use Rattle.xt_protocol.specs.ReplicaRows.{stage_record}
-use Rattle.xt_protocol.specs.Primaries.{Ground, Led, unknown_peer, peer_in, with_peer, nodes_of, reports_of, majority_among, statuses_counted, with_node, carries, known_of_report, known_of_own, with_known, fed_next, fed, last_sent, if_any, last_to_each, target_of, is_unknown}
+use Rattle.xt_protocol.specs.Primaries.{Ground, Led, unknown_peer, peer_in, with_peer, nodes_of, reports_of, majority_among, statuses_counted, with_node, carries, known_of_report, known_of_own, fed_next, fed, last_sent, if_any, last_to_each, target_of, is_unknown}
 use Rattle.xt_protocol.specs.PrimaryRows.{unmoved, epoch_above, epoch_drawn, peer_fed, peers_fed, installs, fetches, chooses, status_counted, with_state, peer_sent, feeds, status_told, newer_body, body_put_by, body_beyond, body_fetched, hears_object, target_in, body_staged, body_missed, hears_missing, makes_current, head_acked, committed, update_acked, acked_below, hears_ack, forgotten, peer_behind, outpromised, epoch_told, hears_peer, hears_member, hears_epoch, hears_in, hears}
 use Rattle.replica_runs.specs.Seen.{AckedFit, nodes_in}
 use Rattle.replica_runs.proofs.Choices.{chosen_is}
@@ -348,8 +348,8 @@ module _ (g : Ground) (learnt : ℕ) (ground : GroundIs g) (number : IsCount lea
   staged_is t None from state v is whole to = calm t is
   staged_is t (Some target) from peer.Unknown v is whole to = calm t is
   staged_is t (Some target) from (peer.Reported head) v is whole to = calm t is
-  staged_is t (Some target) from (peer.Feeding known object version body) v is whole to = feeds_is g learnt ground number t from target (with_known known v) is to whole
-  staged_is t (Some target) from (peer.Heading known head) v is whole to = feeds_is g learnt ground number t from target (with_known known v) is to whole
+  staged_is t (Some target) from (peer.Feeding known object version body) v is whole to = feeds_is g learnt ground number t from target (with_held known v) is to whole
+  staged_is t (Some target) from (peer.Heading known head) v is whole to = feeds_is g learnt ground number t from target (with_held known v) is to whole
   staged_is t (Some target) from peer.Current v is whole to = calm t is
 
   missed_is : (t : Tenure) (target : Option FileHead) (from : NodeId) (state : PeerState) (v : ObjectVersion) → TenureIs t → TargetIs target → FitsNode from → Hears (body_missed g learnt t target from state v)

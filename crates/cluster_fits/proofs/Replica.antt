@@ -52,7 +52,7 @@ promised_is head epoch is fits above = record {
   kept = at_most_along head.stamp.epoch head.promised epoch is.kept above;
 }
 
-lists_of : (head : FileHead) → FitsHead head → FitsLists head
+pub lists_of : (head : FileHead) → FitsHead head → FitsLists head
 lists_of head is = record { promise = is.promise; objects = is.objects.each; clients = is.clients.each; rising = record { versions = is.objects.rising; sessions = is.clients.rising } }
 
 -- a row after a record in its place
@@ -84,7 +84,7 @@ none_missing held (v ∷ vs) none = at (has_version held v) refl none (none_miss
     at true is rest later = ((is_among held v true (sym is)).0 refl, later rest)
     at false is rest later = absurd cc
 
-room_of : (head : FileHead) (update : Update) → head_fits (head_after head update) ≡ true → HasRoomFor head update
+pub room_of : (head : FileHead) (update : Update) → head_fits (head_after head update) ≡ true → HasRoomFor head update
 room_of head update fits =
     let after = head_after head update in
     let parts = and_parts (nat_le (length after.versions) OBJECTS && nat_le (length after.sessions) CLIENTS) (nat_lt after.stamp.count COUNTS) fits in

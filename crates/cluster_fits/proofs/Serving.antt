@@ -59,11 +59,12 @@ module _ (g : Ground) (learnt : ℕ) (ground : GroundIs g) (number : IsCount lea
   abbrev Leads : Led → Type 0
   Leads led = LedIs g.place.file g.own led
 
-  next_is : (t : Tenure) (head : FileHead) → TenureIs t → FitsHead head → StandingIs g.place.stripe asked fresh → IfSome (next_update_of g t head id epoch asked) FitsUpdate
+  next_is : (t : Tenure) (head : FileHead) → TenureIs t → FitsHead head → StandingIs OBJECTS g.place.stripe asked fresh → IfSome (next_update_of g t head id epoch asked) FitsUpdate
   next_is t head is whole near =
       when (λ o. IfSome o FitsUpdate) (nat_lt (head.stamp.count + 1) COUNTS) _ _
-      (λ room. update_is g.place.stripe g.body head (record { epoch = t.epoch; count = head.stamp.count + 1 }) id epoch asked
+      (λ room. update_is OBJECTS g.place.stripe g.body head (record { epoch = t.epoch; count = head.stamp.count + 1 }) id epoch asked
       (record {
+        few = omega arith;
         least = least;
         most = most;
         bodies = ground.bodies;
@@ -89,11 +90,11 @@ module _ (g : Ground) (learnt : ℕ) (ground : GroundIs g) (number : IsCount lea
         (ground.who, nodes_are _ (all_filter PeerIs (λ (p : Peer). is_current p.state && not (p.node.0 == g.place.node.0)) t.peers is.each)) (ground.which, new);
   }
 
-  unless_is : (t : Tenure) (head : FileHead) (issued : Option IssuedUpdate) → TenureIs t → FitsHead head → StandingIs g.place.stripe asked fresh → IfSome (issues_unless g learnt t head issued id epoch asked) Leads
+  unless_is : (t : Tenure) (head : FileHead) (issued : Option IssuedUpdate) → TenureIs t → FitsHead head → StandingIs OBJECTS g.place.stripe asked fresh → IfSome (issues_unless g learnt t head issued id epoch asked) Leads
   unless_is t head (Some u) is whole near = tt
   unless_is t head None is whole near = issues_is t head (next_update_of g t head id epoch asked) is whole (next_is t head is whole near)
 
-  stands_is : (t : Tenure) (head : FileHead) (issued : Option IssuedUpdate) (how : Standing) → TenureIs t → FitsHead head → StandingIs g.place.stripe asked how → IfSome (write_stands g learnt t head issued id epoch asked how) Leads
+  stands_is : (t : Tenure) (head : FileHead) (issued : Option IssuedUpdate) (how : Standing) → TenureIs t → FitsHead head → StandingIs OBJECTS g.place.stripe asked how → IfSome (write_stands g learnt t head issued id epoch asked how) Leads
   stands_is t head issued (repeated count) is whole how = record {
     primary = record { number = number; leads = is };
     next = tt;
@@ -112,7 +113,7 @@ module _ (g : Ground) (learnt : ℕ) (ground : GroundIs g) (number : IsCount lea
   writes_in_is t (progress.Fetching chosen source wanted later) is stands = tt
   writes_in_is t (progress.Installing chosen acked) is stands = tt
   writes_in_is t (progress.Active head issued) is stands =
-      stands_is t head issued (standing OBJECTS g.place.stripe head id epoch asked) is stands.0 (standing_is g.place.stripe head epoch asked least stands.0 fits id)
+      stands_is t head issued (standing OBJECTS g.place.stripe head id epoch asked) is stands.0 (standing_is OBJECTS g.place.stripe head epoch asked least stands.0 fits id)
 
   pub writes_under_is : (o : Option Tenure) → IfSome o TenureIs → IfSome (writes_under g learnt o id epoch asked) Leads
   writes_under_is None is = tt

@@ -8,7 +8,7 @@ use Rattle.std.proofs.lemmas.Bool.{and_parts}
 use Rattle.std.proofs.lemmas.Bool.Decides.{nat_tests}
 use Rattle.std.proofs.lemmas.List.{length-take}
 use Rattle.std.proofs.lemmas.Nat.{div_below}
-use Rattle.xt_base.specs.declared.TheConstants.{OBJECTS, CLIENTS, NO_OBJECT}
+use Rattle.xt_base.specs.declared.TheConstants.{CLIENTS, NO_OBJECT}
 use Rattle.xt_base.specs.declared.ids.OpId.{OpId}
 use Rattle.xt_base.specs.declared.ids.Stamp.{Stamp}
 use Rattle.xt_messages.specs.declared.file.FileHead.{FileHead}
@@ -29,13 +29,13 @@ use Rattle.cluster_fits.specs.States.{AreBodies, IsInside}
 pub no_bytes : FitsBytes []
 no_bytes = record { all = λ i. omega arith; few = omega arith }
 
-present_is : (body : ℕ → Stamp → List ℕ) (version : Option Stamp) (object : ℕ) → AreBodies body → FitsBytes (present_body body version object)
+pub present_is : (body : ℕ → Stamp → List ℕ) (version : Option Stamp) (object : ℕ) → AreBodies body → FitsBytes (present_body body version object)
 present_is body None object bodies = no_bytes
 present_is body (Some version) object bodies = bodies object version
 
 -- ---- reads
 
-filled_is : (bytes : List ℕ) (size : ℕ) → FitsBytes bytes → size ≤ 131072 → (at : ℕ) → FitsBytes (cut_or_filled (drop at bytes) size)
+pub filled_is : (bytes : List ℕ) (size : ℕ) → FitsBytes bytes → size ≤ 131072 → (at : ℕ) → FitsBytes (cut_or_filled (drop at bytes) size)
 filled_is bytes size is short at = record {
   all = are_bytes _ (each-filled (drop at bytes) size (each-drop at bytes (each_byte bytes is.all)));
   few = omega (arith, length-filled (drop at bytes) size);
@@ -53,12 +53,12 @@ shown_is stripe body head (op.Truncate size) bodies fits = no_bytes
 
 -- ---- how a write stands
 
--- what is known of a write by how it stands
-abbrev pub StandingIs : ℕ → Op → Standing → Type 0
-StandingIs stripe asked (repeated count) = IsCount count
-StandingIs stripe asked older = Unit {0}
-StandingIs stripe asked (turned_away why) = FitsReply why
-StandingIs stripe asked fresh = too_far OBJECTS stripe asked ≡ None
+-- what is known of a write by how it stands, for a file of so many objects of this size
+abbrev pub StandingIs : ℕ → ℕ → Op → Standing → Type 0
+StandingIs objects stripe asked (repeated count) = IsCount count
+StandingIs objects stripe asked older = Unit {0}
+StandingIs objects stripe asked (turned_away why) = FitsReply why
+StandingIs objects stripe asked fresh = too_far objects stripe asked ≡ None
 
 div_le : (size stripe : ℕ) → 1 ≤ stripe → size < 2 ^ 64 → size / stripe < 2 ^ 64
 div_le size stripe some below = div_below size stripe (2 ^ 64) (omega arith) (at_least (2 ^ 64) stripe size some below)
@@ -66,73 +66,74 @@ div_le size stripe some below = div_below size stripe (2 ^ 64) (omega arith) (at
     at_least : (m k n : ℕ) → 1 ≤ k → n < m → n < m * k
     at_least m k n some below = (let more : m * 1 ≤ m * k = mul-le-mul (omega arith) some in omega (arith, more))
 
-far_is : (stripe : ℕ) (asked : Op) → 1 ≤ stripe → FitsOp asked → IfSome (too_far OBJECTS stripe asked) (λ object. object < 2 ^ 64)
-far_is stripe (op.Read object at len) some fits = tt
-far_is stripe (op.Write object at bytes) some fits = either (λ o. IfSome o (λ n. n < 2 ^ 64)) (nat_lt object OBJECTS) None (Some object) tt (small object fits.0)
+far_is : (objects stripe : ℕ) (asked : Op) → 1 ≤ stripe → FitsOp asked → IfSome (too_far objects stripe asked) (λ object. object < 2 ^ 64)
+far_is objects stripe (op.Read object at len) some fits = tt
+far_is objects stripe (op.Write object at bytes) some fits = either (λ o. IfSome o (λ n. n < 2 ^ 64)) (nat_lt object objects) None (Some object) tt (small object fits.0)
   where
     small : (n : ℕ) → n < 2 ^ 32 → n < 2 ^ 64
     small n below = omega arith
-far_is stripe (op.Truncate size) some fits = either (λ o. IfSome o (λ n. n < 2 ^ 64)) (nat_lt (OBJECTS * stripe) size) (Some (size / stripe)) None (div_le size stripe some fits) tt
+far_is objects stripe (op.Truncate size) some fits = either (λ o. IfSome o (λ n. n < 2 ^ 64)) (nat_lt (objects * stripe) size) (Some (size / stripe)) None (div_le size stripe some fits) tt
 
 session_is : (sessions : List Session) (client : ℕ) → AllByRecursion FitsSession sessions → IfSome (session_of sessions client) FitsSession
 session_is [] client all = tt
 session_is (s ∷ ss) client all = either (λ o. IfSome o FitsSession) (s.client.0 == client) (Some s) (session_of ss client) all.0 (session_is ss client all.1)
 
-module _ (stripe : ℕ) (head : FileHead) (epoch : ℕ) (asked : Op) (some : 1 ≤ stripe) (is : FitsHead head) (fits : FitsOp asked) where
-  room_is : (o : Option Session) → too_far OBJECTS stripe asked ≡ None → StandingIs stripe asked (room_for_client head o)
+module _ (objects stripe : ℕ) (head : FileHead) (epoch : ℕ) (asked : Op) (some : 1 ≤ stripe) (is : FitsHead head) (fits : FitsOp asked) where
+  room_is : (o : Option Session) → too_far objects stripe asked ≡ None → StandingIs objects stripe asked (room_for_client head o)
   room_is (Some s) near = near
-  room_is None near = either (StandingIs stripe asked) (nat_lt (length head.sessions) CLIENTS) fresh (turned_away reply.ClientsFull) near tt
+  room_is None near = either (StandingIs objects stripe asked) (nat_lt (length head.sessions) CLIENTS) fresh (turned_away reply.ClientsFull) near tt
 
-  reach_is : (o : Option Session) (far : Option ℕ) → too_far OBJECTS stripe asked ≡ far → IfSome far (λ object. object < 2 ^ 64) → StandingIs stripe asked (reach head o far)
+  reach_is : (o : Option Session) (far : Option ℕ) → too_far objects stripe asked ≡ far → IfSome far (λ object. object < 2 ^ 64) → StandingIs objects stripe asked (reach head o far)
   reach_is o (Some object) is_far small = small
   reach_is o None is_far small = room_is o is_far
 
-  judged_is : (o : Option Session) → StandingIs stripe asked (judged OBJECTS stripe head o epoch asked)
+  judged_is : (o : Option Session) → StandingIs objects stripe asked (judged objects stripe head o epoch asked)
   judged_is o =
-      either (StandingIs stripe asked) (is_old_epoch head.mark epoch asked) (turned_away (reply.OldEpoch head.mark.epoch)) (reach head o (too_far OBJECTS stripe asked))
-      is.after.truncation (reach_is o (too_far OBJECTS stripe asked) refl (far_is stripe asked some fits))
+      either (StandingIs objects stripe asked) (is_old_epoch head.mark epoch asked) (turned_away (reply.OldEpoch head.mark.epoch)) (reach head o (too_far objects stripe asked))
+      is.after.truncation (reach_is o (too_far objects stripe asked) refl (far_is objects stripe asked some fits))
 
-  by_session_is : (o : Option Session) (number : ℕ) → IfSome o FitsSession → StandingIs stripe asked (by_session OBJECTS stripe head o number epoch asked)
+  by_session_is : (o : Option Session) (number : ℕ) → IfSome o FitsSession → StandingIs objects stripe asked (by_session objects stripe head o number epoch asked)
   by_session_is None number known = judged_is None
   by_session_is (Some s) number known =
-      either (StandingIs stripe asked) (number == s.number) (repeated s.count) (cond (nat_lt number s.number) older (judged OBJECTS stripe head (Some s) epoch asked)) known.writes
-      (either (StandingIs stripe asked) (nat_lt number s.number) older (judged OBJECTS stripe head (Some s) epoch asked) tt (judged_is (Some s)))
+      either (StandingIs objects stripe asked) (number == s.number) (repeated s.count) (cond (nat_lt number s.number) older (judged objects stripe head (Some s) epoch asked)) known.writes
+      (either (StandingIs objects stripe asked) (nat_lt number s.number) older (judged objects stripe head (Some s) epoch asked) tt (judged_is (Some s)))
 
-  pub standing_is : (id : OpId) → StandingIs stripe asked (standing OBJECTS stripe head id epoch asked)
+  pub standing_is : (id : OpId) → StandingIs objects stripe asked (standing objects stripe head id epoch asked)
   unfolding standing
   standing_is id = by_session_is (session_of head.sessions id.client.0) id.number (session_is head.sessions id.client.0 is.clients.each)
 
 -- ---- updates
 
 -- the size after a write is small
-size_is : (size object stripe at len : ℕ) → size < 2 ^ 64 → object < 4096 → stripe ≤ 131072 → at < 2 ^ 32 → len ≤ 131072 → max size (object * stripe + at + len) < 2 ^ 64
+size_is : (size object stripe at len : ℕ) → size < 2 ^ 64 → object < 36864 → stripe ≤ 131072 → at < 2 ^ 32 → len ≤ 131072 → max size (object * stripe + at + len) < 2 ^ 64
 size_is size object stripe at len old few short place more =
-    let low : object ≤ 4096 = omega arith in
-    let product : object * stripe ≤ 4096 * 131072 = mul-le-mul low short in
+    let low : object ≤ 36864 = omega arith in
+    let product : object * stripe ≤ 36864 * 131072 = mul-le-mul low short in
     omega (arith, product)
 
-near_object : (object : ℕ) → (if nat_lt object OBJECTS then None else Some object) ≡ None → object < 4096
-near_object object near = at (nat_lt object OBJECTS) refl near
+near_object : (objects object : ℕ) → (if nat_lt object objects then None else Some object) ≡ None → object < objects
+near_object objects object near = at (nat_lt object objects) refl near
   where
-    at : (b : Bool) → nat_lt object OBJECTS ≡ b → (if b then None else Some object) ≡ None → object < 4096
+    at : (b : Bool) → nat_lt object objects ≡ b → (if b then None else Some object) ≡ None → object < objects
     at true is none = grind (arith, nat_tests)
     at false is none = absurd cc
 
-near_size : (stripe size : ℕ) → (if nat_lt (OBJECTS * stripe) size then Some (size / stripe) else None) ≡ None → size ≤ 4096 * stripe
-near_size stripe size near = at (nat_lt (OBJECTS * stripe) size) refl near
+near_size : (objects stripe size : ℕ) → (if nat_lt (objects * stripe) size then Some (size / stripe) else None) ≡ None → size ≤ objects * stripe
+near_size objects stripe size near = at (objects * stripe) (nat_lt (objects * stripe) size) refl near
   where
-    at : (b : Bool) → nat_lt (OBJECTS * stripe) size ≡ b → (if b then Some (size / stripe) else None) ≡ None → size ≤ 4096 * stripe
-    at true is none = absurd cc
-    at false is none = grind (arith, nat_tests)
+    at : (most : ℕ) (b : Bool) → nat_lt most size ≡ b → (if b then Some (size / stripe) else None) ≡ None → size ≤ most
+    at most true is none = absurd cc
+    at most false is none = grind (arith, nat_tests)
 
 not_empty : (bytes : List ℕ) → 1 ≤ length bytes → (length bytes == 0) ≡ false
 not_empty bytes some = grind (arith, nat_tests)
 
-real_object : (object : ℕ) → object ≤ 4096 → (object == NO_OBJECT) ≡ false
+real_object : (object : ℕ) → object ≤ 36864 → (object == NO_OBJECT) ≡ false
 real_object object small = grind (arith, nat_tests)
 
--- what an update is made from
-pub record MakesUpdate (stripe : ℕ) (body : ℕ → Stamp → List ℕ) (head : FileHead) (stamp : Stamp) (id : OpId) (epoch : ℕ) (asked : Op) : Type 0 where
+-- what an update is made from; a striped file has as many objects as its members have, at most nine
+pub record MakesUpdate (objects stripe : ℕ) (body : ℕ → Stamp → List ℕ) (head : FileHead) (stamp : Stamp) (id : OpId) (epoch : ℕ) (asked : Op) : Type 0 where
+  pub few : objects ≤ 36864
   pub least : 1 ≤ stripe
   pub most : stripe ≤ 131072
   pub bodies : AreBodies body
@@ -142,11 +143,11 @@ pub record MakesUpdate (stripe : ℕ) (body : ℕ → Stamp → List ℕ) (head 
   pub truncation : IsCount epoch
   pub limits : FitsOp asked
   pub inside : IsInside asked
-  pub near : too_far OBJECTS stripe asked ≡ None
+  pub near : too_far objects stripe asked ≡ None
 
-written_is : (stripe : ℕ) (body : ℕ → Stamp → List ℕ) (head : FileHead) (stamp : Stamp) (id : OpId) (epoch object at : ℕ) (bytes : List ℕ)
-    → MakesUpdate stripe body head stamp id epoch (op.Write object at bytes) → FitsUpdate (written stripe body head stamp id object at bytes)
-written_is stripe body head stamp id epoch object at bytes is =
+written_is : (objects stripe : ℕ) (body : ℕ → Stamp → List ℕ) (head : FileHead) (stamp : Stamp) (id : OpId) (epoch object at : ℕ) (bytes : List ℕ)
+    → MakesUpdate objects stripe body head stamp id epoch (op.Write object at bytes) → FitsUpdate (written stripe body head stamp id object at bytes)
+written_is objects stripe body head stamp id epoch object at bytes is =
     let old = present_body body (version_of head.versions object) object in
     let held : FitsBytes old = present_is body (version_of head.versions object) object is.bodies in
     let few : length old ≤ 131072 = held.few in
@@ -154,7 +155,8 @@ written_is stripe body head stamp id epoch object at bytes is =
     let size = length-overlay old at bytes 131072 few inside in
     let least : 1 ≤ length bytes = is.limits.3 in
     let most : length bytes ≤ length (overlay old at bytes) = size.0 in
-    let below : object < 4096 = near_object object is.near in
+    let near : object < objects = near_object objects object is.near in
+    let below : object < 36864 = (let few : objects ≤ 36864 = is.few in omega (arith, near, few)) in
     record {
       place = is.place;
       operation = is.who;
@@ -166,11 +168,13 @@ written_is stripe body head stamp id epoch object at bytes is =
     }
 
 -- the objects of a file that isn't too large
-div_few : (size stripe : ℕ) → 1 ≤ stripe → size ≤ 4096 * stripe → size / stripe ≤ 4096
-div_few size stripe some few =
-    let below : size / stripe < 4097 = div_below size stripe 4097 (omega arith) (omega (arith, few)) in omega arith
+div_few : (objects size stripe : ℕ) → 1 ≤ stripe → objects ≤ 36864 → size ≤ objects * stripe → size / stripe ≤ 36864
+div_few objects size stripe some few low =
+    let product : objects * stripe ≤ 36864 * stripe = mul-le-mul few (omega arith) in
+    let below : size / stripe < 36865 = div_below size stripe 36865 (omega arith) (omega (arith, low, product)) in
+    omega arith
 
-objects_few : (size stripe : ℕ) → size / stripe ≤ 4096 → objects_of stripe size < 2 ^ 32 - 1
+objects_few : (size stripe : ℕ) → size / stripe ≤ 36864 → objects_of stripe size < 2 ^ 32 - 1
 objects_few size stripe few = either (λ n. n < 2 ^ 32 - 1) (size % stripe == 0) (size / stripe) (size / stripe + 1) (omega arith) (omega arith)
 
 taken_some : (n : ℕ) (old : List ℕ) → (nat_lt 0 n && nat_lt n (length old)) ≡ true → 1 ≤ length (take n old)
@@ -183,19 +187,19 @@ taken_some n old cuts =
     over : (a b : ℕ) → nat_lt a b ≡ true → a + 1 ≤ b
     over a b less = grind (arith, nat_tests)
 
-cut_empty : (cut : Bool) (taken : List ℕ) (last : ℕ) → (cut ≡ true → 1 ≤ length taken) → last ≤ 4096
+cut_empty : (cut : Bool) (taken : List ℕ) (last : ℕ) → (cut ≡ true → 1 ≤ length taken) → last ≤ 36864
     → (length (if cut then taken else []) == 0) ≡ ((if cut then last else NO_OBJECT) == NO_OBJECT)
 cut_empty true taken last some few = not_empty taken (some refl) ∙ sym (real_object last few)
 cut_empty false taken last some few = refl
 
-truncated_is : (stripe : ℕ) (body : ℕ → Stamp → List ℕ) (head : FileHead) (stamp : Stamp) (id : OpId) (epoch size : ℕ)
-    → MakesUpdate stripe body head stamp id epoch (op.Truncate size) → FitsUpdate (truncated stripe body head stamp id epoch size)
-truncated_is stripe body head stamp id epoch size is =
+truncated_is : (objects stripe : ℕ) (body : ℕ → Stamp → List ℕ) (head : FileHead) (stamp : Stamp) (id : OpId) (epoch size : ℕ)
+    → MakesUpdate objects stripe body head stamp id epoch (op.Truncate size) → FitsUpdate (truncated stripe body head stamp id epoch size)
+truncated_is objects stripe body head stamp id epoch size is =
     let last = size / stripe in
     let old = present_body body (version_of head.versions last) last in
     let held : FitsBytes old = present_is body (version_of head.versions last) last is.bodies in
     let cut = cuts_body stripe size old in
-    let few : last ≤ 4096 = div_few size stripe is.least (near_size stripe size is.near) in
+    let few : last ≤ 36864 = div_few objects size stripe is.least is.few (near_size objects stripe size is.near) in
     let part : FitsBytes (take (size % stripe) old) = taken_is (size % stripe) old held in
     record {
       place = is.place;
@@ -210,8 +214,8 @@ truncated_is stripe body head stamp id epoch size is =
     taken_is : (n : ℕ) (old : List ℕ) → FitsBytes old → FitsBytes (take n old)
     taken_is n old held = record { all = are_bytes _ (each-take n old (each_byte old held.all)); few = (let few : length old ≤ 131072 = held.few in omega (arith, length-take n old, few)) }
 
-pub update_is : (stripe : ℕ) (body : ℕ → Stamp → List ℕ) (head : FileHead) (stamp : Stamp) (id : OpId) (epoch : ℕ) (asked : Op)
-    → MakesUpdate stripe body head stamp id epoch asked → IfSome (update_of stripe body head stamp id epoch asked) FitsUpdate
-update_is stripe body head stamp id epoch (op.Read object at len) is = tt
-update_is stripe body head stamp id epoch (op.Write object at bytes) is = written_is stripe body head stamp id epoch object at bytes is
-update_is stripe body head stamp id epoch (op.Truncate size) is = truncated_is stripe body head stamp id epoch size is
+pub update_is : (objects stripe : ℕ) (body : ℕ → Stamp → List ℕ) (head : FileHead) (stamp : Stamp) (id : OpId) (epoch : ℕ) (asked : Op)
+    → MakesUpdate objects stripe body head stamp id epoch asked → IfSome (update_of stripe body head stamp id epoch asked) FitsUpdate
+update_is objects stripe body head stamp id epoch (op.Read object at len) is = tt
+update_is objects stripe body head stamp id epoch (op.Write object at bytes) is = written_is objects stripe body head stamp id epoch object at bytes is
+update_is objects stripe body head stamp id epoch (op.Truncate size) is = truncated_is objects stripe body head stamp id epoch size is

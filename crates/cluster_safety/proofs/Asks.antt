@@ -23,7 +23,10 @@ use Rattle.lease_safety.specs.State.{Has}
 use Rattle.xt_protocol.specs.Turns.{the_record, reply_to}
 use Rattle.xt_protocol.specs.AskRows.{leaves_object, list_and_range, with_member, list_against, capability_refused, capability_list_range, refusal_of, ask_let_in, ask_handled}
 use Rattle.xt_protocol.specs.FileStates.{FileState, Site, FileStep, and_then}
-use Rattle.xt_protocol.specs.FileSteps.{message_comes, ask_comes, step_of_file}
+use Rattle.xt_protocol.specs.FileSteps.{message_comes, ask_comes, replica_acts, step_of_file}
+use Rattle.xt_protocol.specs.Primaries.{if_any}
+use Rattle.xt_protocol.specs.declared.states.Acted.{Acted}
+use Rattle.osd_invariants.proofs.StripedAsks.{striped_outcome}
 use Rattle.xt_protocol.specs.OsdSteps.{file_concerned}
 use Rattle.xt_protocol.specs.Overdue.{expired}
 use Rattle.replica_runs.specs.FileView.{IsList, AskComes}
@@ -41,6 +44,9 @@ use Rattle.cluster_safety.specs.Asks.{operation_or_none, operations_of, AreOpera
 
 same_file : (a b : FileId) → Some a ≡ Some b → a ≡ b
 same_file a b is = cc
+
+true_false : true ≡ false → ⊥
+true_false e = cc e
 
 pub messages_come : (stripe : ℕ) (ops : ℕ × ℕ → Op) (members : List ℕ) (files : List DeclaredFile) (entries : List Entry) (file : FileId) (from : NodeId) (content : Payload)
     → file_concerned content ≡ Some file → AskFits files content → HasBegunSo entries from content → AreOperations ops file.number entries
@@ -93,7 +99,13 @@ outside_is_idle site s from (payload.Ask number capability asked) file epoch obj
     by_kind kind.Replicated =
         let refused = refused_so site (expired site s).state.kept.location capability asked is in
         by_refusal (refusal_of site (expired site s).state.kept.location capability asked) refused.0 refused.1
-    by_kind kind.Striped = record { state = refl; rec = refl; marks = refl }
+    by_kind kind.Striped =
+        striped_outcome (λ (acted : Acted). IsSameButSent (and_then (expired site s) (λ state. replica_acts site state from acted)) fetches) site (expired site s).state.kept id capability asked
+        (record {
+          nothing = record { state = refl; rec = refl; marks = refl };
+          tells = λ answer. record { state = refl; rec = refl; marks = refl };
+          keeps = λ update keeps. absurd (true_false (sym is ∙ keeps.goes.inside));
+        })
 outside_is_idle site s from _ file epoch object version is = absurd is
 
 -- it keeps nothing
@@ -125,6 +137,12 @@ outside_sends site s from (payload.Ask number capability asked) file epoch objec
         replied (inl e) n = ap (λ (k : Msg). shown n k.payload) e
         replied (inr h) n = absurd h
 
+    untold : Has m ((expired site s).turned.outs ++ []) → Has m fetches.turned.outs ⊎ ((n : ℕ) → shown n m.payload ≡ [])
+    untold h = elim (has_in m (expired site s).turned.outs [] h) [
+      | inl early ↦ inl (has_left m (expired site s).turned.outs _ early)
+      | inr late ↦ absurd late
+    ]
+
     by_refusal : (o : Option Reply) → (answer : Reply) → o ≡ Some answer → Has m (and_then (expired site s) (λ state. ask_let_in site state id capability asked o)).turned.outs → Has m fetches.turned.outs ⊎ ((n : ℕ) → shown n m.payload ≡ [])
     by_refusal o answer refused h = told answer (subst (λ (o : Option Reply). Has m (and_then (expired site s) (λ state. ask_let_in site state id capability asked o)).turned.outs) refused h)
 
@@ -132,10 +150,11 @@ outside_sends site s from (payload.Ask number capability asked) file epoch objec
     by_kind kind.Replicated h =
         let refused = refused_so site (expired site s).state.kept.location capability asked is in
         by_refusal (refusal_of site (expired site s).state.kept.location capability asked) refused.0 refused.1 h
-    by_kind kind.Striped h = elim (has_in m (expired site s).turned.outs [] h) [
-      | inl early ↦ inl (has_left m (expired site s).turned.outs _ early)
-      | inr late ↦ absurd late
-    ]
+    by_kind kind.Striped h =
+        striped_outcome
+        (λ (acted : Acted). Has m ((expired site s).turned.outs ++ if_any site.node from acted.answer) → Has m fetches.turned.outs ⊎ ((n : ℕ) → shown n m.payload ≡ []))
+        site (expired site s).state.kept id capability asked
+        (record { nothing = untold; tells = λ answer. told answer; keeps = λ update keeps. told (reply.Ok update.stamp.count update.mark []) }) h
 outside_sends site s from _ file epoch object version is m = absurd is
 
 -- ---- operations

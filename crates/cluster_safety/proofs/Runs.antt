@@ -8,6 +8,8 @@ use Rattle.xt_messages.specs.Limits.{FitsLocation}
 use Rattle.xt_base.specs.MemberList.{has_node, are_distinct}
 use Rattle.xt_base.specs.declared.ids.NodeId.{NodeId}
 use Rattle.xt_base.specs.declared.ids.FileId.{FileId}
+use Rattle.xt_messages.specs.declared.file.Kind.{Kind}
+use Rattle.xt_messages.specs.declared.file.Kind.TheVariants as kind
 use Rattle.xt_messages.specs.declared.file.Location.{Location}
 use Rattle.xt_messages.specs.declared.file.Op.{Op}
 use Rattle.replica_safety.specs.Lists.{Has, AreDistinct}
@@ -103,9 +105,13 @@ at_least a b is = grind (arith, nat_tests)
 -- ---- a replicated file
 
 -- it has its place
-placed_at : (o : Option Location) → is_replicated_at o ≡ true → (location : Location) × (o ≡ Some location)
+placed_at : (o : Option Location) → is_replicated_at o ≡ true → (location : Location) × (o ≡ Some location) × (location.kind ≡ kind.Replicated)
 placed_at None is = absurd (cc)
-placed_at (Some location) is = (location, refl)
+placed_at (Some location) is = (location, refl, at location.kind is)
+  where
+    at : (k : Kind) → elim k [ kind.Replicated ↦ true | kind.Striped ↦ false ] ≡ true → k ≡ kind.Replicated
+    at kind.Replicated is = refl
+    at kind.Striped is = absurd (cc)
 
 some_place : (a b : Location) → Some a ≡ Some b → a ≡ b
 some_place a b is = cc
@@ -114,10 +120,10 @@ some_place a b is = cc
 pub was_told : (w : World) → Stage w [] → FilesAreSafe w.entries
 was_told w stage file is =
     let place = placed_at (location_in file w.entries) is in
-    subst (λ (o : Option Location). HasOneOrder (stripe_at o) (operations_of file w.entries) file w.entries) (sym place.1) (ordered place.0 (sym (stage.placed.told file) ∙ place.1))
+    subst (λ (o : Option Location). HasOneOrder (stripe_at o) (operations_of file w.entries) file w.entries) (sym place.1) (ordered place.0 (sym (stage.placed.told file) ∙ place.1) place.2)
   where
-    ordered : (location : Location) → file_in w.files file ≡ Some location → HasOneOrder location.stripe (operations_of file w.entries) file w.entries
-    ordered location declared =
+    ordered : (location : Location) → file_in w.files file ≡ Some location → location.kind ≡ kind.Replicated → HasOneOrder location.stripe (operations_of file w.entries) file w.entries
+    ordered location declared replicated =
         record {
           told = fits.entries;
           tells = run.is.told fits.entries fits.told;
@@ -151,7 +157,7 @@ was_told w stage file is =
         listed : DeclaredList w.files file location.stripe (map (λ (m : NodeId). m.0) location.members)
         listed other there =
             let same = some_place location other (sym declared ∙ there) in
-            (ap (λ (l : Location). l.stripe) (sym same), ap (λ (l : Location). map (λ (m : NodeId). m.0) l.members) (sym same))
+            (ap (λ (l : Location). l.stripe) (sym same), ap (λ (l : Location). map (λ (m : NodeId). m.0) l.members) (sym same), ap (λ (l : Location). l.kind) (sym same) ∙ replicated)
 
         run : IsRunOfFile location.stripe (operations_of file w.entries) (map (λ (m : NodeId). m.0) location.members) (declared_file file) w []
         run = stage.runs file location.stripe (operations_of file w.entries) (map (λ (m : NodeId). m.0) location.members) listed (operations_are file w.entries w.entries [] (sym (append-nil w.entries)))

@@ -58,9 +58,11 @@ use Rattle.xt_protocol.specs.FileStates.{FileState, Site, FileStep, steps_to, an
 use Rattle.xt_protocol.specs.Overdue.{is_due, newly_due, deadlines_under, lease_became, expired}
 use Rattle.xt_protocol.specs.FileLeases.{read_comes, write_comes, answer_comes, answer_to_read, answers_to_write, end_after_answer, led_on, lease_news}
 use Rattle.xt_protocol.specs.AskRows.{elsewhere, ask_without_lease, ask_under, ask_rows, ask_let_in, refusal_of, ask_handled, waiting_ask, view_record}
+use Rattle.xt_protocol.specs.StripedRows.{striped_handled}
 use Rattle.xt_protocol.specs.FileSteps.{ask_comes, primary_hears, message_comes, renews, step_of_file, wakes_under_lease, wake_of_file}
 use Rattle.xt_protocol.specs.OsdSteps.{file_concerned}
 use Rattle.osd_invariants.proofs.Kept.{wake_keeps}
+use Rattle.osd_invariants.proofs.StripedAsks.{striped_outcome}
 use Rattle.lease_runs.specs.OsdView.{wake_step}
 use Rattle.lease_runs.proofs.LeaseSteps.{expired_keeps}
 use Rattle.cluster_safety.specs.Senders.{IsFrom, AreFrom}
@@ -545,7 +547,12 @@ module _ (site : Site) where
 asks_from : (site : Site) (s : FileState) (k : Kind) (id : OpId) (capability : Capability) (asked : Op) → Steps site s (ask_comes site s k id capability asked)
 unfolding ask_handled
 asks_from site s kind.Replicated id capability asked = let_in_from site s id capability asked (refusal_of site s.kept.location capability asked)
-asks_from site s kind.Striped id capability asked = record { outs = tt }
+asks_from site s kind.Striped id capability asked =
+    record {
+      outs = answer_sent site.node id.client s.kept.file (striped_handled site s.kept id capability asked).answer
+          (striped_outcome (ActedFrom s.kept.file) site s.kept id capability asked
+          (record { nothing = record { answer = tt }; tells = λ answer. record { answer = refl }; keeps = λ update keeps. record { answer = refl } })).answer;
+    }
 
 -- ---- a message, and a Wake
 

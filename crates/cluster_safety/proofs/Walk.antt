@@ -53,7 +53,8 @@ use Rattle.cluster_safety.proofs.Forgotten.{forgotten_runs}
 use Rattle.cluster_safety.proofs.Leading.{led_same, led_else, led_back, led_added, led_ticked, down_leads_not, client_leads_not, started_leads_not}
 use Rattle.cluster_safety.proofs.Nodes.{here, other, plans_rest, ticks_rest, declared_rest}
 use Rattle.cluster_safety.proofs.OsdRuns.{steps_on, kept_on}
-use Rattle.cluster_safety.proofs.Places.{no_places, one_place, mark_places, placed_more, start_placed, placed_file}
+use Rattle.world_runs.proofs.Places.{no_places, one_place}
+use Rattle.cluster_safety.proofs.Places.{mark_places, placed_more, start_placed, placed_file}
 use Rattle.cluster_safety.proofs.Shown.{SaysNothing, none_says, one_says, inert_says, ListsWere, carried, all_rest}
 use Rattle.cluster_safety.proofs.Tellings.{telling}
 

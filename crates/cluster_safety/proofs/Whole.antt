@@ -1,11 +1,12 @@
 -- The trace of every run is safe.
-use Rattle.std.proofs.Common.{◌≡◌, ℕ, List, [], ◌∷◌, ◌++◌, None}
+use Rattle.std.proofs.Common.{◌≡◌, ℕ, true, List, [], ◌∷◌, ◌++◌, None}
 use Rattle.time_line.specs.declared.entry.Entry.{Entry}
 use Rattle.time_line.specs.declared.line.Line.{Line}
 use Rattle.time_line.specs.Bounds.{AreLines}
 use Rattle.cluster_runs.specs.NodeSteps.{Room}
 use Rattle.cluster_runs.specs.Rules.{refusal}
 use Rattle.cluster_runs.specs.Runs.{run_of, IsRunInto, AreRunsSafe}
+use Rattle.time_line.specs.TimeLine.{is_replicated}
 use Rattle.time_line.specs.Clauses.{AreApart, HoldersAct, EndsAreAnswered}
 use Rattle.time_line.specs.Verdicts.{Clause, apart, acting, one_order, once, shown, fresh, IsSafeFor, IsSafe}
 use Rattle.world_runs.proofs.Runs.{runs_apart, parts_apart, runs_act, parts_act}
@@ -18,7 +19,7 @@ use Rattle.cluster_safety.specs.Traces.{AlwaysHolds}
 use Rattle.cluster_safety.proofs.Orders.{stand_once, answers_show}
 
 -- a trace whose leases, acts and ends are so, and each of whose replicated files has one order
-safe_for : (file : ℕ) (entries : List Entry) → AreApart file entries → HoldersAct file entries → ActsHaveBegun file entries → EndsAreAnswered file entries → FilesAreSafe entries
+safe_for : (file : ℕ) (entries : List Entry) → AreApart file entries → HoldersAct file entries → ActsHaveBegun file entries → (is_replicated file entries ≡ true → EndsAreAnswered file entries) → FilesAreSafe entries
     → IsSafeFor file entries
 safe_for file entries alone act begun answered files apart is = alone
 safe_for file entries alone act begun answered files acting is = act
@@ -26,7 +27,7 @@ safe_for file entries alone act begun answered files one_order is = (files file 
 safe_for file entries alone act begun answered files once is = stand_once file entries begun (files file is)
 safe_for file entries alone act begun answered files shown is = answers_show file entries begun (files file is)
 safe_for file entries alone act begun answered files fresh is =
-    answered_fresh file entries answered (stand_once file entries begun (files file is)) (answers_show file entries begun (files file is))
+    answered_fresh file entries (answered is) (stand_once file entries begun (files file is)) (answers_show file entries begun (files file is))
 
 pub runs_safe : (room : Room) → AreRunsSafe room
 runs_safe room lines are file =

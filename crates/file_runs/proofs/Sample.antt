@@ -49,6 +49,6 @@ sample_runs = record {
     silent = refl;
     untold = refl;
   };
-  runs = (refl, (record { runs = refl; here = refl; bodies = refl; comes = (inr refl, ((refl, refl), write_fits)); own = tt; holds = λ t is. absurd cc; alone = λ held m is. nobody m is; ends = tt }, (record { runs = refl; here = refl; bodies = refl; comes = (inl (inl refl), tt); own = tt; holds = λ t is. absurd cc; alone = λ held m is. nobody m is; ends = tt }, (record { runs = refl; here = refl; bodies = refl; comes = (inl (inl refl), tt); own = tt; holds = λ t is. absurd cc; alone = λ held m is. nobody m is; ends = tt }, (record { runs = refl; here = refl; bodies = refl; comes = (inl (inl refl), tt); own = tt; holds = λ t is. absurd cc; alone = λ held m is. nobody m is; ends = tt }, (record { runs = refl; here = refl; bodies = refl; comes = (inl (inl refl), tt); own = tt; holds = λ t is. absurd cc; alone = λ held m is. nobody m is; ends = tt }, (record { runs = refl; here = refl; bodies = refl; comes = (inl (inl refl), tt); own = tt; holds = λ t is. refl; alone = λ held m is. itself m is; ends = tt }, (record { runs = refl; here = refl; bodies = refl; comes = (inl (inl refl), tt); own = λ is v h. absurd h; holds = λ t is. refl; alone = λ held m is. itself m is; ends = tt }, (record { runs = refl; here = refl; bodies = refl; comes = (inl (inl refl), tt); own = tt; holds = λ t is. refl; alone = λ held m is. itself m is; ends = tt }, (record { runs = refl; here = refl; bodies = refl; comes = (inl (inl refl), tt); own = tt; holds = λ t is. refl; alone = λ held m is. itself m is; ends = tt }, (record { runs = refl; here = refl; bodies = refl; comes = (inl (inl refl), tt); own = tt; holds = λ t is. refl; alone = λ held m is. itself m is; ends = tt }, (record { runs = refl; here = refl; bodies = refl; comes = (inl (inl refl), tt); own = tt; holds = λ t is. refl; alone = λ held m is. itself m is; ends = tt }, (record { runs = refl; here = refl; bodies = refl; comes = (inr refl, ((refl, refl), read_fits)); own = tt; holds = λ t is. refl; alone = λ held m is. itself m is; ends = tt }, tt)))))))))))));
+  runs = (refl, (record { runs = refl; here = refl; bodies = refl; comes = (inr refl, ((refl, refl, refl), write_fits)); own = tt; holds = λ t is. absurd cc; alone = λ held m is. nobody m is; ends = tt }, (record { runs = refl; here = refl; bodies = refl; comes = (inl (inl refl), tt); own = tt; holds = λ t is. absurd cc; alone = λ held m is. nobody m is; ends = tt }, (record { runs = refl; here = refl; bodies = refl; comes = (inl (inl refl), tt); own = tt; holds = λ t is. absurd cc; alone = λ held m is. nobody m is; ends = tt }, (record { runs = refl; here = refl; bodies = refl; comes = (inl (inl refl), tt); own = tt; holds = λ t is. absurd cc; alone = λ held m is. nobody m is; ends = tt }, (record { runs = refl; here = refl; bodies = refl; comes = (inl (inl refl), tt); own = tt; holds = λ t is. absurd cc; alone = λ held m is. nobody m is; ends = tt }, (record { runs = refl; here = refl; bodies = refl; comes = (inl (inl refl), tt); own = tt; holds = λ t is. refl; alone = λ held m is. itself m is; ends = tt }, (record { runs = refl; here = refl; bodies = refl; comes = (inl (inl refl), tt); own = λ is v h. absurd h; holds = λ t is. refl; alone = λ held m is. itself m is; ends = tt }, (record { runs = refl; here = refl; bodies = refl; comes = (inl (inl refl), tt); own = tt; holds = λ t is. refl; alone = λ held m is. itself m is; ends = tt }, (record { runs = refl; here = refl; bodies = refl; comes = (inl (inl refl), tt); own = tt; holds = λ t is. refl; alone = λ held m is. itself m is; ends = tt }, (record { runs = refl; here = refl; bodies = refl; comes = (inl (inl refl), tt); own = tt; holds = λ t is. refl; alone = λ held m is. itself m is; ends = tt }, (record { runs = refl; here = refl; bodies = refl; comes = (inl (inl refl), tt); own = tt; holds = λ t is. refl; alone = λ held m is. itself m is; ends = tt }, (record { runs = refl; here = refl; bodies = refl; comes = (inr refl, ((refl, refl, refl), read_fits)); own = tt; holds = λ t is. refl; alone = λ held m is. itself m is; ends = tt }, tt)))))))))))));
   marks = refl;
 }

@@ -48,6 +48,7 @@ use Rattle.xt_protocol.specs.OsdSteps.{each_file, woken}
 use Rattle.xt_protocol.specs.FileLeases.{read_comes, write_comes, answer_comes, end_after_answer, lease_news, led_on, waiting_told}
 use Rattle.xt_protocol.specs.FileSteps.{step_of_file, message_comes, ask_comes, primary_hears, renews, wakes_under_lease, wake_of_file}
 use Rattle.osd_invariants.proofs.Kept.{wake_keeps, wake_follows, expired_quiet}
+use Rattle.osd_invariants.proofs.StripedAsks.{striped_outcome}
 use Rattle.lease_runs.specs.LeaseView.{settled_row}
 use Rattle.lease_runs.specs.OsdView.{wake_step}
 use Rattle.lease_runs.specs.ActsView.{IsBusy, MarksAre, no_marks, won, acting, RecordIs}
@@ -274,7 +275,9 @@ kind_rec : (site : Site) (s : FileState) (k : Kind) (number : ℕ) (id : OpId) (
     → RecordIs s.kept.file (payload.Ask number capability asked) (ask_comes site s k id capability asked).turned.rec
 unfolding ask_handled
 kind_rec site s kind.Replicated number id capability asked = let_in_rec site s number id capability asked (refusal_of site s.kept.location capability asked)
-kind_rec site s kind.Striped number id capability asked = tt
+kind_rec site s kind.Striped number id capability asked =
+    striped_outcome (λ (acted : Acted). RecordIs s.kept.file (payload.Ask number capability asked) acted.rec) site s.kept id capability asked
+    (record { nothing = tt; tells = λ answer. tt; keeps = λ update is. refl })
 
 drawn_data : (place : Place) (learnt : ℕ) (own : FileHead) (members : List NodeId) → IsData place.file (epoch_drawn place learnt own members).turned.rec
 drawn_data place learnt own members = (drawn_acts place learnt own members).plain

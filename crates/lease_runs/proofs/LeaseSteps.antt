@@ -48,6 +48,7 @@ use Rattle.xt_protocol.specs.FileSteps.{step_of_file, message_comes, ask_comes, 
 use Rattle.lease_runs.specs.LeaseView.{lease_row_of, is_ask, lease_setting, is_lease_or_ask, leases_and_asks, held_end, held_ends, IsBare, ShowsRow, stays_so, Follows, handles, asks, stays, Wakes, renewing, resting, settled_row}
 use Rattle.osd_invariants.specs.Sound.{IsStored}
 use Rattle.osd_invariants.proofs.Kept.{wake_keeps}
+use Rattle.osd_invariants.proofs.StripedAsks.{striped_outcome}
 use Rattle.lease_runs.proofs.Bare.{both_bare, each_told, untold, map_all}
 use Rattle.lease_runs.proofs.PrimaryBare.{served_bare, drawn_bare, follow_bare, hears_bare, wakes_bare}
 
@@ -201,7 +202,13 @@ kind_follows : (site : Site) (s : FileState) (k : Kind) (id : OpId) (capability 
 unfolding ask_handled
 kind_follows site s kind.Replicated id capability asked from content is =
     let_in_follows site s id capability asked (refusal_of site s.kept.location capability asked) from content is
-kind_follows site s kind.Striped id capability asked from content is = stays (record { row = refl; outs = refl; ends = refl })
+kind_follows site s kind.Striped id capability asked from content is =
+    stays (record {
+      row = refl;
+      outs = striped_outcome (λ (acted : Acted). leases_and_asks (if_any site.node id.client acted.answer) ≡ []) site s.kept id capability asked
+          (record { nothing = refl; tells = λ answer. refl; keeps = λ update is. refl });
+      ends = refl;
+    })
 
 -- The register.
 

@@ -9,12 +9,9 @@ use Rattle.std.specs.List.Sorted.{IsPartitionPoint}
 use Rattle.std.specs.Ordering.{is_eq, is_lt, match_ordering, ordering_reverse, ordering_then}
 use Rattle.std.specs.declared.cmp.Ordering.{Ordering}
 use Rattle.std.specs.declared.cmp.Ordering.TheVariants.{Less, Equal, Greater}
-use Rattle.xt_base.specs.declared.ids.FileId.{FileId}
-use Rattle.xt_messages.specs.declared.file.ObjectVersion.{ObjectVersion}
 use Rattle.xt_messages.specs.declared.record.KeepBody.{KeepBody}
-use Rattle.xt_protocol.specs.FileIds.{is_file, file_cmp}
+use Rattle.xt_protocol.specs.FileIds.{file_cmp}
 use Rattle.xt_protocol.specs.Forgetting.{is_kept}
-use Rattle.xt_protocol.specs.Stamps.{is_version, comes_before}
 use Rattle.xt_protocol.specs.VersionOrder.{version_cmp}
 use Rattle.xt_protocol.proofs.Folds.{is_file-file_cmp, file_cmp_total}
 use Rattle.xt_protocol.proofs.Stamps.{is_version-cmp, comes_before-cmp, version_cmp_total}

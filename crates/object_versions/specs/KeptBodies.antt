@@ -2,6 +2,7 @@
 use Rattle.std.specs.Prelude.{ℕ, ◌≡◌, List, Option, Some, None, Result, Ok, Err, IfSome, IfNone}
 use Rattle.xt_base.specs.Faults.{Rose}
 use Rattle.xt_messages.specs.declared.record.Record.{Record}
+use Rattle.xt_protocol.specs.Folds.{body_kept}
 use Rattle.object_versions.specs.declared.errors.BodyErr.{BodyErr}
 use Rattle.object_versions.specs.declared.errors.BodyErr.TheVariants as error
 use Rattle.object_versions.specs.declared.errors.StepErr.{StepErr}
@@ -14,19 +15,25 @@ fault_in (Err error.NoSuchVersion) = None
 fault_in (Err error.OutOfMemory) = None
 fault_in (Ok bytes) = None
 
--- how often reading had failed after a step that failed
-abbrev pub step_fault : StepErr → Option ℕ
-step_fault (step.BodyFault count) = Some count
-step_fault step.OutOfMemory = None
+-- What a step tells that failed for a body: reading failed, so often in all; or no record put that body.
+abbrev pub IsTold : List Record → ℕ → ℕ → StepErr → Type 0
+IsTold records before after (step.BodyFault count) = (count ≡ after) × Rose before after
+IsTold records before after (step.BodyLost file object version) = (after ≡ before) × (body_kept records file object version ≡ None)
+IsTold records before after step.OutOfMemory = Unit {0}
 
--- A step that reads bodies changes none; it fails for a fault only where the count of faults rose, which stays as it is
--- otherwise.
-pub record ReadsOnly {B : Type 0} (records : B → List Record) (faults : B → ℕ) (old new : B) (fault : Option ℕ) : Type 0 where
+-- A step that reads bodies changes none. It fails for a fault only where the count of faults rose, which stays as it is otherwise,
+-- and for a lost body only where no record put that one.
+pub record ReadsOnly {B : Type 0} (records : B → List Record) (faults : B → ℕ) (old new : B) (failure : Option StepErr) : Type 0 where
   pub same : records new ≡ records old
-  pub failed : IfSome fault (λ count. (count ≡ faults new) × Rose (faults old) (faults new))
-  pub sound : IfNone fault (faults new ≡ faults old)
+  pub failed : IfSome failure (IsTold (records old) (faults old) (faults new))
+  pub sound : IfNone failure (faults new ≡ faults old)
 
--- the fault of a step's result
-abbrev pub fault_of : {A : Type 0} → Result A StepErr → Option ℕ
+-- for which body a step's result is a failure, if it is for one
+abbrev pub lack_of : StepErr → Option StepErr
+lack_of (step.BodyFault count) = Some (step.BodyFault count)
+lack_of (step.BodyLost file object version) = Some (step.BodyLost file object version)
+lack_of step.OutOfMemory = None
+
+abbrev pub fault_of : {A : Type 0} → Result A StepErr → Option StepErr
 fault_of (Ok done) = None
-fault_of (Err error) = step_fault error
+fault_of (Err error) = lack_of error

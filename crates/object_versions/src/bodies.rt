@@ -4,6 +4,7 @@ ghost use Rattle.xt_messages.specs.declared.record.Record.{Record};
 ghost use Rattle.xt_protocol.specs.Folds.{body_kept};
 ghost use Rattle.xt_protocol.specs.SeenBodies.{body_by};
 ghost use Rattle.object_versions.specs.declared.errors.BodyErr.TheVariants.{NoSuchVersion};
+ghost use Rattle.object_versions.specs.declared.errors.StepErr.TheVariants.{BodyLost};
 ghost use Rattle.object_versions.specs.KeptBodies.{fault_in, fault_of, ReadsOnly};
 
 use crate::errors::{BodyErr, StepErr};
@@ -36,7 +37,18 @@ pub trait Bodies {
         ensures same { records self.new ≡ records self.old };
 }
 
-/// The body as a step sees it: empty where no record put it.
+/// No record put this body.
+fn lost(file: &FileId, object: u64, version: &Stamp) -> StepErr
+    ensures { result ≡ BodyLost file.now object version.now }
+{
+    StepErr::BodyLost {
+        file: *file,
+        object,
+        version: *version,
+    }
+}
+
+/// The body as a step sees it. One that no record put is told as lost, and never as an empty one.
 pub fn seen<B: Bodies>(
     bodies: &mut B,
     alloc: Global,
@@ -44,13 +56,17 @@ pub fn seen<B: Bodies>(
     object: u64,
     version: &Stamp,
 ) -> Result<Octets, StepErr>
+    ensures kept { IfOk result (λ bytes.
+        body_kept (B.records bodies.old) file.now object version.now ≡ Some bytes) }
+    ensures lost { (result ≡ Err (BodyLost file.now object version.now)) ↔
+        (body_kept (B.records bodies.old) file.now object version.now ≡ None) }
     ensures value { IfOk result (λ bytes. bytes ≡
         body_by (B.records bodies.old) file.now object version.now) }
     ensures reads { ReadsOnly B.records B.fault_count bodies.old bodies.new (fault_of result) }
 {
     match bodies.body(alloc, file, object, version) {
         Ok(bytes) => Ok(bytes),
-        Err(BodyErr::NoSuchVersion) => Ok(Octets::new(alloc)),
+        Err(BodyErr::NoSuchVersion) => Err(lost(file, object, version)),
         Err(BodyErr::Failed { count }) => Err(StepErr::BodyFault { count }),
         Err(BodyErr::OutOfMemory) => Err(StepErr::OutOfMemory),
     }

@@ -1,8 +1,10 @@
-ghost use Rattle.std.specs.Prelude.{◌≡◌, ◌≤◌, IsTrue, OnOk, OnErr};
-ghost use Rattle.xt_protocol.specs.Stamps.{has_version, with_held};
+ghost use Rattle.std.specs.Prelude.{◌≡◌, ◌≤◌, IsTrue, IfOk, OnOk, OnErr};
+ghost use Rattle.xt_protocol.specs.Stamps.{has_version, held_from, with_held, without_version};
+ghost use Rattle.xt_protocol.specs.ReplicaRows.{first_missing};
 ghost use Rattle.object_versions.specs.Rising.{held_rise, IsHeldPlace};
 
 use crate::orders::{comes_before, is_version};
+use std::alloc::Global;
 use xt_base::OutOfMemory;
 use xt_messages::{HeldSet, ObjectVersion};
 
@@ -62,6 +64,16 @@ pub fn holds(held: &HeldSet, version: ObjectVersion) -> bool
     held.versions.contains(&version)
 }
 
+/// The first of the versions that isn't held.
+pub fn first_missing(held: &HeldSet, wanted: &[ObjectVersion]) -> Option<ObjectVersion>
+    ensures { result ≡ first_missing held.now wanted.now }
+{
+    wanted
+        .iter()
+        .copied()
+        .find(|version| !holds(held, *version))
+}
+
 /// Holds a version from now on. Where memory runs out, the held ones are as they were.
 pub fn hold(held: &mut HeldSet, version: ObjectVersion) -> Result<(), OutOfMemory>
     ensures held { OnOk result (held.new ≡ with_held held.old version) }
@@ -69,4 +81,22 @@ pub fn hold(held: &mut HeldSet, version: ObjectVersion) -> Result<(), OutOfMemor
 {
     let _is_new = held.versions.insert(version)?;
     Ok(())
+}
+
+/// Holds a version no longer.
+pub fn let_go(held: &mut HeldSet, version: ObjectVersion)
+    ensures { held.new ≡ without_version held.old version }
+{
+    held.versions.retain(|other| !is_version(version, *other));
+}
+
+/// These versions, held one after the other.
+pub fn held_from(alloc: Global, versions: &[ObjectVersion]) -> Result<HeldSet, OutOfMemory>
+    ensures { IfOk result (λ held. held ≡ held_from versions.now) }
+{
+    let mut held = HeldSet::new(alloc);
+    for version in versions {
+        hold(&mut held, *version)?;
+    }
+    Ok(held)
 }

@@ -20,7 +20,7 @@ pub use bodies::{Bodies, seen};
 pub use bytes::{behind, cut_or_filled, overlay, readable};
 pub use errors::{BodyErr, StepErr};
 pub use heads::{sessions_after, take_update, update_head, versions_after};
-pub use held::{has_version, held_rise, hold, holds, is_held};
+pub use held::{first_missing, has_version, held_from, held_rise, hold, holds, is_held, let_go};
 pub use keeping::{NeededVersions, SoughtBodies, SoughtVersions, forget_held, keep_needed};
 pub use orders::{comes_before, is_below, is_earlier, is_epoch, is_stamp, is_version};
 pub use sessions::{put_session, session_of};

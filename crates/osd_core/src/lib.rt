@@ -1,4 +1,4 @@
-//! An OSD of replicated files: its whole step on an event, over any number of files; which of the bodies that it holds it needs, and
+//! An OSD: its whole step on an event, over any number of files; which of the bodies that it holds it needs, and
 //! how it forgets the others.
 //!
 //! Contracts see an OSD as the state of `xt_protocol`, and each call equals its definition there: a start from what the records

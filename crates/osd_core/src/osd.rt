@@ -19,7 +19,7 @@ use xt_base::{Boot, NodeId, Octets, OutOfMemory, Seq, Times};
 use xt_messages::{Event, Folded, Keep, Msg};
 use xt_protocol::{Turned, quiet};
 
-/// An OSD of replicated files. Contracts see its key and its state.
+/// An OSD. Contracts see its key and its state.
 pub struct Osd {
     alloc: Global,
     key: Option<Octets>,

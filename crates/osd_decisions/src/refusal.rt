@@ -1,6 +1,7 @@
 ghost use Rattle.std.specs.Prelude.{◌≡◌, ◌<◌, ◌+◌, ◌^◌, Some, None, length};
 ghost use Rattle.xt_protocol.specs.FileStates.{Site};
 ghost use Rattle.xt_protocol.specs.AskRows as rows;
+ghost use Rattle.xt_protocol.specs.StripedRows as striped;
 ghost use Rattle.xt_protocol.specs.Asks as asks;
 
 use xt_base::NodeId;
@@ -104,4 +105,32 @@ pub fn refusal_of(
         });
     }
     None
+}
+
+/// What an ask on a striped file is told that is refused before any row, by the first test that fails: its capability, where `sealed`
+/// says whether its tag is the key's; its range; its list, where one is stored, since that is done for replicated files alone.
+#[tactic(auto, unfolding(xt_protocol::specs::StripedRows::striped_refusal))]
+pub fn striped_refusal_of(
+    now: u64,
+    sealed: bool,
+    stored: &Option<Location>,
+    capability: &Capability,
+    op: &Op,
+) -> Option<Reply>
+    ensures { (site : Site) → site.now ≡ now → site.sealed capability.now ≡ sealed →
+        result ≡ striped.striped_refusal site stored.now capability.now op.now }
+{
+    let refused = capability_refused(capability, op, now, sealed);
+    if let Some(rule) = refused {
+        return Some(Reply::Denied { rule });
+    }
+    if leaves_object(capability.location.stripe, op) {
+        return Some(Reply::Denied {
+            rule: Denial::Range,
+        });
+    }
+    match stored {
+        Some(_) => Some(Reply::Denied { rule: Denial::List }),
+        None => None,
+    }
 }

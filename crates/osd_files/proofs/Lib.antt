@@ -14,3 +14,4 @@ pub mod Waiting
 pub mod Followed
 pub mod Stepped
 pub mod Needs
+pub mod Members

@@ -3,7 +3,6 @@ use Rattle.std.proofs.Common.{◌≡◌, ◌∙◌, ℕ, Bool, true, false, refl
 use Rattle.std.specs.Prelude.{◌==◌, nat_lt}
 use Rattle.std.specs.Result.{IfOk, OnOk}
 use Rattle.xt_base.specs.declared.ids.FileId.{FileId}
-use Rattle.xt_base.specs.Faults.{Rose}
 use Rattle.xt_messages.specs.declared.record.Record.{Record}
 use Rattle.xt_base.specs.declared.ids.Stamp.{Stamp}
 use Rattle.xt_messages.specs.declared.file.Capability.{Capability}
@@ -16,7 +15,8 @@ use Rattle.xt_messages.specs.declared.message.Payload.{Payload}
 use Rattle.xt_protocol.specs.LeaseRows.{Awake, LeaseState, LeaseNews, on_answer}
 use Rattle.xt_protocol.specs.FileLeases.{answer_comes, end_after_answer, lease_news}
 use Rattle.xt_protocol.specs.Overdue.{no_lease_for_all, lease_lapses}
-use Rattle.object_versions.specs.KeptBodies.{ReadsOnly}
+use Rattle.object_versions.specs.KeptBodies.{IsTold, ReadsOnly}
+use Rattle.object_versions.specs.declared.errors.StepErr.{StepErr}
 use Rattle.osd_files.specs.Views.{FileView, site_at}
 use Rattle.osd_files.specs.Rows.{IsRow, IsRowBy}
 
@@ -106,23 +106,25 @@ joins_next row whole now awake old mid new first rest r same step made =
 pub given_ok : {A E : Type 0} (P : A → Type 0) (r : Result A E) (a : A) → r ≡ Ok a → IfOk r P → P a
 given_ok {A = A} {E = E} P r a is of = subst (λ (x : Result A E). IfOk x P) is of
 
-if_none : (o : Option ℕ) (a b c : ℕ) → IfNone o (a ≡ b) → b ≡ c → IfNone o (a ≡ c)
+if_none : (o : Option StepErr) (a b c : ℕ) → IfNone o (a ≡ b) → b ≡ c → IfNone o (a ≡ c)
 if_none None a b c first next = first ∙ next
 if_none (Some n) a b c first next = first
 
 -- a step reads as the part of it that fails
-pub reads_as : {B : Type 0} (records : B → List Record) (faults : B → ℕ) (old new : B) (part whole : Option ℕ) → whole ≡ part
+pub reads_as : {B : Type 0} (records : B → List Record) (faults : B → ℕ) (old new : B) (part whole : Option StepErr) → whole ≡ part
     → ReadsOnly records faults old new part → ReadsOnly records faults old new whole
-reads_as records faults old new part whole same reads = subst (λ (f : Option ℕ). ReadsOnly records faults old new f) (sym same) reads
+reads_as records faults old new part whole same reads = subst (λ (f : Option StepErr). ReadsOnly records faults old new f) (sym same) reads
 
 -- the same behind a part that has not failed
-pub reads_behind : {B : Type 0} (records : B → List Record) (faults : B → ℕ) (old mid new : B) (part whole : Option ℕ) → whole ≡ part
+pub reads_behind : {B : Type 0} (records : B → List Record) (faults : B → ℕ) (old mid new : B) (part whole : Option StepErr) → whole ≡ part
     → ReadsOnly records faults old mid None → ReadsOnly records faults mid new part → ReadsOnly records faults old new whole
 reads_behind records faults old mid new part whole same first next =
     reads_as records faults old new part whole same
     (record {
       same = next.same ∙ first.same;
-      failed = subst (λ (n : ℕ). IfSome part (λ count. (count ≡ faults new) × Rose n (faults new))) first.sound next.failed;
+      failed =
+          subst (λ (n : ℕ). IfSome part (IsTold (records old) n (faults new))) first.sound
+          (subst (λ (rs : List Record). IfSome part (IsTold rs (faults mid) (faults new))) first.same next.failed);
       sound = if_none part (faults new) (faults mid) (faults old) next.sound first.sound;
     })
 

@@ -36,7 +36,7 @@ fn answered(
 }
 
 /// A row of the replica: its record, and its answer to whoever asked.
-fn replica_acts(
+pub fn replica_acts(
     alloc: Global,
     node: NodeId,
     from: NodeId,

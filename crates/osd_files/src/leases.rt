@@ -165,7 +165,7 @@ fn writes_to(
     Ok(sends(alloc, outs))
 }
 
-/// Takes what the primary recorded, if it did, in its own replica.
+/// Takes what was recorded, if anything was, in the own replica.
 fn note(replica: &mut Replica, rec: &OptionalBox<Record>) -> Result<(), OutOfMemory>
     requires { IfSome rec.now (IsNotable replica.old) }
     ensures ok { OnOk result ((location : Option Location) →
@@ -179,7 +179,7 @@ fn note(replica: &mut Replica, rec: &OptionalBox<Record>) -> Result<(), OutOfMem
     }
 }
 
-/// What the primary gave, once its own replica has taken what it recorded, and the staged bodies follow it.
+/// What the primary or a member of a striped file gave, once the own replica has taken what it recorded, and the staged bodies follow it.
 pub fn noted(
     replica: &mut Replica,
     staged: &mut HeldSet,

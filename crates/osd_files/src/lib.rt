@@ -20,6 +20,7 @@ mod serving;
 mod staging;
 mod starting;
 mod steps;
+mod striped;
 mod waking;
 
 pub use file::OsdFile;

@@ -1,5 +1,5 @@
 ghost use Rattle.std.specs.Prelude.{◌≡◌, ◌<◌, ◌^◌, Bool, IfOk};
-ghost use Rattle.xt_messages.specs.Limits.{FitsOp, FitsPayload, FitsStripe};
+ghost use Rattle.xt_messages.specs.Limits.{FitsCapability, FitsOp, FitsOpId, FitsPayload};
 ghost use Rattle.xt_messages.specs.declared.file.Capability.{Capability};
 ghost use Rattle.xt_protocol.specs.SeenBodies.{body_by};
 ghost use Rattle.flease.specs.Moves.{IsSettled};
@@ -13,15 +13,16 @@ use crate::asks::ask_handled;
 use crate::hearing::{fetch_comes, replica_comes};
 use crate::joining::join_rest;
 use crate::leading::primary_hears;
-use crate::leases::lease_comes;
+use crate::leases::{lease_comes, stay_in_range};
 use crate::overdue::expire;
 use crate::parts::Parts;
+use crate::striped::striped_handled;
 use object_versions::{Bodies, StepErr};
 use xt_base::{NodeId, OpId};
 use xt_messages::{Capability, Kind, Op, Payload};
-use xt_protocol::{Turned, quiet};
+use xt_protocol::Turned;
 
-/// An ask by the kind of its file; those of striped files do nothing yet.
+/// An ask by the kind of its file.
 fn ask_comes<B: Bodies>(
     file: &mut Parts,
     bodies: &mut B,
@@ -33,7 +34,8 @@ fn ask_comes<B: Bodies>(
 ) -> Result<Turned, StepErr>
     requires clock { now < 2 ^ 62 }
     requires settled { IsSettled file.old.lease now }
-    requires stripe { FitsStripe capability.now.location.stripe }
+    requires who { FitsOpId id }
+    requires seal { FitsCapability capability.now }
     requires fits { FitsOp op.now }
     ensures row { IfOk result (λ turned. (test : Capability → Bool) → test capability.now ≡ sealed →
         IsStep (λ site s.
@@ -44,7 +46,7 @@ fn ask_comes<B: Bodies>(
 {
     match capability.location.kind {
         Kind::Replicated => ask_handled(file, bodies, now, sealed, id, capability, op),
-        Kind::Striped => Ok(quiet(file.alloc)),
+        Kind::Striped => striped_handled(file, bodies, now, sealed, id, capability, op),
     }
 }
 
@@ -72,6 +74,7 @@ fn message_comes<B: Bodies>(
             capability,
             op,
         } => {
+            stay_in_range(from);
             let id = OpId {
                 client: from,
                 number: *number,

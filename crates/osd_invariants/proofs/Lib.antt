@@ -5,3 +5,4 @@ pub mod SoundSteps
 pub mod Promised
 pub mod OpenAsks
 pub mod AtOnce
+pub mod StripedAsks

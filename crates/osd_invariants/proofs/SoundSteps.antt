@@ -49,10 +49,12 @@ use Rattle.xt_protocol.specs.Asks.{Served, asks_follow, serves, waits, asked_alr
 use Rattle.xt_protocol.specs.FileStates.{FileState, Site, FileStep, steps_to, serves_to, ground_of, members_of, file_from}
 use Rattle.xt_protocol.specs.Overdue.{expired, lease_became, deadlines_under, issued_due, is_due, no_lease_for_all}
 use Rattle.xt_protocol.specs.AskRows.{ask_handled, ask_let_in, ask_rows, ask_under, ask_without_lease, ask_waits, ask_served, round_for, refusal_of, elsewhere, view_record, waiting_ask}
+use Rattle.xt_protocol.specs.StripedRows.{striped_handled}
 use Rattle.xt_protocol.specs.FileLeases.{read_comes, write_comes, answer_comes, end_after_answer, lease_news, led_on, waiting_told}
 use Rattle.xt_protocol.specs.FileSteps.{step_of_file, message_comes, ask_comes, primary_hears, replica_acts, renews, wakes_under_lease, wake_of_file}
 use Rattle.osd_invariants.specs.Sound.{IsHeld, LedUnder, AreOne, WaitsUnder, IsStored, ListUnder, PeersAre, IsSound}
 use Rattle.osd_invariants.proofs.Kept.{served_none, wake_keeps}
+use Rattle.osd_invariants.proofs.StripedAsks.{striped_outcome}
 use Rattle.osd_invariants.proofs.Leads.{KeepsList, drawn_leads, epoch_leads}
 use Rattle.osd_invariants.proofs.Served.{Fits, Followed, inactive, back_fits, follow_fits, serves_fits, false_true}
 
@@ -310,10 +312,18 @@ let_in_so site s id capability asked None q =
     rows_so site (steps_to (record s { used = site.now }) (keeps (view_record s capability.location s.kept.location))).state
     (waiting_ask site id capability.epoch asked) v.stored v.sound
 
+-- an ask on a striped file leaves the stored list
+striped_keeps : (site : Site) (row : FileRow) (id : OpId) (capability : Capability) (asked : Op) → KeepsList (striped_handled site row id capability asked).rec
+striped_keeps site row id capability asked =
+    striped_outcome (λ (acted : Acted). KeepsList acted.rec) site row id capability asked
+    (record { nothing = λ r. refl; tells = λ answer r. refl; keeps = λ update is r. refl })
+
 kind_so : (site : Site) (s : FileState) (k : Kind) (id : OpId) (capability : Capability) (asked : Op) → IsSound s → IsSound (ask_comes site s k id capability asked).state
 unfolding ask_handled
 kind_so site s kind.Replicated id capability asked q = let_in_so site s id capability asked (refusal_of site s.kept.location capability asked) q
-kind_so site s kind.Striped id capability asked q = q
+kind_so site s kind.Striped id capability asked q =
+    let acted = striped_handled site s.kept id capability asked in
+    kept_so s (record { rec = acted.rec; outs = if_any site.node id.client acted.answer; marks = [] }) (striped_keeps site s.kept id capability asked) q
 
 -- ---- the lease
 

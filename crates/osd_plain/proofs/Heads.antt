@@ -1,5 +1,5 @@
 -- the head after an update still rises, and it is the one that the record makes, whatever else is kept of the file
-use Rattle.std.proofs.Common.{◌≡◌, ◌==◌, true, List, refl, ap}
+use Rattle.std.proofs.Common.{◌≡◌, ◌==◌, true, List, refl, ap, sym, subst, Result, Ok, Err, OnOk, OnErr}
 use Rattle.std.specs.Prelude.{Option, Some, None}
 use Rattle.xt_messages.specs.declared.file.ObjectVersion.{ObjectVersion}
 use Rattle.xt_messages.specs.declared.file.FileHead.{FileHead}
@@ -13,7 +13,7 @@ use Rattle.xt_protocol.specs.Heads.{head_after, versions_below}
 use Rattle.xt_protocol.specs.ReplicaRows.{kept_after}
 use Rattle.object_versions.specs.Rising.{HeadRises}
 use Rattle.object_versions.proofs.HeadLimits.{when, objects_of, below_still_rise, versions_still_rise, sessions_still_rise}
-use Rattle.osd_plain.specs.Rows.{PlainFile, plain_after}
+use Rattle.xt_protocol.specs.PlainRows.{PlainFile, plain_after}
 
 pub still_rises : (head : FileHead) (update : Update) → HeadRises head → HeadRises (head_after head update)
 still_rises head update up =
@@ -37,3 +37,8 @@ is_of_record p row (Some (kept.Head file head)) same = refl
 is_of_record p row (Some (kept.View file location)) same = same
 is_of_record p row (Some (kept.Boot boot)) same = same
 is_of_record p row (Some (kept.Meta from number now nodes request)) same = same
+
+-- whether the update was taken or memory ran out
+pub rises_after : {A E : Type 0} (r : Result A E) (old new : FileHead) (update : Update) → HeadRises old → OnOk r (new ≡ head_after old update) → OnErr r (new ≡ old) → HeadRises new
+rises_after (Ok done) old new update up ok same = subst HeadRises (sym ok) (still_rises old update up)
+rises_after (Err error) old new update up ok same = subst HeadRises (sym same) up

@@ -5,7 +5,7 @@ ghost use Rattle.xt_protocol.specs.Heads.{head_after};
 ghost use Rattle.xt_protocol.specs.ReplicaRows.{head_fits};
 ghost use Rattle.object_versions.specs.KeptBodies.{fault_of, ReadsOnly};
 ghost use Rattle.object_versions.specs.Rising.{HeadRises};
-ghost use Rattle.osd_plain.specs.Rows as rows;
+ghost use Rattle.xt_protocol.specs.PlainRows as rows;
 
 use crate::PlainActed;
 use object_versions::{

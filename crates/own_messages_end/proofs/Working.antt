@@ -1,5 +1,5 @@
 -- an OSD that works on its messages to itself: what holds of it, and that it comes to an end
-use Rattle.std.proofs.Common.{◌≡◌, ℕ, ◌≤◌, ◌<◌, ◌^◌, ◌+◌, ◌*◌, inl, inr, Bool, true, false, List, [], ◌∷◌, ◌++◌, map, length, max, refl, sym, ap, subst, ◌∙◌, arith, Option, Some, None}
+use Rattle.std.proofs.Common.{◌≡◌, ℕ, ◌≤◌, ◌<◌, ◌^◌, ◌+◌, ◌*◌, ◌⊎◌, inl, inr, Bool, true, false, List, [], ◌∷◌, ◌++◌, map, length, max, refl, sym, ap, subst, ◌∙◌, arith, Option, Some, None}
 use Rattle.std.specs.Prelude.{cond, ◌==◌, suc, fold}
 use Rattle.std.specs.Option.{IfSome}
 use Rattle.std.specs.List.{AllByRecursion}
@@ -59,7 +59,7 @@ use Rattle.own_messages_wait.proofs.Files.{FileStands}
 use Rattle.own_messages_wait.proofs.Sizes.{IsSmall, ContentSmall, StateSmall, PeersSmall, ProgressSmall, TenureSmall, small_of}
 use Rattle.own_messages_wait.proofs.FileSizes.{FileSmall}
 use Rattle.own_messages_wait.proofs.Osds.{FileHolds, AskHolds, OwnFits, stands_more}
-use Rattle.own_messages_wait.proofs.OsdEvents.{OsdAfter, Arrives, event_after, woken_files, woke_file}
+use Rattle.own_messages_wait.proofs.OsdEvents.{IsOwn, OsdAfter, Arrives, event_after, woken_files, woke_file}
 use Rattle.own_messages_wait.proofs.Chains.{Chain}
 use Rattle.own_messages_wait.proofs.ChainSteps.{handled_falls}
 use Rattle.own_messages_wait.proofs.Starts.{event_starts, room_of, count_busy, found_here, loosen}
@@ -174,24 +174,30 @@ rise_step outside s reading happens hold stand rises = at (is_silent s.started (
 
 -- ---- a step
 
-module _ (sealed : Capability → Bool) (w : Working) (h : Holds w) (reading : ℕ) (happens : Event) (clock : reading < 2 ^ 62) (fits : FitsEvent happens) (may : MayCome w h happens) where
+module _ (sealed : Capability → Bool) (w : Working) (h : Holds w) (reading : ℕ) (happens : Event) (clock : reading < 2 ^ 62) (fits : FitsEvent happens) (may : MayCome w h happens)
+    (calm : (w.own ≡ []) ⊎ IsOwn w.osd happens) where
   abbrev its : OsdStep
   its = step_of_osd (outside_by sealed w.kept) w.osd reading happens
 
   stepped : StepsOn w.kept (step_of_osd (outside_by sealed w.kept) w.osd reading happens)
   stepped = keeping.steps sealed w.kept w.osd reading happens h.kept h.runs clock fits
 
-  after : OsdAfter w.osd (step_of_osd (outside_by sealed w.kept) w.osd reading happens)
+  after : OsdAfter w.osd happens (step_of_osd (outside_by sealed w.kept) w.osd reading happens)
   unfolding step_of_osd
   after = event_after (outside_by sealed w.kept) w.osd (max reading w.osd.last) (all_hold w h) (all_stand w h) h.rises happens (is_silent w.osd.started (max reading w.osd.last)) (arrives w h happens fits may)
 
-  moved : (content : Payload) → OwnFits (awake_as w.osd.started) w.osd.files content → OwnFits (awake_as w.osd.started) (step_of_osd (outside_by sealed w.kept) w.osd reading happens).osd.files content
-  moved content own =
+  moved : (content : Payload) → IsOwn w.osd happens → OwnFits (awake_as w.osd.started) w.osd.files content → OwnFits (awake_as w.osd.started) (step_of_osd (outside_by sealed w.kept) w.osd reading happens).osd.files content
+  moved content mine own =
       record {
         no_ask = own.no_ask;
         stands = λ file concerns primary. stands_more (file_at (awake_as w.osd.started) w.osd.files file).kept (file_at (awake_as w.osd.started) (step_of_osd (outside_by sealed w.kept) w.osd reading happens).osd.files file).kept content
-            (after.moves file) (own.stands file concerns primary);
+            (after.moves mine file) (own.stands file concerns primary);
       }
+
+  -- where a message to itself was left, it is one that comes
+  own_comes : (m : Msg) → Has m w.own → (w.own ≡ []) ⊎ IsOwn w.osd happens → IsOwn w.osd happens
+  own_comes m old (inl none) = absurd (subst (Has m) none old)
+  own_comes m old (inr mine) = mine
 
   pub step_holds : Holds (handles sealed w reading happens)
   step_holds =
@@ -204,7 +210,7 @@ module _ (sealed : Capability → Bool) (w : Working) (h : Holds w) (reading : �
           | inl old ↦ (let x = h.own m old in (
             x.0 ∙ sym (ap (λ (t : Silent). t.node) after.started),
             x.1,
-            subst (λ (t : Silent). OwnFits (awake_as t) its.osd.files m.payload) (sym after.started) (moved m.payload x.2),
+            subst (λ (t : Silent). OwnFits (awake_as t) its.osd.files m.payload) (sym after.started) (moved m.payload (own_comes m old calm) x.2),
           ))
           | inr new ↦ (
               let out = (has_filter (λ (k : Msg). k.to.0 == w.osd.started.node.0) m its.turned.outs new).0 in (
@@ -303,7 +309,7 @@ module _ (sealed : Capability → Bool) (reading : ℕ) where
         let mine = h.own m (subst (Has m) (sym own) (inl refl)) in
         step_holds sealed (record w { own = rest })
         (record { kept = h.kept; runs = h.runs; rises = h.rises; stands = h.stands; own = λ x has. h.own x (subst (Has x) (sym own) (inr has)) })
-        reading (event.Deliver m) clock mine.1 (λ same. mine.2)
+        reading (event.Deliver m) clock mine.1 (λ same. mine.2) (inr (ap (λ (n : NodeId). n.0) mine.0))
 
     ends : (moves : List Move) (w : Working) (k : ℕ) → Holds w → InChain reading w k → k ≤ handled moves → (goes_on sealed reading moves w).own ≡ []
     unfolding goes_on handled
@@ -372,7 +378,7 @@ holds_all : (sealed : Capability → Bool) (w : Working) → Reaches sealed w �
 holds_all sealed _ (starts records silent fits who number times bound) = start_holds records silent fits who number times bound
 holds_all sealed _ (meets w reading happens before none clock fits outside) =
     let h = holds_all sealed w before in
-    step_holds sealed w h reading happens clock fits (may_outside w h happens outside)
+    step_holds sealed w h reading happens clock fits (may_outside w h happens outside) (inl none)
 holds_all sealed _ (tells_itself w reading m rest before own clock) = own_step sealed reading clock w m rest (holds_all sealed w before) own
 holds_all sealed _ (forgets w before) = forgotten_holds w (holds_all sealed w before)
 
@@ -405,7 +411,7 @@ all_end sealed w reading happens reaches none clock fits outside moves low = at 
     then = handles sealed w reading happens
 
     holds_then : Holds (handles sealed w reading happens)
-    holds_then = step_holds sealed w h reading happens clock fits may
+    holds_then = step_holds sealed w h reading happens clock fits may (inl none)
 
     at : (b : Bool) → is_silent w.osd.started (max reading w.osd.last) ≡ b → (goes_on sealed reading moves (handles sealed w reading happens)).own ≡ []
     at true silent =

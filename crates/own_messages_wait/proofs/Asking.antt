@@ -29,9 +29,19 @@ use Rattle.xt_protocol.specs.Serving.{writes}
 use Rattle.xt_protocol.specs.Asks.{Served, WAITING, asked_already, is_read, serves, waits, write_done}
 use Rattle.xt_protocol.specs.FileStates.{FileState, Site, FileStep, nothing, steps_to, and_then, members_of, ground_of}
 use Rattle.xt_protocol.specs.AskRows.{turned_off, refusal_of, waiting_ask, ask_waits, ask_served, reads_of, round_for, elsewhere, ask_without_lease, ask_under, ask_rows, view_record, ask_let_in, ask_handled}
-use Rattle.xt_protocol.specs.FileSteps.{ask_comes}
+use Rattle.xt_protocol.specs.FileSteps.{replica_acts, ask_comes}
+use Rattle.xt_protocol.specs.Heads.{first_epoch, head_after}
+use Rattle.xt_protocol.specs.ReplicaRows.{unanswered}
+use Rattle.xt_protocol.specs.Stamps.{is_earlier}
+use Rattle.xt_protocol.specs.StripedRows.{striped_handled}
+use Rattle.xt_protocol.specs.declared.states.Acted.{Acted}
+use Rattle.xt_base.specs.declared.ids.Epoch.{Epoch}
+use Rattle.xt_base.specs.declared.ids.Stamp.{Stamp}
+use Rattle.xt_messages.specs.declared.reply.Reply.TheVariants as reply
 use Rattle.xt_protocol.specs.OsdSteps.{file_concerned}
-use Rattle.osd_invariants.specs.Sound.{AreOne, IsHeld, IsSound}
+use Rattle.osd_invariants.specs.Sound.{AreOne, IsHeld, LedUnder, ListUnder, IsSound}
+use Rattle.osd_invariants.proofs.StripedAsks.{tells_client, striped_outcome}
+use Rattle.lease_runs.proofs.StripedUpdates.{next_stamp}
 use Rattle.cluster_runs.specs.NodeSteps.{to_itself}
 use Rattle.xt_messages.specs.declared.file.FileHead.{FileHead}
 use Rattle.xt_messages.specs.declared.record.FileRow.{FileRow}
@@ -126,7 +136,7 @@ module _ (site : Site) (from : NodeId) (other : (from.0 == site.node.0) ≡ fals
     asks_only step kept primary same few outs =
         record {
           head = subst (λ (r : FileRow). HeadStands r.head) (sym kept) stands.head;
-          moves = moves_none s.kept.head step.state.kept.head (ap (λ (r : FileRow). r.head) kept);
+          moves = λ mine. moves_none s.kept.head step.state.kept.head (ap (λ (r : FileRow). r.head) kept);
           tenure = subst (λ (r : FileRow). IfTenure site.node r.head step.state.primary.tenure) (sym kept) (subst (λ (p : PrimaryState). IfTenure site.node s.kept.head p.tenure) (sym primary) stands.tenure);
           seats = subst (λ (l : LeaseState). IfSeated (running_round l)) (sym same) stands.seats;
           few = few;
@@ -169,7 +179,7 @@ module _ (site : Site) (from : NodeId) (other : (from.0 == site.node.0) ≡ fals
         starts =
             record {
               head = stands.head;
-              moves = moves_none s.kept.head s.kept.head refl;
+              moves = λ mine. moves_none s.kept.head s.kept.head refl;
               tenure = stands.tenure;
               seats = ap are_distinct (fresh_seats (members_of s.kept.location)) ∙ apart;
               few = waits_few s.asks ask stands.few;
@@ -235,7 +245,7 @@ module _ (site : Site) (from : NodeId) (other : (from.0 == site.node.0) ≡ fals
             gives more q few =
                 record {
                   head = subst (λ (x : Option Record). HeadStands (kept_after s.kept x).head) (sym q.rec) stands.head;
-                  moves = moves_none s.kept.head (ask_served site s ask).state.kept.head (ap (λ (x : Option Record). (kept_after s.kept x).head) q.rec);
+                  moves = λ mine. moves_none s.kept.head (ask_served site s ask).state.kept.head (ap (λ (x : Option Record). (kept_after s.kept x).head) q.rec);
                   tenure = subst (λ (x : Option Record). IfTenure site.node (kept_after s.kept x).head (ask_served site s ask).state.primary.tenure) (sym q.rec) (subst (IfTenure site.node s.kept.head) (sym q.is) q.stands);
                   seats = stands.seats;
                   few = few;
@@ -342,8 +352,54 @@ module _ (site : Site) (from : NodeId) (other : (from.0 == site.node.0) ≡ fals
               same : (a b : ℕ) → a ≡ b → (a == b) ≡ true
               same a b is = grind (arith, nat_tests)
 
-  pub ask_given : (s : FileState) (k : Kind) (id : OpId) (capability : Capability) (asked : Op) → FileStands site.node s → AsksAgree s → are_distinct (members_of s.kept.location) ≡ true → are_distinct capability.location.members ≡ true
+  -- an ask on a striped file: an update is kept only where there is no list, and so no primary
+  striped_asked : (s : FileState) (id : OpId) (capability : Capability) (asked : Op) → FileStands site.node s → IsSound s → are_distinct (members_of s.kept.location) ≡ true → IsApart site.node id
+      → Asked s (replica_acts site s id.client (striped_handled site s.kept id capability asked))
+  striped_asked s id capability asked stands sound apart client =
+      striped_outcome (λ (acted : Acted). Asked s (replica_acts site s id.client acted)) site s.kept id capability asked
+      (record {
+        nothing = asks_only s stands (agree_of s sound) apart (replica_acts site s id.client unanswered) refl refl refl stands.few refl;
+        tells = λ answer.
+            asks_only s stands (agree_of s sound) apart (replica_acts site s id.client (tells_client s.kept id answer)) refl refl refl stands.few
+            (reply_mine site.node id (payload.Reply id.number s.kept.file answer) client);
+        keeps = λ update keeps. record {
+          head = ap (λ (x : Stamp). is_earlier s.kept.head.promised x.epoch) (next_stamp site s.kept id capability asked update keeps) ∙ not_before_first s.kept.head.promised;
+          moves = λ mine. absurd (never mine);
+          tenure = subst (IfTenure site.node (head_after s.kept.head update))
+              (sym (untenured s.lease s.primary.tenure (subst (ListUnder s.lease) keeps.goes.unlisted sound.list) sound.led)) tt;
+          seats = stands.seats;
+          few = stands.few;
+          told = None;
+          sent = None;
+          outs = reply_mine site.node id (payload.Reply id.number s.kept.file (reply.Ok update.stamp.count update.mark [])) client;
+          told_is = tt;
+          about_sent = tt;
+          about_told = tt;
+          stands = tt;
+          led = λ led. tt;
+          idle = λ o free_now. (refl, refl);
+        };
+      })
+    where
+      never : from.0 ≡ site.node.0 → ⊥
+      never mine = false_true (sym other ∙ same from.0 site.node.0 mine)
+        where
+          same : (a b : ℕ) → a ≡ b → (a == b) ≡ true
+          same a b is = grind (arith, nat_tests)
+
+      not_before_first : (epoch : Epoch) → is_earlier epoch first_epoch ≡ false
+      not_before_first epoch = grind (arith, nat_tests)
+
+      -- without a list there is no lease, and no tenure
+      untenured : (l : LeaseState) (o : Option Tenure) → ListUnder l None → LedUnder l o → o ≡ None
+      untenured l None listed led = refl
+      untenured (free p) (Some t) listed led = absurd led
+      untenured (asking r) (Some t) listed led = absurd led
+      untenured (writing r) (Some t) listed led = absurd led
+      untenured (held h) (Some t) listed led = absurd listed
+
+  pub ask_given : (s : FileState) (k : Kind) (id : OpId) (capability : Capability) (asked : Op) → FileStands site.node s → IsSound s → are_distinct (members_of s.kept.location) ≡ true → are_distinct capability.location.members ≡ true
       → IsApart site.node id → Asked s (ask_comes site s k id capability asked)
   unfolding ask_handled
-  ask_given s kind.Replicated id capability asked stands sound apart listed client = let_in_asked s id capability asked (refusal_of site s.kept.location capability asked) stands sound apart listed client
-  ask_given s kind.Striped id capability asked stands sound apart listed client = asks_only s stands sound apart (nothing s) refl refl refl stands.few refl
+  ask_given s kind.Replicated id capability asked stands sound apart listed client = let_in_asked s id capability asked (refusal_of site s.kept.location capability asked) stands (agree_of s sound) apart listed client
+  ask_given s kind.Striped id capability asked stands sound apart listed client = striped_asked s id capability asked stands sound apart client

@@ -16,7 +16,7 @@ use Rattle.lease_safety.specs.State.{Has}
 use Rattle.xt_protocol.specs.declared.states.IssuedUpdate.{IssuedUpdate}
 use Rattle.xt_protocol.specs.declared.states.PeerState.{PeerState}
 use Rattle.xt_protocol.specs.declared.states.PeerState.TheVariants as peer
-use Rattle.xt_protocol.specs.Primaries.{fed, fed_next, with_known, last_sent}
+use Rattle.xt_protocol.specs.Primaries.{fed, fed_next, last_sent}
 use Rattle.xt_messages.specs.declared.record.FileRow.{FileRow}
 use Rattle.xt_protocol.specs.Stamps.{is_earlier}
 use Rattle.xt_protocol.specs.OsdSteps.{file_concerned}
@@ -101,31 +101,11 @@ or_right : (a b : Bool) → b ≡ true → (a || b) ≡ true
 or_right true b is = refl
 or_right false b is = is
 
-pushed : (xs : List ObjectVersion) (v w : ObjectVersion) → has_version (xs ++ v ∷ []) w ≡ (has_version xs w || is_version w v)
-pushed [] v w = at (is_version w v)
-  where
-    at : (b : Bool) → (b || false) ≡ b
-    at true = refl
-    at false = refl
-pushed (x ∷ xs) v w = at (is_version w x) (pushed xs v w)
-  where
-    at : (b : Bool) → has_version (xs ++ v ∷ []) w ≡ (has_version xs w || is_version w v) → (b || has_version (xs ++ v ∷ []) w) ≡ ((b || has_version xs w) || is_version w v)
-    at true is = refl
-    at false is = is
+pub known_now : (known : List ObjectVersion) (v : ObjectVersion) → has_version (with_held known v) v ≡ true
+known_now known v = has_version-with_held known v v ∙ or_left (is_version v v) (has_version known v) (version-itself v)
 
-pub known_now : (known : List ObjectVersion) (v : ObjectVersion) → has_version (with_known known v) v ≡ true
-known_now known v = at (has_version known v) refl
-  where
-    at : (b : Bool) → has_version known v ≡ b → has_version (cond b known (known ++ v ∷ [])) v ≡ true
-    at true is = is
-    at false is = pushed known v v ∙ or_right (has_version known v) (is_version v v) (version-itself v)
-
-pub known_still : (known : List ObjectVersion) (v w : ObjectVersion) → has_version known w ≡ true → has_version (with_known known v) w ≡ true
-known_still known v w is = at (has_version known v)
-  where
-    at : (b : Bool) → has_version (cond b known (known ++ v ∷ [])) w ≡ true
-    at true = is
-    at false = pushed known v w ∙ or_left (has_version known w) (is_version w v) is
+pub known_still : (known : List ObjectVersion) (v w : ObjectVersion) → has_version known w ≡ true → has_version (with_held known v) w ≡ true
+known_still known v w is = has_version-with_held known v w ∙ or_right (is_version w v) (has_version known w) is
 
 pub other_kept : (known : List ObjectVersion) (v w : ObjectVersion) → is_version v w ≡ false → has_version known w ≡ true → has_version (without_version known v) w ≡ true
 other_kept [] v w differ is = absurd (false_true is)
@@ -165,10 +145,10 @@ held_lacks held known v x is =
     no_fewer (has_version held x) (has_version known x) (has_version (with_held held v) x) (has_version known x)
     (λ here there. both (has_version (with_held held v) x) (has_version known x) (has_version-with_held held v x ∙ or_right (is_version x v) (has_version held x) here) there) is
 
-known_lacks : (held known : List ObjectVersion) (v : ObjectVersion) → LacksLess held known held (with_known known v)
+known_lacks : (held known : List ObjectVersion) (v : ObjectVersion) → LacksLess held known held (with_held known v)
 known_lacks held known v x is =
-    no_fewer (has_version held x) (has_version known x) (has_version held x) (has_version (with_known known v) x)
-    (λ here there. both (has_version held x) (has_version (with_known known v) x) here (known_still known v x there)) is
+    no_fewer (has_version held x) (has_version known x) (has_version held x) (has_version (with_held known v) x)
+    (λ here there. both (has_version held x) (has_version (with_held known v) x) here (known_still known v x there)) is
 
 missed_lacks : (held known : List ObjectVersion) (v : ObjectVersion) → has_version held v ≡ false → LacksLess held known held (without_version known v)
 missed_lacks held known v none x is =
@@ -193,26 +173,26 @@ lacks_less held known held' known' target within =
 
 -- a staged body is known, and is lacked isnt more
 pub staged_less : (held known : List ObjectVersion) (v : ObjectVersion) (target : FileHead) → (has_version target.versions v ≡ true → has_version held v ≡ true)
-    → bodies_to held (with_known known v) target + 4 ≤ bodies_to held known target + unless (has_version target.versions v && not (has_version known v))
+    → bodies_to held (with_held known v) target + 4 ≤ bodies_to held known target + unless (has_version target.versions v && not (has_version known v))
 staged_less held known v target here = at (has_version target.versions v && not (has_version known v)) refl
   where
     not_true : (b : Bool) → not b ≡ true → b ≡ false
     not_true true is = absurd (false_true is)
     not_true false is = refl
 
-    at : (b : Bool) → (has_version target.versions v && not (has_version known v)) ≡ b → bodies_to held (with_known known v) target + 4 ≤ bodies_to held known target + unless b
+    at : (b : Bool) → (has_version target.versions v && not (has_version known v)) ≡ b → bodies_to held (with_held known v) target + 4 ≤ bodies_to held known target + unless b
     at true is =
         let parts = and_parts (has_version target.versions v) (not (has_version known v)) is in
         let new = not_true (has_version known v) parts.1 in
         let lacked : is_lacked held known v ≡ true = ap (λ (b : Bool). not (has_version held v && b)) new ∙ off (has_version held v) in
-        let gone : is_lacked held (with_known known v) v ≡ false = ap not (both (has_version held v) (has_version (with_known known v) v) (here parts.0) (known_now known v)) in
-        let less = one_fewer (is_lacked held known) (is_lacked held (with_known known v)) (known_lacks held known v) target.versions v (among target.versions v parts.0) lacked gone in
+        let gone : is_lacked held (with_held known v) v ≡ false = ap not (both (has_version held v) (has_version (with_held known v) v) (here parts.0) (known_now known v)) in
+        let less = one_fewer (is_lacked held known) (is_lacked held (with_held known v)) (known_lacks held known v) target.versions v (among target.versions v parts.0) lacked gone in
         omega (arith, less)
       where
         off : (b : Bool) → not (b && false) ≡ true
         off true = refl
         off false = refl
-    at false is = let less = lacks_less held known held (with_known known v) target (known_lacks held known v) in omega (arith, less)
+    at false is = let less = lacks_less held known held (with_held known v) target (known_lacks held known v) in omega (arith, less)
 
 pub missed_less : (held known : List ObjectVersion) (v : ObjectVersion) (target : FileHead) → has_version held v ≡ false
     → bodies_to held (without_version known v) target ≤ bodies_to held known target

@@ -55,8 +55,10 @@ use Rattle.xt_protocol.specs.FileStates.{FileState, Site, FileStep, steps_to, an
 use Rattle.xt_protocol.specs.Overdue.{is_due, newly_due, deadlines_under, lease_became, expired}
 use Rattle.xt_protocol.specs.FileLeases.{read_comes, write_comes, answer_comes, answer_to_read, answers_to_write, end_after_answer, lease_news, led_on, waiting_told}
 use Rattle.xt_protocol.specs.AskRows.{ask_handled, ask_let_in, ask_rows, ask_under, ask_without_lease, elsewhere, refusal_of, view_record, waiting_ask}
+use Rattle.xt_protocol.specs.StripedRows.{striped_handled}
 use Rattle.xt_protocol.specs.FileSteps.{replica_acts, ask_comes, primary_hears, message_comes, renews, step_of_file, wakes_under_lease, wake_of_file}
 use Rattle.osd_invariants.proofs.Kept.{wake_keeps}
+use Rattle.osd_invariants.proofs.StripedAsks.{striped_outcome}
 use Rattle.own_messages_wait.proofs.Sizes.{IsSmall, ContentSmall, AreSmall, StateSmall, TenureSmall, KeepsSmall, LedSmall, both_small, each_small, peers_outs, drawn_small, hears_small}
 
 pub record FileSmall (s : FileState) : Type 0 where
@@ -288,6 +290,15 @@ module _ (site : Site) where
       at None = record { head = new; answer = λ from to. ((refl, tt), tt) }
       at (Some v) = record { head = small; answer = λ from to. ((refl, tt), tt) }
 
+  below : (a b : ℕ) → nat_le a b ≡ true → a ≤ b
+  below a b is = grind (arith, nat_tests)
+
+  within : (head : FileHead) → head_fits head ≡ true → IsSmall head
+  within head fits =
+      let parts = and_parts (nat_le (length head.versions) OBJECTS && nat_le (length head.sessions) CLIENTS) (nat_lt head.stamp.count COUNTS) fits in
+      let lists = and_parts (nat_le (length head.versions) OBJECTS) (nat_le (length head.sessions) CLIENTS) parts.0 in
+      below (length head.versions) OBJECTS lists.0
+
   updated_small : (row : FileRow) (update : Update) → IsSmall row.head → ActedSmall row (updated row.file row.head update)
   unfolding updated
   updated_small row update small =
@@ -296,15 +307,16 @@ module _ (site : Site) where
       (λ e. either_acted (nat_le update.stamp.count row.head.stamp.count) _ _ (λ f. record { head = small; answer = λ from to. ((refl, tt), tt) })
       (λ f. either_acted (update.stamp.count == row.head.stamp.count + 1) _ _ (λ g. either_acted (head_fits (head_after row.head update)) _ _ (λ fits. record { head = within (head_after row.head update) fits; answer = λ from to. ((refl, tt), tt) }) (λ full. record { head = small; answer = λ from to. tt }))
       (λ g. record { head = small; answer = λ from to. ((refl, tt), tt) }))))
-    where
-      below : (a b : ℕ) → nat_le a b ≡ true → a ≤ b
-      below a b is = grind (arith, nat_tests)
 
-      within : (head : FileHead) → head_fits head ≡ true → IsSmall head
-      within head fits =
-          let parts = and_parts (nat_le (length head.versions) OBJECTS && nat_le (length head.sessions) CLIENTS) (nat_lt head.stamp.count COUNTS) fits in
-          let lists = and_parts (nat_le (length head.versions) OBJECTS) (nat_le (length head.sessions) CLIENTS) parts.0 in
-          below (length head.versions) OBJECTS lists.0
+  -- an ask on a striped file
+  striped_small : (row : FileRow) (id : OpId) (capability : Capability) (asked : Op) → IsSmall row.head → ActedSmall row (striped_handled site row id capability asked)
+  striped_small row id capability asked small =
+      striped_outcome (ActedSmall row) site row id capability asked
+      (record {
+        nothing = record { head = small; answer = λ from to. tt };
+        tells = λ answer. record { head = small; answer = λ from to. ((refl, tt), tt) };
+        keeps = λ update keeps. record { head = within (head_after row.head update) keeps.fits; answer = λ from to. ((refl, tt), tt) };
+      })
 
   -- ---- asks
 
@@ -341,7 +353,8 @@ module _ (site : Site) where
   asks_small : (s : FileState) (k : Kind) (id : OpId) (capability : Capability) (asked : Op) → FileSmall s → StepSmall site.node (ask_comes site s k id capability asked)
   unfolding ask_handled
   asks_small s kind.Replicated id capability asked small = let_in_small s id capability asked (refusal_of site s.kept.location capability asked) small
-  asks_small s kind.Striped id capability asked small = record { state = small; outs = tt }
+  asks_small s kind.Striped id capability asked small =
+      acted_small s id.client (striped_handled site s.kept id capability asked) small (striped_small s.kept id capability asked small.head)
 
   -- ---- messages and Wakes
 

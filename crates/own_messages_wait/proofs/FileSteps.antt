@@ -24,7 +24,7 @@ use Rattle.own_messages_wait.proofs.Mine.{mine-append}
 use Rattle.own_messages_wait.proofs.Hearing.{IsApart}
 use Rattle.own_messages_wait.proofs.Files.{FileStands, Overdue, overdue, overdue_stands}
 use Rattle.own_messages_wait.proofs.Messages.{Gives, Less, Comes, message_given}
-use Rattle.own_messages_wait.proofs.Asking.{agree_of, ask_given}
+use Rattle.own_messages_wait.proofs.Asking.{ask_given}
 use Rattle.own_messages_wait.proofs.Waking.{wake_given}
 
 -- the file as it stands behind a step
@@ -52,7 +52,7 @@ module _ (site : Site) (from : NodeId) (s : FileState) (stands : FileStands site
   behind_due content rows q =
       record {
         head = q.head;
-        moves = subst (λ (k : FileRow). Moves k.head (rows (expired site s).state).state.kept.head) due.settles.kept q.moves;
+        moves = λ mine. subst (λ (k : FileRow). Moves k.head (rows (expired site s).state).state.kept.head) due.settles.kept (q.moves mine);
         tenure = q.tenure;
         seats = q.seats;
         few = q.few;
@@ -103,7 +103,7 @@ module _ (site : Site) (from : NodeId) (s : FileState) (stands : FileStands site
   unfolding step_of_file
   ask_step_given number capability asked other listed =
       behind_due (payload.Ask number capability asked) (λ state. message_comes site state from (payload.Ask number capability asked))
-      (ask_given site from other (expired site s).state capability.location.kind (record { client = from; number = number }) capability asked later_stands (agree_of (expired site s).state later_sound) later_apart listed other)
+      (ask_given site from other (expired site s).state capability.location.kind (record { client = from; number = number }) capability asked later_stands later_sound later_apart listed other)
 
   -- A Wake.
   pub wake_step_given : Gives site.node from s (and_then (expired site s) (wake_of_file site))

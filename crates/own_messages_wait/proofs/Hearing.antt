@@ -17,7 +17,7 @@ use Rattle.xt_messages.specs.declared.record.FileRow.{FileRow}
 use Rattle.xt_messages.specs.declared.record.Record.TheVariants as kept
 use Rattle.xt_messages.specs.declared.reply.Reply.TheVariants as reply
 use Rattle.xt_protocol.specs.Folds.{body_of}
-use Rattle.xt_protocol.specs.Stamps.{is_epoch, is_earlier, is_below, is_version, has_version, without_version}
+use Rattle.xt_protocol.specs.Stamps.{is_epoch, is_earlier, is_below, is_version, has_version, without_version, with_held}
 use Rattle.lease_runs.proofs.Tests.{same_node}
 use Rattle.replica_safety.proofs.Orders.{before_up_to, same_is}
 use Rattle.xt_protocol.specs.declared.states.Place.{Place}
@@ -29,7 +29,7 @@ use Rattle.xt_protocol.specs.declared.states.Progress.TheVariants as progress
 use Rattle.xt_protocol.specs.declared.states.Tenure.{Tenure}
 use Rattle.xt_protocol.specs.Turns.{message, sends}
 use Rattle.xt_protocol.specs.ReplicaRows.{kept_after, stage_record}
-use Rattle.xt_protocol.specs.Primaries.{Led, carries, is_unknown, issued_in, is_ready_in, known_of_report, nodes_of, peer_in, target_of, with_known, with_node}
+use Rattle.xt_protocol.specs.Primaries.{Led, carries, is_unknown, issued_in, is_ready_in, known_of_report, nodes_of, peer_in, target_of, with_node}
 use Rattle.xt_protocol.specs.PrimaryRows.{goes_on, unmoved, status_told, hears_status, with_state, body_beyond, hears_object, body_staged, body_missed, hears_missing, target_in, activated, head_acked, committed, update_acked, acked_below, hears_ack, makes_current, forgotten, peer_behind, outpromised, epoch_told, hears_peer, hears_member, hears_epoch}
 use Rattle.osd_invariants.proofs.Leads.{put_nodes}
 use Rattle.world_runs.proofs.PrimaryIds.{ProgressIs}
@@ -184,7 +184,7 @@ module _ (place : Place) (row : FileRow) (its : place.file ≡ row.file) (body :
   staged_room : (file : FileId) (epoch : Epoch) (object : ℕ) (version : Stamp) (known : List ObjectVersion) (target : FileHead) (state : PeerState)
       → (bodies_left row.held (target_in row.head t.epoch t.progress) (peer_in t.peers place.node) ≡ bodies_to row.held known target)
       → (is_wanted (target_in row.head t.epoch t.progress) (peer_in t.peers place.node) (body_of object version) ≡ (has_version target.versions (body_of object version) && not (has_version known (body_of object version))))
-      → (has_version target.versions (body_of object version) ≡ true → has_version row.held (body_of object version) ≡ true) → (r : ℕ) → r ≤ 4 + bodies_to row.held (with_known known (body_of object version)) target
+      → (has_version target.versions (body_of object version) ≡ true → has_version row.held (body_of object version) ≡ true) → (r : ℕ) → r ≤ 4 + bodies_to row.held (with_held known (body_of object version)) target
       → epoch_left row (Some t) + r + 1 ≤ limit (payload.Staged file epoch object version)
   staged_room file epoch object version known target state same want here r low =
       let less = staged_less row.held known (body_of object version) target here in
@@ -198,11 +198,11 @@ module _ (place : Place) (row : FileRow) (its : place.file ≡ row.file) (body :
   staged_heard : (file : FileId) (epoch : Epoch) (object : ℕ) (version : Stamp) (o : Option FileHead) (state : PeerState) → target_in row.head t.epoch t.progress ≡ o → peer_in t.peers from ≡ Some state → Heard (payload.Staged file epoch object version)
       → Owes (payload.Staged file epoch object version) (body_staged (ground place row body) learnt t o from state (body_of object version))
   staged_heard file epoch object version (Some target) (peer.Feeding known o v b) to found heard =
-      feeding place row its body learnt t t.progress target from (peer.Feeding known o v b) (with_known known (body_of object version)) _ (limit (payload.Staged file epoch object version)) refl to found head_stands stands (some (payload.Staged file epoch object version))
+      feeding place row its body learnt t t.progress target from (peer.Feeding known o v b) (with_held known (body_of object version)) _ (limit (payload.Staged file epoch object version)) refl to found head_stands stands (some (payload.Staged file epoch object version))
       (λ own r low more. let mine = own.0 in staged_room file epoch object version known target (peer.Feeding known o v b) (bodies_are target (peer.Feeding known o v b) to (mine_in (peer.Feeding known o v b) found mine))
       (wanted_is target (peer.Feeding known o v b) (body_of object version) to (mine_in (peer.Feeding known o v b) found mine)) (own.1 t target refl to) r low)
   staged_heard file epoch object version (Some target) (peer.Heading known head) to found heard =
-      feeding place row its body learnt t t.progress target from (peer.Heading known head) (with_known known (body_of object version)) _ (limit (payload.Staged file epoch object version)) refl to found head_stands stands (some (payload.Staged file epoch object version))
+      feeding place row its body learnt t t.progress target from (peer.Heading known head) (with_held known (body_of object version)) _ (limit (payload.Staged file epoch object version)) refl to found head_stands stands (some (payload.Staged file epoch object version))
       (λ own r low more. let mine = own.0 in staged_room file epoch object version known target (peer.Heading known head) (bodies_are target (peer.Heading known head) to (mine_in (peer.Heading known head) found mine))
       (wanted_is target (peer.Heading known head) (body_of object version) to (mine_in (peer.Heading known head) found mine)) (own.1 t target refl to) r low)
   staged_heard file epoch object version _ _ to found heard = still (payload.Staged file epoch object version)

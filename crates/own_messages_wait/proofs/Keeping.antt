@@ -53,7 +53,7 @@ use Rattle.world_runs.proofs.Lists.{has_in, has_left, has_filter, filter_has, ha
 use Rattle.world_runs.proofs.NodeEvents.{step_next}
 use Rattle.world_runs.proofs.Rising.{before_itself}
 use Rattle.world_runs.proofs.Tables.{same, node_in-new, node_in-other, nobody, node_in-last, node_in-before, node_in-ticked, file_in-before}
-use Rattle.world_runs.proofs.Walk.{IsKept, NodeStep, of_osd, of_client, of_call, Reaches, same_messages, call_step, left_within}
+use Rattle.world_runs.proofs.Walk.{IsKept, NodeStep, of_osd, of_client, of_call, IsFirst, Reaches, same_messages, call_step, left_within}
 use Rattle.world_runs.proofs.OsdIds.{new_is}
 use Rattle.own_messages_wait.proofs.Standing.{HeadStands, Stands}
 use Rattle.own_messages_wait.proofs.Tests.{false_true}
@@ -62,7 +62,7 @@ use Rattle.own_messages_wait.proofs.Files.{FileStands}
 use Rattle.own_messages_wait.proofs.Sizes.{IsSmall, ContentSmall, small_of}
 use Rattle.own_messages_wait.proofs.FileSizes.{FileSmall}
 use Rattle.own_messages_wait.proofs.Osds.{AskHolds, FileHolds, OwnFits, stands_more, at_stands}
-use Rattle.own_messages_wait.proofs.OsdEvents.{OsdAfter, Arrives, event_after}
+use Rattle.own_messages_wait.proofs.OsdEvents.{IsOwn, OsdAfter, Arrives, event_after}
 use Rattle.own_messages_wait.proofs.Clients.{AsksOne, asks_none, asks_this, client_gives, call_gives}
 
 -- ---- what holds of a world
@@ -193,7 +193,7 @@ module _ (w : World) (was : List Msg) (node : Node) (r : Running) (found : node_
     pub core : CoreStands node.id next
     pub outs : (m : Msg) → Has m turned.outs → (m.from ≡ node.id) × ContentSmall m.payload
     -- what stood of a message to itself stands; and what it sends to itself
-    pub old : (content : Payload) (s t : OsdState) → r.core ≡ osd s → next ≡ osd t → OwnFits (awake_as s.started) s.files content → OwnFits (awake_as t.started) t.files content
+    pub old : (m : Msg) → Has m was → (s t : OsdState) → r.core ≡ osd s → next ≡ osd t → OwnFits (awake_as s.started) s.files m.payload → OwnFits (awake_as t.started) t.files m.payload
     pub is_osd : (t : OsdState) → next ≡ osd t → (s : OsdState) × (r.core ≡ osd s)
     pub new : (m : Msg) (t : OsdState) → next ≡ osd t → Has m (to_itself node.id turned.outs) → OwnFits (awake_as t.started) t.files m.payload
 
@@ -227,7 +227,18 @@ module _ (w : World) (was : List Msg) (node : Node) (r : Running) (found : node_
     arrives event.Wake reaches = tt
     arrives (event.Call call) reaches = tt
 
-    pub after : (happens : Event) → Reaches w was node.id happens → OsdAfter s (step_of_osd (outside_of node.kept) s r.clock happens)
+    -- where a message to itself was left, it is one that comes
+    comes_own : (happens : Event) → Reaches w was node.id happens → (m : Msg) → Has m was → IsOwn s happens
+    comes_own (event.Deliver msg) reaches m h = of_first reaches.2
+      where
+        of_first : IsFirst msg was → msg.from.0 ≡ s.started.node.0
+        of_first (inl none) = absurd (subst (Has m) none h)
+        of_first (inr first) =
+            ap (λ (k : NodeId). k.0) ((stood.mine.own_at msg (subst (Has msg) (sym first.1) (inl refl))).same ∙ reaches.0 ∙ sym node_is)
+    comes_own event.Wake reaches m h = absurd (subst (Has m) reaches h)
+    comes_own (event.Call call) reaches m h = absurd (subst (Has m) reaches h)
+
+    pub after : (happens : Event) → Reaches w was node.id happens → OsdAfter s happens (step_of_osd (outside_of node.kept) s r.clock happens)
     unfolding step_of_osd
     after happens reaches =
         event_after (outside_of node.kept) s (max r.clock s.last) (λ f h. holds_of w.files stood.mine.lists f (fits.0.fits f h)) files_stand fits.0.rises happens (is_silent s.started (max r.clock s.last)) (arrives happens reaches)
@@ -241,11 +252,11 @@ module _ (w : World) (was : List Msg) (node : Node) (r : Running) (found : node_
           rows = λ row h. rows next row h;
           core = subst (λ (id : NodeId). FilesStand id (step_of_osd (outside_of node.kept) s r.clock happens).osd.files) node_is q.stands;
           outs = λ m h. let x = small_of s.started.node step.turned.outs m q.outs h in (x.0 ∙ node_is, x.1);
-          old = λ content a b was_osd now_osd own.
+          old = λ m h a b was_osd now_osd own.
               let a_is : s ≡ a = osd_same (sym is_osd ∙ was_osd) in
               let b_is : (step_of_osd (outside_of node.kept) s r.clock happens).osd ≡ b = osd_same now_osd in
-              subst (λ (t : OsdState). OwnFits (awake_as t.started) t.files content) b_is
-              (subst (λ (t : Silent). OwnFits (awake_as t) step.osd.files content) (sym q.started) (moved content (subst (λ (t : OsdState). OwnFits (awake_as t.started) t.files content) (sym a_is) own)));
+              subst (λ (t : OsdState). OwnFits (awake_as t.started) t.files m.payload) b_is
+              (subst (λ (t : Silent). OwnFits (awake_as t) step.osd.files m.payload) (sym q.started) (moved m.payload (comes_own happens reaches m h) (subst (λ (t : OsdState). OwnFits (awake_as t.started) t.files m.payload) (sym a_is) own)));
           is_osd = λ t now. (s, is_osd);
           new = λ m t now h.
               let b_is : (step_of_osd (outside_of node.kept) s r.clock happens).osd ≡ t = osd_same now in
@@ -253,17 +264,17 @@ module _ (w : World) (was : List Msg) (node : Node) (r : Running) (found : node_
               (subst (λ (t : Silent). OwnFits (awake_as t) step.osd.files m.payload) (sym q.started) (q.own m (subst (λ (id : NodeId). Has m (to_itself id step.turned.outs)) (sym node_is) h)));
         }
       where
-        q : OsdAfter s (step_of_osd (outside_of node.kept) s r.clock happens)
+        q : OsdAfter s happens (step_of_osd (outside_of node.kept) s r.clock happens)
         q = after happens reaches
 
         osd_same : {a b : OsdState} → osd a ≡ osd b → a ≡ b
         osd_same e = cc
 
-        moved : (content : Payload) → OwnFits (awake_as s.started) s.files content → OwnFits (awake_as s.started) (step_of_osd (outside_of node.kept) s r.clock happens).osd.files content
-        moved content own =
+        moved : (content : Payload) → IsOwn s happens → OwnFits (awake_as s.started) s.files content → OwnFits (awake_as s.started) (step_of_osd (outside_of node.kept) s r.clock happens).osd.files content
+        moved content mine own =
             record {
               no_ask = own.no_ask;
-              stands = λ file concerns primary. stands_more (file_at (awake_as s.started) s.files file).kept (file_at (awake_as s.started) (step_of_osd (outside_of node.kept) s r.clock happens).osd.files file).kept content (q.moves file) (own.stands file concerns primary);
+              stands = λ file concerns primary. stands_more (file_at (awake_as s.started) s.files file).kept (file_at (awake_as s.started) (step_of_osd (outside_of node.kept) s r.clock happens).osd.files file).kept content (q.moves mine file) (own.stands file concerns primary);
             }
 
         rows_fit : (rec : Option Record) → (step_of_osd (outside_of node.kept) s r.clock happens).turned.rec ≡ rec → IsNext w was node r (osd (step_of_osd (outside_of node.kept) s r.clock happens).osd) (step_of_osd (outside_of node.kept) s r.clock happens).turned
@@ -290,7 +301,7 @@ module _ (w : World) (was : List Msg) (node : Node) (r : Running) (found : node_
         rows = λ row h. (stood.mine.nodes_stand node.id.0 node found).rows row (subst (λ (x : Option Record). Has row (fold_of (one_more node.kept x)).files) none h);
         core = tt;
         outs = λ m h. of_asks turned.outs m asks h;
-        old = λ content s t a b own. absurd (no_osd next t b);
+        old = λ m h s t a b own. absurd (no_osd next t b);
         is_osd = λ t e. absurd (no_osd next t e);
         new = λ m t e h. absurd (no_osd next t e);
       }
@@ -335,7 +346,7 @@ stepped_mine w was own node r next turned outs rest within found is_up stood q s
         | inr mine ↦ numbered_so m mine
       ];
       own_at = λ m h. elim (has_in m own (to_itself node.id outs) h) [
-        | inl old ↦ kept_at m (stood.mine.own_at m (within m old))
+        | inl old ↦ kept_at m (within m old) (stood.mine.own_at m (within m old))
         | inr mine ↦ new_at m mine
       ];
     }
@@ -366,14 +377,14 @@ stepped_mine w was own node r next turned outs rest within found is_up stood q s
         let it : record r { core = next } ≡ p = cc in
         ap (λ (y : Running). y.core) it ∙ core
 
-    kept_at : (m : Msg) → OwnAt w.nodes m → OwnAt (with_node w.nodes (next_node node r next turned)) m
-    kept_at m at =
+    kept_at : (m : Msg) → Has m was → OwnAt w.nodes m → OwnAt (with_node w.nodes (next_node node r next turned)) m
+    kept_at m left at =
         record {
           same = at.same;
           small = at.small;
           stands = λ x p s is up core. at_node m.to.0 x is
               (λ e here. let now = core_of x p s here up core in let was_osd = q.is_osd s now in
-              q.old m.payload was_osd.0 s was_osd.1 now (at.stands node r was_osd.0 (ap (node_in w.nodes) e ∙ found) is_up was_osd.1))
+              q.old m left was_osd.0 s was_osd.1 now (at.stands node r was_osd.0 (ap (node_in w.nodes) e ∙ found) is_up was_osd.1))
               (λ ne there. at.stands x p s there up core);
         }
 

@@ -54,7 +54,8 @@ lease_of (Some content) = lease_rank content
 -- The file stands, and at most one message of the lease and one of the primary go to the own node.
 pub record Gives (n : NodeId) (from : NodeId) (s : FileState) (step : FileStep) : Type 0 where
   pub head : HeadStands step.state.kept.head
-  pub moves : Moves s.kept.head step.state.kept.head
+  -- how the head moves is said of the node's own messages alone
+  pub moves : from.0 ≡ n.0 → Moves s.kept.head step.state.kept.head
   pub tenure : IfTenure n step.state.kept.head step.state.primary.tenure
   pub seats : IfSeated (running_round step.state.lease)
   pub few : asks_left step.state.asks ≤ WAITING + 1
@@ -108,7 +109,7 @@ settled_gives : (n from : NodeId) (s : FileState) (step : FileStep) (told : Opti
 settled_gives n from s step told k stands q outs told_is low about idle =
     record {
       head = subst (λ (r : FileRow). HeadStands r.head) (sym q.kept) stands.head;
-      moves = moves_none s.kept.head step.state.kept.head (ap (λ (r : FileRow). r.head) q.kept);
+      moves = λ mine. moves_none s.kept.head step.state.kept.head (ap (λ (r : FileRow). r.head) q.kept);
       tenure = subst (λ (r : FileRow). IfTenure n r.head step.state.primary.tenure) (sym q.kept) q.tenure;
       seats = q.seats;
       few = le_trans q.few stands.few;
@@ -269,7 +270,7 @@ module _ (site : Site) (s : FileState) (from : NodeId) (stands : FileStands site
       record {
         gives = record {
           head = q.head;
-          moves = q.moves;
+          moves = λ mine. q.moves;
           tenure = q.tenure;
           seats = seats;
           few = stands.few;
@@ -412,7 +413,7 @@ module _ (site : Site) (s : FileState) (from : NodeId) (stands : FileStands site
           record {
             gives = record {
               head = acts.head;
-              moves = acts.moves;
+              moves = λ mine. acts.moves;
               tenure = tenure;
               seats = stands.seats;
               few = stands.few;
@@ -432,7 +433,7 @@ module _ (site : Site) (s : FileState) (from : NodeId) (stands : FileStands site
           record {
             gives = record {
               head = acts.head;
-              moves = acts.moves;
+              moves = λ mine. acts.moves;
               tenure = tenure;
               seats = stands.seats;
               few = stands.few;
@@ -454,7 +455,7 @@ module _ (site : Site) (s : FileState) (from : NodeId) (stands : FileStands site
   nothing_gives =
       record {
         head = stands.head;
-        moves = moves_none s.kept.head s.kept.head refl;
+        moves = λ mine. moves_none s.kept.head s.kept.head refl;
         tenure = stands.tenure;
         seats = stands.seats;
         few = stands.few;
@@ -488,7 +489,7 @@ module _ (site : Site) (s : FileState) (from : NodeId) (stands : FileStands site
           record {
             gives = record {
               head = stands.head;
-              moves = moves_none s.kept.head s.kept.head refl;
+              moves = λ mine. moves_none s.kept.head s.kept.head refl;
               tenure = stands.tenure;
               seats = stands.seats;
               few = stands.few;
@@ -514,7 +515,7 @@ module _ (site : Site) (s : FileState) (from : NodeId) (stands : FileStands site
         record {
           gives = record {
             head = stands.head;
-            moves = moves_none s.kept.head s.kept.head refl;
+            moves = λ mine. moves_none s.kept.head s.kept.head refl;
             tenure = tt;
             seats = stands.seats;
             few = few (behind_left None s.asks);
@@ -547,7 +548,7 @@ module _ (site : Site) (s : FileState) (from : NodeId) (stands : FileStands site
         record {
           gives = record {
             head = f.head;
-            moves = f.moves;
+            moves = λ mine. f.moves;
             tenure = f.tenure;
             seats = stands.seats;
             few = le_trans f.few stands.few;

@@ -32,13 +32,19 @@ use Rattle.own_messages_wait.proofs.Files.{FileStands, overdue}
 use Rattle.own_messages_wait.proofs.Messages.{Gives}
 use Rattle.own_messages_wait.proofs.Sizes.{ContentSmall, AreSmall, both_small}
 use Rattle.own_messages_wait.proofs.FileSizes.{FileSmall, step_small, expired_small, wake_small}
-use Rattle.own_messages_wait.proofs.Osds.{FileHolds, AskHolds, at_holds, KeptMoves, kept_same, OwnFits, at_stands, step_any, step_stands, step_moves, wake_any, wake_stands, wake_moves, wake_step_small, own_fits, sound_of}
+use Rattle.own_messages_wait.proofs.Osds.{FileHolds, AskHolds, at_holds, KeptMoves, kept_same, OwnFits, at_stands, step_any, step_stands, step_moves, wake_any, wake_stands, wake_step_small, own_fits, sound_of}
+
+-- a message of the OSD to itself comes
+abbrev pub IsOwn : OsdState → Event → Type 0
+IsOwn s (event.Deliver msg) = msg.from.0 ≡ s.started.node.0
+IsOwn s event.Wake = ⊥
+IsOwn s (event.Call call) = ⊥
 
 -- what an event at an OSD owes
-pub record OsdAfter (s : OsdState) (step : OsdStep) : Type 0 where
+pub record OsdAfter (s : OsdState) (happens : Event) (step : OsdStep) : Type 0 where
   pub started : step.osd.started ≡ s.started
   pub stands : (f : FileState) → Has f step.osd.files → FileStands s.started.node f × FileSmall f
-  pub moves : (file : FileId) → KeptMoves (file_at (awake_as s.started) s.files file).kept (file_at (awake_as s.started) step.osd.files file).kept
+  pub moves : IsOwn s happens → (file : FileId) → KeptMoves (file_at (awake_as s.started) s.files file).kept (file_at (awake_as s.started) step.osd.files file).kept
   pub outs : AreSmall s.started.node step.turned.outs
   pub own : (m : Msg) → Has m (to_itself s.started.node step.turned.outs) → OwnFits (awake_as s.started) step.osd.files m.payload
 
@@ -74,8 +80,8 @@ module _ (outside : Outside) (s : OsdState) (now : ℕ)
   place = site_of outside (awake_as s.started) now
 
   -- nothing comes of it
-  rests : OsdAfter s (record { osd = record { started = s.started; last = now; files = s.files }; turned = quiet })
-  rests = record { started = refl; stands = stands; moves = λ file. kept_same (file_at (awake_as s.started) s.files file).kept (file_at (awake_as s.started) s.files file).kept refl; outs = tt; own = λ m h. absurd h }
+  rests : (happens : Event) → OsdAfter s happens (record { osd = record { started = s.started; last = now; files = s.files }; turned = quiet })
+  rests happens = record { started = refl; stands = stands; moves = λ own file. kept_same (file_at (awake_as s.started) s.files file).kept (file_at (awake_as s.started) s.files file).kept refl; outs = tt; own = λ m h. absurd h }
 
   -- ---- a message
 
@@ -110,7 +116,7 @@ module _ (outside : Outside) (s : OsdState) (now : ℕ)
   )
 
   concerned : (msg : Msg) (file : FileId) → file_concerned msg.payload ≡ Some file → Arrives s (event.Deliver msg)
-      → OsdAfter s (record { osd = record { started = s.started; last = now; files = with_file s.files (step_at msg file).state }; turned = (step_at msg file).turned })
+      → OsdAfter s (event.Deliver msg) (record { osd = record { started = s.started; last = now; files = with_file s.files (step_at msg file).state }; turned = (step_at msg file).turned })
   concerned msg file concerns arrives =
       record {
         started = refl;
@@ -118,19 +124,19 @@ module _ (outside : Outside) (s : OsdState) (now : ℕ)
           | inl e ↦ subst (λ (x : FileState). FileStands s.started.node x × FileSmall x) (sym e) (stands_now msg file concerns arrives)
           | inr old ↦ stands f old
         ];
-        moves = λ g. subst (λ (x : FileState). KeptMoves (file_at (awake_as s.started) s.files g).kept x.kept) (sym (file_at-with_file (awake_as s.started) s.files (step_at msg file).state g)) (moved g (is_file (step_at msg file).state.kept.file g) refl);
+        moves = λ mine g. subst (λ (x : FileState). KeptMoves (file_at (awake_as s.started) s.files g).kept x.kept) (sym (file_at-with_file (awake_as s.started) s.files (step_at msg file).state g)) (moved mine g (is_file (step_at msg file).state.kept.file g) refl);
         outs = (step_small place (file_at (awake_as s.started) s.files file) msg.from msg.payload (stands_at file).1 arrives.1).outs;
         own = λ m h. own_fits place here s.files fits stands msg.from (file_at (awake_as s.started) s.files file) (step_at msg file) (with_file s.files (step_at msg file).state) (gives_at msg file concerns arrives)
             (step_keeps place (file_at (awake_as s.started) s.files file) msg.from msg.payload)
             (ap (file_at (awake_as s.started) (with_file s.files (step_at msg file).state)) (at_file (awake_as s.started) s.files file) ∙ there_now msg file) m h;
       }
     where
-      moved : (g : FileId) (b : Bool) → is_file (step_at msg file).state.kept.file g ≡ b → KeptMoves (file_at (awake_as s.started) s.files g).kept (cond b (step_at msg file).state (file_at (awake_as s.started) s.files g)).kept
-      moved g false is = kept_same (file_at (awake_as s.started) s.files g).kept (file_at (awake_as s.started) s.files g).kept refl
-      moved g true is =
+      moved : msg.from.0 ≡ s.started.node.0 → (g : FileId) (b : Bool) → is_file (step_at msg file).state.kept.file g ≡ b → KeptMoves (file_at (awake_as s.started) s.files g).kept (cond b (step_at msg file).state (file_at (awake_as s.started) s.files g)).kept
+      moved mine g false is = kept_same (file_at (awake_as s.started) s.files g).kept (file_at (awake_as s.started) s.files g).kept refl
+      moved mine g true is =
           let same : file ≡ g = sym (same_file msg file) ∙ file-equal (step_at msg file).state.kept.file g is in
           subst (λ (k : FileId). KeptMoves (file_at (awake_as s.started) s.files k).kept (step_at msg file).state.kept) same
-          (step_moves place here s.files fits stands (file_at (awake_as s.started) s.files file) msg.from msg.payload (stands_at file).0 (fit_at file) arrives.0 (heard_by msg file concerns arrives))
+          (step_moves place here s.files fits stands (file_at (awake_as s.started) s.files file) msg.from msg.payload (stands_at file).0 (fit_at file) arrives.0 (heard_by msg file concerns arrives) mine)
 
   -- ---- a Wake
 
@@ -206,25 +212,14 @@ module _ (outside : Outside) (s : OsdState) (now : ℕ)
       both_small s.started.node (wake_of_file place (expired place f).state).turned.outs (each_file (wake_of_file place) (each_file (expired place) fs).files).turned.outs
       (wake_small place (expired place f).state (expired_small place f (stands f (within f (inl refl))).1).state).outs (wakes_small fs (λ x h. within x (inr h)))
 
-  woken_moves : (fs : List FileState) (g : FileId) → ((f : FileState) → Has f fs → Has f s.files) → KeptMoves (file_at (awake_as s.started) fs g).kept (file_at (awake_as s.started) (map (λ (f : FileState). (wake_step place f).state) fs) g).kept
-  unfolding file_at
-  woken_moves [] g within = kept_same (file_at (awake_as s.started) [] g).kept (file_at (awake_as s.started) [] g).kept refl
-  woken_moves (f ∷ fs) g within = subst (λ (b : Bool). KeptMoves (cond (is_file f.kept.file g) f (file_at (awake_as s.started) fs g)).kept (cond b (wake_step place f).state (file_at (awake_as s.started) (map (λ (f : FileState). (wake_step place f).state) fs) g)).kept)
-      (sym (ap (λ (k : FileId). is_file k g) (woke_file f))) (at (is_file f.kept.file g) (woken_moves fs g (λ x h. within x (inr h))))
-    where
-      at : (b : Bool) → KeptMoves (file_at (awake_as s.started) fs g).kept (file_at (awake_as s.started) (map (λ (f : FileState). (wake_step place f).state) fs) g).kept
-          → KeptMoves (cond b f (file_at (awake_as s.started) fs g)).kept (cond b (wake_step place f).state (file_at (awake_as s.started) (map (λ (f : FileState). (wake_step place f).state) fs) g)).kept
-      at true rest = wake_moves place here s.files fits stands f (stands f (within f (inl refl))).0 (fits f (within f (inl refl)))
-      at false rest = rest
-
-  woken_after : OsdAfter s (record { osd = record { started = s.started; last = now; files = (woken place s.files).files }; turned = (woken place s.files).turned })
+  woken_after : OsdAfter s event.Wake (record { osd = record { started = s.started; last = now; files = (woken place s.files).files }; turned = (woken place s.files).turned })
   woken_after =
       record {
         started = refl;
         stands = λ f h. let x = has_map (λ (f : FileState). (wake_step place f).state) s.files f (subst (λ (fs : List FileState). Has f fs) (woken_files s.files) h) in
             subst (λ (y : FileState). FileStands s.started.node y × FileSmall y) (sym x.2)
             (wake_stands place here s.files fits stands x.0 (stands x.0 x.1).0 (fits x.0 x.1), (wake_step_small place here s.files fits stands x.0 (stands x.0 x.1).1).state);
-        moves = λ g. subst (λ (fs : List FileState). KeptMoves (file_at (awake_as s.started) s.files g).kept (file_at (awake_as s.started) fs g).kept) (sym (woken_files s.files)) (woken_moves s.files g (λ f h. h));
+        moves = λ own. absurd own;
         outs = ((refl, tt), both_small s.started.node (each_file (expired place) s.files).turned.outs (each_file (wake_of_file place) (each_file (expired place) s.files).files).turned.outs (settled_small s.files (λ f h. h)) (wakes_small s.files (λ f h. h)));
         own = λ m h. own m (has_in m (to_itself s.started.node (asks_dir s.started.node ∷ [])) (to_itself s.started.node (each_file (wake_of_file place) (each_file (expired place) s.files).files).turned.outs) (subst (Has m) woken_own h));
       }
@@ -263,13 +258,13 @@ module _ (outside : Outside) (s : OsdState) (now : ℕ)
   -- ---- any event
 
   message_after : (msg : Msg) (o : Option FileId) → file_concerned msg.payload ≡ o → Arrives s (event.Deliver msg)
-      → OsdAfter s (let step = message_handled place here s.files msg o in record { osd = record { started = s.started; last = now; files = step.files }; turned = step.turned })
-  message_after msg None concerns arrives = rests
+      → OsdAfter s (event.Deliver msg) (let step = message_handled place here s.files msg o in record { osd = record { started = s.started; last = now; files = step.files }; turned = step.turned })
+  message_after msg None concerns arrives = rests (event.Deliver msg)
   message_after msg (Some file) concerns arrives = concerned msg file concerns arrives
 
   -- a silent OSD, or one that is awake
-  pub event_after : (happens : Event) (silent : Bool) → Arrives s happens → OsdAfter s (handled_awake outside s now happens (cond silent None (Some (awake_as s.started))))
-  event_after happens true arrives = record { started = refl; stands = stands; moves = λ file. kept_same (file_at (awake_as s.started) s.files file).kept (file_at (awake_as s.started) s.files file).kept refl; outs = tt; own = λ m h. absurd h }
+  pub event_after : (happens : Event) (silent : Bool) → Arrives s happens → OsdAfter s happens (handled_awake outside s now happens (cond silent None (Some (awake_as s.started))))
+  event_after happens true arrives = record { started = refl; stands = stands; moves = λ own file. kept_same (file_at (awake_as s.started) s.files file).kept (file_at (awake_as s.started) s.files file).kept refl; outs = tt; own = λ m h. absurd h }
   event_after (event.Deliver msg) false arrives = message_after msg (file_concerned msg.payload) refl arrives
   event_after event.Wake false arrives = woken_after
-  event_after (event.Call call) false arrives = rests
+  event_after (event.Call call) false arrives = rests (event.Call call)

@@ -46,7 +46,7 @@ use Rattle.own_messages_wait.proofs.FileSteps.{stands_after, step_given, ask_ste
 use Rattle.own_messages_wait.proofs.Sizes.{both_small}
 use Rattle.own_messages_wait.proofs.FileSizes.{FileSmall, StepSmall, expired_small, wake_small}
 
--- ---- what is kept of a file grows
+-- ---- what is kept of a file grows, by the node's own messages
 
 pub record KeptMoves (row next : FileRow) : Type 0 where
   pub head : Moves row.head next.head
@@ -194,10 +194,10 @@ module _ (site : Site) (awake : Awake)
       stands_after site.node from f (step_of_file site f from content) (step_any f from content its fit ask heard)
       (step_is (IsApart site.node) site f from content its.ids (come f from content heard)).state
 
-  pub step_moves : (f : FileState) (from : NodeId) (content : Payload) → FileStands site.node f → FileHolds f → AskHolds content → Heard from f.kept content → KeptMoves f.kept (step_of_file site f from content).state.kept
-  step_moves f from content its fit ask heard =
+  pub step_moves : (f : FileState) (from : NodeId) (content : Payload) → FileStands site.node f → FileHolds f → AskHolds content → Heard from f.kept content → from.0 ≡ site.node.0 → KeptMoves f.kept (step_of_file site f from content).state.kept
+  step_moves f from content its fit ask heard mine =
       record {
-        head = (step_any f from content its fit ask heard).moves;
+        head = (step_any f from content its fit ask heard).moves mine;
         held = λ v is. subst (λ (r : FileRow). has_version r.held v ≡ true) (sym (step_follows site f from content)) (held_grows f.kept (step_of_file site f from content).turned.rec v is);
       }
 
@@ -210,15 +210,6 @@ module _ (site : Site) (awake : Awake)
   wake_stands f its fit =
       stands_after site.node (record { 0 = site.node.0 + 1 }) f (wake_step site f) (wake_any f its fit)
       (wake_is (IsApart site.node) site (expired site f).state.kept.file.number (expired site f).state (expired_is (IsApart site.node) site f.kept.file.number f its.ids).state).state
-
-  pub wake_moves : (f : FileState) → FileStands site.node f → FileHolds f → KeptMoves f.kept (wake_step site f).state.kept
-  wake_moves f its fit =
-      record {
-        head = (wake_any f its fit).moves;
-        held = λ v is.
-            subst (λ (r : FileRow). has_version r.held v ≡ true) (sym (wake_follows site (expired site f).state))
-            (held_grows (expired site f).state.kept (wake_of_file site (expired site f).state).turned.rec v (subst (λ (r : FileRow). has_version r.held v ≡ true) (sym (expired_quiet site f).1) is));
-      }
 
   pub wake_step_small : (f : FileState) → FileSmall f → StepSmall site.node (wake_step site f)
   wake_step_small f small =

@@ -16,7 +16,7 @@ use Rattle.xt_messages.specs.declared.record.Record.{Record}
 use Rattle.xt_messages.specs.declared.record.Record.TheVariants as kept
 use Rattle.xt_base.specs.declared.TheConstants.{OBJECTS, COUNTS}
 use Rattle.xt_protocol.specs.Folds.{body_of}
-use Rattle.xt_protocol.specs.Stamps.{is_epoch, is_earlier, is_below, is_version, has_version}
+use Rattle.xt_protocol.specs.Stamps.{is_epoch, is_earlier, is_below, is_version, has_version, with_held}
 use Rattle.lease_safety.specs.State.{Has}
 use Rattle.xt_protocol.specs.declared.states.Place.{Place}
 use Rattle.xt_protocol.specs.declared.states.IssuedUpdate.{IssuedUpdate}
@@ -29,7 +29,7 @@ use Rattle.xt_protocol.specs.declared.states.Tenure.{Tenure}
 use Rattle.xt_protocol.specs.Turns.{message}
 use Rattle.xt_protocol.specs.ReplicaRows.{kept_after, stage_record}
 use Rattle.xt_protocol.specs.Choice.{chosen_of, is_better, difference}
-use Rattle.xt_protocol.specs.Primaries.{Ground, Led, carries, fed, fed_next, if_any, is_unknown, known_of_own, known_of_report, last_sent, majority_among, nodes_of, peer_in, report_of, reports_of, statuses_counted, target_of, unknown_peer, with_known, with_node, with_peer}
+use Rattle.xt_protocol.specs.Primaries.{Ground, Led, carries, fed, fed_next, if_any, is_unknown, known_of_own, known_of_report, last_sent, majority_among, nodes_of, peer_in, report_of, reports_of, statuses_counted, target_of, unknown_peer, with_node, with_peer}
 use Rattle.xt_protocol.specs.PrimaryRows.{after_keeping, epoch_above, epoch_drawn, peer_fed, peers_fed, installs, fetches, head_chosen, chooses, status_counted, with_state, feeds, status_told, body_beyond, hears_object, target_in, body_staged, body_missed, hears_missing, committed, acked_below, hears_ack, makes_current, forgotten, peer_behind, epoch_told, hears_peer, hears_member, hears_epoch, hears_in, unmoved}
 
 -- ---- what is small
@@ -287,8 +287,8 @@ module _ (g : Ground) (learnt : ℕ) (own_small : IsSmall g.own) where
       at (progress.Active committed issued) s e = (let it : g.own ≡ target = cc in subst IsSmall it own_small)
 
   staged_small : (t : Tenure) (o : Option FileHead) (from : NodeId) (state : PeerState) (v : ObjectVersion) → target_in g.own t.epoch t.progress ≡ o → TenureSmall (Some t) → LedSmall g.place.node (body_staged g learnt t o from state v)
-  staged_small t (Some target) from (peer.Feeding known object version body) v is small = feeds_small t from target (with_known known v) small (targeted t (Some target) is small target refl)
-  staged_small t (Some target) from (peer.Heading known head) v is small = feeds_small t from target (with_known known v) small (targeted t (Some target) is small target refl)
+  staged_small t (Some target) from (peer.Feeding known object version body) v is small = feeds_small t from target (with_held known v) small (targeted t (Some target) is small target refl)
+  staged_small t (Some target) from (peer.Heading known head) v is small = feeds_small t from target (with_held known v) small (targeted t (Some target) is small target refl)
   staged_small t _ from _ v is small = still learnt t small
 
   missed_small : (t : Tenure) (o : Option FileHead) (from : NodeId) (state : PeerState) (v : ObjectVersion) → target_in g.own t.epoch t.progress ≡ o → TenureSmall (Some t) → LedSmall g.place.node (body_missed g learnt t o from state v)

@@ -164,14 +164,14 @@ module _ (site : Site) (from : NodeId) (s : FileState) (stands : FileStands site
   under_woken (free p) is = nothing_woken
     where
       nothing_woken : Gives site.node from s (nothing s)
-      nothing_woken = record { head = stands.head; moves = moves_none s.kept.head s.kept.head refl; tenure = stands.tenure; seats = stands.seats; few = stands.few; told = None; sent = None; outs = refl; told_is = tt; about_sent = tt; about_told = tt; stands = tt; led = λ led. tt; idle = λ o f. (refl, refl) }
-  under_woken (asking r) is = record { head = stands.head; moves = moves_none s.kept.head s.kept.head refl; tenure = stands.tenure; seats = stands.seats; few = stands.few; told = None; sent = None; outs = refl; told_is = tt; about_sent = tt; about_told = tt; stands = tt; led = λ led. tt; idle = λ o f. (refl, refl) }
-  under_woken (writing r) is = record { head = stands.head; moves = moves_none s.kept.head s.kept.head refl; tenure = stands.tenure; seats = stands.seats; few = stands.few; told = None; sent = None; outs = refl; told_is = tt; about_sent = tt; about_told = tt; stands = tt; led = λ led. tt; idle = λ o f. (refl, refl) }
+      nothing_woken = record { head = stands.head; moves = λ mine. moves_none s.kept.head s.kept.head refl; tenure = stands.tenure; seats = stands.seats; few = stands.few; told = None; sent = None; outs = refl; told_is = tt; about_sent = tt; about_told = tt; stands = tt; led = λ led. tt; idle = λ o f. (refl, refl) }
+  under_woken (asking r) is = record { head = stands.head; moves = λ mine. moves_none s.kept.head s.kept.head refl; tenure = stands.tenure; seats = stands.seats; few = stands.few; told = None; sent = None; outs = refl; told_is = tt; about_sent = tt; about_told = tt; stands = tt; led = λ led. tt; idle = λ o f. (refl, refl) }
+  under_woken (writing r) is = record { head = stands.head; moves = λ mine. moves_none s.kept.head s.kept.head refl; tenure = stands.tenure; seats = stands.seats; few = stands.few; told = None; sent = None; outs = refl; told_is = tt; about_sent = tt; about_told = tt; stands = tt; led = λ led. tt; idle = λ o f. (refl, refl) }
   under_woken (held h) is =
       let place = (ground_of site s).place in
       record {
         head = subst (λ (k : FileRow). HeadStands k.head) (sym kept_is) stands.head;
-        moves = moves_none s.kept.head (renews site (steps_to s (wakes (ground_of site s).place s.primary)).state h).state.kept.head (ap (λ (k : FileRow). k.head) kept_is);
+        moves = λ mine. moves_none s.kept.head (renews site (steps_to s (wakes (ground_of site s).place s.primary)).state h).state.kept.head (ap (λ (k : FileRow). k.head) kept_is);
         tenure = subst (λ (k : FileRow). IfTenure site.node k.head (renews site (steps_to s (wakes (ground_of site s).place s.primary)).state h).state.primary.tenure) (sym kept_is)
             (subst (λ (p : PrimaryState). IfTenure site.node s.kept.head p.tenure) (sym q.primary) stands.tenure);
         seats = q.seats;

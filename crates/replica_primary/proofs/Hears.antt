@@ -1,6 +1,6 @@
 -- what a message does, by how it is tested
 use Rattle.std.proofs.Common.{◌≡◌, ◌∙◌, ◌∷◌, ◌++◌, ◌+◌, ◌<◌, ◌≤◌, [], ℕ, Bool, true, false, Option, Some, None, List, length, take, get_or, inl, inr, refl, ap, sym, arith}
-use Rattle.std.specs.Prelude.{cond, find, max, not, nat_le, ◌==◌, ◌⊎◌, slice_get}
+use Rattle.std.specs.Prelude.{cond, max, not, nat_le, ◌==◌, ◌⊎◌, slice_get}
 use Rattle.std.proofs.lemmas.Grind.{common_steps}
 use Rattle.std.proofs.lemmas.List.{take_more}
 use Rattle.std.proofs.lemmas.List.Elements.{filter_map-append}
@@ -13,7 +13,7 @@ use Rattle.xt_messages.specs.declared.file.FileHead.{FileHead}
 use Rattle.xt_messages.specs.declared.message.Payload.{Payload}
 use Rattle.xt_messages.specs.declared.message.Payload.TheVariants as payload
 use Rattle.xt_protocol.specs.declared.turned.Turned.{Turned}
-use Rattle.xt_protocol.specs.Stamps.{has_version, is_earlier, is_epoch}
+use Rattle.xt_protocol.specs.Stamps.{is_earlier, is_epoch}
 use Rattle.xt_messages.specs.declared.record.Record.{Record}
 use Rattle.xt_protocol.specs.declared.states.IssuedUpdate.{IssuedUpdate}
 use Rattle.xt_protocol.specs.ReplicaRows.{stage_record}
@@ -25,23 +25,14 @@ use Rattle.xt_protocol.specs.declared.states.Progress.{Progress}
 use Rattle.xt_protocol.specs.declared.states.Progress.TheVariants as progress
 use Rattle.xt_protocol.specs.declared.states.Tenure.{Tenure}
 use Rattle.xt_protocol.specs.Choice.{chosen_of, difference}
-use Rattle.xt_protocol.specs.Primaries.{Ground, Led, fed, fed_next, known_of_report, is_reported, is_unknown, known_of_own, last_to_each, majority_among, nodes_of, peer_in, report_of, reports_of, statuses_counted, target_of, with_peer}
+use Rattle.xt_protocol.specs.Primaries.{Ground, Led, fed, known_of_report, is_reported, is_unknown, known_of_own, last_to_each, majority_among, nodes_of, peer_in, report_of, reports_of, statuses_counted, target_of, with_peer}
 use Rattle.xt_protocol.specs.PrimaryRows.{after_keeping, body_beyond, body_fetched, body_missed, chooses, epoch_drawn, fetches, forgotten, goes_on, head_chosen, hears_epoch, hears_member, hears_missing, hears_object, hears_peer, hears_status, installs, peer_fed, peers_fed, status_counted, status_told, target_in, unmoved}
 use Rattle.xt_protocol.specs.PrimaryRows as rows
 use Rattle.xt_protocol.specs.Turns.{message, quiet, sends}
 use Rattle.osd_decisions.specs.Reports.{best_report}
 use Rattle.replica_primary.specs.declared.moving.Heard.TheVariants as heard
 use Rattle.replica_primary.specs.declared.moving.Next.TheVariants as step
-use Rattle.replica_primary.specs.Moves.{IsSplit, any_report, beyond, feeds_any, is_asked, is_to_feed, kept_of, led_by, next_fed, next_of, outpromised, source_in}
-use Rattle.replica_primary.proofs.Fed.{none_known}
-
--- a peer gets the body of the first version that isn't known of it
-pub fed_body : (body : ℕ → Stamp → List ℕ) (target : FileHead) (known : List ObjectVersion) (v : ObjectVersion) (bytes : List ℕ)
-    → find (λ w. not (has_version known w)) target.versions ≡ Some v → bytes ≡ body v.object v.version
-    → peer.Feeding known v.object v.version bytes ≡ fed body target known
-unfolding fed
-fed_body body target known v bytes first is =
-    ap (λ (b : List ℕ). peer.Feeding known v.object v.version b) is ∙ sym (ap (λ (w : Option ObjectVersion). fed_next body target known w) first)
+use Rattle.replica_primary.specs.Moves.{IsSplit, any_report, beyond, feeds_any, is_asked, is_to_feed, kept_of, led_by, outpromised, source_in}
 
 not_is : (b : Bool) → not b ≡ true → b ≡ false
 not_is true is = absurd cc
@@ -222,11 +213,6 @@ module _ (g : Ground) (learnt : ℕ) (t : Tenure) where
   other_chosen best differ =
       let is : (best.0.0 == g.place.node.0) ≡ false = grind arith in
       sym (ap (λ (b : Bool). cond b (installs g learnt t best.1) (fetches g learnt t best.1 best.0 (difference (known_of_own g.held) best.1.versions))) is)
-
-  -- the sender is fed on, where something is known of it
-  pub fed_on : (from : NodeId) (known : Option (List ObjectVersion)) → next_of g learnt from t (next_fed known) ≡ feeds_any g learnt t (target_in g.own t.epoch t.progress) from known
-  fed_on from (Some known) = refl
-  fed_on from None = none_known g learnt t from (target_in g.own t.epoch t.progress)
 
   -- the object is the one that was asked for
   pub asked_object : (p : Progress) (from : NodeId) (v : ObjectVersion) (bytes : List ℕ) (led : Led) → is_asked p from v ≡ true

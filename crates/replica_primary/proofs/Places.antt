@@ -1,13 +1,14 @@
 -- one step of the search for a node among peers
-use Rattle.std.proofs.Common.{◌≡◌, ℕ, ◌+◌, ◌<◌, ◌≤◌, List, [], ◌∷◌, ◌++◌, length, get_or, take, drop, ap, ◌∙◌, sym, arith, drop-cons, add-one, append_assoc, zero, suc}
+use Rattle.std.proofs.Common.{◌≡◌, ℕ, ◌+◌, ◌<◌, ◌≤◌, List, [], ◌∷◌, ◌++◌, length, get_or, take, drop, Some, None, ap, ◌∙◌, sym, arith, drop-cons, add-one, append_assoc, zero, suc}
 use Rattle.std.proofs.lemmas.List.{take_all, drop_all, append-nil}
 use Rattle.std.proofs.lemmas.Grind.{common_steps}
 use Rattle.std.proofs.Math.ListN.{set}
 use Rattle.std.proofs.Math.Seq.{take-suc}
+use Rattle.std.proofs.lemmas.List.{get_or_default}
 use Rattle.xt_base.specs.declared.ids.NodeId.{NodeId}
 use Rattle.xt_protocol.specs.declared.states.Peer.{Peer}
 use Rattle.xt_protocol.specs.declared.states.PeerState.{PeerState}
-use Rattle.xt_protocol.specs.Primaries.{with_peer}
+use Rattle.xt_protocol.specs.Primaries.{peer_in, with_peer}
 
 passed : (peers rest : List Peer) (i : ℕ) (d : Peer) → i < length peers → take i peers ++ (get_or peers i d ∷ rest) ≡ take (i + 1) peers ++ rest
 passed peers rest i d lt =
@@ -62,3 +63,35 @@ no_peer_here peers node state i le h =
     ∙ ap (λ rest. take i peers ++ with_peer rest node state) (drop_all i peers le)
     ∙ append-nil (take i peers)
     ∙ take_all i peers le
+
+found_behind : (p : Peer) (rest : List Peer) (node : NodeId) → (p.node.0 ≡ node.0 → ⊥) → peer_in (p ∷ rest) node ≡ peer_in rest node
+unfolding peer_in
+found_behind p rest node ne = grind arith
+
+found_first : (p : Peer) (rest : List Peer) (node : NodeId) → p.node.0 ≡ node.0 → peer_in (p ∷ rest) node ≡ Some p.state
+unfolding peer_in
+found_first p rest node here = grind arith
+
+-- it isn't this one
+pub not_this_one : (peers : List Peer) (node : NodeId) (i : ℕ) (d : Peer) → i < length peers → d ≡ get_or peers i d → (d.node.0 ≡ node.0 → ⊥)
+    → peer_in peers node ≡ peer_in (drop i peers) node → peer_in peers node ≡ peer_in (drop (i + 1) peers) node
+not_this_one peers node i d lt is other h =
+    let ne : ((get_or peers i d).node.0 ≡ node.0 → ⊥) = λ same. other (ap (λ p. p.node.0) is ∙ same) in
+    let e : drop i peers ≡ get_or peers i d ∷ drop (i + 1) peers = rw add-one (drop-cons peers i d lt) in
+    h ∙ ap (λ rest. peer_in rest node) e ∙ found_behind (get_or peers i d) (drop (i + 1) peers) node ne
+
+-- it is this one
+pub this_one : (peers : List Peer) (node : NodeId) (i : ℕ) (d : Peer) → i < length peers → d ≡ get_or peers i d → d.node.0 ≡ node.0
+    → peer_in peers node ≡ peer_in (drop i peers) node → (e : Peer) → peer_in peers node ≡ Some (get_or peers i e).state
+this_one peers node i d lt is same h other =
+    let here : (get_or peers i d).node.0 ≡ node.0 = sym (ap (λ p. p.node.0) is) ∙ same in
+    let e : drop i peers ≡ get_or peers i d ∷ drop (i + 1) peers = rw add-one (drop-cons peers i d lt) in
+    h
+    ∙ ap (λ rest. peer_in rest node) e
+    ∙ found_first (get_or peers i d) (drop (i + 1) peers) node here
+    ∙ ap (λ (p : Peer). Some p.state) (get_or_default peers i d other lt)
+
+-- it is none
+pub no_such_one : (peers : List Peer) (node : NodeId) (i : ℕ) → length peers ≤ i → peer_in peers node ≡ peer_in (drop i peers) node → peer_in peers node ≡ None
+unfolding peer_in
+no_such_one peers node i le h = h ∙ ap (λ rest. peer_in rest node) (drop_all i peers le)

@@ -5,3 +5,4 @@ pub mod Written
 pub mod Moves
 pub mod Acks
 pub mod Places
+pub mod Feeding

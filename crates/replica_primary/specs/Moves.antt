@@ -14,13 +14,12 @@ use Rattle.xt_protocol.specs.SeenBodies.{body_by}
 use Rattle.xt_protocol.specs.declared.states.Place.{Place}
 use Rattle.xt_protocol.specs.declared.states.Peer.{Peer}
 use Rattle.xt_protocol.specs.declared.states.PeerState.{PeerState}
-use Rattle.xt_protocol.specs.declared.states.PeerState.TheVariants as peer
-use Rattle.xt_protocol.specs.Stamps.{is_earlier, is_version, without_version}
+use Rattle.xt_protocol.specs.Stamps.{is_earlier, is_version}
 use Rattle.xt_protocol.specs.declared.states.Progress.{Progress}
 use Rattle.xt_protocol.specs.declared.states.Progress.TheVariants as progress
 use Rattle.xt_protocol.specs.declared.states.Tenure.{Tenure}
-use Rattle.xt_protocol.specs.Primaries.{Ground, Led, is_reported, nodes_of, with_known}
-use Rattle.xt_protocol.specs.PrimaryRows.{after_keeping, body_beyond, epoch_drawn, feeds, goes_on, installs, target_in, unmoved}
+use Rattle.xt_protocol.specs.Primaries.{Ground, Led, is_reported, nodes_of, peer_in}
+use Rattle.xt_protocol.specs.PrimaryRows.{after_keeping, body_beyond, body_missed, body_staged, epoch_drawn, feeds, goes_on, installs, target_in, unmoved}
 use Rattle.xt_protocol.specs.Turns.{quiet}
 use Rattle.replica_primary.specs.declared.moving.FetchedBody.{FetchedBody}
 use Rattle.replica_primary.specs.declared.moving.Next.{Next}
@@ -60,22 +59,20 @@ abbrev pub IsSplit : List ObjectVersion → Option (ObjectVersion × List Object
 IsSplit wanted None = wanted ≡ []
 IsSplit wanted (Some s) = wanted ≡ s.0 ∷ s.1
 
--- what is known of a peer that was sent a body or a head
-abbrev pub known_of : PeerState → Option (List ObjectVersion)
-known_of (peer.Feeding known object version body) = Some known
-known_of (peer.Heading known head) = Some known
-known_of _ = None
-
--- what is known of a peer that was sent a head
-abbrev pub known_at_head : PeerState → Option (List ObjectVersion)
-known_at_head (peer.Heading known head) = Some known
-known_at_head _ = None
-
 -- a peer is fed on, where something is known of it, and there is a head to which peers are brought
 abbrev pub feeds_any : Ground → ℕ → Tenure → Option FileHead → NodeId → Option (List ObjectVersion) → Led
 feeds_any g learnt t (Some target) from (Some known) = feeds g learnt t from target known
 feeds_any g learnt t None from _ = unmoved learnt t
 feeds_any g learnt t (Some target) from None = unmoved learnt t
+
+-- a staged body, and a missed one, of a peer in this state
+abbrev pub stages_in : Ground → ℕ → Tenure → NodeId → Option PeerState → ObjectVersion → Led
+stages_in g learnt t from None v = unmoved learnt t
+stages_in g learnt t from (Some state) v = body_staged g learnt t (target_in g.own t.epoch t.progress) from state v
+
+abbrev pub misses_in : Ground → ℕ → Tenure → NodeId → Option PeerState → ObjectVersion → Led
+misses_in g learnt t from None v = unmoved learnt t
+misses_in g learnt t from (Some state) v = body_missed g learnt t (target_in g.own t.epoch t.progress) from state v
 
 -- how a tenure goes on after a message from this node
 abbrev pub next_of : Ground → ℕ → NodeId → Tenure → Next → Led
@@ -86,28 +83,16 @@ next_of g learnt from t (step.Installs chosen fetched) = after_keeping (kept_of 
 -- a primary that has heard a message from this node
 abbrev pub led_by : Ground → ℕ → NodeId → Tenure → Heard → Led
 led_by g learnt from t (heard.GoesOn n) = next_of g learnt from t n
+led_by g learnt from t (heard.Staged v) = stages_in g learnt t from (peer_in t.peers from) v
+led_by g learnt from t (heard.Missed v) = misses_in g learnt t from (peer_in t.peers from) v
 led_by g learnt from t (heard.Redraws above) = epoch_drawn g.place above g.own (nodes_of t.peers)
 
--- the sender is fed on, where something is known of it
-abbrev pub next_fed : Option (List ObjectVersion) → Next
-next_fed None = step.Gives quiet
-next_fed (Some known) = step.Feeds known
-
--- these versions and this one, where something is known
-abbrev pub with_any : Option (List ObjectVersion) → ObjectVersion → Option (List ObjectVersion)
-with_any None v = None
-with_any (Some known) v = Some (with_known known v)
-
--- these versions without this one, where something is known
-abbrev pub without_any : Option (List ObjectVersion) → ObjectVersion → Option (List ObjectVersion)
-without_any None v = None
-without_any (Some known) v = Some (without_version known v)
-
--- whether a message is one after which a tenure goes on
-abbrev pub keeps_tenure : Payload → Bool
-keeps_tenure (payload.Missing file epoch object version) = false
-keeps_tenure (payload.Refused file epoch promised) = false
-keeps_tenure _ = true
+-- whether a message is one that tells of a body that was sent, or ends a tenure
+abbrev pub is_apart : Payload → Bool
+is_apart (payload.Staged file epoch object version) = true
+is_apart (payload.Missing file epoch object version) = true
+is_apart (payload.Refused file epoch promised) = true
+is_apart _ = false
 
 -- a report, where there is one
 abbrev pub any_report : Option (NodeId × FileHead) → List (NodeId × FileHead)

@@ -1,23 +1,22 @@
-ghost use Rattle.std.specs.Prelude.{◌≡◌, ℕ, List, None, Some, IfOk};
+ghost use Rattle.std.specs.Prelude.{◌≡◌, ℕ, List, Some, IfOk, IsTrue, is_some, option_map};
 ghost use Rattle.xt_messages.specs.declared.file.ObjectVersion.{ObjectVersion};
-ghost use Rattle.xt_messages.specs.declared.file.FileHead.{FileHead};
-ghost use Rattle.xt_protocol.specs.declared.states.PeerState.{PeerState};
+ghost use Rattle.xt_protocol.specs.declared.states.PeerState.TheVariants as peer;
 ghost use Rattle.xt_protocol.specs.Primaries as rows;
-ghost use Rattle.xt_protocol.specs.PrimaryRows.{feeds, goes_on, target_in, with_state};
+ghost use Rattle.xt_protocol.specs.PrimaryRows.{goes_on, target_in, with_state};
 ghost use Rattle.xt_protocol.specs.Turns.{sends};
 ghost use Rattle.object_versions.specs.KeptBodies.{fault_of, ReadsOnly};
 ghost use Rattle.replica_primary.specs.Written.{ground};
-ghost use Rattle.replica_primary.specs.Moves.{body_seen, feeds_any, known_at_head, known_of, next_fed, with_any, without_any};
+ghost use Rattle.replica_primary.specs.Moves.{body_seen, feeds_any, misses_in, stages_in};
+ghost use Rattle.replica_primary.specs.Feeding.{head_of, is_at_head, known_in, known_of};
 
-use crate::known::{add_known, first_unknown, remove_version};
-use crate::moving::{FetchedBody, Next, unmoved};
-use crate::peers::{peer_in, set_peer};
+use crate::moving::FetchedBody;
+use crate::peers::{peer_in, set_peer, swap_state};
 use crate::sending::{last_sent, send_any};
-use object_versions::{Bodies, StepErr, is_epoch, is_stamp, seen};
+use object_versions::{Bodies, StepErr, first_missing, hold, is_epoch, is_stamp, let_go, seen};
 use std::alloc::Global;
 use xt_base::{Copies, Epoch, FileId, NodeId, Octets, OutOfMemory, Seq, Stamp};
-use xt_messages::{FileHead, HeldPairs, ObjectVersion};
-use xt_protocol::{Peer, PeerState, Place, Progress, Tenure, Turned, quiet, sends};
+use xt_messages::{FileHead, HeldSet, ObjectVersion};
+use xt_protocol::{Peer, PeerState, Peers, Place, Progress, Tenure, Turned, quiet, sends};
 
 /// A body as a row sees it: the one that was just fetched, else the one that is kept.
 fn body_seen<B: Bodies>(
@@ -40,6 +39,41 @@ fn body_seen<B: Bodies>(
     }
 }
 
+/// A head to which peers are brought.
+#[derive(Drop)]
+pub enum Target<'a> {
+    /// This one as it is.
+    Whole { head: &'a FileHead },
+    /// This one under this epoch.
+    Under { head: &'a FileHead, epoch: Epoch },
+}
+
+impl<'a> Target<'a> {
+    /// The versions that the peers are to have.
+    fn versions(&self) -> &[ObjectVersion]
+        ensures { result.now ≡ (head_of self.now).versions }
+    {
+        match self {
+            Target::Whole { head } | Target::Under { head, .. } => head.versions.as_slice(),
+        }
+    }
+
+    /// The head itself.
+    pub fn copy(&self, alloc: Global) -> Result<FileHead, OutOfMemory>
+        ensures { IfOk result (λ head. head ≡ head_of self.now) }
+    {
+        match self {
+            Target::Whole { head } => head.copy(alloc),
+            Target::Under { head, epoch } => {
+                let mut under = head.copy(alloc)?;
+                under.promised = *epoch;
+                under.stamp.epoch = *epoch;
+                Ok(under)
+            }
+        }
+    }
+}
+
 /// Fed: a peer of which these versions are known, on its way to this head.
 #[tactic(auto, unfolding(xt_protocol::specs::Primaries::fed))]
 pub fn fed<B: Bodies>(
@@ -47,14 +81,15 @@ pub fn fed<B: Bodies>(
     alloc: Global,
     file: &FileId,
     fetched: &Option<FetchedBody>,
-    target: &FileHead,
-    known: HeldPairs,
+    target: &Target<'_>,
+    known: HeldSet,
 ) -> Result<PeerState, StepErr>
     ensures value { IfOk result (λ state. state ≡
-        rows.fed (body_seen (B.records bodies.old) file.now fetched.now) target.now known) }
+        rows.fed (body_seen (B.records bodies.old) file.now fetched.now) (head_of target.now)
+        known) }
     ensures reads { ReadsOnly B.records B.fault_count bodies.old bodies.new (fault_of result) }
 {
-    match first_unknown(known.as_slice(), target.versions.as_slice()) {
+    match first_missing(&known, target.versions()) {
         Some(ObjectVersion { object, version }) => Ok(PeerState::Feeding {
             known,
             object,
@@ -69,21 +104,27 @@ pub fn fed<B: Bodies>(
 }
 
 /// The head to which peers are brought: the own one once it is of the epoch, and before that the chosen one under the epoch.
-pub fn target_of(
-    alloc: Global,
-    own: &FileHead,
-    epoch: Epoch,
-    chosen: &FileHead,
-) -> Result<FileHead, OutOfMemory>
-    ensures { IfOk result (λ target. target ≡ rows.target_of own.now epoch chosen.now) }
+pub fn target_of<'a>(own: &'a FileHead, epoch: Epoch, chosen: &'a FileHead) -> Target<'a>
+    ensures { head_of result ≡ rows.target_of own.now epoch chosen.now }
 {
     if is_epoch(own.stamp.epoch, epoch) {
-        return own.copy(alloc);
+        return Target::Whole { head: own };
     }
-    let mut target = chosen.copy(alloc)?;
-    target.promised = epoch;
-    target.stamp.epoch = epoch;
-    Ok(target)
+    Target::Under {
+        head: chosen,
+        epoch,
+    }
+}
+
+/// The head to which peers are brought, if there is one so far.
+fn target_in<'a>(own: &'a FileHead, epoch: Epoch, progress: &'a Progress) -> Option<Target<'a>>
+    ensures { option_map head_of result ≡ target_in own.now epoch progress.now }
+{
+    match progress {
+        Progress::Installing { chosen, .. } => Some(target_of(own, epoch, chosen)),
+        Progress::Active { .. } => Some(Target::Whole { head: own }),
+        _ => None,
+    }
 }
 
 /// What leads a peer to this state: a body, a head, or nothing.
@@ -121,27 +162,6 @@ fn peer_sent(
     sent
 }
 
-/// A peer is fed on: these versions are known of it.
-pub fn feeds<B: Bodies>(
-    bodies: &mut B,
-    alloc: Global,
-    place: &Place,
-    tenure: &mut Tenure,
-    node: NodeId,
-    target: &FileHead,
-    known: HeldPairs,
-) -> Result<Turned, StepErr>
-    ensures value { IfOk result (λ turned.
-        (learnt : ℕ) (own : FileHead) (held : List ObjectVersion) →
-        goes_on learnt tenure.new turned ≡
-        feeds (ground place.now (B.records bodies.old) own held) learnt tenure.old node target.now
-        known) }
-    ensures reads { ReadsOnly B.records B.fault_count bodies.old bodies.new (fault_of result) }
-{
-    let state = fed(bodies, alloc, &place.file, &None, target, known)?;
-    Ok(peer_sent(alloc, place, tenure, node, state)?)
-}
-
 /// A peer of which these versions are known is fed on, where there is a head to which peers are brought.
 pub fn feeds_on<B: Bodies>(
     bodies: &mut B,
@@ -150,7 +170,7 @@ pub fn feeds_on<B: Bodies>(
     tenure: &mut Tenure,
     own: &FileHead,
     from: NodeId,
-    known: HeldPairs,
+    known: HeldSet,
 ) -> Result<Turned, StepErr>
     ensures value { IfOk result (λ turned. (learnt : ℕ) (held : List ObjectVersion) →
         goes_on learnt tenure.new turned ≡
@@ -158,102 +178,120 @@ pub fn feeds_on<B: Bodies>(
         (target_in own.now tenure.old.epoch tenure.old.progress) from (Some known)) }
     ensures reads { ReadsOnly B.records B.fault_count bodies.old bodies.new (fault_of result) }
 {
-    match &tenure.progress {
-        Progress::Installing { chosen, .. } => {
-            let target = target_of(alloc, own, tenure.epoch, chosen)?;
-            feeds(bodies, alloc, place, tenure, from, &target, known)
-        }
-        Progress::Active { .. } => feeds(bodies, alloc, place, tenure, from, own, known),
-        _ => Ok(quiet(alloc)),
+    let Some(target) = target_in(own, tenure.epoch, &tenure.progress) else {
+        return Ok(quiet(alloc));
+    };
+    let state = fed(bodies, alloc, &place.file, &None, &target, known)?;
+    Ok(peer_sent(alloc, place, tenure, from, state)?)
+}
+
+/// Whether a peer was sent a body or a head.
+fn is_fed(peers: &[Peer], node: NodeId) -> bool
+    ensures { result ≡ is_some (known_in (rows.peer_in peers.now node)) }
+{
+    match peer_in(peers, node) {
+        Some(PeerState::Feeding { .. } | PeerState::Heading { .. }) => true,
+        _ => false,
     }
 }
 
-/// The sender is fed on, where something is known of it.
-fn next_fed(alloc: Global, known: Option<HeldPairs>) -> Next
-    ensures { result ≡ next_fed known }
+/// What is known of a peer that was sent a body or a head.
+fn known_of(state: PeerState) -> Option<HeldSet>
+    ensures { result ≡ known_of state }
 {
-    match known {
-        Some(known) => Next::Feeds { known },
-        None => unmoved(alloc),
+    match state {
+        PeerState::Feeding { known, body, .. } => {
+            drop(body);
+            Some(known)
+        }
+        PeerState::Heading { known, head } => {
+            drop(head);
+            Some(known)
+        }
+        other => {
+            drop(other);
+            None
+        }
     }
+}
+
+/// Takes out what is known of a peer that was sent a body or a head. The peer's state is to be set anew then.
+fn take_known(peers: &mut Peers, node: NodeId) -> HeldSet
+    requires { IsTrue (is_some (known_in (rows.peer_in peers.old node))) }
+    ensures known { Some result ≡ known_in (rows.peer_in peers.old node) }
+    ensures set { peers.new ≡ rows.with_peer peers.old node peer.Unknown }
+{
+    let Some(before) = swap_state(peers, node, PeerState::Unknown) else {
+        unreachable!()
+    };
+    let Some(known) = known_of(before) else {
+        unreachable!()
+    };
+    known
 }
 
 /// Body staged: it is known of the peer, which is fed on.
-pub fn body_staged(
+pub fn body_staged<B: Bodies>(
+    bodies: &mut B,
     alloc: Global,
-    peers: &[Peer],
+    place: &Place,
+    tenure: &mut Tenure,
+    own: &FileHead,
     from: NodeId,
     version: ObjectVersion,
-) -> Result<Next, OutOfMemory>
-    ensures { IfOk result (λ next. (state : PeerState) → rows.peer_in peers.now from ≡ Some state →
-        next ≡ next_fed (with_any (known_of state) version)) }
+) -> Result<Turned, StepErr>
+    ensures value { IfOk result (λ turned. (learnt : ℕ) (held : List ObjectVersion) →
+        goes_on learnt tenure.new turned ≡
+        stages_in (ground place.now (B.records bodies.old) own.now held) learnt tenure.old from
+        (rows.peer_in tenure.old.peers from) version) }
+    ensures reads { ReadsOnly B.records B.fault_count bodies.old bodies.new (fault_of result) }
 {
-    let told = known_told(alloc, peers, from)?;
-    let known = with_any(told, version)?;
-    Ok(next_fed(alloc, known))
+    let Some(target) = target_in(own, tenure.epoch, &tenure.progress) else {
+        return Ok(quiet(alloc));
+    };
+    if !is_fed(tenure.peers.as_slice(), from) {
+        return Ok(quiet(alloc));
+    }
+    let mut known = take_known(&mut tenure.peers, from);
+    hold(&mut known, version)?;
+    let state = fed(bodies, alloc, &place.file, &None, &target, known)?;
+    Ok(peer_sent(alloc, place, tenure, from, state)?)
+}
+
+/// Whether a peer was sent a head last.
+fn is_at_head(peers: &[Peer], node: NodeId) -> bool
+    ensures { result ≡ is_at_head (rows.peer_in peers.now node) }
+{
+    match peer_in(peers, node) {
+        Some(PeerState::Heading { .. }) => true,
+        _ => false,
+    }
 }
 
 /// Body missed: it is no longer known of the peer, which is fed on.
-pub fn body_missed(
+pub fn body_missed<B: Bodies>(
+    bodies: &mut B,
     alloc: Global,
-    peers: &[Peer],
+    place: &Place,
+    tenure: &mut Tenure,
+    own: &FileHead,
     from: NodeId,
     version: ObjectVersion,
-) -> Result<Next, OutOfMemory>
-    ensures { IfOk result (λ next. (state : PeerState) → rows.peer_in peers.now from ≡ Some state →
-        next ≡ next_fed (without_any (known_at_head state) version)) }
+) -> Result<Turned, StepErr>
+    ensures value { IfOk result (λ turned. (learnt : ℕ) (held : List ObjectVersion) →
+        goes_on learnt tenure.new turned ≡
+        misses_in (ground place.now (B.records bodies.old) own.now held) learnt tenure.old from
+        (rows.peer_in tenure.old.peers from) version) }
+    ensures reads { ReadsOnly B.records B.fault_count bodies.old bodies.new (fault_of result) }
 {
-    let told = known_at_head(alloc, peers, from)?;
-    Ok(next_fed(alloc, without_any(told, version)))
-}
-
-/// These versions and this one, where something is known.
-fn with_any(
-    known: Option<HeldPairs>,
-    version: ObjectVersion,
-) -> Result<Option<HeldPairs>, OutOfMemory>
-    ensures { IfOk result (λ after. after ≡ with_any known version) }
-{
-    let Some(mut known) = known else {
-        return Ok(None);
+    let Some(target) = target_in(own, tenure.epoch, &tenure.progress) else {
+        return Ok(quiet(alloc));
     };
-    add_known(&mut known, version)?;
-    Ok(Some(known))
-}
-
-/// These versions without this one, where something is known.
-fn without_any(known: Option<HeldPairs>, version: ObjectVersion) -> Option<HeldPairs>
-    ensures { result ≡ without_any known version }
-{
-    let mut known = known?;
-    remove_version(&mut known, version);
-    Some(known)
-}
-
-/// What is known of this peer, if it was sent a body or a head.
-fn known_told(alloc: Global, peers: &[Peer], from: NodeId) -> Result<Option<HeldPairs>, OutOfMemory>
-    ensures { IfOk result (λ known. (state : PeerState) → rows.peer_in peers.now from ≡ Some state →
-        known ≡ known_of state) }
-{
-    match peer_in(peers, from) {
-        Some(PeerState::Feeding { known, .. } | PeerState::Heading { known, .. }) => {
-            Ok(Some(known.copy(alloc)?))
-        }
-        _ => Ok(None),
+    if !is_at_head(tenure.peers.as_slice(), from) {
+        return Ok(quiet(alloc));
     }
-}
-
-/// What is known of this peer, if it was sent a head.
-fn known_at_head(
-    alloc: Global,
-    peers: &[Peer],
-    from: NodeId,
-) -> Result<Option<HeldPairs>, OutOfMemory>
-    ensures { IfOk result (λ known. (state : PeerState) → rows.peer_in peers.now from ≡ Some state →
-        known ≡ known_at_head state) }
-{
-    match peer_in(peers, from) {
-        Some(PeerState::Heading { known, .. }) => Ok(Some(known.copy(alloc)?)),
-        _ => Ok(None),
-    }
+    let mut known = take_known(&mut tenure.peers, from);
+    let_go(&mut known, version);
+    let state = fed(bodies, alloc, &place.file, &None, &target, known)?;
+    Ok(peer_sent(alloc, place, tenure, from, state)?)
 }

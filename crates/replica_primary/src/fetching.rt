@@ -13,7 +13,6 @@ ghost use Rattle.xt_protocol.specs.ReplicaRows.{stage_record};
 ghost use Rattle.replica_primary.specs.Written.{ground};
 ghost use Rattle.replica_primary.specs.Moves.{is_asked, kept_of, led_by, next_of, source_in};
 
-use crate::feeding::body_missed;
 use crate::gathering::fetches;
 use crate::moving::{FetchedBody, Heard, Next, advance, unmoved};
 use object_versions::{holds, is_version};
@@ -124,22 +123,20 @@ pub fn hears_missing(
     tenure: &Tenure,
     from: NodeId,
     version: ObjectVersion,
-) -> Result<Heard, OutOfMemory>
-    ensures { IfOk result (λ heard.
-        (place : Place) (records : List Record) (own : FileHead) (held : List ObjectVersion)
+) -> Heard
+    ensures { (place : Place) (records : List Record) (own : FileHead) (held : List ObjectVersion)
         (state : PeerState) → peer_in tenure.now.peers from ≡ Some state →
-        led_by (ground place records own held) learnt from tenure.now heard ≡
+        led_by (ground place records own held) learnt from tenure.now result ≡
         rows.hears_missing (ground place records own held) learnt tenure.now tenure.now.progress
-        from state version) }
+        from state version }
 {
     let Some(source) = source_of(&tenure.progress) else {
-        let next = body_missed(alloc, tenure.peers.as_slice(), from, version)?;
-        return Ok(Heard::GoesOn { next });
+        return Heard::Missed { version };
     };
     if from.0 != source.0 {
-        return Ok(Heard::GoesOn {
+        return Heard::GoesOn {
             next: unmoved(alloc),
-        });
+        };
     }
-    Ok(Heard::Redraws { above: learnt })
+    Heard::Redraws { above: learnt }
 }

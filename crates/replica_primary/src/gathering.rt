@@ -16,15 +16,15 @@ ghost use Rattle.object_versions.specs.KeptBodies.{fault_of, ReadsOnly};
 ghost use Rattle.replica_primary.specs.Written.{ground};
 ghost use Rattle.replica_primary.specs.Moves.{IsSplit, any_report, ground_beyond, is_to_feed, kept_of, next_of};
 
-use crate::feeding::{fed, target_of};
+use crate::feeding::{Target, fed, target_of};
 use crate::moving::{FetchedBody, Next, advance, after_keeping, kept_of, put, unmoved};
 use crate::peers::set_peer;
 use crate::sending::last_to_each;
-use object_versions::{Bodies, StepErr, holds};
+use object_versions::{Bodies, StepErr, held_from, holds};
 use osd_decisions::{choose, is_majority, statuses_counted};
 use std::alloc::Global;
 use xt_base::{Copies, Epoch, NodeId, OutOfMemory, Seq};
-use xt_messages::{FileHead, HeldPairs, HeldSet, ObjectVersion, Payload, Versions};
+use xt_messages::{FileHead, HeldSet, ObjectVersion, Payload, Versions};
 use xt_protocol::{
     Peer, PeerState, Peers, Place, Progress, Tenure, Turned, join, message, sends, sends_one,
 };
@@ -74,14 +74,14 @@ fn is_to_feed(place: &Place, peer: &Peer) -> bool
     }
 }
 
-/// The versions that a peer has told, where it has reported.
-fn told_versions(alloc: Global, state: &PeerState) -> Result<HeldPairs, OutOfMemory>
-    ensures { IfOk result (λ told. (head : FileHead) → state.now ≡ peer.Reported head →
-        told ≡ known_of_report head) }
+/// What is known of a peer that has reported.
+fn known_of_report(alloc: Global, state: &PeerState) -> Result<HeldSet, OutOfMemory>
+    ensures { IfOk result (λ known. (head : FileHead) → state.now ≡ peer.Reported head →
+        known ≡ known_of_report head) }
 {
     match state {
-        PeerState::Reported { head } => head.versions.copy(alloc),
-        _ => Ok(Seq::new(alloc)),
+        PeerState::Reported { head } => held_from(alloc, head.versions.as_slice()),
+        _ => Ok(HeldSet::new(alloc)),
     }
 }
 
@@ -105,8 +105,9 @@ fn peer_fed<B: Bodies>(
     if !is_to_feed(place, peer) {
         return Ok(());
     }
-    let told = told_versions(alloc, &peer.state)?;
-    let state = fed(bodies, alloc, &place.file, fetched, target, told)?;
+    let known = known_of_report(alloc, &peer.state)?;
+    let target = Target::Whole { head: target };
+    let state = fed(bodies, alloc, &place.file, fetched, &target, known)?;
     put(&mut peer.state, state);
     Ok(())
 }
@@ -201,7 +202,7 @@ fn installs<B: Bodies>(
         learnt tenure.old chosen) }
     ensures reads { ReadsOnly B.records B.fault_count bodies.old bodies.new (fault_of result) }
 {
-    let target = target_of(alloc, own, tenure.epoch, &chosen)?;
+    let target = target_of(own, tenure.epoch, &chosen).copy(alloc)?;
     let acked = Seq::new(alloc);
     advance(tenure, Progress::Installing { chosen, acked });
     peers_fed(bodies, alloc, place, fetched, &target, &mut tenure.peers)?;
@@ -427,7 +428,7 @@ pub fn status_told(
             Ok(unmoved(alloc))
         }
         Progress::Installing { .. } | Progress::Active { .. } => Ok(Next::Feeds {
-            known: head.versions.copy(alloc)?,
+            known: held_from(alloc, head.versions.as_slice())?,
         }),
     }
 }

@@ -1,4 +1,4 @@
-ghost use Rattle.std.specs.Prelude.{◌≡◌, ◌∷◌, [], ℕ, List, Some, IfOk, IsTrue, OnErr, OnOk};
+ghost use Rattle.std.specs.Prelude.{◌≡◌, ◌∷◌, [], ℕ, List, Some, IfOk, IsFalse, OnErr, OnOk};
 ghost use Rattle.xt_messages.specs.declared.file.ObjectVersion.{ObjectVersion};
 ghost use Rattle.xt_messages.specs.declared.file.FileHead.{FileHead};
 ghost use Rattle.xt_messages.specs.declared.message.Payload.TheVariants as payload;
@@ -15,11 +15,11 @@ ghost use Rattle.osd_decisions.specs.Committed.{CommittedUnder};
 ghost use Rattle.replica_primary.specs.declared.moving.Heard.TheVariants as heard;
 ghost use Rattle.replica_primary.specs.declared.moving.Next.TheVariants as step;
 ghost use Rattle.replica_primary.specs.Written.{ground};
-ghost use Rattle.replica_primary.specs.Moves.{keeps_tenure, led_by, next_of, outpromised, peers_under};
+ghost use Rattle.replica_primary.specs.Moves.{is_apart, led_by, next_of, outpromised, peers_under};
 
 use crate::acking::{hears_ack, makes_current};
 use crate::drawing::redrawn;
-use crate::feeding::{body_staged, feeds_on};
+use crate::feeding::{body_missed, body_staged, feeds_on};
 use crate::fetching::{hears_missing, hears_object};
 use crate::gathering::{installs_keeping, status_told};
 use crate::moving::{Heard, Next, put, unmoved};
@@ -162,7 +162,7 @@ fn version_of(object: u64, version: Stamp) -> ObjectVersion
     ObjectVersion { object, version }
 }
 
-/// A message of the primary's epoch, from a peer, after which the tenure goes on.
+/// A message of the primary's epoch, from a peer, that tells of no body that was sent, and after which the tenure goes on.
 fn goes_on_hearing(
     alloc: Global,
     place: &Place,
@@ -172,7 +172,7 @@ fn goes_on_hearing(
     from: NodeId,
     payload: &Payload,
 ) -> Result<Next, OutOfMemory>
-    requires { IsTrue (keeps_tenure payload.now) }
+    requires { IsFalse (is_apart payload.now) }
     ensures { IfOk result (λ next. (learnt : ℕ) (records : List Record) (state : PeerState) →
         peer_in tenure.old.peers from ≡ Some state →
         next_of (ground place.now records own.now held.now) learnt from tenure.new next ≡
@@ -189,14 +189,6 @@ fn goes_on_hearing(
         } => {
             let version = version_of(*object, *version);
             hears_object(alloc, place, tenure, held, from, version, bytes)
-        }
-        Payload::Staged {
-            object,
-            version,
-            ..
-        } => {
-            let version = version_of(*object, *version);
-            body_staged(alloc, tenure.peers.as_slice(), from, version)
         }
         Payload::Ack { stamp, .. } => {
             let newly = newly_current(place, tenure.peers.as_slice(), from, *stamp);
@@ -229,11 +221,22 @@ fn hears_peer(
         payload.now) }
 {
     match payload {
+        Payload::Staged {
+            object,
+            version,
+            ..
+        } => {
+            let version = version_of(*object, *version);
+            Ok(Heard::Staged { version })
+        }
         Payload::Missing {
             object,
             version,
             ..
-        } => hears_missing(alloc, learnt, tenure, from, version_of(*object, *version)),
+        } => {
+            let version = version_of(*object, *version);
+            Ok(hears_missing(alloc, learnt, tenure, from, version))
+        }
         Payload::Refused { promised, .. } => {
             Ok(outpromised(alloc, learnt, tenure.epoch, *promised))
         }
@@ -360,6 +363,8 @@ pub fn hears<B: Bodies>(
     )?;
     match heard {
         Heard::GoesOn { next } => proceeds(bodies, alloc, place, tenure, own, from, next),
+        Heard::Staged { version } => body_staged(bodies, alloc, place, tenure, own, from, version),
+        Heard::Missed { version } => body_missed(bodies, alloc, place, tenure, own, from, version),
         Heard::Redraws { above } => Ok(redraws(alloc, place, primary, own, above)?),
     }
 }

@@ -6,7 +6,7 @@ ghost use Rattle.replica_primary.specs.Moves.{kept_of};
 use std::alloc::Global;
 use std::mem;
 use xt_base::{FileId, Octets, OptionalBox, OutOfMemory, Stamp};
-use xt_messages::{FileHead, HeldPairs, Record};
+use xt_messages::{FileHead, HeldSet, ObjectVersion, Record};
 use xt_protocol::{Progress, Tenure, Turned, quiet};
 
 /// How a tenure goes on after a message, told before a body is read for it.
@@ -18,7 +18,7 @@ pub enum Next {
     },
     /// The sender, of which these versions are known, is fed on, where there is a head to which peers are brought.
     Feeds {
-        known: HeldPairs,
+        known: HeldSet,
     },
     /// This head is installed, and the body is kept that was just fetched for it, if one was.
     Installs {
@@ -32,6 +32,10 @@ pub enum Next {
 pub enum Heard {
     /// It goes on.
     GoesOn { next: Next },
+    /// It goes on. The sender has this body now, and is fed on.
+    Staged { version: ObjectVersion },
+    /// It goes on. The sender lacks this body after all, and is fed on.
+    Missed { version: ObjectVersion },
     /// It ends, and a new epoch is drawn above this number.
     Redraws { above: u64 },
 }

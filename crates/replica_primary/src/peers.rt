@@ -3,6 +3,7 @@ ghost use Rattle.xt_protocol.specs.Primaries as rows;
 ghost use Rattle.replica_primary.specs.Places.{IsPeerPlace};
 
 use std::alloc::Global;
+use std::mem;
 use xt_base::{NodeId, OutOfMemory, Seq};
 use xt_protocol::{Peer, PeerState, Peers};
 
@@ -30,6 +31,19 @@ fn place_of(peers: &[Peer], node: NodeId) -> Option<usize>
         }
     }
     None
+}
+
+/// A peer gets this state, and the one before is given. A node that is no peer changes nothing.
+pub fn swap_state(peers: &mut Peers, node: NodeId, state: PeerState) -> Option<PeerState>
+    ensures before { result ≡ rows.peer_in peers.old node }
+    ensures after { peers.new ≡ rows.with_peer peers.old node state }
+{
+    let Some(place) = place_of(peers.as_slice(), node) else {
+        return None;
+    };
+    let before = mem::replace(&mut peers.items[place], Peer { node, state });
+    let Peer { node: _, state } = before;
+    Some(state)
 }
 
 /// A peer gets this state. A node that is no peer changes nothing.

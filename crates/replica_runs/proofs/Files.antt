@@ -504,17 +504,17 @@ module _ (stripe : ℕ) (ops : ℕ × ℕ → Op) (members : List ℕ) (site : S
       replica_step : (s : FileState) (from : NodeId) (acted : Acted) → Reaches stripe ops members n (There s) s.primary.tenure (record { rec = acted.rec; outs = if_any site.node from acted.answer; marks = [] }) → Steps (There s) (replica_acts site s from acted)
       replica_step s from acted reach = record { reach = reach; kept = refl }
 
-      ask_step : (s : FileState) (k : Kind) (id : OpId) (capability : Capability) (asked : Op) → IsOrderly stripe ops members s → IsList stripe members capability.location → Fits members n (There s)
+      ask_step : (s : FileState) (k : Kind) (id : OpId) (capability : Capability) (asked : Op) → k ≡ kind.Replicated → IsOrderly stripe ops members s → IsList stripe members capability.location → Fits members n (There s)
           → ((deadline : ℕ) → AskFits stripe ops (record { id = id; epoch = capability.epoch; op = asked; deadline = deadline })) → Steps (There s) (ask_comes site s k id capability asked)
       unfolding ask_handled
-      ask_step s kind.Replicated id capability asked orderly own fits of = let_in_step s id capability asked orderly own fits of (refusal_of site s.kept.location capability asked)
-      ask_step s kind.Striped id capability asked orderly own fits of = (quiet_step s s quiet holder sent entries refl refl mute_quiet fits).file
+      ask_step s kind.Replicated id capability asked replicated orderly own fits of = let_in_step s id capability asked orderly own fits of (refusal_of site s.kept.location capability asked)
+      ask_step s kind.Striped id capability asked replicated orderly own fits of = absurd cc
 
       -- A message that concerns the file, when nothing is overdue.
       pub message_step : (s : FileState) (from : NodeId) (content : Payload) → IsOrderly stripe ops members s → (IsHeld (message_comes site s from content).state.lease → IsFree n holder) → Fits members n (There s)
           → AreIn (shown from.0 content) sent → OwnFits n s.kept.held from content → AskComes stripe ops members from content → Steps (There s) (message_comes site s from content)
       message_step s from (payload.Ask number capability asked) orderly alone fits came mine known =
-          ask_step s capability.location.kind (record { client = from; number = number }) capability asked orderly known.0 fits known.1
+          ask_step s capability.location.kind (record { client = from; number = number }) capability asked known.0.2 orderly known.0 fits known.1
       message_step s from (payload.Read file ballot) orderly alone fits came mine known = read_step s from ballot fits
       message_step s from (payload.Write file ballot boot l) orderly alone fits came mine known = write_step s from ballot boot l fits
       message_step s from (payload.Promise file ballot boot report) orderly alone fits came mine known = answer_step s from (payload.Promise file ballot boot report) orderly alone fits

@@ -14,8 +14,8 @@ use Rattle.xt_messages.specs.declared.message.Msg.{Msg}
 use Rattle.xt_messages.specs.declared.message.Payload.{Payload}
 use Rattle.xt_messages.specs.declared.message.Payload.TheVariants as payload
 use Rattle.xt_protocol.specs.Folds.{body_of}
-use Rattle.xt_protocol.specs.Stamps.{is_epoch, is_earlier, is_below, is_version, without_version}
-use Rattle.xt_protocol.specs.Primaries.{Led, peer_in, with_peer, reported, nodes_of, majority_among, with_node, carries, known_of_report, with_known, fed, last_sent, if_any, target_of}
+use Rattle.xt_protocol.specs.Stamps.{is_epoch, is_earlier, is_below, is_version, without_version, with_held}
+use Rattle.xt_protocol.specs.Primaries.{Led, peer_in, with_peer, reported, nodes_of, majority_among, with_node, carries, known_of_report, fed, last_sent, if_any, target_of}
 use Rattle.xt_protocol.specs.PrimaryRows.{goes_on, unmoved, with_state, feeds, status_told, hears_status, hears_object, body_fetched, target_in, body_staged, body_missed, epoch_drawn, hears_missing, makes_current, activated, committed, update_acked, acked_below, hears_ack, forgotten, peer_behind, outpromised, epoch_told, hears_peer, hears_member, hears_epoch, hears}
 use Rattle.xt_protocol.specs.Turns.{sends, answers, message}
 use Rattle.xt_protocol.specs.declared.states.IssuedUpdate.{IssuedUpdate}
@@ -138,8 +138,8 @@ module _ (stripe : ℕ) (ops : ℕ × ℕ → Op) (members : List ℕ) (n : ℕ)
   -- body staged
   staged : (z : Seen) (e : Epoch) (peers : List Peer) (p : Progress) (q : NodeId) (state : PeerState) (v : ObjectVersion) (learnt : ℕ) → IsFit (seen_in z (tenure_of e peers p)) → peer_in peers q ≡ Some state
       → (o : Option FileHead) → target_in z.kept.head e p ≡ o → Leading (seen_in z (tenure_of e peers p)) (body_staged (ground_at stripe n z) learnt (tenure_of e peers p) o q state v)
-  staged z e peers p q (peer.Feeding known object version body) v learnt fits there (Some target) is = feeds_on z e peers p q (peer.Feeding known object version body) target (with_known known v) learnt fits there is
-  staged z e peers p q (peer.Heading known head) v learnt fits there (Some target) is = feeds_on z e peers p q (peer.Heading known head) target (with_known known v) learnt fits there is
+  staged z e peers p q (peer.Feeding known object version body) v learnt fits there (Some target) is = feeds_on z e peers p q (peer.Feeding known object version body) target (with_held known v) learnt fits there is
+  staged z e peers p q (peer.Heading known head) v learnt fits there (Some target) is = feeds_on z e peers p q (peer.Heading known head) target (with_held known v) learnt fits there is
   staged z e peers p q peer.Unknown v learnt fits there (Some target) is = still stripe ops members n z (tenure_of e peers p) learnt fits
   staged z e peers p q (peer.Reported head) v learnt fits there (Some target) is = still stripe ops members n z (tenure_of e peers p) learnt fits
   staged z e peers p q peer.Current v learnt fits there (Some target) is = still stripe ops members n z (tenure_of e peers p) learnt fits

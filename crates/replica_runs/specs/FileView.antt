@@ -1,6 +1,7 @@
 -- What a step of a file at an OSD shows in the world of heads of that file.
 use Rattle.std.specs.Prelude.{◌⊎◌, ◌≡◌, ℕ, List, map, Option, Some, None}
 use Rattle.xt_base.specs.declared.ids.NodeId.{NodeId}
+use Rattle.xt_messages.specs.declared.file.Kind.TheVariants as kind
 use Rattle.xt_messages.specs.declared.file.Location.{Location}
 use Rattle.xt_messages.specs.declared.file.Op.{Op}
 use Rattle.xt_messages.specs.declared.message.Payload.{Payload}
@@ -50,9 +51,10 @@ settled site s = (expired site s).state
 
 -- ---- premises of a step
 
--- the list that is stored is this version's
+-- the list is this version's, of a replicated file
 abbrev pub IsList : ℕ → List ℕ → Location → Type 0
-IsList stripe members location = (location.stripe ≡ stripe) × (map (λ (m : NodeId). m.0) location.members ≡ members)
+IsList stripe members location =
+    (location.stripe ≡ stripe) × (map (λ (m : NodeId). m.0) location.members ≡ members) × (location.kind ≡ kind.Replicated)
 
 abbrev pub ListFits : ℕ → List ℕ → Option Location → Type 0
 ListFits stripe members None = Unit {0}

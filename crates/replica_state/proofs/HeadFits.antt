@@ -9,7 +9,7 @@ use Rattle.xt_messages.specs.declared.file.Session.{Session}
 use Rattle.xt_messages.specs.declared.file.FileHead.{FileHead}
 use Rattle.xt_messages.specs.declared.file.Update.{Update}
 use Rattle.xt_base.specs.declared.TheConstants.{OBJECTS, CLIENTS, COUNTS, NO_OBJECT}
-use Rattle.xt_messages.specs.Limits.{FitsEpoch, FitsHead, FitsVersion, FitsSession, FitsUpdate, is_at_most, rise}
+use Rattle.xt_messages.specs.Limits.{FitsEpoch, FitsStamp, FitsOpId, FitsMark, FitsHead, FitsVersion, FitsSession, FitsUpdate, IsObjectOrNone, is_at_most, rise}
 use Rattle.xt_protocol.specs.Stamps.{is_earlier}
 use Rattle.xt_protocol.specs.Heads.{head_after, versions_below}
 use Rattle.xt_protocol.specs.Folds.{held_after, body_of}
@@ -52,17 +52,24 @@ room_of head fits =
     let clients : nat_le (length head.sessions) CLIENTS ≡ true = lists.1 in
     record { versions = grind (arith, nat_tests, few); sessions = grind (arith, nat_tests, clients) }
 
+-- what a head takes from an update is within its limits
+pub record FitsInHead (update : Update) : Type 0 where
+  pub place : FitsStamp update.stamp
+  pub operation : FitsOpId update.id
+  pub after : FitsMark update.mark
+  pub gets : IsObjectOrNone update.object
+
 -- an object below the last number, where there is one
-small : (update : Update) → FitsUpdate update → (update.object == NO_OBJECT) ≡ false → update.object < 2 ^ 32
-small update fits some = at fits.gets
+small : (update : Update) → IsObjectOrNone update.object → (update.object == NO_OBJECT) ≡ false → update.object < 2 ^ 32
+small update gets some = at gets
   where
     at : (update.object < 2 ^ 32 - 1) ⊎ (update.object ≡ NO_OBJECT) → update.object < 2 ^ 32
     at (inl below) = omega arith
     at (inr none) = absurd (let same : (update.object == NO_OBJECT) ≡ true = eq-eqb update.object NO_OBJECT none in cc (same, some))
 
 -- Update taken: the head is still within its limits.
-pub update_fits : (head : FileHead) (update : Update) → FitsHead head → FitsUpdate update → is_at_most update.stamp.epoch head.promised ≡ true → head_fits (head_after head update) ≡ true → FitsHead (head_after head update)
-update_fits head update fits new le test =
+pub taken_fits : (head : FileHead) (update : Update) → FitsHead head → FitsInHead update → is_at_most update.stamp.epoch head.promised ≡ true → head_fits (head_after head update) ≡ true → FitsHead (head_after head update)
+taken_fits head update fits new le test =
     let room = room_of (head_after head update) test in
     let below = versions_below head.versions update.drop_from in
     let below_up : rise (objects_of below) ≡ true = below_still_rise head.versions update.drop_from fits.objects.rising in
@@ -78,7 +85,7 @@ update_fits head update fits new le test =
             few = room.versions;
             each =
                 when (AllByRecursion FitsVersion) (update.object == NO_OBJECT) _ _ (λ none. below_each)
-                (λ some. version_all FitsVersion below update.object update.stamp below_each (record { which = small update new some; write = new.place }));
+                (λ some. version_all FitsVersion below update.object update.stamp below_each (record { which = small update new.gets some; write = new.place }));
             rising =
                 when (λ (vs : List ObjectVersion). rise (objects_of vs) ≡ true) (update.object == NO_OBJECT) _ _ (λ none. below_up)
                 (λ some. versions_still_rise below update.object update.stamp below_up);
@@ -91,6 +98,10 @@ update_fits head update fits new le test =
           };
       kept = le;
     }
+
+pub update_fits : (head : FileHead) (update : Update) → FitsHead head → FitsUpdate update → is_at_most update.stamp.epoch head.promised ≡ true → head_fits (head_after head update) ≡ true → FitsHead (head_after head update)
+update_fits head update fits new le test =
+    taken_fits head update fits (record { place = new.place; operation = new.operation; after = new.after; gets = new.gets }) le test
 
 pub head_rises : (head : FileHead) → FitsHead head → HeadRises head
 head_rises head fits = record { versions = fits.objects.rising; sessions = fits.clients.rising }

@@ -6,14 +6,17 @@ use Rattle.xt_messages.specs.declared.file.FileHead.{FileHead}
 use Rattle.xt_messages.specs.declared.record.FileRow.{FileRow}
 use Rattle.xt_messages.specs.declared.record.Record.{Record}
 use Rattle.xt_messages.specs.declared.record.Record.TheVariants as kept
-use Rattle.xt_messages.specs.Limits.{FitsEpoch, is_at_most}
+use Rattle.xt_messages.specs.Limits.{FitsEpoch, FitsHead, is_at_most}
+use Rattle.xt_protocol.specs.Heads.{head_after}
 
 -- without where its content is kept
 abbrev pub kept_row : FileId → FileHead → List ObjectVersion → FileRow
 kept_row file head held = record { file = file; head = head; held = held; location = None }
 
--- what a primary may note in its own replica: a promise that isn't below the one before, or a body
+-- What is noted in the own replica: by a primary a promise that isn't below the one before, or a body; by a member of a striped file
+-- an update, whose head is within its limits.
 abbrev pub IsNotable : FileRow → Record → Type 0
 IsNotable row (kept.Promise file epoch) = FitsEpoch epoch × IsTrue (is_at_most row.head.promised epoch)
 IsNotable row (kept.Stage file object version bytes) = Unit {0}
+IsNotable row (kept.Update file update) = FitsHead (head_after row.head update)
 IsNotable row _ = ⊥

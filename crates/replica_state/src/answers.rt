@@ -11,7 +11,7 @@ ghost use Rattle.xt_protocol.specs.Heads.{head_after};
 ghost use Rattle.object_versions.specs.Rising.{HeadRises};
 
 use object_versions::{
-    hold, holds, is_below, is_earlier, is_epoch, sessions_after, versions_after,
+    first_missing, hold, holds, is_below, is_earlier, is_epoch, sessions_after, versions_after,
 };
 use std::alloc::Global;
 use xt_base::{CLIENTS, COUNTS, Copies, Epoch, FileId, OBJECTS, Octets, OutOfMemory, Stamp};
@@ -111,16 +111,6 @@ pub fn plain_status(
         epoch,
         head,
     })
-}
-
-/// The first of the versions that isn't held.
-pub fn first_missing(held: &HeldSet, wanted: &[ObjectVersion]) -> Option<ObjectVersion>
-    ensures { result ≡ first_missing held.now wanted.now }
-{
-    wanted
-        .iter()
-        .copied()
-        .find(|version| !holds(held, *version))
 }
 
 /// Whether the head after an update is within the limits of what can be kept and sent.

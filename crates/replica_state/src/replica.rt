@@ -173,7 +173,8 @@ impl Replica {
         }
     }
 
-    /// Takes what a primary recorded in its own replica: a promise that isn't below the one before, or a body.
+    /// Takes what was recorded of the own replica: a promise of its primary that isn't below the one before, a body, or an update of a
+    /// striped file.
     pub fn note(&mut self, rec: &Record) -> Result<(), OutOfMemory>
         requires { IsNotable self.old rec.now }
         ensures kept { OnOk result (self.new ≡ row_after self.old rec.now) }
@@ -181,6 +182,9 @@ impl Replica {
     {
         match rec {
             Record::Promise { epoch, .. } => self.head.promised = *epoch,
+            Record::Update { update, .. } => {
+                take_update(&mut self.head, &mut self.held, update)?;
+            }
             Record::Stage {
                 object,
                 version,

@@ -1,11 +1,15 @@
 -- What a client asks has begun, and its calls end well only as they were answered.
-use Rattle.std.proofs.Common.{◌≡◌, ℕ, inl, inr, List, [], ◌∷◌, refl, subst, sym, arith, Option, Some, None, Bool, true, false}
+use Rattle.std.proofs.Common.{◌≡◌, ℕ, ◌⊎◌, inl, inr, List, [], ◌∷◌, refl, subst, sym, arith, Option, Some, None, Bool, true, false}
 use Rattle.std.specs.Prelude.{cond, max, not, filter, nat_le, ◌==◌, ◌&&◌, if◌then◌else◌}
 use Rattle.std.proofs.lemmas.Bool.Decides.{nat_tests}
 use Rattle.xt_messages.specs.Limits.{FitsOp}
 use Rattle.xt_base.specs.TimeSettings.{TimeSettings}
 use Rattle.xt_base.specs.declared.ids.NodeId.{NodeId}
 use Rattle.xt_base.specs.declared.ids.OpId.{OpId}
+use Rattle.xt_messages.specs.declared.file.Capability.{Capability}
+use Rattle.xt_messages.specs.declared.file.Kind.TheVariants as kind
+use Rattle.xt_messages.specs.declared.file.Location.{Location}
+use Rattle.xt_messages.specs.declared.file.Op.{Op}
 use Rattle.xt_messages.specs.declared.reply.Reply.{Reply}
 use Rattle.xt_messages.specs.declared.reply.Reply.TheVariants as reply
 use Rattle.xt_messages.specs.declared.reply.Retry.{Retry}
@@ -27,32 +31,46 @@ use Rattle.cluster_runs.specs.declared.ClientState.{ClientState}
 use Rattle.cluster_runs.specs.Steps.{Step, stays}
 use Rattle.cluster_runs.specs.Clients.{ClientSite, step_of_client}
 use Rattle.cluster_runs.specs.Clients as clients
-use Rattle.time_line.specs.TimeLine.{id_of, operation_begun}
+use Rattle.time_line.specs.TimeLine.{id_of, location_in, operation_begun}
+use Rattle.time_line.specs.Clauses.{HasBegunOn}
 use Rattle.world_runs.proofs.Entries.{HasAnswer}
 
 -- these entries have an answer of the call, on some file
 abbrev pub IsAnswered : List Entry → OpId → ℕ → List ℕ → Type 0
 IsAnswered es id count bytes = (file : ℕ) × HasAnswer file es id count bytes
 
--- a reply: an Ok was answered so
+-- the call has begun on a file that is told to be a striped one
+pub record IsOnStriped (es : List Entry) (id : OpId) : Type 0 where
+  pub file : ℕ
+  pub has_begun : HasBegunOn file es id
+  pub location : Location
+  pub placed : location_in file es ≡ Some location
+  pub striped : location.kind ≡ kind.Striped
+
+-- a reply: an Ok was answered so, or is of a call on a striped file
 abbrev pub ReplyIs : List Entry → NodeId → ℕ → Reply → Type 0
-ReplyIs es to number (reply.Ok count size bytes) = IsAnswered es (id_of to number) count bytes
+ReplyIs es to number (reply.Ok count size bytes) = IsAnswered es (id_of to number) count bytes ⊎ IsOnStriped es (id_of to number)
 ReplyIs es to number _ = Unit {0}
 
--- a message that was sent: an ask has begun with its operation, which is within its limits, and an Ok was answered so
+-- a call has begun on the file of a capability with its operation, which is within its limits, and the file is told to be there
+abbrev pub AskIs : List Entry → OpId → Capability → Op → Type 0
+AskIs es id capability asked =
+    (operation_begun capability.file.number es id ≡ Some asked) × FitsOp asked × (location_in capability.file.number es ≡ Some capability.location)
+
+-- a message that was sent: an ask is of such a call, and an Ok was answered so
 abbrev pub ContentIs : List Entry → NodeId → NodeId → Payload → Type 0
-ContentIs es from to (payload.Ask number capability asked) = (operation_begun capability.file.number es (id_of from number) ≡ Some asked) × FitsOp asked
+ContentIs es from to (payload.Ask number capability asked) = AskIs es (id_of from number) capability asked
 ContentIs es from to (payload.Reply number file answer) = ReplyIs es to number answer
 ContentIs es from to _ = Unit {0}
 
--- the running call of a client has begun with its operation
+-- the running call of a client is such a one
 abbrev pub CallIs : List Entry → NodeId → Option RunningCall → Type 0
 CallIs es node None = Unit {0}
-CallIs es node (Some call) = (operation_begun call.capability.file.number es (id_of node call.number) ≡ Some call.op) × FitsOp call.op
+CallIs es node (Some call) = AskIs es (id_of node call.number) call.capability call.op
 
--- an outcome: a call ends well only as it was answered
+-- an outcome: a call ends well only as it was answered, unless it is on a striped file
 abbrev pub OutcomeIs : List Entry → OpId → Outcome → Type 0
-OutcomeIs es id (outcome.Ok count bytes) = IsAnswered es id count bytes
+OutcomeIs es id (outcome.Ok count bytes) = IsAnswered es id count bytes ⊎ IsOnStriped es id
 OutcomeIs es id _ = Unit {0}
 
 -- what a client marks: nothing, or that its call ended
@@ -87,7 +105,7 @@ module _ (es : List Entry) (node : NodeId) (next : ℕ) where
     asks_is c call target fits begun = record { call = begun; number = fits.1; sent = sent; marks = silent refl }
       where
         sent : (m : Msg) → Has m (clients.asks site c call target).turned.outs → ContentIs es m.from m.to m.payload
-        sent m (inl e) = subst (λ (k : Msg). ContentIs es k.from k.to k.payload) (sym e) (subst (λ (n : NodeId). operation_begun call.capability.file.number es (id_of n call.number) ≡ Some call.op) (sym here) begun.0, begun.1)
+        sent m (inl e) = subst (λ (k : Msg). ContentIs es k.from k.to k.payload) (sym e) (subst (λ (n : NodeId). operation_begun call.capability.file.number es (id_of n call.number) ≡ Some call.op) (sym here) begun.0, begun.1, begun.2)
         sent m (inr h) = absurd h
 
     ends_is : (c : ClientState) (call : RunningCall) (how : Outcome) → c.next ≡ next → OutcomeIs es (id_of node call.number) how → Is (clients.ends_call c call how)

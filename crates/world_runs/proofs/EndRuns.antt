@@ -1,5 +1,5 @@
 -- In every run the calls that ended well were answered so before.
-use Rattle.std.proofs.Common.{◌≡◌, ℕ, inl, inr, List, [], ◌∷◌, ◌++◌, map, refl, subst, sym, ◌∙◌, arith, Some, None}
+use Rattle.std.proofs.Common.{◌≡◌, ℕ, true, inl, inr, List, [], ◌∷◌, ◌++◌, map, refl, subst, sym, ◌∙◌, arith, Some, None}
 use Rattle.std.proofs.lemmas.List.{append-nil}
 use Rattle.xt_base.specs.declared.ids.NodeId.{NodeId}
 use Rattle.xt_base.specs.declared.ids.OpId.{OpId}
@@ -23,6 +23,7 @@ use Rattle.cluster_runs.specs.declared.Role.TheVariants as role
 use Rattle.time_line.specs.Bounds.{AreLines}
 use Rattle.cluster_runs.specs.Rules.{refusal}
 use Rattle.cluster_runs.specs.Clients.{new_client, knows, aimed, step_of_client}
+use Rattle.time_line.specs.TimeLine.{is_replicated}
 use Rattle.time_line.specs.Clauses.{HasBegunOn, EndsAreAnswered}
 use Rattle.xt_messages.specs.declared.record.KeepBody.{KeepBody}
 use Rattle.xt_protocol.specs.OsdSteps.{OsdState}
@@ -40,13 +41,14 @@ use Rattle.world_runs.specs.Asks.{HasBegunSo, AsksHaveBegun, NextHasBegun}
 use Rattle.world_runs.proofs.FileIds.{FileIs}
 use Rattle.world_runs.proofs.OsdIds.{FilesAre, HasBegun, EventHasBegun, new_is}
 use Rattle.world_runs.proofs.Calls.{ContentIs, EventIs, client_step_is}
-use Rattle.world_runs.proofs.Growth.{UpIs, CoreIs, EndsFit, entries-none, fresh-none, ends_answered, acts_begun}
+use Rattle.world_runs.proofs.Growth.{UpIs, CoreIs, EndsFit, entries-push, entries-none, fresh-grown, fresh-none, quiet-one, up-grown, content-grown, ends_answered, acts_begun}
+use Rattle.world_runs.proofs.Places.{none_told, told_file}
 use Rattle.world_runs.proofs.Steps.{Fits, Owes, told_fit, changed_fit, same_nodes, put_fit, add_fit, tick_fit, stepped_fits, osd_owes, client_owes, fits_so, call_owes}
 
 -- ---- any step of a node
 
 content_begun : (es : List Entry) (from to : NodeId) (content : Payload) → ContentIs es from to content → HasBegun es from content
-content_begun es from to (payload.Ask number capability asked) is = (asked, is.0)
+content_begun es from to (payload.Ask number capability asked) is = ((asked, is.0), is.2)
 content_begun es from to _ is = tt
 
 event_begun : (w : World) (was : List Msg) (node : NodeId) (happens : Event) → Fits w was → Reaches w was node happens → EventHasBegun w.entries happens
@@ -73,7 +75,7 @@ node_owes w was node r _ _ found is_up fit (of_client c happens is_client reache
 node_owes w was node r _ _ found is_up fit (of_call c k number location asked is_client resting bound called declared does) =
     let core = subst (CoreIs w.entries node.id) is_client (core_of w was node r found is_up fit) in
     let capability = declared_capability number location (epoch_of c (declared_file number) k) in
-    call_owes w.entries node.id w.times (uses c capability) r.clock capability k asked fit.ends core called does (fits_so k asked bound does)
+    call_owes w.entries node.id w.times (uses c capability) r.clock capability k asked fit.ends core called does (fits_so k asked bound does) (fit.places number ∙ declared)
 
 -- ---- what else may happen
 
@@ -96,9 +98,9 @@ files_then es keep s are f h =
 halts : (w : World) (own : List Msg) (node old : Node) (r : Running) (how : Halt) → node_in w.nodes node.id.0 ≡ Some old → Fits w own → Fits (halted w node r how) []
 halts w own node old r how found fit =
     let there : Node = record node { up = None } in
-    let fewer : EndsFit w.nodes w.entries (messages w) = record { nodes_are = fit.nodes_are; strangers = fit.strangers; messages = λ m h. fit.messages m (has_right m own (messages w) h); ends = fit.ends } in
-    told_fit w.nodes (with_node w.nodes there) w.entries (messages w) (entry.Down node.id r.clock how) (record { begins = λ id. refl; ends = λ es. tt })
-    (put_fit w.nodes w.entries (messages w) there old found tt fewer) fewer
+    let fewer : EndsFit w.files w.nodes w.entries (messages w) = record { nodes_are = fit.nodes_are; strangers = fit.strangers; messages = λ m h. fit.messages m (has_right m own (messages w) h); ends = fit.ends; places = fit.places } in
+    told_fit w.files w.nodes (with_node w.nodes there) w.entries (messages w) (entry.Down node.id r.clock how) (record { begins = λ id. refl; ends = λ es. tt; places = λ number. refl })
+    (put_fit w.files w.nodes w.entries (messages w) there old found tt fewer) fewer
 
 fewer_fits : (w : World) (own left : List Msg) → ((m : Msg) → Has m left → Has m own) → Fits w own → Fits w left
 fewer_fits w own left within fit =
@@ -110,6 +112,7 @@ fewer_fits w own left within fit =
         | inr s ↦ has_right m own (messages w) s
       ]);
       ends = fit.ends;
+      places = fit.places;
     }
 
 less_pending : (w : World) (own : List Msg) (number : ℕ) → Fits w own → Fits (record w { sent = no_longer_pending w.sent number }) own
@@ -123,52 +126,60 @@ less_pending w own number fit =
         | inr sent ↦ has_right m own (messages w) (same_messages w.sent number m sent)
       ]);
       ends = fit.ends;
+      places = fit.places;
     }
 
 -- nothing is there yet
-nothing_fits : EndsFit [] [] []
+nothing_fits : EndsFit [] [] [] []
 nothing_fits =
     record {
       nodes_are = λ n node is. absurd (let none : None ≡ Some node = sym (nobody n) ∙ is in cc);
       strangers = λ n none. fresh-none (node_id n) 0;
       messages = λ m h. absurd h;
       ends = entries-none;
+      places = none_told;
     }
 
 pub ends_kept : IsKept Fits
 ends_kept =
     record {
       begins = nothing_fits;
-      times = λ lease drift bound. told_fit [] [] [] [] (entry.Times lease drift) (record { begins = λ id. refl; ends = λ es. tt }) (same_nodes [] [] [] nothing_fits) nothing_fits;
+      times = λ lease drift bound. told_fit [] [] [] [] [] (entry.Times lease drift) (record { begins = λ id. refl; ends = λ es. tt; places = λ number. refl }) (same_nodes [] [] [] [] nothing_fits) nothing_fits;
       osd_declared = λ w id bound free fit.
           let new : Node = record { id = id; role = role.Osd; kept = []; past = []; up = None } in
-          subst (λ (es : List Entry). EndsFit (w.nodes ++ new ∷ []) es (messages w)) (sym (append-nil w.entries))
-          (changed_fit w.nodes (w.nodes ++ new ∷ []) w.entries (messages w) (add_fit w.nodes w.entries (messages w) new free tt fit) fit);
+          subst (λ (es : List Entry). EndsFit w.files (w.nodes ++ new ∷ []) es (messages w)) (sym (append-nil w.entries))
+          (changed_fit w.files w.nodes (w.nodes ++ new ∷ []) w.entries (messages w) (add_fit w.files w.nodes w.entries (messages w) new free tt fit) fit);
       client_declared = λ w id clock bound free fit.
           let new : Node = record { id = id; role = role.Client; kept = []; past = []; up = Some (runs first_boot clock (client (new_client clock))) } in
-          told_fit w.nodes (w.nodes ++ new ∷ []) w.entries (messages w) (entry.Up id first_boot clock) (record { begins = λ id. refl; ends = λ es. tt })
-          (add_fit w.nodes w.entries (messages w) new free (tt, λ k above. fit.strangers id.0 free k (omega arith)) fit) fit;
+          told_fit w.files w.nodes (w.nodes ++ new ∷ []) w.entries (messages w) (entry.Up id first_boot clock) (record { begins = λ id. refl; ends = λ es. tt; places = λ number. refl })
+          (add_fit w.files w.nodes w.entries (messages w) new free (tt, λ k above. fit.strangers id.0 free k (omega arith)) fit) fit;
       file_declared = λ w number location bound free fit.
-          told_fit w.nodes w.nodes w.entries (messages w) (entry.File number location) (record { begins = λ id. refl; ends = λ es. tt }) (same_nodes w.nodes w.entries (messages w) fit) fit;
+          record {
+            nodes_are = λ n x is. up-grown w.entries (entry.File number location ∷ []) x.id x.up (quiet-one (entry.File number location) x.id (λ k. refl)) (fit.nodes_are n x is);
+            strangers = λ n none. fresh-grown w.entries (entry.File number location ∷ []) (node_id n) 0 (quiet-one (entry.File number location) (node_id n) (λ k. refl)) (fit.strangers n none);
+            messages = λ m h. content-grown w.entries (entry.File number location ∷ []) m.from m.to m.payload (fit.messages m h);
+            ends = entries-push w.entries (entry.File number location) fit.ends tt;
+            places = told_file w.files w.entries number location fit.places;
+          };
       started = λ w node clock bound found down close fit.
           let there : Node = record node { kept = node.kept ++ kept.Boot (next_boot node.kept) ∷ []; past = node.past ++ loads ∷ puts (kept.Boot (next_boot node.kept)) ∷ []; up = Some (runs (next_boot node.kept) clock (osd (osd_starting w.times node (next_boot node.kept) clock))) } in
-          told_fit w.nodes (with_node w.nodes there) w.entries (messages w) (entry.Up node.id (next_boot node.kept) clock) (record { begins = λ id. refl; ends = λ es. tt })
-          (put_fit w.nodes w.entries (messages w) there node found (starting_is w.entries w node clock) fit) fit;
+          told_fit w.files w.nodes (with_node w.nodes there) w.entries (messages w) (entry.Up node.id (next_boot node.kept) clock) (record { begins = λ id. refl; ends = λ es. tt; places = λ number. refl })
+          (put_fit w.files w.nodes w.entries (messages w) there node found (starting_is w.entries w node clock) fit) fit;
       planned = λ w node r q found is_up boot clock core fit.
           let there : Node = record node { up = Some q } in
-          changed_fit w.nodes (with_node w.nodes there) w.entries (messages w)
-          (put_fit w.nodes w.entries (messages w) there node found (subst (CoreIs w.entries node.id) (sym core) (core_of w [] node r found is_up fit)) fit) fit;
+          changed_fit w.files w.nodes (with_node w.nodes there) w.entries (messages w)
+          (put_fit w.files w.nodes w.entries (messages w) there node found (subst (CoreIs w.entries node.id) (sym core) (core_of w [] node r found is_up fit)) fit) fit;
       aimed_at = λ w node r c number target found is_up is_client fit.
           let there : Node = record node { up = Some (record r { core = client (knows c (declared_file number) (aimed target)) }) } in
-          changed_fit w.nodes (with_node w.nodes there) w.entries (messages w)
-          (put_fit w.nodes w.entries (messages w) there node found (subst (CoreIs w.entries node.id) is_client (core_of w [] node r found is_up fit)) fit) fit;
+          changed_fit w.files w.nodes (with_node w.nodes there) w.entries (messages w)
+          (put_fit w.files w.nodes w.entries (messages w) there node found (subst (CoreIs w.entries node.id) is_client (core_of w [] node r found is_up fit)) fit) fit;
       stopped = λ w own node r how found is_up fit. halts w own node node r how found fit;
       clock_set = λ w node r clock bound found is_up rises close fit.
           let there : Node = record node { up = Some (record r { clock = clock }) } in
-          told_fit w.nodes (with_node w.nodes there) w.entries (messages w) (entry.Clock node.id clock) (record { begins = λ id. refl; ends = λ es. tt })
-          (put_fit w.nodes w.entries (messages w) there node found (core_of w [] node r found is_up fit) fit) fit;
+          told_fit w.files w.nodes (with_node w.nodes there) w.entries (messages w) (entry.Clock node.id clock) (record { begins = λ id. refl; ends = λ es. tt; places = λ number. refl })
+          (put_fit w.files w.nodes w.entries (messages w) there node found (core_of w [] node r found is_up fit) fit) fit;
       all_ticked = λ w count bound fit.
-          told_fit w.nodes (map (ticked count) w.nodes) w.entries (messages w) (entry.Tick count) (record { begins = λ id. refl; ends = λ es. tt }) (tick_fit w.nodes w.entries (messages w) count fit) fit;
+          told_fit w.files w.nodes (map (ticked count) w.nodes) w.entries (messages w) (entry.Tick count) (record { begins = λ id. refl; ends = λ es. tt; places = λ number. refl }) (tick_fit w.files w.nodes w.entries (messages w) count fit) fit;
       less_pending = less_pending;
       lost = λ w own left part fit. fewer_fits w own left (left_within left own part) fit;
       stepped = λ w was own node r next turned outs rest part found is_up step split fit.
@@ -177,22 +188,23 @@ ends_kept =
           halts w own (record node { kept = node.kept ++ rec ∷ []; past = node.past ++ puts rec ∷ [] }) node (record r { core = next }) halt.Kept found fit;
       forgotten = λ w own node r s found is_up is_osd fit.
           let there = rewritten_at node r s in
-          changed_fit w.nodes (with_node w.nodes (rewritten_at node r s)) w.entries (own ++ messages w)
-          (put_fit w.nodes w.entries (own ++ messages w) there node found (files_then w.entries (keep_of s) s (subst (CoreIs w.entries node.id) is_osd (core_of w own node r found is_up fit))) fit) fit;
+          changed_fit w.files w.nodes (with_node w.nodes (rewritten_at node r s)) w.entries (own ++ messages w)
+          (put_fit w.files w.nodes w.entries (own ++ messages w) there node found (files_then w.entries (keep_of s) s (subst (CoreIs w.entries node.id) is_osd (core_of w own node r found is_up fit))) fit) fit;
       lined = λ w l fit. fit;
     }
 
 -- ---- every run
 
-pub runs_answered : (room : Room) (lines : List Line) (file : ℕ) → AreLines lines → EndsAreAnswered file (run_of room lines).entries
+pub runs_answered : (room : Room) (lines : List Line) (file : ℕ) → AreLines lines → is_replicated file (run_of room lines).entries ≡ true → EndsAreAnswered file (run_of room lines).entries
 runs_answered room lines file are = ends_answered (run_of room lines).entries file (run_kept Fits ends_kept room lines are).ends
 
-pub parts_answered : (room : Room) (lines : List Line) (l : Line) (file : ℕ) (entries : List Entry) → AreLines (lines ++ l ∷ []) → refusal (run_of room lines) l ≡ None → IsRunInto room lines l entries → EndsAreAnswered file entries
+pub parts_answered : (room : Room) (lines : List Line) (l : Line) (file : ℕ) (entries : List Entry) → AreLines (lines ++ l ∷ []) → refusal (run_of room lines) l ≡ None → IsRunInto room lines l entries → is_replicated file entries ≡ true → EndsAreAnswered file entries
 parts_answered room lines l file entries are allowed into =
     let part = so_far (steps into.1.0 room (begins (run_of room lines) l)) in
     let fit : Fits (so_far (steps into.1.0 room (begins (run_of room lines) l))) []
     = so_far_kept Fits ends_kept (steps into.1.0 room (begins (run_of room lines) l)) (steps_into Fits ends_kept room lines l into.1.0 are allowed) in
-    subst (EndsAreAnswered file) into.2 (subst (λ (part : World). EndsAreAnswered file part.entries) into.1.2 (ends_answered part.entries file fit.ends))
+    subst (λ (es : List Entry). is_replicated file es ≡ true → EndsAreAnswered file es) into.2
+    (subst (λ (part : World). is_replicated file part.entries ≡ true → EndsAreAnswered file part.entries) into.1.2 (ends_answered part.entries file fit.ends))
 
 -- ---- acts
 
@@ -209,7 +221,7 @@ parts_acts_begun room lines l file entries are allowed into =
 -- ---- asks
 
 ask_begun : (es : List Entry) (from to : NodeId) (content : Payload) → ContentIs es from to content → HasBegunSo es from content
-ask_begun es from to (payload.Ask number capability asked) is = is
+ask_begun es from to (payload.Ask number capability asked) is = (is.0, is.1)
 ask_begun es from to _ is = tt
 
 pub asks_begun : (w : World) (own : List Msg) → Fits w own → AsksHaveBegun w own

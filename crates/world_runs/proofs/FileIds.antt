@@ -21,6 +21,7 @@ use Rattle.xt_messages.specs.declared.file.Op.{Op}
 use Rattle.xt_messages.specs.declared.file.Update.{Update}
 use Rattle.xt_messages.specs.declared.reply.Denial.{Denial}
 use Rattle.xt_messages.specs.declared.reply.Denial.TheVariants as denial
+use Rattle.xt_messages.specs.declared.message.Msg.{Msg}
 use Rattle.xt_messages.specs.declared.message.Payload.{Payload}
 use Rattle.xt_messages.specs.declared.message.Payload.TheVariants as payload
 use Rattle.xt_messages.specs.declared.record.FileRow.{FileRow}
@@ -51,11 +52,13 @@ use Rattle.xt_protocol.specs.FileStates.{FileState, Site, FileStep, nothing, ste
 use Rattle.xt_protocol.specs.Overdue.{is_due, issued_due, newly_due, deadlines_under, lease_became, expired}
 use Rattle.xt_protocol.specs.FileLeases.{read_comes, write_comes, answer_comes, answer_to_read, answers_to_write, end_after_answer, waiting_told, led_on, lease_news}
 use Rattle.xt_protocol.specs.AskRows.{ask_waits, ask_served, elsewhere, ask_without_lease, ask_under, ask_rows, ask_let_in, refusal_of, capability_refused, capability_list_range, list_and_range, with_member, list_against, same_list, leaves_object, ask_handled, waiting_ask, view_record}
+use Rattle.xt_protocol.specs.StripedRows.{striped_handled}
 use Rattle.xt_protocol.specs.FileSteps.{ask_comes, primary_hears, message_comes, renews, step_of_file, wakes_under_lease, wake_of_file}
+use Rattle.osd_invariants.proofs.StripedAsks.{striped_outcome}
 use Rattle.lease_runs.proofs.LeaseSteps.{expired_keeps}
 use Rattle.time_line.specs.TimeLine.{id_of}
-use Rattle.world_runs.proofs.Lists.{has_in, has_filter}
-use Rattle.world_runs.proofs.Said.{IsNo, IsNoIfAny, AreSaid, AreMarked, both_marked, no_said, both_said, joined_said, map_said, said_more}
+use Rattle.world_runs.proofs.Lists.{has_in, has_left, has_filter}
+use Rattle.world_runs.proofs.Said.{IsNo, IsNoIfAny, Said, AreSaid, AreMarked, both_marked, no_said, one_more, both_said, joined_said, map_said, said_more, said_of}
 use Rattle.world_runs.proofs.PrimaryIds.{wakes_marks, TenureIs, LedSaid, LedSaidIfAny, drawn_said, hears_said, writes_said, wakes_said}
 
 -- ---- asks that are turned away
@@ -103,6 +106,17 @@ elsewhere_no site (Some l) = at (not (l.node.0 == site.node.0) && nat_lt site.no
 
 -- ---- asks
 
+-- a message that is no ask on a striped file
+abbrev pub IsOfReplicas : Payload → Type 0
+IsOfReplicas (payload.Ask number capability asked) = capability.location.kind ≡ kind.Replicated
+IsOfReplicas _ = Unit {0}
+
+-- a reply to the client of an ask on a striped file
+abbrev pub IsStripedReply : NodeId → Payload → Msg → Type 0
+IsStripedReply from (payload.Ask number capability asked) m =
+    (capability.location.kind ≡ kind.Striped) × (m.to ≡ from) × (file : FileId) × (answer : Reply) × (m.payload ≡ payload.Reply number file answer)
+IsStripedReply from _ m = ⊥
+
 module _ (Q : OpId → Type 0) where
   abbrev pub IssuedAskIs : Option IssuedAsk → Type 0
   IssuedAskIs None = Unit {0}
@@ -128,6 +142,12 @@ module _ (Q : OpId → Type 0) where
   pub record StepIs (file : ℕ) (step : FileStep) : Type 0 where
     pub state : FileIs step.state
     pub said : AreSaid Q file step.turned.marks step.turned.outs
+    pub marks : AreMarked Q file step.turned.marks
+
+  -- what the step of a file on a message owes: an Ok is marked, but for that of an ask on a striped file
+  pub record MessageIs (file : ℕ) (from : NodeId) (content : Payload) (step : FileStep) : Type 0 where
+    pub state : FileIs step.state
+    pub said : (m : Msg) → Has m step.turned.outs → Said Q file step.turned.marks m.to m.payload ⊎ IsStripedReply from content m
     pub marks : AreMarked Q file step.turned.marks
 
   pub none_are : AsksAre no_asks
@@ -436,10 +456,10 @@ module _ (Q : OpId → Type 0) where
         stored None = let p = rows (steps_to (record s { used = site.now }) (keeps (view_record s capability.location None))).state refl (record { asks = is.asks; tenure = is.tenure }) in record { state = p.state; said = p.said; marks = p.marks }
         stored (Some location) = let p = rows (steps_to (record s { used = site.now }) (keeps (view_record s capability.location (Some location)))).state refl (record { asks = is.asks; tenure = is.tenure }) in record { state = p.state; said = p.said; marks = p.marks }
 
-    asks_is : (s : FileState) (k : Kind) (id : OpId) (capability : Capability) (asked : Op) → FileIs s → Q id → Keeps s (ask_comes site s k id capability asked)
+    asks_is : (s : FileState) (k : Kind) (id : OpId) (capability : Capability) (asked : Op) → k ≡ kind.Replicated → FileIs s → Q id → Keeps s (ask_comes site s k id capability asked)
     unfolding ask_handled
-    asks_is s kind.Replicated id capability asked is q = let_in_is s id capability asked (refusal_of site s.kept.location capability asked) (refusal_no site s.kept.location capability asked) is q
-    asks_is s kind.Striped id capability asked is q = record { state = is; said = tt; marks = tt }
+    asks_is s kind.Replicated id capability asked replicated is q = let_in_is s id capability asked (refusal_of site s.kept.location capability asked) (refusal_no site s.kept.location capability asked) is q
+    asks_is s kind.Striped id capability asked replicated is q = absurd cc
 
     -- ---- a message, and a Wake
 
@@ -457,29 +477,29 @@ module _ (Q : OpId → Type 0) where
     HasCome from (payload.Ask number capability asked) = Q (id_of from number)
     HasCome from _ = Unit {0}
 
-    message_is : (s : FileState) (from : NodeId) (content : Payload) → FileIs s → HasCome from content → Keeps s (message_comes site s from content)
-    message_is s from (payload.Ask number capability asked) is q = asks_is s capability.location.kind (record { client = from; number = number }) capability asked is q
-    message_is s from (payload.Read f ballot) is q = read_is site s.kept.file.number s from ballot is
-    message_is s from (payload.Write f ballot boot l) is q = write_is site s.kept.file.number s from ballot boot l is
-    message_is s from (payload.Promise f ballot boot report) is q = answer_is site s.kept.file.number s from (payload.Promise f ballot boot report) is
-    message_is s from (payload.Accepted f ballot boot) is q = answer_is site s.kept.file.number s from (payload.Accepted f ballot boot) is
-    message_is s from (payload.Outrun f ballot seen) is q = answer_is site s.kept.file.number s from (payload.Outrun f ballot seen) is
-    message_is s from (payload.Gather f epoch) is q = record { state = record { asks = is.asks; tenure = is.tenure }; said = gathered_plain site s.kept.file.number s.kept.file s.kept.head epoch site.node from; marks = tt }
-    message_is s from (payload.Fetch f epoch object version) is q =
+    message_is : (s : FileState) (from : NodeId) (content : Payload) → IsOfReplicas content → FileIs s → HasCome from content → Keeps s (message_comes site s from content)
+    message_is s from (payload.Ask number capability asked) plain is q = asks_is s capability.location.kind (record { client = from; number = number }) capability asked plain is q
+    message_is s from (payload.Read f ballot) plain is q = read_is site s.kept.file.number s from ballot is
+    message_is s from (payload.Write f ballot boot l) plain is q = write_is site s.kept.file.number s from ballot boot l is
+    message_is s from (payload.Promise f ballot boot report) plain is q = answer_is site s.kept.file.number s from (payload.Promise f ballot boot report) is
+    message_is s from (payload.Accepted f ballot boot) plain is q = answer_is site s.kept.file.number s from (payload.Accepted f ballot boot) is
+    message_is s from (payload.Outrun f ballot seen) plain is q = answer_is site s.kept.file.number s from (payload.Outrun f ballot seen) is
+    message_is s from (payload.Gather f epoch) plain is q = record { state = record { asks = is.asks; tenure = is.tenure }; said = gathered_plain site s.kept.file.number s.kept.file s.kept.head epoch site.node from; marks = tt }
+    message_is s from (payload.Fetch f epoch object version) plain is q =
         record { state = record { asks = is.asks; tenure = is.tenure }; said = fetched_plain site s.kept.file.number s.kept.file s.kept.held (site.body s.kept.file) epoch object version site.node from; marks = tt }
-    message_is s from (payload.Stage f epoch object version bytes) is q =
+    message_is s from (payload.Stage f epoch object version bytes) plain is q =
         record { state = record { asks = is.asks; tenure = is.tenure }; said = staged_plain site s.kept.file.number s.kept.file s.kept.head s.kept.held epoch object version bytes site.node from; marks = tt }
-    message_is s from (payload.Head f epoch head) is q =
+    message_is s from (payload.Head f epoch head) plain is q =
         record { state = record { asks = is.asks; tenure = is.tenure }; said = headed_plain site s.kept.file.number s.kept.file s.kept.head s.kept.held epoch head site.node from; marks = tt }
-    message_is s from (payload.Update f update) is q =
+    message_is s from (payload.Update f update) plain is q =
         record { state = record { asks = is.asks; tenure = is.tenure }; said = updated_plain site s.kept.file.number s.kept.file s.kept.head update site.node from; marks = tt }
-    message_is s from content is q = heard_is s s.lease from content is
+    message_is s from content plain is q = heard_is s s.lease from content is
 
-    pub step_is : (s : FileState) (from : NodeId) (content : Payload) → FileIs s → HasCome from content → Keeps s (step_of_file site s from content)
+    plain_step_is : (s : FileState) (from : NodeId) (content : Payload) → IsOfReplicas content → FileIs s → HasCome from content → Keeps s (step_of_file site s from content)
     unfolding step_of_file
-    step_is s from content is q =
+    plain_step_is s from content plain is q =
         let first = expired_is site s.kept.file.number s is in
-        let rest = message_is (expired site s).state from content first.state q in
+        let rest = message_is (expired site s).state from content plain first.state q in
         let same = ap (λ (row : FileRow). row.file.number) (expired_keeps site s) in
         record {
           state = rest.state;
@@ -487,6 +507,62 @@ module _ (Q : OpId → Type 0) where
               (subst (λ n. AreSaid Q n (message_comes site (expired site s).state from content).turned.marks (message_comes site (expired site s).state from content).turned.outs) same rest.said);
           marks = both_marked Q s.kept.file.number (expired site s).turned.marks (message_comes site (expired site s).state from content).turned.marks first.marks (subst (λ n. AreMarked Q n (message_comes site (expired site s).state from content).turned.marks) same rest.marks);
         }
+
+    -- an ask on a striped file leaves the asks and the primary, and its client alone is told
+    striped_is : (s : FileState) (from : NodeId) (number : ℕ) (capability : Capability) (asked : Op) → capability.location.kind ≡ kind.Striped → FileIs s
+        → MessageIs s.kept.file.number from (payload.Ask number capability asked) (step_of_file site s from (payload.Ask number capability asked))
+    unfolding step_of_file
+    striped_is s from number capability asked striped is =
+        subst (λ (k : Kind). MessageIs s.kept.file.number from (payload.Ask number capability asked) (and_then (expired site s) (λ state. ask_comes site state k id capability asked)))
+        (sym striped) (record {
+          state = record { asks = first.state.asks; tenure = first.state.tenure };
+          said = said;
+          marks = both_marked Q s.kept.file.number (expired site s).turned.marks [] first.marks tt;
+        })
+      where
+        id : OpId
+        id = record { client = from; number = number }
+
+        t : FileState
+        t = (expired site s).state
+
+        first : StepIs s.kept.file.number (expired site s)
+        first = expired_is site s.kept.file.number s is
+
+        Told : Msg → Acted → Type 0
+        Told m acted = Has m (if_any site.node from acted.answer) → (m.to ≡ from) × (file : FileId) × (answer : Reply) × (m.payload ≡ payload.Reply number file answer)
+
+        one : (m : Msg) (answer : Reply) → Has m (reply_to site.node t.kept.file id answer ∷ []) → (m.to ≡ from) × (file : FileId) × (answer : Reply) × (m.payload ≡ payload.Reply number file answer)
+        one m answer (inl e) = (ap (λ (k : Msg). k.to) e, t.kept.file, answer, ap (λ (k : Msg). k.payload) e)
+        one m answer (inr h) = absurd h
+
+        replied : (m : Msg) → Told m (striped_handled site t.kept id capability asked)
+        replied m =
+            striped_outcome (Told m) site t.kept id capability asked
+            (record { nothing = λ h. absurd h; tells = λ answer. one m answer; keeps = λ update keeps. one m (reply.Ok update.stamp.count update.mark []) })
+
+        said : (m : Msg) → Has m ((expired site s).turned.outs ++ if_any site.node from (striped_handled site t.kept id capability asked).answer)
+            → Said Q s.kept.file.number ((expired site s).turned.marks ++ []) m.to m.payload ⊎ IsStripedReply from (payload.Ask number capability asked) m
+        said m h = elim (has_in m (expired site s).turned.outs (if_any site.node from (striped_handled site t.kept id capability asked).answer) h) [
+          | inl early ↦
+              inl (one_more Q s.kept.file.number (expired site s).turned.marks ((expired site s).turned.marks ++ []) m.to m.payload (λ k there. has_left k (expired site s).turned.marks [] there)
+              (said_of Q s.kept.file.number (expired site s).turned.marks (expired site s).turned.outs m first.said early))
+          | inr late ↦ (let r = replied m late in inr (striped, r.0, r.1, r.2, r.3))
+        ]
+
+    on_replicas : (file : ℕ) (from : NodeId) (content : Payload) (step : FileStep) → StepIs file step → MessageIs file from content step
+    on_replicas file from content step is =
+        record { state = is.state; said = λ m h. inl (said_of Q file step.turned.marks step.turned.outs m is.said h); marks = is.marks }
+
+    pub step_is : (s : FileState) (from : NodeId) (content : Payload) → FileIs s → HasCome from content → MessageIs s.kept.file.number from content (step_of_file site s from content)
+    step_is s from (payload.Ask number capability asked) is q = by_kind capability.location.kind refl
+      where
+        by_kind : (k : Kind) → capability.location.kind ≡ k → MessageIs s.kept.file.number from (payload.Ask number capability asked) (step_of_file site s from (payload.Ask number capability asked))
+        by_kind kind.Replicated replicated =
+            on_replicas s.kept.file.number from (payload.Ask number capability asked) (step_of_file site s from (payload.Ask number capability asked))
+            (plain_step_is s from (payload.Ask number capability asked) replicated is q)
+        by_kind kind.Striped striped = striped_is s from number capability asked striped is
+    step_is s from content is q = on_replicas s.kept.file.number from content (step_of_file site s from content) (plain_step_is s from content tt is q)
 
     renews_is : (file : ℕ) (s : FileState) (h : Held) → FileIs s → StepIs file (renews site s h)
     renews_is file s h is =

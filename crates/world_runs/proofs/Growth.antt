@@ -5,6 +5,11 @@ use Rattle.std.proofs.lemmas.Bool.Decides.{nat_tests}
 use Rattle.std.proofs.lemmas.List.{append_assoc, append-nil, map-append}
 use Rattle.xt_base.specs.declared.ids.NodeId.{NodeId}
 use Rattle.xt_base.specs.declared.ids.OpId.{OpId}
+use Rattle.xt_messages.specs.declared.file.Capability.{Capability}
+use Rattle.xt_messages.specs.declared.file.Kind.{Kind}
+use Rattle.xt_messages.specs.declared.file.Kind.TheVariants as kind
+use Rattle.xt_messages.specs.declared.file.Location.{Location}
+use Rattle.xt_messages.specs.declared.file.Op.{Op}
 use Rattle.xt_messages.specs.declared.reply.Reply.{Reply}
 use Rattle.xt_messages.specs.declared.reply.Reply.TheVariants as reply
 use Rattle.xt_messages.specs.declared.message.Msg.{Msg}
@@ -23,8 +28,9 @@ use Rattle.xt_protocol.specs.FileStates.{FileState}
 use Rattle.time_line.specs.declared.entry.Entry.{Entry}
 use Rattle.time_line.specs.declared.entry.Entry.TheVariants as entry
 use Rattle.cluster_runs.specs.declared.ClientState.{ClientState}
+use Rattle.cluster_runs.specs.declared.DeclaredFile.{DeclaredFile}
 use Rattle.cluster_runs.specs.declared.RunningCall.{RunningCall}
-use Rattle.time_line.specs.TimeLine.{id_of, begun, call_begun}
+use Rattle.time_line.specs.TimeLine.{id_of, location_in, is_replicated_at, is_replicated, begun, call_begun}
 use Rattle.time_line.specs.Clauses.{IsBefore, ok_entry, HasBegunOn, EndsAreAnswered}
 use Rattle.cluster_runs.specs.World.{Node, Running, Core, osd, client, node_in}
 use Rattle.cluster_runs.specs.NodeSteps.{entry_of}
@@ -35,7 +41,8 @@ use Rattle.world_runs.proofs.Said.{IsMarked, AreMarked, Said, ReplySaid}
 use Rattle.world_runs.proofs.PrimaryIds.{IssuedIs, ProgressIs, TenureIs}
 use Rattle.world_runs.proofs.FileIds.{IssuedAskIs, FileIs}
 use Rattle.world_runs.proofs.OsdIds.{FilesAre, EndsNone, NoneEnds, IsTold}
-use Rattle.world_runs.proofs.Calls.{IsAnswered, ReplyIs, ContentIs, CallIs, OutcomeIs}
+use Rattle.world_runs.proofs.Calls.{IsAnswered, IsOnStriped, ReplyIs, AskIs, ContentIs, CallIs, OutcomeIs}
+use Rattle.world_runs.proofs.Places.{AreTold, location-grown}
 
 -- ---- the trace
 
@@ -179,12 +186,27 @@ pub files-grown : (es more : List Entry) (files : List FileState) → FilesAre e
 files-grown es more files are f h =
     file-more (λ (id : OpId). HasBegunOn f.kept.file.number es id) (λ (id : OpId). HasBegunOn f.kept.file.number (es ++ more) id) f (λ id begun. begun_on-grown f.kept.file.number es more id begun) (are f h)
 
+ask-grown : (es more : List Entry) (id : OpId) (capability : Capability) (asked : Op) → AskIs es id capability asked → AskIs (es ++ more) id capability asked
+ask-grown es more id capability asked is =
+    (operation-grown capability.file.number es more id asked is.0, is.1, location-grown capability.file.number es more capability.location is.2)
+
+striped-grown : (es more : List Entry) (id : OpId) → IsOnStriped es id → IsOnStriped (es ++ more) id
+striped-grown es more id is =
+    record {
+      file = is.file;
+      has_begun = begun_on-grown is.file es more id is.has_begun;
+      location = is.location;
+      placed = location-grown is.file es more is.location is.placed;
+      striped = is.striped;
+    }
+
 pub call-grown : (es more : List Entry) (node : NodeId) (o : Option RunningCall) → CallIs es node o → CallIs (es ++ more) node o
 call-grown es more node None is = tt
-call-grown es more node (Some call) is = (operation-grown call.capability.file.number es more (id_of node call.number) call.op is.0, is.1)
+call-grown es more node (Some call) is = ask-grown es more (id_of node call.number) call.capability call.op is
 
 reply-grown : (es more : List Entry) (to : NodeId) (number : ℕ) (answer : Reply) → ReplyIs es to number answer → ReplyIs (es ++ more) to number answer
-reply-grown es more to number (reply.Ok count size bytes) is = (is.0, answer-grown is.0 es more (id_of to number) count bytes is.1)
+reply-grown es more to number (reply.Ok count size bytes) (inl is) = inl (is.0, answer-grown is.0 es more (id_of to number) count bytes is.1)
+reply-grown es more to number (reply.Ok count size bytes) (inr is) = inr (striped-grown es more (id_of to number) is)
 reply-grown es more to number (reply.NoLease end) is = tt
 reply-grown es more to number (reply.NoMajority have need) is = tt
 reply-grown es more to number (reply.Elsewhere node end) is = tt
@@ -195,7 +217,7 @@ reply-grown es more to number (reply.TooFar object) is = tt
 reply-grown es more to number reply.ClientsFull is = tt
 
 pub content-grown : (es more : List Entry) (from to : NodeId) (content : Payload) → ContentIs es from to content → ContentIs (es ++ more) from to content
-content-grown es more from to (payload.Ask number capability asked) is = (operation-grown capability.file.number es more (id_of from number) asked is.0, is.1)
+content-grown es more from to (payload.Ask number capability asked) is = ask-grown es more (id_of from number) capability asked is
 content-grown es more from to (payload.Reply number file answer) is = reply-grown es more to number answer is
 content-grown es more from to _ is = tt
 
@@ -224,7 +246,7 @@ marked es node file marks id count bytes begun h =
 
 reply_told : (es : List Entry) (node : NodeId) (file : ℕ) (marks : List Mark) (to : NodeId) (number : ℕ) (answer : Reply) → ReplySaid (λ (id : OpId). HasBegunOn file es id) file marks to number answer
     → ReplyIs (es ++ map (entry_of node) marks) to number answer
-reply_told es node file marks to number (reply.Ok count size bytes) said = (file, marked es node file marks (id_of to number) count bytes said.0 said.1)
+reply_told es node file marks to number (reply.Ok count size bytes) said = inl (file, marked es node file marks (id_of to number) count bytes said.0 said.1)
 reply_told es node file marks to number (reply.NoLease end) said = tt
 reply_told es node file marks to number (reply.NoMajority have need) said = tt
 reply_told es node file marks to number (reply.Elsewhere other end) said = tt
@@ -241,7 +263,21 @@ content_told es node file marks from to (payload.Reply number f answer) said = r
 content_told es node file marks from to _ said = tt
 
 pub told_is : (es : List Entry) (node : NodeId) (marks : List Mark) (m : Msg) → IsTold es marks m → ContentIs (es ++ map (entry_of node) marks) m.from m.to m.payload
-told_is es node marks m told = content_told es node told.0 marks m.from m.to m.payload told.1
+told_is es node marks m (inl told) = content_told es node told.0 marks m.from m.to m.payload told.1
+told_is es node marks m (inr striped) =
+    subst (ContentIs (es ++ map (entry_of node) marks) m.from m.to) (sym striped.3)
+    (answer_told striped.2 (striped-grown es (map (entry_of node) marks) (id_of m.to striped.0) striped.4))
+  where
+    answer_told : (answer : Reply) → IsOnStriped (es ++ map (entry_of node) marks) (id_of m.to striped.0) → ReplyIs (es ++ map (entry_of node) marks) m.to striped.0 answer
+    answer_told (reply.Ok count size bytes) is = inr is
+    answer_told (reply.NoLease end) is = tt
+    answer_told (reply.NoMajority have need) is = tt
+    answer_told (reply.Elsewhere other end) is = tt
+    answer_told (reply.Denied why) is = tt
+    answer_told (reply.OldList version) is = tt
+    answer_told (reply.OldEpoch epoch) is = tt
+    answer_told (reply.TooFar object) is = tt
+    answer_told reply.ClientsFull is = tt
 
 -- ---- worlds
 
@@ -256,13 +292,14 @@ abbrev pub UpIs : List Entry → NodeId → Option Running → Type 0
 UpIs es node None = Unit {0}
 UpIs es node (Some r) = CoreIs es node r.core
 
--- What holds at every moment: asks and running calls have begun, who isn't declared has begun nothing, and what was told or ended
--- well was answered.
-pub record EndsFit (nodes : List Node) (es : List Entry) (sent : List Msg) : Type 0 where
+-- What holds at every moment: asks and running calls have begun, who isn't declared has begun nothing, what was told or ended
+-- well was answered, and the trace tells where each file is.
+pub record EndsFit (files : List DeclaredFile) (nodes : List Node) (es : List Entry) (sent : List Msg) : Type 0 where
   pub nodes_are : (n : ℕ) (node : Node) → node_in nodes n ≡ Some node → UpIs es node.id node.up
   pub strangers : (n : ℕ) → node_in nodes n ≡ None → FreshFrom es (node_id n) 0
   pub messages : (m : Msg) → Has m sent → ContentIs es m.from m.to m.payload
   pub ends : EntriesAre es
+  pub places : AreTold files es
 
 pub core-grown : (es more : List Entry) (node : NodeId) (core : Core) → Quiet more node → CoreIs es node core → CoreIs (es ++ more) node core
 core-grown es more node (osd s) quiet is = files-grown es more s.files is
@@ -272,16 +309,34 @@ pub up-grown : (es more : List Entry) (node : NodeId) (up : Option Running) → 
 up-grown es more node None quiet is = tt
 up-grown es more node (Some r) quiet is = core-grown es more node r.core quiet is
 
--- the clause of a file
-pub ends_answered : (es : List Entry) (file : ℕ) → EntriesAre es → EndsAreAnswered file es
-ends_answered es file are before id count bytes there on_file =
-    let is : IsAnswered before id count bytes = are before (ok_entry id count bytes) there in
-    let a = is.1 in
-    let in_before = begun_on-grown is.0 a.front (entry.Answer a.node is.0 id count bytes ∷ a.rest) id a.has_begun in
-    let in_all = begun_on-grown is.0 before (ok_entry id count bytes ∷ there.0) id (subst (λ (xs : List Entry). HasBegunOn is.0 xs id) (sym a.split) in_before) in
-    let same = one_file is.0 file es id (subst (λ (xs : List Entry). HasBegunOn is.0 xs id) (sym there.1) in_all) on_file in
-    let here = subst (λ (f : ℕ). HasAnswer f before id count bytes) same a in
-    (here.front, here.node, (here.rest, here.split), here.has_begun)
+-- the clause of a replicated file
+pub ends_answered : (es : List Entry) (file : ℕ) → EntriesAre es → is_replicated file es ≡ true → EndsAreAnswered file es
+ends_answered es file are replicated before id count bytes there on_file = at (are before (ok_entry id count bytes) there)
+  where
+    -- a call is on one file
+    one : (f : ℕ) → HasBegunOn f before id → f ≡ file
+    one f begun =
+        one_file f file es id
+        (subst (λ (xs : List Entry). HasBegunOn f xs id) (sym there.1) (begun_on-grown f before (ok_entry id count bytes ∷ there.0) id begun)) on_file
+
+    by_kind : (location : Location) → location_in file es ≡ Some location → location.kind ≡ kind.Striped → ⊥
+    by_kind location placed striped = different (sym (ap (λ (k : Kind). elim k [ kind.Replicated ↦ true | kind.Striped ↦ false ]) striped) ∙ (sym (ap is_replicated_at placed) ∙ replicated))
+      where
+        different : false ≡ true → ⊥
+        different e = cc e
+
+    at : IsAnswered before id count bytes ⊎ IsOnStriped before id
+        → (first : List Entry) × (node : NodeId) × IsBefore first (entry.Answer node file id count bytes) before × HasBegunOn file first id
+    at (inl is) =
+        let a = is.1 in
+        let in_before = subst (λ (xs : List Entry). HasBegunOn is.0 xs id) (sym a.split) (begun_on-grown is.0 a.front (entry.Answer a.node is.0 id count bytes ∷ a.rest) id a.has_begun) in
+        let here = subst (λ (f : ℕ). HasAnswer f before id count bytes) (one is.0 in_before) a in
+        (here.front, here.node, (here.rest, here.split), here.has_begun)
+    at (inr is) =
+        absurd (by_kind is.location
+        (subst (λ (f : ℕ). location_in f es ≡ Some is.location) (one is.file is.has_begun)
+        (subst (λ (xs : List Entry). location_in is.file xs ≡ Some is.location) (sym there.1) (location-grown is.file before (ok_entry id count bytes ∷ there.0) is.location is.placed)))
+        is.striped)
 
 -- what is issued, committed or answered on a file has begun on it
 pub acts_begun : (es : List Entry) (file : ℕ) → EntriesAre es → ActsHaveBegun file es

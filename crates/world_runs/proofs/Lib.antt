@@ -18,12 +18,13 @@ pub mod LineSteps
 pub mod Order
 pub mod Runs
 pub mod Entries
+pub mod Places
 pub mod Fresh
 pub mod Said
 pub mod PrimaryIds
 pub mod FileIds
-pub mod OsdIds
 pub mod Calls
+pub mod OsdIds
 pub mod Growth
 pub mod Steps
 pub mod EndRuns

@@ -1,9 +1,10 @@
 -- An OSD's asks have begun on their files, and it tells of such calls alone.
-use Rattle.std.proofs.Common.{◌≡◌, ℕ, inl, inr, List, [], ◌∷◌, ◌++◌, refl, ap, subst, sym, ◌∙◌, Option, Some, None, Bool, true, false}
+use Rattle.std.proofs.Common.{◌≡◌, ℕ, ◌⊎◌, inl, inr, List, [], ◌∷◌, ◌++◌, refl, ap, subst, sym, ◌∙◌, Option, Some, None, Bool, true, false}
 use Rattle.std.specs.Prelude.{cond, max}
 use Rattle.xt_base.specs.declared.ids.NodeId.{NodeId}
 use Rattle.xt_base.specs.declared.ids.FileId.{FileId}
 use Rattle.xt_base.specs.declared.ids.OpId.{OpId}
+use Rattle.xt_messages.specs.declared.reply.Reply.{Reply}
 use Rattle.xt_messages.specs.declared.message.Msg.{Msg}
 use Rattle.xt_messages.specs.declared.message.Payload.{Payload}
 use Rattle.xt_messages.specs.declared.message.Payload.TheVariants as payload
@@ -29,18 +30,20 @@ use Rattle.lease_runs.proofs.LeaseSteps.{expired_keeps}
 use Rattle.lease_runs.proofs.OsdLeases.{at_file}
 use Rattle.lease_runs.proofs.ActSteps.{step_marks, woken_quiet}
 use Rattle.time_line.specs.declared.entry.Entry.{Entry}
-use Rattle.time_line.specs.TimeLine.{id_of}
+use Rattle.time_line.specs.TimeLine.{id_of, location_in}
 use Rattle.time_line.specs.Clauses.{HasBegunOn}
 use Rattle.world_runs.proofs.Lists.{has_in, has_left, has_right}
 use Rattle.world_runs.proofs.Files.{file_after}
 use Rattle.world_runs.proofs.Rising.{with_file_has}
 use Rattle.world_runs.proofs.Said.{Said, AreMarked, one_more, said_of}
-use Rattle.world_runs.proofs.FileIds.{FileIs, StepIs, HasCome, none_are, expired_is, step_is, wake_is}
+use Rattle.world_runs.proofs.FileIds.{FileIs, StepIs, HasCome, IsStripedReply, none_are, expired_is, step_is, wake_is}
+use Rattle.world_runs.proofs.Calls.{IsOnStriped}
 
--- ---- marks that end no call
+-- ---- marks that end no call, and make no file
 
 abbrev pub EndsNone : Mark → Type 0
 EndsNone (mark.Done number how) = ⊥
+EndsNone (mark.File number location) = ⊥
 EndsNone _ = Unit {0}
 
 abbrev pub NoneEnds : List Mark → Type 0
@@ -55,7 +58,7 @@ acts_end_none number (mark.Commit k count write ∷ ms) are = (tt, acts_end_none
 acts_end_none number (mark.Answer k write count bytes ∷ ms) are = (tt, acts_end_none number ms are.1)
 acts_end_none number (mark.Begin k c ∷ ms) are = (tt, acts_end_none number ms are.1)
 acts_end_none number (mark.Done k outcome ∷ ms) are = absurd (cc (are.0))
-acts_end_none number (mark.File k location ∷ ms) are = (tt, acts_end_none number ms are.1)
+acts_end_none number (mark.File k location ∷ ms) are = absurd (cc (are.0))
 acts_end_none number (mark.Held k end ∷ ms) are = (tt, acts_end_none number ms are.1)
 
 marks_end_none : (file : FileId) (l : LeaseState) (marks : List Mark) → MarksAre file l marks → NoneEnds marks
@@ -69,14 +72,19 @@ marks_end_none file l marks (acting is are) = acts_end_none file.number marks ar
 abbrev pub FilesAre : List Entry → List FileState → Type 0
 FilesAre es files = (f : FileState) → Has f files → FileIs (λ (id : OpId). HasBegunOn f.kept.file.number es id) f
 
--- an ask that comes has begun
+-- an ask that comes has begun, and its file is told to be there
 abbrev pub HasBegun : List Entry → NodeId → Payload → Type 0
-HasBegun es from (payload.Ask number capability asked) = HasBegunOn capability.file.number es (id_of from number)
+HasBegun es from (payload.Ask number capability asked) =
+    HasBegunOn capability.file.number es (id_of from number) × (location_in capability.file.number es ≡ Some capability.location)
 HasBegun es from _ = Unit {0}
+
+-- a reply to a call on a striped file
+abbrev pub IsStriped : List Entry → Msg → Type 0
+IsStriped es m = (number : ℕ) × (file : FileId) × (answer : Reply) × (m.payload ≡ payload.Reply number file answer) × IsOnStriped es (id_of m.to number)
 
 -- a message of an OSD
 abbrev pub IsTold : List Entry → List Mark → Msg → Type 0
-IsTold es marks m = (file : ℕ) × Said (λ (id : OpId). HasBegunOn file es id) file marks m.to m.payload
+IsTold es marks m = ((file : ℕ) × Said (λ (id : OpId). HasBegunOn file es id) file marks m.to m.payload) ⊎ IsStriped es m
 
 -- what the step of an OSD owes
 pub record OsdIs (es : List Entry) (files : List FileState) (turned : Turned) : Type 0 where
@@ -86,7 +94,8 @@ pub record OsdIs (es : List Entry) (files : List FileState) (turned : Turned) : 
   pub marked : (file : ℕ) × AreMarked (λ (id : OpId). HasBegunOn file es id) file turned.marks
 
 told_more : (es : List Entry) (marks more : List Mark) (m : Msg) → ((k : Mark) → Has k marks → Has k more) → IsTold es marks m → IsTold es more m
-told_more es marks more m within told = (told.0, one_more (λ (id : OpId). HasBegunOn told.0 es id) told.0 marks more m.to m.payload within told.1)
+told_more es marks more m within (inl told) = inl (told.0, one_more (λ (id : OpId). HasBegunOn told.0 es id) told.0 marks more m.to m.payload within told.1)
+told_more es marks more m within (inr striped) = inr striped
 
 -- a new file has no asks
 pub new_is : (Q : OpId → Type 0) (awake : Awake) (row : FileRow) → FileIs Q (file_from awake row)
@@ -106,8 +115,20 @@ at_is es awake (f ∷ fs) file are = one_of (is_file f.kept.file file) (at_is es
 come_as : (es : List Entry) (site : Site) (file f : FileId) (from : NodeId) (content : Payload) → file_concerned content ≡ Some file → f ≡ file → HasBegun es from content → HasCome (λ (id : OpId). HasBegunOn f.number es id) site from content
 come_as es site file f from (payload.Ask number capability asked) concerns same begun =
     let its : capability.file ≡ f = (let e : capability.file ≡ file = cc in e ∙ sym same) in
-    subst (λ (x : FileId). HasBegunOn x.number es (id_of from number)) its begun
+    subst (λ (x : FileId). HasBegunOn x.number es (id_of from number)) its begun.0
 come_as es site file f from _ concerns same begun = tt
+
+-- a reply to the client of an ask on a striped file is one to a call on such a file
+striped_told : (es : List Entry) (from : NodeId) (content : Payload) (m : Msg) → HasBegun es from content → IsStripedReply from content m → IsStriped es m
+striped_told es from (payload.Ask number capability asked) m begun reply = (
+  number,
+  reply.2,
+  reply.3,
+  reply.4,
+  subst (λ (to : NodeId). IsOnStriped es (id_of to number)) (sym reply.1)
+      (record { file = capability.file.number; has_begun = begun.0; location = capability.location; placed = begun.1; striped = reply.0 }),
+)
+striped_told es from _ m begun reply = absurd reply
 
 message_is : (es : List Entry) (site : Site) (awake : Awake) (files : List FileState) (msg : Msg) (o : Option FileId) → file_concerned msg.payload ≡ o → FilesAre es files → HasBegun es msg.from msg.payload
     → OsdIs es (message_handled site awake files msg o).files (message_handled site awake files msg o).turned
@@ -126,7 +147,10 @@ message_is es site awake files msg (Some file) concerns are begun =
             (subst (λ (x : FileId). FileIs (λ (id : OpId). HasBegunOn x.number es id) (step_of_file site (file_at awake files file) msg.from msg.payload).state) (sym same) is.state)
         | inr old ↦ are f old
       ];
-      told = λ m h. ((file_at awake files file).kept.file.number, said_of (λ (id : OpId). HasBegunOn (file_at awake files file).kept.file.number es id) (file_at awake files file).kept.file.number step.turned.marks step.turned.outs m is.said h);
+      told = λ m h. elim (is.said m h) [
+        | inl said ↦ inl ((file_at awake files file).kept.file.number, said)
+        | inr reply ↦ inr (striped_told es msg.from msg.payload m begun reply)
+      ];
       plain = marks_end_none s.kept.file (settled_row site s).lease step.turned.marks (step_marks site s msg.from msg.payload);
       marked = ((file_at awake files file).kept.file.number, is.marks);
     }
@@ -157,7 +181,7 @@ each_is es step (s ∷ ss) same each are =
       told = λ m h. elim (has_in m (step s).turned.outs others.turned.outs h) [
         | inl mine ↦
             told_more es (step s).turned.marks ((step s).turned.marks ++ others.turned.marks) m (λ k i. has_left k (step s).turned.marks others.turned.marks i)
-            (s.kept.file.number, said_of (λ (id : OpId). HasBegunOn s.kept.file.number es id) s.kept.file.number (step s).turned.marks (step s).turned.outs m one.said mine)
+            (inl (s.kept.file.number, said_of (λ (id : OpId). HasBegunOn s.kept.file.number es id) s.kept.file.number (step s).turned.marks (step s).turned.outs m one.said mine))
         | inr later ↦ told_more es others.turned.marks ((step s).turned.marks ++ others.turned.marks) m (λ k i. has_right k (step s).turned.marks others.turned.marks i) (rest.told m later)
       ];
     }
@@ -172,7 +196,7 @@ woken_is es site files are =
     record {
       files_are = second.files_are;
       told = λ m h. elim h [
-        | inl e ↦ (0, subst (λ (x : Msg). Said (λ (id : OpId). HasBegunOn 0 es id) 0 (settled.turned.marks ++ woke.turned.marks) x.to x.payload) (sym e) tt)
+        | inl e ↦ inl (0, subst (λ (x : Msg). Said (λ (id : OpId). HasBegunOn 0 es id) 0 (settled.turned.marks ++ woke.turned.marks) x.to x.payload) (sym e) tt)
         | inr later ↦
             elim (has_in m settled.turned.outs woke.turned.outs later) [
               | inl early ↦ told_more es settled.turned.marks (settled.turned.marks ++ woke.turned.marks) m (λ k i. has_left k settled.turned.marks woke.turned.marks i) (first.told m early)

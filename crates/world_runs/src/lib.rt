@@ -1,5 +1,6 @@
 //! What every run of the world keeps to: at no moment do two nodes hold one file, a node acts as a file's primary only while it
-//! holds the file, and what OSDs are asked, act for and answer, and clients are told, has begun and was answered before.
+//! holds the file, what OSDs are asked, act for and answer has begun before, and calls on replicated files end well only as they were
+//! answered before.
 //!
 //! The walk over lines, steps and ways to end is done once, for any property of worlds. All is said of every list of lines and every
 //! room, and of a line that ended early; each step is shown to be moves of the lease world of each file (`lease_runs`).
@@ -15,7 +16,7 @@ ghost use Rattle.time_line.specs.Bounds.{AreLines};
 ghost use Rattle.world_runs.specs.Worlds.{IsInOrder, IsNextInOrder};
 ghost use Rattle.cluster_runs.specs.Runs.{run_of, IsRunInto};
 ghost use Rattle.time_line.specs.Clauses.{AreApart, HoldersAct, AreOnce, AnswersShow, EndsAreAnswered, AreFresh};
-ghost use Rattle.time_line.specs.TimeLine.{holds};
+ghost use Rattle.time_line.specs.TimeLine.{is_replicated, holds};
 ghost use Rattle.cluster_runs.specs.Examples.{node, trace_of, vanished};
 ghost use Rattle.world_runs.specs.Acts.{ActsHaveBegun};
 ghost use Rattle.world_runs.specs.Asks.{AsksHaveBegun, NextHasBegun};
@@ -76,14 +77,16 @@ pub fn acts_have_begun()
         IsRunInto room lines l entries → ActsHaveBegun file entries }
 {}
 
-/// A call on a file that ends well, with a count and bytes, was answered so on that file before, and had begun on it before that
-/// answer: in every run of any lines, and behind some steps of a line more.
+/// A call on a replicated file that ends well, with a count and bytes, was answered so on that file before, and had begun on it before
+/// that answer: in every run of any lines, and behind some steps of a line more.
 pub fn ends_are_answered()
     ensures whole { (room : Room) (lines : List Line) (file : ℕ) → AreLines lines →
+        is_replicated file (run_of room lines).entries ≡ true →
         EndsAreAnswered file (run_of room lines).entries }
     ensures part { (room : Room) (lines : List Line) (l : Line) (file : ℕ) (entries : List Entry) →
         AreLines (lines ++ l ∷ []) → refusal (run_of room lines) l ≡ None →
-        IsRunInto room lines l entries → EndsAreAnswered file entries }
+        IsRunInto room lines l entries → is_replicated file entries ≡ true →
+        EndsAreAnswered file entries }
 {}
 
 /// Where the ends of calls on a file were answered, each write stands once in the order, and answers show the file, the ends are

@@ -7,6 +7,7 @@ use Rattle.xt_base.specs.declared.ids.OpId.{OpId}
 use Rattle.xt_base.specs.declared.ids.Epoch.{Epoch}
 use Rattle.xt_base.specs.declared.ids.Stamp.{Stamp}
 use Rattle.xt_messages.specs.declared.file.FileHead.{FileHead}
+use Rattle.xt_messages.specs.declared.reply.Denial.TheVariants as denial
 use Rattle.xt_messages.specs.declared.reply.Reply.TheVariants as reply
 use Rattle.xt_messages.specs.declared.file.Kind.TheVariants as kind
 use Rattle.xt_messages.specs.declared.file.Location.{Location}
@@ -21,6 +22,7 @@ use Rattle.xt_messages.specs.declared.event.Mark.{Mark}
 use Rattle.xt_messages.specs.declared.event.Mark.TheVariants as mark
 use Rattle.xt_messages.specs.declared.record.Record.{Record}
 use Rattle.xt_messages.specs.declared.record.Record.TheVariants as kept
+use Rattle.xt_base.specs.declared.TheConstants.{NO_OBJECT}
 use Rattle.xt_protocol.specs.declared.turned.Turned.{Turned}
 use Rattle.xt_protocol.specs.Heads.{new_head}
 use Rattle.xt_protocol.specs.Stamps.{with_held}
@@ -37,6 +39,7 @@ use Rattle.xt_protocol.specs.Serving.{reads, writes, wakes}
 use Rattle.xt_protocol.specs.Asks.{serves_all}
 use Rattle.xt_protocol.specs.Overdue.{expired}
 use Rattle.xt_protocol.specs.AskRows.{refusal_of, ask_handled}
+use Rattle.xt_protocol.specs.StripedRows.{striped_handled}
 use Rattle.xt_protocol.specs.FileLeases.{read_comes, write_comes, answer_comes}
 use Rattle.xt_protocol.specs.FileSteps.{step_of_file, wake_of_file}
 use Rattle.xt_protocol.specs.OsdSteps.{OsdState, Outside, osd_from, file_at, with_file, each_file, step_of_osd}
@@ -398,3 +401,39 @@ promises = after_record (kept.Promise file_1 (epoch_of 2 3)) (payload.Status fil
 
 abbrev pub refuses : Acted
 refuses = only (payload.Refused file_1 (epoch_of 1 1) (epoch_of 2 3))
+
+-- A striped file on three nodes, of which node 2 owns object 1.
+abbrev pub striped_capability : Capability
+striped_capability =
+    record (capability_on trio 0) { location = record { version = 1; kind = kind.Striped; stripe = 131072; members = map node trio } }
+
+abbrev pub striped_ask : ℕ → List Record → ℕ → Op → Acted
+striped_ask id records number asked =
+    striped_handled
+    (record { node = node id; times = times; now = 0; sealed = λ capability. true; body = by_records records })
+    (row_in (fold_of records).files file_1) (id_of 10 number) striped_capability asked
+
+-- what node 2 keeps of a write of three bytes to that object
+abbrev pub striped_update : Record
+striped_update =
+    kept.Update file_1
+    (record {
+      stamp = stamp_of 0 0 1;
+      id = id_of 10 1;
+      mark = record { epoch = 0; size = 131075 };
+      drop_from = NO_OBJECT;
+      object = 1;
+      body = abc;
+    })
+
+abbrev pub striped_write : Acted
+striped_write =
+    after_record striped_update (payload.Reply 1 file_1 (reply.Ok 1 (record { epoch = 0; size = 131075 }) []))
+
+-- a read shows what the write left, with zeros behind it; another node doesn't own the object
+abbrev pub striped_read : Acted
+striped_read =
+    only (payload.Reply 2 file_1 (reply.Ok 1 (record { epoch = 0; size = 131075 }) (98 ∷ 99 ∷ 0 ∷ [])))
+
+abbrev pub striped_elsewhere : Acted
+striped_elsewhere = only (payload.Reply 2 file_1 (reply.Denied denial.Range))

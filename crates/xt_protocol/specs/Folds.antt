@@ -1,5 +1,5 @@
 -- What the records of a node say: its last start, and the row of each file; and which of them are of requests.
-use Rattle.std.specs.Prelude.{ℕ, Bool, not, ◌&&◌, ◌==◌, ◌≡◌, ◌⊎◌, ◌+◌, true, false, if◌then◌else◌, Option, Some, None, List, [], ◌∷◌, ◌++◌, filter, Contains}
+use Rattle.std.specs.Prelude.{ℕ, Bool, not, ◌&&◌, ◌==◌, ◌≡◌, ◌⊎◌, ◌+◌, true, false, if◌then◌else◌, Option, Some, None, List, [], ◌∷◌, filter, Contains}
 use Rattle.std.specs.List.{fold, All}
 use Rattle.xt_messages.specs.Limits.{FitsHead, is_at_most}
 use Rattle.xt_base.specs.declared.ids.FileId.{FileId}

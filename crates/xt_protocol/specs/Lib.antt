@@ -13,6 +13,7 @@ pub mod LeaseRows
 pub mod Objects
 pub mod OsdSteps
 pub mod Overdue
+pub mod PlainRows
 pub mod Primaries
 pub mod PrimaryRows
 pub mod Register
@@ -20,6 +21,7 @@ pub mod ReplicaRows
 pub mod SeenBodies
 pub mod Serving
 pub mod Stamps
+pub mod StripedRows
 pub mod Turns
 pub mod VersionOrder
 pub mod Writes

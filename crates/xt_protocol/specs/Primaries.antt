@@ -21,7 +21,7 @@ use Rattle.xt_protocol.specs.declared.states.Progress.TheVariants as progress
 use Rattle.xt_protocol.specs.declared.states.Tenure.{Tenure}
 use Rattle.xt_protocol.specs.declared.states.PrimaryState.{PrimaryState}
 use Rattle.xt_protocol.specs.Turns.{message}
-use Rattle.xt_protocol.specs.Stamps.{is_epoch, has_version}
+use Rattle.xt_protocol.specs.Stamps.{is_epoch, has_version, held_from}
 
 -- What a primary stands on: where it stands, the head and the held versions of its own replica, and what a body is.
 pub record Ground : Type 0 where
@@ -106,17 +106,13 @@ carries place peers acked = nat_le (majority_among peers) (length acked) && has_
 
 -- Feeding.
 
--- what is known of a peer that has told this head: the versions that it names
+-- What is known of a peer that has told this head: the versions that it names. What is known of a peer rises, each once.
 abbrev pub known_of_report : FileHead → List ObjectVersion
-known_of_report head = head.versions
+known_of_report head = held_from head.versions
 
 -- what is known of the primary's own bodies when it begins to fetch: those that it holds
 abbrev pub known_of_own : List ObjectVersion → List ObjectVersion
 known_of_own held = held
-
--- these versions and this one, each once
-abbrev pub with_known : List ObjectVersion → ObjectVersion → List ObjectVersion
-with_known known v = if has_version known v then known else known ++ v ∷ []
 
 -- a peer's next state: the body of the first version that isn't known goes to it, or with none left the head
 abbrev pub fed_next : (ℕ → Stamp → List ℕ) → FileHead → List ObjectVersion → Option ObjectVersion → PeerState

@@ -25,10 +25,10 @@ use Rattle.xt_protocol.specs.declared.states.Progress.TheVariants as progress
 use Rattle.xt_protocol.specs.declared.states.Tenure.{Tenure}
 use Rattle.xt_protocol.specs.declared.states.PrimaryState.{PrimaryState}
 use Rattle.xt_protocol.specs.Turns.{quiet, shows, sends, joined, message, to_each, answers}
-use Rattle.xt_protocol.specs.Stamps.{is_epoch, is_earlier, is_below, is_version, without_version}
+use Rattle.xt_protocol.specs.Stamps.{is_epoch, is_earlier, is_below, is_version, without_version, with_held}
 use Rattle.xt_protocol.specs.ReplicaRows.{stage_record}
 use Rattle.xt_protocol.specs.Choice.{chosen_of, difference}
-use Rattle.xt_protocol.specs.Primaries.{Ground, Led, in_tenure, is_unknown, unknown_peer, peer_in, with_peer, nodes_of, majority_among, reports_of, statuses_counted, with_node, carries, known_of_report, known_of_own, with_known, fed, last_sent, if_any, last_to_each, target_of}
+use Rattle.xt_protocol.specs.Primaries.{Ground, Led, in_tenure, is_unknown, unknown_peer, peer_in, with_peer, nodes_of, majority_among, reports_of, statuses_counted, with_node, carries, known_of_report, known_of_own, fed, last_sent, if_any, last_to_each, target_of}
 
 -- a row leaves the primary in this tenure, and gives this
 abbrev pub goes_on : ℕ → Tenure → Turned → Led
@@ -165,8 +165,8 @@ target_in own epoch _ = None
 
 -- Body staged: it is known of the peer, which is fed on.
 abbrev pub body_staged : Ground → ℕ → Tenure → Option FileHead → NodeId → PeerState → ObjectVersion → Led
-body_staged g learnt t (Some target) from (peer.Feeding known object version body) v = feeds g learnt t from target (with_known known v)
-body_staged g learnt t (Some target) from (peer.Heading known head) v = feeds g learnt t from target (with_known known v)
+body_staged g learnt t (Some target) from (peer.Feeding known object version body) v = feeds g learnt t from target (with_held known v)
+body_staged g learnt t (Some target) from (peer.Heading known head) v = feeds g learnt t from target (with_held known v)
 body_staged g learnt t _ from _ v = unmoved learnt t
 
 -- Body missed: it is no longer known of the peer, which is fed on.

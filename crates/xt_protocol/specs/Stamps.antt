@@ -1,5 +1,5 @@
 -- the orders of epochs, stamps and versions, and which versions are held
-use Rattle.std.specs.Prelude.{Bool, ◌&&◌, ◌||◌, ◌==◌, nat_lt, not, if◌then◌else◌, List, [], ◌∷◌, filter}
+use Rattle.std.specs.Prelude.{Bool, ◌&&◌, ◌||◌, ◌==◌, nat_lt, not, if◌then◌else◌, List, [], ◌∷◌, filter, fold}
 use Rattle.std.specs.List.{list_any}
 use Rattle.xt_base.specs.declared.ids.Epoch.{Epoch}
 use Rattle.xt_base.specs.declared.ids.Stamp.{Stamp}
@@ -44,3 +44,7 @@ with_held (h ∷ hs) v =
     if is_version h v then h ∷ hs
     else if comes_before v h then v ∷ h ∷ hs
     else h ∷ with_held hs v
+
+-- these versions, held one after the other
+abbrev pub held_from : List ObjectVersion → List ObjectVersion
+held_from versions = fold with_held [] versions

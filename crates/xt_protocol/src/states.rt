@@ -1,5 +1,5 @@
 use xt_base::{Epoch, FileId, NodeId, Octets, OpId, Seq, Stamp};
-use xt_messages::{FileHead, HeldPairs, ObjectVersion, Op, Payload, Record, Update, Versions};
+use xt_messages::{FileHead, HeldSet, ObjectVersion, Op, Payload, Record, Reply, Update, Versions};
 
 /// Where a replica stands: its node, its file, and the size of the file's objects in bytes.
 #[derive(Clone, Copy)]
@@ -16,6 +16,13 @@ pub struct Acted {
     pub answer: Option<Payload>,
 }
 
+/// What an operation on a striped file gives at a member: at most one record, which is kept first, and then at most one reply.
+#[derive(Drop)]
+pub struct PlainActed {
+    pub rec: Option<Record>,
+    pub reply: Option<Reply>,
+}
+
 /// How far a peer is, for the primary.
 #[derive(Drop)]
 pub enum PeerState {
@@ -27,14 +34,14 @@ pub enum PeerState {
     },
     /// The body of this version was sent last.
     Feeding {
-        known: HeldPairs,
+        known: HeldSet,
         object: u64,
         version: Stamp,
         body: Octets,
     },
     /// This head was sent last.
     Heading {
-        known: HeldPairs,
+        known: HeldSet,
         head: FileHead,
     },
     /// It has acknowledged the head, and gets every update.

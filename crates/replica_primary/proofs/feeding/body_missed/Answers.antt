@@ -1,10 +1,24 @@
-use Rattle.std.proofs.Common.{◌∙◌, List, Option, ap}
+use Rattle.std.proofs.Common.{◌∙◌, List, ap, sym}
 use Rattle.xt_messages.specs.declared.file.ObjectVersion.{ObjectVersion}
-use Rattle.replica_primary.specs.Moves.{next_fed, without_any}
+use Rattle.xt_protocol.specs.declared.states.Peer.{Peer}
+use Rattle.xt_protocol.specs.declared.states.PeerState.TheVariants as peer
+use Rattle.xt_protocol.specs.Primaries.{fed, peer_in}
+use Rattle.replica_primary.specs.Feeding.{head_of, is_at_head}
+use Rattle.replica_primary.specs.Written.{ground}
+use Rattle.replica_primary.proofs.Fed.{fed_by, known_missed, set_anew}
 use Rattle.replica_primary.proofs.feeding.body_missed.Goals as goal
 
-pub returns : goal.returns
-returns c =
-    λ state is.
-    c.next_fed.ensures
-    ∙ ap next_fed (c.without_any.ensures ∙ ap (λ (told : Option (List ObjectVersion)). without_any told c.args.version) (c.in_ok-told.ensures state is))
+pub returns-clause-value : goal.returns-clause-value
+returns-clause-value g c =
+    λ learnt held.
+    let t = c.args.tenure.now in
+    let from = c.args.from in
+    let v = c.args.version in
+    let stands = ground c.args.place.now (g.B.Bodies.records c.args.bodies.now) c.args.own.now held in
+    let head = head_of c.in-Some.target in
+    let last = ap (λ (peers : List Peer). is_at_head (peer_in peers from)) (sym c.as_slice.ensures) ∙ sym c.is_at_head.ensures ∙ c.if-not-is_at_head.false in
+    fed_by stands learnt t from c.peer_sent.new.tenure c.in_ok-peer_sent.field-0 c.in_ok-state.state head _
+    (set_anew stands learnt t from c.take_known-known.new.peers c.peer_sent.new.tenure peer.Unknown c.in_ok-state.state c.take_known-known.ensures.set c.peer_sent.ensures.state)
+    c.in_ok-peer_sent.ensures.sent
+    (c.in_ok-state.ensures.value ∙ ap (λ (known : List ObjectVersion). fed stands.body head known) c.let_go.ensures)
+    ∙ known_missed stands learnt t from v head c.take_known-known.result (peer_in t.peers from) c.in-Some.ensures c.take_known-known.ensures.known last

@@ -16,4 +16,4 @@ returns-clause-value g c =
     λ own held.
     let stands = ground_beyond c.args.place.now (g.B.Bodies.records c.args.bodies.now) c.args.fetched.now own held in
     feed_to stands c.args.target.now c.args.peer.now _ (sym c.is_to_feed.ensures ∙ c.if-not-is_to_feed.false)
-    (λ head is. c.put.ensures ∙ c.in_ok-state.ensures.value ∙ ap (λ (known : List ObjectVersion). fed stands.body c.args.target.now known) (c.in_ok-told.ensures head is))
+    (λ head is. c.put.ensures ∙ c.in_ok-state.ensures.value ∙ ap (λ (known : List ObjectVersion). fed stands.body c.args.target.now known) (c.in_ok-known.ensures head is))

@@ -3,13 +3,9 @@ use Rattle.xt_protocol.specs.declared.states.Peer.{Peer}
 use Rattle.xt_messages.specs.declared.file.ObjectVersion.{ObjectVersion}
 use Rattle.xt_messages.specs.declared.message.Payload.{Payload}
 use Rattle.xt_protocol.specs.Primaries.{peer_in}
-use Rattle.xt_protocol.specs.PrimaryRows.{body_staged, hears_ack, hears_object, hears_peer, target_in}
-use Rattle.replica_primary.specs.declared.moving.Next.{Next}
-use Rattle.replica_primary.specs.Moves.{known_of, next_of, with_any}
+use Rattle.xt_protocol.specs.PrimaryRows.{hears_ack, hears_object, hears_peer}
 use Rattle.replica_primary.specs.Written.{ground}
 use Rattle.replica_primary.proofs.Given.{if_so}
-use Rattle.replica_primary.proofs.Fed.{staged_by}
-use Rattle.replica_primary.proofs.Hears.{fed_on}
 use Rattle.replica_primary.proofs.hearing.goes_on_hearing.Goals as goal
 
 pub returns-in-Status : goal.returns-in-Status
@@ -33,29 +29,12 @@ returns-in-Object c =
     ∙ ap (λ (v : ObjectVersion). hears_object stands learnt t t.progress from v.object v.version c.in-Object.bytes) c.version_of-version.ensures
     ∙ ap (λ (content : Payload). hears_peer stands learnt t from state content) (sym c.in-Object.is))
 
-pub returns-in-Staged : goal.returns-in-Staged
-returns-in-Staged c =
-    if_so _ _ c.body_staged.result c.body_staged.ensures
-    (λ next of learnt records state is.
-    let t = c.args.tenure.now in
-    let own = c.args.own.now in
-    let from = c.args.from in
-    let v = c.version_of-version-in-Staged.result in
-    let target = target_in own t.epoch t.progress in
-    let stands = ground c.args.place.now records own c.args.held.now in
-    let told = ap (λ (peers : List Peer). peer_in peers from) c.as_slice.ensures ∙ is in
-    ap (λ (n : Next). next_of stands learnt from t n) (of state told)
-    ∙ fed_on stands learnt t from (with_any (known_of state) v)
-    ∙ staged_by stands learnt t from v target state
-    ∙ ap (λ (w : ObjectVersion). body_staged stands learnt t target from state w) c.version_of-version-in-Staged.ensures
-    ∙ ap (λ (content : Payload). hears_peer stands learnt t from state content) (sym c.in-Staged.is))
-
 pub returns-in_ok-turned-in-Ack : goal.returns-in_ok-turned-in-Ack
 returns-in_ok-turned-in-Ack c =
     λ learnt records state is.
     let t = c.args.tenure.now in
     let from = c.args.from in
-    let told = ap (λ (peers : List Peer). peer_in peers from) c.as_slice-in-Ack.ensures ∙ is in
+    let told = ap (λ (peers : List Peer). peer_in peers from) c.as_slice.ensures ∙ is in
     let stands = ground c.args.place.now records c.args.own.now c.args.held.now in
     c.in_ok-turned-in-Ack.ensures learnt records c.args.held.now
     ∙ ap (λ (newly : Bool). hears_ack stands learnt t t.progress from newly c.in-Ack.stamp) (c.newly_current-newly.ensures state told)

@@ -22,7 +22,7 @@ use Rattle.xt_protocol.specs.Heads.{plain_stamp, version_of, head_after}
 use Rattle.xt_protocol.specs.Objects.{present_body}
 use Rattle.xt_protocol.specs.ReplicaRows.{kept_after, head_fits}
 use Rattle.xt_protocol.specs.Writes.{Standing, repeated, older, turned_away, fresh, standing, update_of}
-use Rattle.osd_plain.specs.declared.PlainActed.{PlainActed}
+use Rattle.xt_protocol.specs.declared.states.PlainActed.{PlainActed}
 
 -- what a member of a striped file keeps: the file, the node itself, and the head over the objects that it owns
 pub record PlainFile : Type 0 where
