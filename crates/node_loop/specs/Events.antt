@@ -1,8 +1,8 @@
 -- what an event does to a served node
-use Rattle.std.specs.Prelude.{ℕ, ◌≡◌, ◌⊎◌, Option, Some, None, List, []}
+use Rattle.std.specs.Prelude.{ℕ, ◌≡◌, ◌<◌, ◌⊎◌, Option, Some, None, List, []}
 use Rattle.std.specs.Option.{IfSome}
 use Rattle.std.specs.List.{All}
-use Rattle.xt_base.specs.Faults.{Rose}
+use Rattle.xt_base.specs.Faults.{Rose, counted}
 use Rattle.xt_base.specs.declared.ids.NodeId.{NodeId}
 use Rattle.xt_base.specs.declared.ids.Boot.{Boot}
 use Rattle.xt_messages.specs.declared.message.Msg.{Msg}
@@ -31,12 +31,29 @@ pub record HasStepped {S : Type 0} (step : Step S) (node : NodeId) (boot : Boot)
   pub outs_are : outs ≡ step.turned.outs
   pub sent : HasPosted (posted node boot book (none_posted before) step.turned.outs) count handed
 
+-- A fault of the disk is told only where its count rose in the call, and with that count; whatever else ends a node, no call to the disk
+-- had failed.
+abbrev pub HasDiskCause : ℕ → ℕ → Status → Type 0
+HasDiskCause before after (status.DiskFault count) = Rose before after × (count ≡ after)
+HasDiskCause before after _ = after ≡ before
+
+-- So it is where a node serves, but that a fault of the disk is also told, with the count as it was, where a step needs a body that no
+-- record put. No run of the definitions comes to that, since what a node needs is held; it isn't shown of the code.
+abbrev pub TellsDiskCount : ℕ → ℕ → Status → Type 0
+TellsDiskCount before after (status.DiskFault count) = (Rose before after ⊎ (after ≡ before)) × (count ≡ after)
+TellsDiskCount before after _ = after ≡ before
+
 -- why a record isn't put
 abbrev pub EndsPut : Status → Type 0
 EndsPut (status.DiskFault count) = Unit {0}
 EndsPut (status.JournalFull need limit) = Rose limit need
 EndsPut status.OutOfMemory = Unit {0}
 EndsPut _ = ⊥
+
+-- A record that needs so long a journal has no room in one that may be only so long, where that is why it isn't put.
+abbrev pub IsFullFor : ℕ → ℕ → Status → Type 0
+IsFullFor limit needed (status.JournalFull need most) = (limit < needed) × (need ≡ counted needed) × (most ≡ limit)
+IsFullFor limit needed _ = Unit {0}
 
 -- What a put leaves that ends the node, where `left` says it of a record that a crash may leave: none where the journal is full.
 abbrev pub LeavesPut : (Option Record → Type 0) → Record → Status → Type 0

@@ -1,9 +1,12 @@
 ghost use Rattle.std.specs.Prelude.{◌≡◌, ◌<◌, ◌^◌, ◌++◌, ◌∷◌, [], IfOk, IfErr};
 ghost use Rattle.std.specs.List.{All};
 ghost use Rattle.xt_messages.specs.Limits.{FitsEvent, FitsMessage, FitsRecord};
+ghost use Rattle.xt_messages.specs.declared.status.Status.TheVariants as status;
 ghost use Rattle.xt_protocol.specs.Folds.{fold_of, IsInPlace};
-ghost use Rattle.object_store.specs.Access.{records_of, disk_of};
-ghost use Rattle.node_loop.specs.Events.{HasStepped, EndsEvent, EndsPut, LeavesPut};
+ghost use Rattle.xt_journal.specs.Access.{limit_of};
+ghost use Rattle.object_store.specs.Access.{journal_of, records_of, disk_of};
+ghost use Rattle.object_store.specs.Puts.{needed_for};
+ghost use Rattle.node_loop.specs.Events.{HasDiskCause, TellsDiskCount, HasStepped, IsFullFor, EndsEvent, EndsPut, LeavesPut};
 ghost use Rattle.node_runs.specs.Links.{Sends};
 ghost use Rattle.node_runs.specs.Keeping.{KeepsOn, KeepsWith};
 
@@ -39,11 +42,17 @@ pub fn keep<D: Disk>(alloc: Global, store: Store<D>, rec: &Record) -> Result<Sto
     requires placed { IsInPlace (fold_of (records_of store)) rec.now }
     ensures kept { IfOk result (λ kept. records_of kept ≡ records_of store ++ rec.now ∷ []) }
     ensures ends { IfErr result (λ ended. EndsPut ended.status) }
+    ensures full { IfErr result (λ ended. IsFullFor (limit_of (journal_of store))
+        (needed_for store rec.now) ended.status) }
     ensures keeps { IfOk result (λ kept. KeepsOn D.is_told D.moment D.left_since
         (disk_of store) (disk_of kept) (records_of store) (records_of kept)) }
     ensures leaves { IfErr result (λ ended. LeavesPut
         (KeepsWith D.is_told D.moment D.left_since (disk_of store) ended.disk (records_of store))
         rec.now ended.status) }
+    ensures disk { IfOk result (λ kept. D.fault_count (disk_of kept) ≡
+        D.fault_count (disk_of store)) }
+    ensures disk_cause { IfErr result (λ ended. HasDiskCause (D.fault_count (disk_of store))
+        (D.fault_count ended.disk) ended.status) }
 {
     match store.put(alloc, rec) {
         Ok(store) => Ok(store),
@@ -62,8 +71,20 @@ pub fn keep<D: Disk>(alloc: Global, store: Store<D>, rec: &Record) -> Result<Sto
     }
 }
 
+/// A body couldn't be read, or isn't there.
+fn unread<D: Disk>(store: Store<D>) -> Ended<D>
+    ensures status { result.status ≡ status.DiskFault (D.fault_count (disk_of store)) }
+    ensures disk { result.disk ≡ disk_of store }
+{
+    let disk = store.close();
+    let count = disk.faults();
+    let status = Status::DiskFault { count };
+    Ended { status, disk }
+}
+
 /// An event: the step, its record, its messages. A crash at any moment of it leaves the records of the store, with the event's own or
 /// without it.
+#[tactic(auto, using(crate::proofs::Counting::tells_of_put))]
 pub fn handle<N: Node, L: Link, D: Disk>(
     alloc: Global,
     node: &mut N,
@@ -96,6 +117,10 @@ pub fn handle<N: Node, L: Link, D: Disk>(
         ended.status) }
     ensures keeps { IfOk result (λ done. KeepsOn D.is_told D.moment D.left_since
         (disk_of store) (disk_of done.store) (records_of store) (records_of done.store)) }
+    ensures disk { IfOk result (λ done. D.fault_count (disk_of done.store) ≡
+        D.fault_count (disk_of store)) }
+    ensures disk_cause { IfErr result (λ ended. TellsDiskCount (D.fault_count (disk_of store))
+        (D.fault_count ended.disk) ended.status) }
 {
     let turned = match node.step(alloc, &mut Reader::new(&store), now, ev) {
         Ok(turned) => turned,
@@ -105,12 +130,7 @@ pub fn handle<N: Node, L: Link, D: Disk>(
                 disk: store.close(),
             });
         }
-        Err(StepErr::BodyFault { count }) => {
-            return Err(Ended {
-                status: Status::DiskFault { count },
-                disk: store.close(),
-            });
-        }
+        Err(StepErr::BodyFault { .. } | StepErr::BodyLost { .. }) => return Err(unread(store)),
     };
     let (rec, outs, _marks) = turned.into_parts();
     let store = match rec.get() {

@@ -5,6 +5,7 @@ ghost use Rattle.object_store.specs.Access.{records_of, disk_of};
 ghost use Rattle.node_runs.specs.Serving.{HasServeCause, IsServed};
 ghost use Rattle.node_runs.specs.Keeping.{KeepsOn, KeepsWith, KeepsServed};
 ghost use Rattle.node_loop.specs.Turns.{standing, HasPassed, HasEnded};
+ghost use Rattle.node_loop.specs.Events.{TellsDiskCount};
 
 use crate::event::Ended;
 use crate::node::Node;
@@ -67,6 +68,10 @@ impl<N: Node> Site<N> {
         ensures cause { IfErr result (λ ended. HasServeCause
             (L.fault_count link.old) (L.fault_count link.new)
             (C.fault_count clock.old) (C.fault_count clock.new) ended.status) }
+        ensures disk { IfOk result (λ kept. D.fault_count (disk_of kept) ≡
+            D.fault_count (disk_of store)) }
+        ensures disk_cause { IfErr result (λ ended. TellsDiskCount (D.fault_count (disk_of store))
+            (D.fault_count ended.disk) ended.status) }
     {
         if let Some(msg) = self.own.take() {
             return self.act(alloc, link, store, &Event::Deliver(msg));
@@ -112,6 +117,7 @@ pub fn serve<N: Node, L: Link, C: Clock, D: Disk>(
         (C.readings clock.old) (C.readings clock.new) result.0 }
     ensures cause { HasServeCause (L.fault_count link.old) (L.fault_count link.new)
         (C.fault_count clock.old) (C.fault_count clock.new) result.0 }
+    ensures disk_cause { TellsDiskCount (D.fault_count (disk_of store)) (D.fault_count result.1) result.0 }
     ensures keeps { let start = standing (N.state site.old.node) (records_of store) site.old.own
         site.old.ears site.old.clock site.old.due site.old.sender.count in
         (s : IsServed (N.role site.old.node) site.old.sender.boot bounds.period start bounds.turns

@@ -6,7 +6,7 @@ ghost use Rattle.object_store.specs.Access.{records_of, disk_of};
 ghost use Rattle.node_runs.specs.Links.{Sends};
 ghost use Rattle.node_runs.specs.Keeping.{KeepsOn, KeepsWith};
 ghost use Rattle.node_runs.specs.Runs.{handles, mails, meets, event_in, ends_event, next_due};
-ghost use Rattle.node_loop.specs.Events.{EndsEvent};
+ghost use Rattle.node_loop.specs.Events.{TellsDiskCount, EndsEvent};
 ghost use Rattle.node_loop.specs.Turns.{standing, turn_of, IsWithin, HasActed};
 
 use crate::event::{Ended, Handled, handle};
@@ -131,6 +131,10 @@ impl<N: Node> Site<N> {
             ended.status) }
         ensures keeps { IfOk result (λ kept. KeepsOn D.is_told D.moment D.left_since
             (disk_of store) (disk_of kept) (records_of store) (records_of kept)) }
+        ensures disk { IfOk result (λ kept. D.fault_count (disk_of kept) ≡
+            D.fault_count (disk_of store)) }
+        ensures disk_cause { IfErr result (λ ended. TellsDiskCount (D.fault_count (disk_of store))
+            (D.fault_count ended.disk) ended.status) }
     {
         let Handled { store, outs } = handle(
             alloc,

@@ -5,6 +5,7 @@ ghost use Rattle.object_store.specs.Access.{records_of, disk_of};
 ghost use Rattle.node_runs.specs.Serving.{HasServeCause};
 ghost use Rattle.node_runs.specs.Keeping.{KeepsOn, KeepsWith};
 ghost use Rattle.node_loop.specs.Turns.{standing, HasPassed, HasEnded};
+ghost use Rattle.node_loop.specs.Events.{TellsDiskCount};
 
 use crate::event::Ended;
 use crate::node::Node;
@@ -74,6 +75,10 @@ impl<N: Node> Site<N> {
         ensures cause { IfErr result (λ ended. HasServeCause
             (L.fault_count link.old) (L.fault_count link.new)
             (C.fault_count clock.old) (C.fault_count clock.new) ended.status) }
+        ensures disk { IfOk result (λ kept. D.fault_count (disk_of kept) ≡
+            D.fault_count (disk_of store)) }
+        ensures disk_cause { IfErr result (λ ended. TellsDiskCount (D.fault_count (disk_of store))
+            (D.fault_count ended.disk) ended.status) }
     {
         let left = self.due.saturating_sub(self.clock);
         let (opening, reading) = match begin(link, clock, left, buf) {

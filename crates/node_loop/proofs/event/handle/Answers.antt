@@ -5,6 +5,8 @@ use Rattle.node_runs.proofs.Keeping.{stays, stays_closed, closed_with}
 use Rattle.object_store.specs.Access.{records_of, disk_of}
 use Rattle.node_runs.specs.Links.{Sends}
 use Rattle.node_runs.specs.Keeping.{KeepsOn, KeepsWith}
+use Rattle.xt_messages.specs.declared.status.Status.{Status}
+use Rattle.node_loop.specs.Events.{EndsEvent}
 use Rattle.node_loop.proofs.Sent.{nothing_sent}
 use Rattle.node_loop.proofs.Acting.{ends_put}
 use Rattle.node_loop.proofs.event.handle.Goals.{in-None, in-Some+in-Ok-keep}
@@ -35,10 +37,18 @@ returns-in-Err-OutOfMemory-clause-ends g c =
 pub returns-in-Err-BodyFault-clause-ends : goal.returns-in-Err-BodyFault-clause-ends
 returns-in-Err-BodyFault-clause-ends g c =
     let D = g.D.Disk in
-    let store = c.args.store in (
-      nothing_sent (g.L.Link.sent c.args.link.now) (g.L.Link.loss_count c.args.link.now),
-      inr (stays_closed D.is_told D.kept D.moment D.left_since (disk_of store) c.close-in-Err-BodyFault.result (records_of store)
-          c.close-in-Err-BodyFault.ensures store.keeps (λ image told left. g.met.D.Disk.only_now (disk_of store) image told left)),
+    let node = c.args.node.now in
+    let s = c.args.sender.now in
+    let store = c.args.store in
+    let sent = g.L.Link.sent c.args.link.now in
+    let losses = g.L.Link.loss_count c.args.link.now in
+    let step = (g.N.Node.role node).step (records_of store) (g.N.Node.state node) c.args.now c.args.ev.now in
+    subst (λ (said : Status). EndsEvent step s.node s.boot c.args.book.now s.count (Sends sent sent losses losses)
+    (KeepsWith D.is_told D.moment D.left_since (disk_of store) c.unread.result.disk (records_of store)) said)
+    (sym c.unread.ensures.status) (
+      nothing_sent sent losses,
+      inr (stays_closed D.is_told D.kept D.moment D.left_since (disk_of store) c.unread.result.disk (records_of store)
+          c.unread.ensures.disk store.keeps (λ image told left. g.met.D.Disk.only_now (disk_of store) image told left)),
     )
 
 pub returns-in-Ok-send_all-clause-keeps : goal.returns-in-Ok-send_all-clause-keeps

@@ -2,6 +2,7 @@ use Rattle.std.proofs.Common.{arith, refl, sym, ap, ◌∙◌}
 use Rattle.object_store.specs.Access.{records_of, disk_of}
 use Rattle.node_runs.proofs.Keeping.{stays, stays_closed, keeps_more}
 use Rattle.node_loop.specs.Turns.{standing}
+use Rattle.node_loop.proofs.Counting.{cause_since}
 use Rattle.node_loop.proofs.Coming.{has_begun_serving, comes_on, is_served, is_served_on, gave_up, gave_up_on, cause_from}
 use Rattle.node_loop.proofs.serving.serve.Goals as goal
 
@@ -23,6 +24,7 @@ loop-init g c =
       has_begun_serving (g.N.Node.role s.node) s.sender.boot c.args.bounds.period c.args.bounds.turns start _ _ _ _,
       stays D.is_told D.kept D.moment D.left_since (disk_of store) (records_of store) store.keeps
           (λ image told left. g.met.D.Disk.only_now (disk_of store) image told left),
+      refl,
     )
 
 pub pass-requires-clause-clocks : goal.pass-requires-clause-clocks
@@ -70,7 +72,14 @@ loop-preserved g c =
           inv.9 _ _ _ _ (g.N.Node.role c.loop.site.node) c.loop.site.sender.boot inv.0 inv.1 _ _ e.passed,
       keeps_more D.is_told D.kept D.moment D.left_since (disk_of c.args.store) (disk_of c.loop.store) _ (records_of c.args.store) (records_of c.loop.store) _
           inv.10 e.keeps,
+      e.disk ∙ inv.11,
     )
+
+pub returns-in-Err-clause-disk_cause : goal.returns-in-Err-clause-disk_cause
+returns-in-Err-clause-disk_cause g c = cause_since _ _ _ _ c.loop.invariant.11 c.in-Err.ensures.disk_cause
+
+pub returns-clause-disk_cause : goal.returns-clause-disk_cause
+returns-clause-disk_cause g c = ap g.D.Disk.fault_count c.close.ensures ∙ c.loop.invariant.11
 
 pub returns-clause-served : goal.returns-clause-served
 returns-clause-served g c =

@@ -23,3 +23,4 @@ invariant-loop g l =
     l.spent (g.L.Link.given l.fn.link) (g.L.Link.given l.link) (g.L.Link.sent l.fn.link) (g.L.Link.sent l.link)
     (g.L.Link.loss_count l.fn.link) (g.L.Link.loss_count l.link) (g.C.Clock.readings l.fn.clock) (g.C.Clock.readings l.clock)
     × KeepsOn g.D.Disk.is_told g.D.Disk.moment g.D.Disk.left_since (disk_of l.fn.store) (disk_of l.store) (records_of l.fn.store) (records_of l.store)
+    × (g.D.Disk.fault_count (disk_of l.store) ≡ g.D.Disk.fault_count (disk_of l.fn.store))
