@@ -1,9 +1,9 @@
-//! What the program does, over any source and any sink.
+//! A replay, over any source and any sink.
 //!
-//! `run` promises that what is put is the text of a run of the lines that were taken, that its trace is safe for each
+//! `run_replay` promises that what is put is the text of a run of the lines that were taken, that its trace is safe for each
 //! replicated file, and when each status comes. A fault of the source or the sink ends it, and its status tells of no other.
 #![tactic(auto)]
 
 mod job;
 
-pub use job::run;
+pub use job::run_replay;

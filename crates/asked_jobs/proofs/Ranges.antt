@@ -1,0 +1,283 @@
+-- what words ask for is within its ranges
+use Rattle.std.proofs.Common.{◌≡◌, ℕ, ◌+◌, ◌*◌, ◌<◌, ◌≤◌, ◌^◌, ◌&&◌, nat_le, Bool, true, false, cond, List, [], ◌∷◌, length, Option, Some, None, IfSome, IsSome, Result, Ok, Err, option_map, codes, refl, lit≤, arith}
+use Rattle.std.specs.List.{list_all}
+use Rattle.std.proofs.lemmas.Bool.Decides.{nat_tests}
+use Rattle.clap.specs.Words.{Kinds, Text, first_of, fault_of, subcommand_of}
+use Rattle.hex.specs.Hex.{decode_of}
+use Rattle.hex.specs.declared.error.FromHexError.{FromHexError}
+use Rattle.hex.proofs.HexLemmas.{decode_of-ok}
+use Rattle.command_words.specs.Commands.{program_app}
+use Rattle.command_words.specs.Ranges.{is_decimal, is_lower_hex, number_of, number_in, number_or, key_of, some_bytes, times_of}
+use Rattle.command_words.specs.Jobs.{Rows, named, node_at, path_at, address_at, mode_at, number_at, number_or_at, number_if_at, key_at, key_if_at, range_of, range_at, layout_at, stripe_at, pattern_at, register_of, mkdir_of, rmdir_of, rm_of, mv_of, chmod_of, ls_of, stat_of, put_of, get_of, truncate_of, file_order, order_of, directory_at, client_of, settings_of, who_of, serving_of, make_of, osd_of, mrc_of, dir_of, cluster_of, node_job, job_in, chosen_in, unless_fault, job_of}
+use Rattle.command_words.specs.declared.job.Settings.{Settings}
+use Rattle.command_words.specs.declared.job.Serving.{Serving}
+use Rattle.command_words.specs.declared.job.Defaults.{Defaults}
+use Rattle.command_words.specs.declared.job.Order.{Order}
+use Rattle.command_words.specs.declared.job.Order.TheVariants as order
+use Rattle.command_words.specs.declared.job.Job.{Job}
+use Rattle.command_words.specs.declared.job.Job.TheVariants as job
+use Rattle.asked_jobs.specs.Asking.{IsSecret, HasTurns, EndsInFile, end_in, IsClientWithin, IsWithin}
+use Rattle.asked_jobs.proofs.Chains.{then_some, then_if, mapped, mapped_if, either}
+
+-- ---- numbers
+
+abbrev Between : ℕ → ℕ → ℕ → Type 0
+Between least most n = (least ≤ n) × (n ≤ most)
+
+tested : (a b c : Bool) (least n most : ℕ) → nat_le least n ≡ b → nat_le n most ≡ c
+    → IfSome (cond (a && (b && c)) (Some n) None) (Between least most)
+tested true true true least n most low high = (grind (arith, nat_tests), grind (arith, nat_tests))
+tested true true false least n most low high = tt
+tested true false c least n most low high = tt
+tested false b c least n most low high = tt
+
+number_within : (least most : ℕ) (text : Text) → IfSome (number_in least most text) (Between least most)
+unfolding number_in
+number_within least most text = tested (is_decimal text) _ _ least (number_of text) most refl refl
+
+number_at_within : (least most : ℕ) (id : Text) (rows : Rows) → IfSome (number_at least most id rows) (Between least most)
+unfolding number_at
+number_at_within least most id rows = then_some _ (number_in least most) (first_of id rows) (number_within least most)
+
+number_or_within : (least most default : ℕ) (P : ℕ → Type 0) (text : Option Text) → P default → ((n : ℕ) → Between least most n → P n)
+    → IfSome (number_or least most default text) P
+unfolding number_or
+number_or_within least most default P None first each = first
+number_or_within least most default P (Some text) first each = any_if (number_in least most text) (number_within least most text)
+  where
+    any_if : (o : Option ℕ) → IfSome o (Between least most) → IfSome o P
+    any_if None within = tt
+    any_if (Some n) within = each n within
+
+number_or_at_within : (least most default : ℕ) (id : Text) (rows : Rows) (P : ℕ → Type 0) → P default → ((n : ℕ) → Between least most n → P n)
+    → IfSome (number_or_at least most default id rows) P
+unfolding number_or_at
+number_or_at_within least most default id rows P first each = number_or_within least most default P (first_of id rows) first each
+
+-- ---- secrets
+
+halves : (bytes text : List ℕ) → length text ≡ 2 * length bytes → 2 ≤ length text → length text ≤ 128 → IsSecret bytes
+halves bytes text twice some few = record { some = omega arith; short = omega arith }
+
+secret_in : (r : Result (List ℕ) FromHexError) (text : List ℕ) → decode_of text ≡ r → 2 ≤ length text → length text ≤ 128
+    → IfSome (some_bytes r) IsSecret
+secret_in (Ok bytes) text is some few = halves bytes text (decode_of-ok text bytes is).2 some few
+secret_in (Err e) text is some few = tt
+
+chosen_key : (a b c : Bool) (text : List ℕ) → nat_le 2 (length text) ≡ b → nat_le (length text) 128 ≡ c
+    → IfSome (cond (a && (b && c)) (some_bytes (decode_of text)) None) IsSecret
+chosen_key true true true text some few = secret_in (decode_of text) text refl (grind (arith, nat_tests)) (grind (arith, nat_tests))
+chosen_key true true false text some few = tt
+chosen_key true false c text some few = tt
+chosen_key false b c text some few = tt
+
+keyed : (text : Text) → IfSome (key_of text) IsSecret
+unfolding key_of
+keyed text = chosen_key (list_all is_lower_hex text) _ _ text refl refl
+
+key_at_within : (rows : Rows) → IfSome (key_at rows) IsSecret
+unfolding key_at
+key_at_within rows = then_some _ key_of (first_of (codes "key") rows) keyed
+
+-- ---- settings
+
+settings_within : (base : Settings) (rows : Rows) → HasTurns base → IfSome (settings_of base rows) HasTurns
+unfolding settings_of
+settings_within base rows few =
+    then_some HasTurns _ (number_or_at 1 1099511627775 base.times.lease (codes "lease") rows) (λ lease.
+    then_some HasTurns _ (number_or_at 1 1099511627775 base.times.drift (codes "drift") rows) (λ drift.
+    then_if HasTurns (λ turns. turns < 2 ^ 62) _ (number_or_at 1 4611686018427387903 base.turns (codes "turns") rows)
+    (number_or_at_within 1 4611686018427387903 base.turns (codes "turns") rows (λ turns. turns < 2 ^ 62) few (λ n within. below n within.1))
+    (λ turns under. then_some HasTurns _ (number_or_at 1 1073741824 base.limit (codes "limit") rows) (λ limit.
+    mapped HasTurns _ (times_of lease drift) (λ times. under)))))
+  where
+    below : (n : ℕ) → n ≤ 4611686018427387903 → n < 2 ^ 62
+    below n most = omega arith
+
+-- ---- orders
+
+abbrev InFile : Option (ℕ × ℕ) → Type 0
+InFile range = end_in range ≤ 281474976710656
+
+ranges_end : (at len : Option ℕ) → IfSome (range_of at len) InFile
+ranges_end None None = lit≤ tt
+ranges_end None (Some len) = tt
+ranges_end (Some at) None = tt
+ranges_end (Some at) (Some len) = ranged (nat_le (at + len) 281474976710656) refl
+  where
+    ranged : (b : Bool) → nat_le (at + len) 281474976710656 ≡ b → IfSome (cond b (Some (Some (at, len))) None) InFile
+    ranged true is = grind (arith, nat_tests)
+    ranged false is = tt
+
+range_within : (rows : Rows) → IfSome (range_at rows) InFile
+unfolding range_at
+range_within rows =
+    then_some InFile _ (number_if_at 0 281474976710656 (codes "at") rows) (λ at.
+    then_some InFile _ (number_if_at 0 281474976710656 (codes "len") rows) (λ len. ranges_end at len))
+
+get_within : (rows : Rows) → IfSome (get_of rows) EndsInFile
+unfolding get_of
+get_within rows =
+    then_if EndsInFile InFile _ (range_at rows) (range_within rows) (λ range ends.
+    mapped EndsInFile _ (path_at (codes "path") rows) (λ path. ends))
+
+-- a path, and what is made of it
+of_path : (rows : Rows) (f : Text → Order) → ((path : Text) → EndsInFile (f path)) → IfSome (option_map f (path_at (codes "path") rows)) EndsInFile
+of_path rows f each = mapped EndsInFile f (path_at (codes "path") rows) each
+
+register_within : (rows : Rows) → IfSome (register_of rows) EndsInFile
+unfolding register_of
+register_within rows =
+    then_some EndsInFile _ (node_at (codes "node") rows) (λ node. then_some EndsInFile _ (number_at 1 2 (codes "kind") rows) (λ kind.
+    mapped EndsInFile _ (address_at (codes "addr") rows) (λ address. tt {0})))
+
+mkdir_within : (rows : Rows) → IfSome (mkdir_of rows) EndsInFile
+unfolding mkdir_of
+mkdir_within rows = of_path rows (λ path. order.Mkdir path) (λ path. tt {0})
+
+rmdir_within : (rows : Rows) → IfSome (rmdir_of rows) EndsInFile
+unfolding rmdir_of
+rmdir_within rows = of_path rows (λ path. order.Rmdir path) (λ path. tt {0})
+
+rm_within : (rows : Rows) → IfSome (rm_of rows) EndsInFile
+unfolding rm_of
+rm_within rows = of_path rows (λ path. order.Rm path) (λ path. tt {0})
+
+mv_within : (rows : Rows) → IfSome (mv_of rows) EndsInFile
+unfolding mv_of
+mv_within rows =
+    then_some EndsInFile _ (path_at (codes "from") rows) (λ from. mapped EndsInFile _ (path_at (codes "to") rows) (λ to. tt {0}))
+
+chmod_within : (rows : Rows) → IfSome (chmod_of rows) EndsInFile
+unfolding chmod_of
+chmod_within rows =
+    then_some EndsInFile _ (mode_at (codes "mode") rows) (λ mode. of_path rows (λ path. order.Chmod path mode) (λ path. tt {0}))
+
+ls_within : (rows : Rows) → IfSome (ls_of rows) EndsInFile
+unfolding ls_of
+ls_within rows = of_path rows (λ path. order.Ls path) (λ path. tt {0})
+
+stat_within : (rows : Rows) → IfSome (stat_of rows) EndsInFile
+unfolding stat_of
+stat_within rows = of_path rows (λ path. order.Stat path) (λ path. tt {0})
+
+put_within : (rows : Rows) → IfSome (put_of false rows) EndsInFile
+unfolding put_of
+put_within rows =
+    then_some EndsInFile _ (pattern_at false rows) (λ pattern. then_some EndsInFile _ (layout_at rows) (λ lies.
+    then_some EndsInFile _ (stripe_at rows) (λ stripe. of_path rows (λ path. order.Put path pattern lies stripe) (λ path. tt {0}))))
+
+truncate_within : (rows : Rows) → IfSome (truncate_of rows) EndsInFile
+unfolding truncate_of
+truncate_within rows =
+    then_some EndsInFile _ (number_at 0 281474976710656 (codes "size") rows) (λ size.
+    of_path rows (λ path. order.Truncate path size) (λ path. tt {0}))
+
+file_order_within : (name : Text) (rows : Rows) → IfSome (file_order false name rows) EndsInFile
+unfolding file_order
+file_order_within name rows =
+    either EndsInFile (named (codes "ls") name) _ _ (ls_within rows)
+    (either EndsInFile (named (codes "stat") name) _ _ (stat_within rows)
+    (either EndsInFile (named (codes "put") name) _ _ (put_within rows)
+    (either EndsInFile (named (codes "get") name) _ _ (get_within rows)
+    (either EndsInFile (named (codes "truncate") name) (truncate_of rows) None (truncate_within rows) tt))))
+
+order_within : (name : Text) (rows : Rows) → IfSome (order_of false name rows) EndsInFile
+unfolding order_of
+order_within name rows =
+    either EndsInFile (named (codes "register") name) _ _ (register_within rows)
+    (either EndsInFile (named (codes "mkdir") name) _ _ (mkdir_within rows)
+    (either EndsInFile (named (codes "rmdir") name) _ _ (rmdir_within rows)
+    (either EndsInFile (named (codes "rm") name) _ _ (rm_within rows)
+    (either EndsInFile (named (codes "mv") name) _ _ (mv_within rows)
+    (either EndsInFile (named (codes "chmod") name) _ _ (chmod_within rows) (file_order_within name rows))))))
+
+-- ---- jobs
+
+directory_within : (rows : Rows) → IfSome (directory_at false rows) (λ directory. IsSome directory)
+unfolding directory_at
+directory_within rows = mapped (λ directory. IsSome directory) (λ address. Some address) (address_at (codes "dir") rows) (λ address. refl)
+
+client_within : (base : Defaults) (name : Text) (rows : Rows) → HasTurns base.settings → IfSome (client_of base false name rows) IsClientWithin
+unfolding client_of
+client_within base name rows few =
+    then_if IsClientWithin HasTurns _ (settings_of base.settings rows) (settings_within base.settings rows few) (λ settings turns.
+    then_some IsClientWithin _ (who_of base.who rows) (λ who.
+    then_if IsClientWithin (λ directory. IsSome directory) _ (directory_at false rows) (directory_within rows) (λ directory there.
+    then_some IsClientWithin _ (key_if_at rows) (λ key.
+    mapped_if IsClientWithin EndsInFile _ (order_of false name rows) (order_within name rows) (λ order ends.
+    record { directory = there; turns = turns; range = ends })))))
+
+abbrev IsServing : Serving → Type 0
+IsServing serving = IsSecret serving.key
+
+serving_within : (base : Settings) (rows : Rows) → IfSome (serving_of base rows) IsServing
+unfolding serving_of
+serving_within base rows =
+    then_some IsServing _ (settings_of base rows) (λ settings. then_some IsServing _ (address_at (codes "listen") rows) (λ listen.
+    then_if IsServing IsSecret _ (key_at rows) (key_at_within rows) (λ key secret.
+    mapped IsServing _ (path_at (codes "store") rows) (λ store. secret))))
+
+osd_within : (base : Settings) (rows : Rows) → IfSome (osd_of base rows) IsWithin
+unfolding osd_of
+osd_within base rows =
+    then_some IsWithin _ (node_at (codes "id") rows) (λ id. then_some IsWithin _ (address_at (codes "dir") rows) (λ directory.
+    mapped_if IsWithin IsServing _ (serving_of base rows) (serving_within base rows) (λ serving secret. secret)))
+
+mrc_within : (base : Settings) (rows : Rows) → IfSome (mrc_of base rows) IsWithin
+unfolding mrc_of
+mrc_within base rows =
+    then_some IsWithin _ (address_at (codes "dir") rows) (λ directory.
+    mapped_if IsWithin IsServing _ (serving_of base rows) (serving_within base rows) (λ serving secret. secret))
+
+dir_within : (base : Settings) (rows : Rows) → IfSome (dir_of base rows) IsWithin
+unfolding dir_of
+dir_within base rows =
+    mapped_if IsWithin IsServing (λ serving. job.Dir serving) (serving_of base rows) (serving_within base rows) (λ serving secret. secret)
+
+cluster_within : (base : Defaults) (rows : Rows) → HasTurns base.settings → IfSome (cluster_of base rows) IsWithin
+unfolding cluster_of
+cluster_within base rows few =
+    then_if IsWithin (Between 1 50) _ (number_at 1 50 (codes "osds") rows) (number_at_within 1 50 (codes "osds") rows) (λ osds many.
+    then_if IsWithin (Between 1 65000) _ (number_at 1 65000 (codes "port") rows) (number_at_within 1 65000 (codes "port") rows) (λ port there.
+    then_if IsWithin HasTurns _ (settings_of base.settings rows) (settings_within base.settings rows few) (λ settings turns.
+    then_some IsWithin _ (who_of base.who rows) (λ who.
+    then_if IsWithin IsSecret _ (key_at rows) (key_at_within rows) (λ key secret.
+    mapped IsWithin _ (path_at (codes "store") rows) (λ store.
+    record { osds = many; port = there; secret = secret; turns = turns }))))))
+
+make_within : (rows : Rows) → IfSome (make_of rows) IsWithin
+unfolding make_of
+make_within rows =
+    then_some IsWithin _ (number_at 0 18446744073709551615 (codes "number") rows) (λ number.
+    mapped IsWithin (λ size. job.Make number size) (number_at 0 4096 (codes "size") rows) (λ size. tt {0}))
+
+node_job_within : (base : Defaults) (name : Text) (rows : Rows) → HasTurns base.settings → IfSome (node_job base false name rows) IsWithin
+unfolding node_job
+node_job_within base name rows few =
+    either IsWithin (named (codes "osd") name) _ _ (osd_within base.settings rows)
+    (either IsWithin (named (codes "mrc") name) _ _ (mrc_within base.settings rows)
+    (either IsWithin (named (codes "dir") name) _ _ (dir_within base.settings rows)
+    (either IsWithin (named (codes "cluster") name) _ _ (cluster_within base rows few)
+    (mapped_if IsWithin IsClientWithin (λ client. job.Client client) (client_of base false name rows) (client_within base name rows few)
+    (λ client within. within)))))
+
+job_within : (base : Defaults) (name : Text) (rows : Rows) → HasTurns base.settings → IfSome (job_in base false name rows) IsWithin
+unfolding job_in
+job_within base name rows few =
+    either IsWithin (named (codes "replay") name) (Some job.Replay) _ tt
+    (either IsWithin (named (codes "audit") name) (Some job.Audit) _ tt
+    (either IsWithin (named (codes "make") name) _ _ (make_within rows) (node_job_within base name rows few)))
+
+chosen_within : (base : Defaults) (met : Option (Text × Rows)) → HasTurns base.settings → IfSome (chosen_in base false met) IsWithin
+chosen_within base None few = tt
+chosen_within base (Some met) few = job_within base met.0 met.1 few
+
+unless_within : (kinds : Kinds) (asked : Option Job) → IfSome asked IsWithin → IfSome (unless_fault kinds asked) IsWithin
+unless_within [] asked within = within
+unless_within (kind ∷ kinds) asked within = tt
+
+pub jobs_are_within : (base : Defaults) (words : List Text) → HasTurns base.settings → IfSome (job_of base false words) IsWithin
+unfolding job_of
+jobs_are_within base words few =
+    unless_within (fault_of (program_app false) words) _ (chosen_within base (subcommand_of (program_app false) words) few)

@@ -1,0 +1,9 @@
+//! The job that the words of the command line ask for, and the ranges that each such job keeps to.
+//!
+//! `asked_job` reads the words with what this program puts for what they leave out. Whoever does a job relies on its ranges: they
+//! are proved of whatever words there are, so nothing tests them again.
+#![tactic(auto)]
+
+mod asking;
+
+pub use asking::{asked_job, usual, words_ask_for_a_replay};

@@ -1,0 +1,111 @@
+//! Tests of the whole program over memory: that a node serves and a client command is carried out where nothing fails, which no contract
+//! says, since memory may run out anywhere; and what a device call that fails ends it with.
+#![tactic(auto)]
+
+#[cfg(test)]
+mod tests {
+    use disk_model::MemoryDisk;
+    use node_links::{FixedClock, MemoryLink, MemorySink, MemorySource, Readings};
+    use std::alloc::Global;
+    use std::test::Fail;
+    use std::thread::Threads;
+    use xt_base::{CallList, Octets, OutOfMemory, Seq, Words};
+    use xt_messages::Status;
+    use xtfs_run::run;
+
+    /// A journal with one record, of a node's first start.
+    const ONE: &[u8] = &[
+        0x58, 0x54, 0x46, 0x53, 0x4a, 0x52, 0x4e, 0x4c, 0, 0, 0, 1, 0xa5, 0, 0, 0, 9, 1, 0, 0, 0,
+        0, 0, 0, 0, 1, 0,
+    ];
+
+    /// It with the record of the second start.
+    const TWO: &[u8] = &[
+        0x58, 0x54, 0x46, 0x53, 0x4a, 0x52, 0x4e, 0x4c, 0, 0, 0, 1, 0xa5, 0, 0, 0, 9, 1, 0, 0, 0,
+        0, 0, 0, 0, 1, 0xa5, 0, 0, 0, 9, 1, 0, 0, 0, 0, 0, 0, 0, 2, 0,
+    ];
+
+    /// The words of a command line.
+    fn words(alloc: Global, texts: &[&str]) -> Result<Words, OutOfMemory> {
+        let mut words = Words::new(alloc);
+        for text in texts {
+            words.push(alloc, text)?;
+        }
+        Ok(words)
+    }
+
+    /// What a run left: its status, what was put, and its disk.
+    #[derive(Drop)]
+    struct Left {
+        status: Status,
+        sink: MemorySink,
+        disk: MemoryDisk,
+    }
+
+    /// Runs the program on a disk with these bytes, whose device calls of these numbers fail. Nothing comes over its link, and its clock
+    /// stands still.
+    fn ran<R: Threads + Sync>(
+        rt: &R,
+        alloc: Global,
+        texts: &[&str],
+        bytes: &[u8],
+        failing: &[u64],
+    ) -> Result<Left, OutOfMemory> {
+        let words = words(alloc, texts)?;
+        let mut calls = CallList::new(alloc);
+        for call in failing {
+            calls.push(*call)?;
+        }
+        let disk = MemoryDisk::new(alloc, Octets::of(alloc, bytes)?, calls, None);
+        let mut source = MemorySource::new(Octets::new(alloc), 4_096, CallList::new(alloc));
+        let mut sink = MemorySink::new(alloc, 4_096, CallList::new(alloc))?;
+        let mut link = MemoryLink::new(alloc, Seq::new(alloc), 1 << 20, CallList::new(alloc));
+        let mut clock = FixedClock::new(Readings::new(alloc), CallList::new(alloc));
+        let (status, disk) = run(
+            rt,
+            alloc,
+            &words,
+            &mut source,
+            &mut sink,
+            &mut link,
+            disk,
+            &mut clock,
+        );
+        Ok(Left { status, sink, disk })
+    }
+
+    /// An OSD that takes three turns.
+    const OSD: &[&str] = &[
+        "osd", "--id", "1", "--listen", "a:2", "--dir", "a:1", "--store", "s", "--key", "00",
+        "--turns", "3",
+    ];
+
+    #[test]
+    fn an_osd_serves_and_keeps_its_boot(rt: HostRuntime) -> Result<(), Fail> {
+        let left = ran(&rt, rt.alloc(), OSD, ONE, &[])?;
+        assert_eq!(rt; left.sink.as_slice(), b"ready 1\n! turns 3\n".as_slice());
+        assert_eq!(rt; left.status.code(), 11);
+        assert_eq!(rt; left.disk.image()?.as_slice(), TWO);
+        Ok(())
+    }
+
+    #[test]
+    fn a_client_takes_its_turns(rt: HostRuntime) -> Result<(), Fail> {
+        let get = &["get", "/v/a", "--dir", "a:1", "--turns", "3"];
+        let left = ran(&rt, rt.alloc(), get, &[], &[])?;
+        assert_eq!(rt; left.sink.as_slice(), b"! turns 3\n".as_slice());
+        assert_eq!(rt; left.status.code(), 11);
+        Ok(())
+    }
+
+    /// A node attaches its disk, and looks at it and syncs it in three calls more; the calls of its first append come then.
+    #[test]
+    fn a_failed_call_of_an_append_is_told(rt: HostRuntime) -> Result<(), Fail> {
+        for call in 5..9u64 {
+            let left = ran(&rt, rt.alloc(), OSD, ONE, &[call])?;
+            assert_eq!(rt; left.sink.as_slice(), b"! disk 1\n".as_slice());
+            assert_eq!(rt; left.status.code(), 5);
+        }
+        Ok(())
+    }
+}

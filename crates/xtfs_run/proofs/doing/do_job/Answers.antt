@@ -1,0 +1,110 @@
+use Rattle.std.proofs.Common.{Some, refl, ap, subst}
+use Rattle.asked_jobs.specs.Asking.{IsWithin}
+use Rattle.xtfs_run.specs.Doing.{refuses, replays, audits, serves_directory, serves_metadata, serves_osd, commands}
+use Rattle.xtfs_run.proofs.Asked.{client_within, cluster_refused, ends_in_file, make_refused}
+use Rattle.xtfs_run.proofs.doing.do_job.Goals as goal
+
+pub run_directory-requires : goal.run_directory-requires
+run_directory-requires g c = subst IsWithin c.in-Dir.is c.requires
+
+pub run_metadata-requires : goal.run_metadata-requires
+run_metadata-requires g c = subst IsWithin c.in-Mrc.is c.requires
+
+pub run_osd-requires : goal.run_osd-requires
+run_osd-requires g c = subst IsWithin c.in-Osd.is c.requires
+
+pub run_client-requires : goal.run_client-requires
+run_client-requires g c =
+    let within = client_within c.args.job.now c.in-Client.client c.in-Client.is c.requires in
+    record { dir = within.directory; turns = within.turns; range = ends_in_file c.in-Client.client.order within.range }
+
+pub returns-in-Replay : goal.returns-in-Replay
+returns-in-Replay g c =
+    replays (ap Some c.in-Replay.is) (record {
+      replay = c.run_replay.ensures;
+      alone = record {
+        given = refl;
+        sent = refl;
+        losses = refl;
+        readings = refl;
+        disk = refl;
+        link_faults = refl;
+        clock_faults = refl;
+      };
+    })
+
+pub returns-in-Audit : goal.returns-in-Audit
+returns-in-Audit g c =
+    audits (ap Some c.in-Audit.is) (record {
+      audit = c.audit_text.ensures.audit;
+      cause = c.audit_text.ensures.cause;
+      complete = c.audit_text.ensures.complete;
+      alone = record {
+        given = refl;
+        sent = refl;
+        losses = refl;
+        readings = refl;
+        disk = refl;
+        link_faults = refl;
+        clock_faults = refl;
+      };
+    })
+
+pub returns-in-Dir : goal.returns-in-Dir
+returns-in-Dir g c =
+    serves_directory c.in-Dir.serving (ap Some c.in-Dir.is) (record {
+      node = c.run_directory.ensures;
+      unread = record { left = refl; faults = refl };
+    })
+
+pub returns-in-Mrc : goal.returns-in-Mrc
+returns-in-Mrc g c =
+    serves_metadata c.in-Mrc.dir c.in-Mrc.serving (ap Some c.in-Mrc.is) (record {
+      node = c.run_metadata.ensures;
+      unread = record { left = refl; faults = refl };
+    })
+
+pub returns-in-Osd : goal.returns-in-Osd
+returns-in-Osd g c =
+    serves_osd c.in-Osd.id c.in-Osd.dir c.in-Osd.serving (ap Some c.in-Osd.is) (record {
+      node = c.run_osd.ensures;
+      unread = record { left = refl; faults = refl };
+    })
+
+pub returns-in-Client : goal.returns-in-Client
+returns-in-Client g c =
+    commands c.in-Client.client (ap Some c.in-Client.is) (record { command = c.run_client.ensures; disk = refl })
+
+pub returns-in-Make : goal.returns-in-Make
+returns-in-Make g c =
+    refuses (make_refused c.args.job.now c.in-Make.number c.in-Make.size c.in-Make.is) (record {
+      finished = c.finish.ensures.finished;
+      cause = c.finish.ensures.cause;
+      unread = record { left = refl; faults = refl };
+      alone = record {
+        given = refl;
+        sent = refl;
+        losses = refl;
+        readings = refl;
+        disk = refl;
+        link_faults = refl;
+        clock_faults = refl;
+      };
+    })
+
+pub returns-in-Cluster : goal.returns-in-Cluster
+returns-in-Cluster g c =
+    refuses (cluster_refused c.args.job.now c.in-Cluster.field-0 c.in-Cluster.is) (record {
+      finished = c.finish-in-Cluster.ensures.finished;
+      cause = c.finish-in-Cluster.ensures.cause;
+      unread = record { left = refl; faults = refl };
+      alone = record {
+        given = refl;
+        sent = refl;
+        losses = refl;
+        readings = refl;
+        disk = refl;
+        link_faults = refl;
+        clock_faults = refl;
+      };
+    })

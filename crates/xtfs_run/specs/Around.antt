@@ -1,0 +1,49 @@
+-- what is around the program
+use Rattle.std.specs.Prelude.{ℕ, ◌≡◌, Option, List}
+use Rattle.node_links.specs.declared.link.Datagram.{Datagram}
+use Rattle.node_jobs.specs.Jobs.{Outside}
+use Rattle.client_loop.specs.Carrying.{Around}
+use Rattle.client_jobs.specs.Running.{Counts}
+
+-- How what is around the program stands at a moment, as far as it is told: what its source has left and what its sink holds, what its link
+-- is to give and has sent and how many datagrams were lost, what its clock is to read, its disk, and how often the source, the sink, the
+-- link and the clock have failed.
+pub record Environment (D : Type 0) : Type 0 where
+  pub left : Option (List ℕ)
+  pub held : Option (List ℕ)
+  pub given : Option (List Datagram)
+  pub sent : Option (List Datagram)
+  pub losses : ℕ
+  pub readings : Option (List ℕ)
+  pub disk : D
+  pub source_faults : ℕ
+  pub sink_faults : ℕ
+  pub link_faults : ℕ
+  pub clock_faults : ℕ
+
+module _ {D : Type 0} where
+  -- what a node has to do with
+  abbrev pub outside : Environment D → Outside
+  outside e = record { given = e.given; sent = e.sent; losses = e.losses; readings = e.readings; held = e.held }
+
+  -- what a client command has to do with
+  abbrev pub around : Environment D → Around
+  around e = record { to_come = e.given; sent = e.sent; losses = e.losses; to_read = e.readings }
+
+  abbrev pub counts : Environment D → Counts
+  counts e = record { link = e.link_faults; clock = e.clock_faults; source = e.source_faults }
+
+  -- nothing was taken of the source
+  pub record IsUnread (before after : Environment D) : Type 0 where
+    pub left : after.left ≡ before.left
+    pub faults : after.source_faults ≡ before.source_faults
+
+  -- the link, the clock and the disk weren't used
+  pub record IsAlone (before after : Environment D) : Type 0 where
+    pub given : after.given ≡ before.given
+    pub sent : after.sent ≡ before.sent
+    pub losses : after.losses ≡ before.losses
+    pub readings : after.readings ≡ before.readings
+    pub disk : after.disk ≡ before.disk
+    pub link_faults : after.link_faults ≡ before.link_faults
+    pub clock_faults : after.clock_faults ≡ before.clock_faults

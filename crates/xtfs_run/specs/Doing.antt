@@ -1,0 +1,77 @@
+-- what the program does, by what its words ask for
+use Rattle.std.specs.Prelude.{◌≡◌, ℕ, List, Option, Some, None}
+use Rattle.xt_base.specs.Faults.{Rose}
+use Rattle.xt_base.specs.declared.ids.NodeId.{NodeId}
+use Rattle.xt_messages.specs.declared.status.Status.{Status}
+use Rattle.xt_messages.specs.declared.status.Status.TheVariants as status
+use Rattle.command_words.specs.declared.job.ClientJob.{ClientJob}
+use Rattle.command_words.specs.declared.job.Serving.{Serving}
+use Rattle.command_words.specs.declared.job.Job.{Job}
+use Rattle.command_words.specs.declared.job.Job.TheVariants as job
+use Rattle.schedule_lines.specs.Causes.{HasCause, CausesEnd}
+use Rattle.schedule_lines.specs.Putting.{IsFinished}
+use Rattle.trace_audit.specs.Audit.{IsAudit, Completes}
+use Rattle.xtfs_job.specs.Job.{IsReplayJob}
+use Rattle.node_jobs.specs.Jobs.{Outside}
+use Rattle.client_jobs.specs.Running.{IsClientJob}
+use Rattle.xtfs_run.specs.Around.{Environment, IsUnread, IsAlone, outside, around, counts}
+use Rattle.xtfs_run.specs.Nodes.{NodeCounts, IsNodeCommand, IsDirJob, IsMrcJob, IsOsdJob}
+
+-- words that match no command or have a value out of its range, and the commands that aren't there yet
+abbrev pub IsRefused : Option Job → Type 0
+IsRefused None = Unit {0}
+IsRefused (Some (job.Make number size)) = Unit {0}
+IsRefused (Some (job.Cluster cluster)) = Unit {0}
+IsRefused (Some _) = ⊥
+
+module _ {D : Type 0} where
+  -- the last line of a status is put, and nothing else is done
+  pub record OnlyTells (why : Status) (before after : Environment D) (said : Status) : Type 0 where
+    pub finished : IsFinished before.held after.held why said
+    pub cause : CausesEnd before.sink_faults after.sink_faults said
+    pub unread : IsUnread before after
+    pub alone : IsAlone before after
+
+  pub record Replays (before after : Environment D) (said : Status) : Type 0 where
+    pub replay : IsReplayJob before.left after.left before.held after.held before.source_faults after.source_faults
+        before.sink_faults after.sink_faults said
+    pub alone : IsAlone before after
+
+  pub record Audits (before after : Environment D) (said : Status) : Type 0 where
+    -- the trace is that of the lines that were taken, and what is put is the verdict on it, or why there is none
+    pub audit : IsAudit before.left after.left before.held after.held said
+    -- a fault ends the audit and is told, where its object's count rose; with any other status no count did
+    pub cause : HasCause before.source_faults after.source_faults before.sink_faults after.sink_faults said
+    -- a trace within the limits is judged, where neither the source nor the sink fails, unless memory runs out
+    pub complete : (Rose before.source_faults after.source_faults → ⊥) → (Rose before.sink_faults after.sink_faults → ⊥)
+        → Completes before.left before.held after.held said
+    pub alone : IsAlone before after
+
+  abbrev pub node_counts : Environment D → NodeCounts
+  node_counts e = record { link = e.link_faults; clock = e.clock_faults; sink = e.sink_faults }
+
+  -- a node serves, whatever its job is
+  pub record Serves (IsJob : Outside → Outside → Status → Type 0) (before after : Environment D) (said : Status) : Type 0 where
+    pub node : IsNodeCommand IsJob (outside before) (outside after) (node_counts before) (node_counts after) said
+    pub unread : IsUnread before after
+
+  pub record Commands (client : ClientJob) (before after : Environment D) (said : Status) : Type 0 where
+    pub command : IsClientJob client (around before) (around after) before.left after.left before.held after.held
+        before.sink_faults after.sink_faults (counts before) (counts after) said
+    pub disk : after.disk ≡ before.disk
+
+  -- What the program does, by what its words ask for, and the status with which it ends.
+  pub data Does (asked : Option Job) (before after : Environment D) (said : Status) : Type 0 where
+    -- memory ran out as the words were read
+    words_unread : OnlyTells status.OutOfMemory before after said → Does asked before after said
+    refuses : IsRefused asked → OnlyTells status.Usage before after said → Does asked before after said
+    replays : asked ≡ Some job.Replay → Replays before after said → Does asked before after said
+    audits : asked ≡ Some job.Audit → Audits before after said → Does asked before after said
+    serves_directory : (serving : Serving) → asked ≡ Some (job.Dir serving)
+        → Serves (IsDirJob serving) before after said → Does asked before after said
+    serves_metadata : (directory : List ℕ) (serving : Serving) → asked ≡ Some (job.Mrc directory serving)
+        → Serves (IsMrcJob directory serving) before after said → Does asked before after said
+    serves_osd : (id : NodeId) (directory : List ℕ) (serving : Serving) → asked ≡ Some (job.Osd id directory serving)
+        → Serves (IsOsdJob id directory serving) before after said → Does asked before after said
+    commands : (client : ClientJob) → asked ≡ Some (job.Client client)
+        → Commands client before after said → Does asked before after said

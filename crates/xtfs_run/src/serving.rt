@@ -1,0 +1,160 @@
+ghost use Rattle.std.specs.Prelude.{◌≡◌, ◌<◌, ◌≤◌};
+ghost use Rattle.asked_jobs.specs.Asking.{IsSecret};
+ghost use Rattle.client_jobs.specs.Running.{Closes, has_last_line};
+ghost use Rattle.xtfs_run.specs.Nodes.{IsNodeCommand, IsDirJob, IsMrcJob, IsOsdJob};
+
+use command_words::Serving;
+use disk_model::Disk;
+use node_jobs::{serve_directory, serve_metadata, serve_osd};
+use node_links::{Clock, Link, Sink};
+use schedule_lines::finish;
+use std::alloc::Global;
+use xt_base::{Address, NodeId};
+use xt_messages::Status;
+
+/// Whether a status has a last line that is put when the job has ended: one that is done has none, and none is put where the sink failed.
+fn has_last_line(status: &Status) -> bool
+    ensures { result ≡ has_last_line status.now }
+{
+    match status {
+        Status::Done | Status::SinkFault { .. } => false,
+        _ => true,
+    }
+}
+
+/// Puts the last line of a status, where it has one.
+fn close<K: Sink>(alloc: Global, out: &mut K, status: Status) -> Status
+    ensures { Closes (K.held out.old) (K.held out.new) (K.fault_count out.old)
+        (K.fault_count out.new) status result }
+{
+    if !has_last_line(&status) {
+        return status;
+    }
+    finish(alloc, out, status)
+}
+
+/// Serves the directory, and puts the last line of the status.
+pub fn run_directory<K: Sink, L: Link, D: Disk, C: Clock>(
+    alloc: Global,
+    serving: &Serving,
+    out: &mut K,
+    link: &mut L,
+    disk: D,
+    clock: &mut C,
+) -> (Status, D)
+    requires { IsSecret serving.now.key }
+    ensures { IsNodeCommand (IsDirJob serving.now)
+        (record {
+          given = L.given link.old;
+          sent = L.sent link.old;
+          losses = L.loss_count link.old;
+          readings = C.readings clock.old;
+          held = K.held out.old;
+        })
+        (record {
+          given = L.given link.new;
+          sent = L.sent link.new;
+          losses = L.loss_count link.new;
+          readings = C.readings clock.new;
+          held = K.held out.new;
+        })
+        (record {
+          link = L.fault_count link.old;
+          clock = C.fault_count clock.old;
+          sink = K.fault_count out.old;
+        })
+        (record {
+          link = L.fault_count link.new;
+          clock = C.fault_count clock.new;
+          sink = K.fault_count out.new;
+        })
+        result.0 }
+{
+    let (said, disk) = serve_directory(alloc, serving, out, link, disk, clock);
+    (close(alloc, out, said), disk)
+}
+
+/// Serves the metadata, and puts the last line of the status.
+pub fn run_metadata<K: Sink, L: Link, D: Disk, C: Clock>(
+    alloc: Global,
+    serving: &Serving,
+    dir: &Address,
+    out: &mut K,
+    link: &mut L,
+    disk: D,
+    clock: &mut C,
+) -> (Status, D)
+    requires { IsSecret serving.now.key }
+    ensures { IsNodeCommand (IsMrcJob dir.now serving.now)
+        (record {
+          given = L.given link.old;
+          sent = L.sent link.old;
+          losses = L.loss_count link.old;
+          readings = C.readings clock.old;
+          held = K.held out.old;
+        })
+        (record {
+          given = L.given link.new;
+          sent = L.sent link.new;
+          losses = L.loss_count link.new;
+          readings = C.readings clock.new;
+          held = K.held out.new;
+        })
+        (record {
+          link = L.fault_count link.old;
+          clock = C.fault_count clock.old;
+          sink = K.fault_count out.old;
+        })
+        (record {
+          link = L.fault_count link.new;
+          clock = C.fault_count clock.new;
+          sink = K.fault_count out.new;
+        })
+        result.0 }
+{
+    let (said, disk) = serve_metadata(alloc, serving, dir, out, link, disk, clock);
+    (close(alloc, out, said), disk)
+}
+
+/// Serves as this OSD, and puts the last line of the status.
+pub fn run_osd<K: Sink, L: Link, D: Disk, C: Clock>(
+    alloc: Global,
+    id: NodeId,
+    serving: &Serving,
+    dir: &Address,
+    out: &mut K,
+    link: &mut L,
+    disk: D,
+    clock: &mut C,
+) -> (Status, D)
+    requires { IsSecret serving.now.key }
+    ensures { IsNodeCommand (IsOsdJob id dir.now serving.now)
+        (record {
+          given = L.given link.old;
+          sent = L.sent link.old;
+          losses = L.loss_count link.old;
+          readings = C.readings clock.old;
+          held = K.held out.old;
+        })
+        (record {
+          given = L.given link.new;
+          sent = L.sent link.new;
+          losses = L.loss_count link.new;
+          readings = C.readings clock.new;
+          held = K.held out.new;
+        })
+        (record {
+          link = L.fault_count link.old;
+          clock = C.fault_count clock.old;
+          sink = K.fault_count out.old;
+        })
+        (record {
+          link = L.fault_count link.new;
+          clock = C.fault_count clock.new;
+          sink = K.fault_count out.new;
+        })
+        result.0 }
+{
+    let (said, disk) = serve_osd(alloc, id, serving, dir, out, link, disk, clock);
+    (close(alloc, out, said), disk)
+}
