@@ -69,10 +69,26 @@ def three_replicas(length, clients):
         lines += turn
 
 
+def many_files(length, files):
+    """One client calls on so many files in turn, and each request and reply is delivered."""
+    lines = ["times 1000 100", "osd 1", "client 10 0", "start 1 0"]
+    lines += [f"file {1 + number} rep 4096 1" for number in range(files)]
+    lines.append("tick 1100")
+    step = 0
+    while len(lines) + 3 <= length:
+        lines += [operation(10, 1 + step % files, step), f"deliver {2 * step + 1}", f"deliver {2 * step + 2}"]
+        step += 1
+    return lines + ["tick 1"] * (length - len(lines))
+
+
+def text_of(lines):
+    """The text of lines."""
+    return "".join(line + "\n" for line in lines)
+
+
 def schedule(replicas, length, clients):
     """The text of a schedule."""
-    lines = {1: one_replica, 3: three_replicas}[replicas](length, clients)
-    return "".join(line + "\n" for line in lines)
+    return text_of({1: one_replica, 3: three_replicas}[replicas](length, clients))
 
 
 if __name__ == "__main__":
