@@ -1,5 +1,5 @@
 -- what comes and goes over a link, and what a clock reads
-use Rattle.std.specs.Prelude.{ℕ, ◌≡◌, ◌≤◌, Option, Some, None, List, [], ◌∷◌, length, take}
+use Rattle.std.specs.Prelude.{ℕ, ◌≡◌, ◌≤◌, Option, List, [], ◌∷◌, length, take}
 use Rattle.std.specs.Option.{IfSome}
 use Rattle.node_links.specs.Streams.{Takes}
 use Rattle.node_links.specs.declared.link.Datagram.{Datagram}

@@ -1,5 +1,5 @@
 -- what is left of a source or a link, what a sink or a link holds, which calls fail, and counts of faults
-use Rattle.std.specs.Prelude.{ℕ, ◌<◌, ◌^◌, ◌+◌, ◌-◌, ◌≡◌, ◌==◌, ◌⊎◌, Bool, true, false, not, ◌&&◌, min, Option, Some, None, List, [], ◌++◌, length}
+use Rattle.std.specs.Prelude.{ℕ, ◌+◌, ◌-◌, ◌≡◌, ◌==◌, Bool, not, ◌&&◌, min, Option, Some, None, List, [], ◌++◌, length}
 use Rattle.std.specs.List.{list_any}
 use Rattle.xt_base.specs.Faults.{counted}
 

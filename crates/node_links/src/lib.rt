@@ -2,7 +2,8 @@
 //! and what starts this program again, each with a count of its faults, in memory and real.
 //!
 //! A call fails only where its own object's count rose in it. What is left of a source, what a sink holds, what a link gives
-//! and takes, what a clock reads and which calls fail is told by the forms in memory, and not by the real ones.
+//! and takes, what a clock reads, what a spawner is called for and which calls fail is told by the forms in memory, and not by
+//! the real ones.
 #![tactic(auto)]
 
 mod children;
@@ -13,7 +14,7 @@ mod sink;
 mod source;
 mod udp_link;
 
-pub use children::{ChildSpawner, NoSpawner, Spawner};
+pub use children::{ChildCall, ChildSpawner, NoSpawner, Spawner};
 pub use clock::{Clock, FixedClock, Readings, SystemClock};
 pub use link::{Datagram, Datagrams, Got, Link};
 pub use memory_link::MemoryLink;
