@@ -1,5 +1,5 @@
 -- the run that a world is
-use Rattle.std.proofs.Common.{◌≡◌, ◌⊎◌, inl, inr, ℕ, zero, suc, true, false, None, Ok, Err, List, [], ◌∷◌, ◌++◌, refl, ap, sym, ◌∙◌, subst, arith}
+use Rattle.std.proofs.Common.{◌≡◌, ◌⊎◌, inl, inr, ℕ, zero, suc, true, None, Ok, Err, List, [], ◌∷◌, ◌++◌, refl, ap, sym, ◌∙◌, subst, arith}
 use Rattle.std.specs.List.{fold, AllByRecursion}
 use Rattle.time_line.specs.declared.line.Line.{Line}
 use Rattle.time_line.specs.declared.line.Line.TheVariants as line
@@ -12,7 +12,7 @@ use Rattle.cluster_runs.specs.Runs.{with_line, after, after_refusal, run_of, IsP
 use Rattle.world_hull.specs.declared.errors.WorldErr.{WorldErr}
 use Rattle.world_hull.specs.declared.errors.WorldErr.TheVariants as error
 use Rattle.step_endings.specs.Steps.{Working}
-use Rattle.cluster_core.specs.Standing.{Standing, HasRun, IsLeft, IsRefused, MayStand, begun_with}
+use Rattle.cluster_core.specs.Standing.{Standing, HasRun, IsRefused, MayStand, begun_with}
 use Rattle.cluster_core.proofs.Turns.{none_yet}
 use Rattle.cluster_core.proofs.Whole.{begins_in, done_is}
 
@@ -112,14 +112,6 @@ module _ (room : Room) (w : World) (l : Line) (ended shown : Working)
         legal,
         inr (its_lines is.2.lines is.2.begun, by_steps is.0 (so_far (steps is.0 room (begins w l))) refl is.2.entries),
         its_end is.2.ended,
-      )
-
-  pub unfinished_is : (old : World) → old ≡ w → HasRun room begun l ended (Ok false) → (refusal old l ≡ None) × IsLeft room old l shown.doing.world × (shown.ended ≡ true)
-  unfinished_is old same is =
-      subst (λ (x : World). (refusal x l ≡ None) × IsLeft room x l shown.doing.world × (shown.ended ≡ true)) (sym same) (
-        legal,
-        inr (its_lines is.2.lines (ap (λ (x : Working). x.begun) is.2.rest), by_steps is.0 ended.doing.world (ap so_far is.1) refl),
-        its_end (ap (λ (x : Working). x.ended) is.2.rest),
       )
 
   pub finished_run : w ≡ run_of room w.lines → AreLines (w.lines ++ l ∷ []) → HasRun room begun l ended (Ok true)

@@ -1,5 +1,5 @@
 -- a whole line
-use Rattle.std.proofs.Common.{◌⊎◌, inl, inr, ◌≡◌, ℕ, zero, suc, ◌+◌, ◌*◌, ◌<◌, ◌≤◌, Bool, true, false, Some, Result, Ok, Err, [], refl, ap, sym, ◌∙◌, subst, arith, length}
+use Rattle.std.proofs.Common.{◌⊎◌, inl, inr, ◌≡◌, ℕ, zero, suc, ◌+◌, ◌*◌, ◌<◌, ◌≤◌, lit≤, Bool, true, false, Some, Result, Ok, Err, [], refl, ap, sym, ◌∙◌, subst, arith, length}
 use Rattle.time_line.specs.declared.line.Line.{Line}
 use Rattle.time_line.specs.declared.line.Line.TheVariants as line
 use Rattle.cluster_runs.specs.World.{World}
@@ -9,8 +9,8 @@ use Rattle.world_hull.specs.declared.errors.WorldErr.{WorldErr}
 use Rattle.world_hull.specs.declared.errors.WorldErr.TheVariants as error
 use Rattle.cluster_fits.specs.Fits.{FitsAt, FitsWorld}
 use Rattle.step_endings.specs.Steps.{Working, WentOn, IsUntold, Tells, cause_of}
-use Rattle.cluster_core.specs.Standing.{IsLeftIn, IsTurned, HasEnded, HasRun, AllFit, begun_with}
-use Rattle.cluster_core.proofs.Turns.{none_yet, steps-add, done_longer, ended_longer, one_more, went_further, has_ended}
+use Rattle.cluster_core.specs.Standing.{IsLeftIn, HasTurned, HasEnded, HasRun, AllFit, begun_with, opening_of, closing_of}
+use Rattle.cluster_core.proofs.Turns.{none_yet, steps-add, done_longer, ended_longer, went_further}
 
 opens_one : (room : Room) (l : Line) (w : World) → steps 1 room (opens l w) ≡ went w (first_step room (record { world = w; own = []; left = 0 }) l)
 unfolding steps next_step
@@ -24,23 +24,60 @@ the_doing : (a b : Doing) (so : Result Doing Cause) → so ≡ Ok a → so ≡ O
 the_doing a b so one two = cc
 
 -- the first step leaves the line at work
-pub opened : (room : Room) (w : World) (l : Line) (d : Doing) → first_step room (begun_with w l) l ≡ Ok d → (k : ℕ) × (k ≤ 1) × (steps k room (begins w l) ≡ goes_on d)
-opened room w (line.Settle count) d is = (0, omega arith, none_yet room _ ∙ ap goes_on (the_doing (begun_with w (line.Settle count)) d _ (settling room (begun_with w (line.Settle count)) count _ refl) is))
-opened room w (line.Times lease drift) d is = (1, omega arith, opens_one room (line.Times lease drift) w ∙ ap (went w) is)
-opened room w (line.Osd node) d is = (1, omega arith, opens_one room (line.Osd node) w ∙ ap (went w) is)
-opened room w (line.Client node clock) d is = (1, omega arith, opens_one room (line.Client node clock) w ∙ ap (went w) is)
-opened room w (line.File number location) d is = (1, omega arith, opens_one room (line.File number location) w ∙ ap (went w) is)
-opened room w (line.Start node clock) d is = (1, omega arith, opens_one room (line.Start node clock) w ∙ ap (went w) is)
-opened room w (line.Stop node) d is = (1, omega arith, opens_one room (line.Stop node) w ∙ ap (went w) is)
-opened room w (line.Crash node k fill) d is = (1, omega arith, opens_one room (line.Crash node k fill) w ∙ ap (went w) is)
-opened room w (line.Cut node count) d is = (1, omega arith, opens_one room (line.Cut node count) w ∙ ap (went w) is)
-opened room w (line.Clock node clock) d is = (1, omega arith, opens_one room (line.Clock node clock) w ∙ ap (went w) is)
-opened room w (line.Tick count) d is = (1, omega arith, opens_one room (line.Tick count) w ∙ ap (went w) is)
-opened room w (line.Wake node) d is = (1, omega arith, opens_one room (line.Wake node) w ∙ ap (went w) is)
-opened room w (line.Call id c) d is = (1, omega arith, opens_one room (line.Call id c) w ∙ ap (went w) is)
-opened room w (line.Aim id file node) d is = (1, omega arith, opens_one room (line.Aim id file node) w ∙ ap (went w) is)
-opened room w (line.Deliver number) d is = (1, omega arith, opens_one room (line.Deliver number) w ∙ ap (went w) is)
-opened room w (line.Drop number) d is = (1, omega arith, opens_one room (line.Drop number) w ∙ ap (went w) is)
+pub opened : (room : Room) (w : World) (l : Line) (d : Doing) → first_step room (begun_with w l) l ≡ Ok d → steps (opening_of l) room (begins w l) ≡ goes_on d
+opened room w (line.Settle count) d is = none_yet room _ ∙ ap goes_on (the_doing (begun_with w (line.Settle count)) d _ (settling room (begun_with w (line.Settle count)) count _ refl) is)
+opened room w (line.Times lease drift) d is = opens_one room (line.Times lease drift) w ∙ ap (went w) is
+opened room w (line.Osd node) d is = opens_one room (line.Osd node) w ∙ ap (went w) is
+opened room w (line.Client node clock) d is = opens_one room (line.Client node clock) w ∙ ap (went w) is
+opened room w (line.File number location) d is = opens_one room (line.File number location) w ∙ ap (went w) is
+opened room w (line.Start node clock) d is = opens_one room (line.Start node clock) w ∙ ap (went w) is
+opened room w (line.Stop node) d is = opens_one room (line.Stop node) w ∙ ap (went w) is
+opened room w (line.Crash node k fill) d is = opens_one room (line.Crash node k fill) w ∙ ap (went w) is
+opened room w (line.Cut node count) d is = opens_one room (line.Cut node count) w ∙ ap (went w) is
+opened room w (line.Clock node clock) d is = opens_one room (line.Clock node clock) w ∙ ap (went w) is
+opened room w (line.Tick count) d is = opens_one room (line.Tick count) w ∙ ap (went w) is
+opened room w (line.Wake node) d is = opens_one room (line.Wake node) w ∙ ap (went w) is
+opened room w (line.Call id c) d is = opens_one room (line.Call id c) w ∙ ap (went w) is
+opened room w (line.Aim id file node) d is = opens_one room (line.Aim id file node) w ∙ ap (went w) is
+opened room w (line.Deliver number) d is = opens_one room (line.Deliver number) w ∙ ap (went w) is
+opened room w (line.Drop number) d is = opens_one room (line.Drop number) w ∙ ap (went w) is
+
+opening_few : (l : Line) → opening_of l ≤ 1
+opening_few (line.Settle count) = lit≤ tt
+opening_few (line.Times lease drift) = lit≤ tt
+opening_few (line.Osd node) = lit≤ tt
+opening_few (line.Client node clock) = lit≤ tt
+opening_few (line.File number location) = lit≤ tt
+opening_few (line.Start node clock) = lit≤ tt
+opening_few (line.Stop node) = lit≤ tt
+opening_few (line.Crash node k fill) = lit≤ tt
+opening_few (line.Cut node count) = lit≤ tt
+opening_few (line.Clock node clock) = lit≤ tt
+opening_few (line.Tick count) = lit≤ tt
+opening_few (line.Wake node) = lit≤ tt
+opening_few (line.Call id c) = lit≤ tt
+opening_few (line.Aim id file node) = lit≤ tt
+opening_few (line.Deliver number) = lit≤ tt
+opening_few (line.Drop number) = lit≤ tt
+
+-- what comes before the events of a line, and after them
+two_in_all : (l : Line) → opening_of l + closing_of l ≡ 2
+two_in_all (line.Settle count) = refl
+two_in_all (line.Times lease drift) = refl
+two_in_all (line.Osd node) = refl
+two_in_all (line.Client node clock) = refl
+two_in_all (line.File number location) = refl
+two_in_all (line.Start node clock) = refl
+two_in_all (line.Stop node) = refl
+two_in_all (line.Crash node k fill) = refl
+two_in_all (line.Cut node count) = refl
+two_in_all (line.Clock node clock) = refl
+two_in_all (line.Tick count) = refl
+two_in_all (line.Wake node) = refl
+two_in_all (line.Call id c) = refl
+two_in_all (line.Aim id file node) = refl
+two_in_all (line.Deliver number) = refl
+two_in_all (line.Drop number) = refl
 
 -- or ends it
 pub opened_err : (room : Room) (w : World) (l : Line) (cause : Cause) → first_step room (begun_with w l) l ≡ Err cause → steps 1 room (begins w l) ≡ ends cause w
@@ -172,9 +209,11 @@ within_enough w l i count k less is le =
     let all : events_of l * count ≡ events_of l * (1 + OWN * length w.files) = ap (λ (n : ℕ). events_of l * n) is in
     omega arith
 
-last_enough : (w : World) (l : Line) (i count k : ℕ) → i ≡ events_of l → count ≡ 1 + OWN * length w.files → k ≤ 1 + i * count → k + 1 ≤ enough w l
-last_enough w l i count k same is le =
+-- the steps of a line, with those after its events, are those that it is allowed
+all_enough : (w : World) (l : Line) (i count : ℕ) → i ≡ events_of l → count ≡ 1 + OWN * length w.files → opening_of l + i * count + closing_of l ≡ enough w l
+all_enough w l i count same is =
     let all : i * count ≡ events_of l * (1 + OWN * length w.files) = ap (λ (n : ℕ). n * count) same ∙ ap (λ (n : ℕ). events_of l * n) is in
+    let two : opening_of l + closing_of l ≡ 2 = two_in_all l in
     omega arith
 
 begin_fits : (w : World) (l : Line) → FitsAt (begins w l) → FitsWorld w []
@@ -206,57 +245,53 @@ done_is room w l = refl
 
 module _ (room : Room) (old started now : Working) (l : Line) (i count : ℕ) (begun : old.doing ≡ begun_with old.doing.world l) (first : (first_step room old.doing l ≡ Ok started.doing) × WentOn old started)
     (is_count : count ≡ 1 + OWN * length old.doing.world.files) (came : steps (i * count) room (goes_on started.doing) ≡ goes_on now.doing) (on : WentOn started now) where
-  start : (k : ℕ) × (k ≤ 1) × (steps k room (begins old.doing.world l) ≡ goes_on started.doing)
+  start : steps (opening_of l) room (begins old.doing.world l) ≡ goes_on started.doing
   start = opened room old.doing.world l started.doing (ap (λ (d : Doing). first_step room d l) (sym begun) ∙ first.0)
 
-  far : ℕ
-  far = start.0 + i * count
+  bound : opening_of l + i * count ≤ 1 + i * count
+  bound = (let le = opening_few l in omega arith)
 
-  bound : start.0 + i * count ≤ 1 + i * count
-  bound = (let le = start.1 in omega arith)
-
-  all_came : steps (start.0 + i * count) room (begins old.doing.world l) ≡ goes_on now.doing
-  all_came = steps-add start.0 (i * count) room (begins old.doing.world l) ∙ ap (steps (i * count) room) start.2 ∙ came
+  all_came : steps (opening_of l + i * count) room (begins old.doing.world l) ≡ goes_on now.doing
+  all_came = steps-add (opening_of l) (i * count) room (begins old.doing.world l) ∙ ap (steps (i * count) room) start ∙ came
 
   all_on : WentOn old now
   all_on = went_further old started now first.1 on
 
   pub event_fits : AllFit room (begins old.doing.world l) → AllFit room (goes_on now.doing)
-  event_fits fits = later_fits room old now (begins old.doing.world l) (start.0 + i * count) all_came all_on fits
-
-  pub turn_fits : AllFit room (begins old.doing.world l) → FitsWorld now.doing.world now.doing.own
-  turn_fits fits = subst FitsAt (none_yet room (goes_on now.doing)) (event_fits fits 0)
+  event_fits fits = later_fits room old now (begins old.doing.world l) (opening_of l + i * count) all_came all_on fits
 
   pub event_ends : (new : Working) (e : WorldErr) → i < events_of l → HasEnded room now count (goes_on now.doing) new e → HasEnded room old (enough old.doing.world l) (begins old.doing.world l) new e
   event_ends new e less so =
-      ended_behind room old now (begins old.doing.world l) (start.0 + i * count) all_came all_on count (enough old.doing.world l) new e
-      (within_enough old.doing.world l i count (start.0 + i * count) less is_count bound) so
+      ended_behind room old now (begins old.doing.world l) (opening_of l + i * count) all_came all_on count (enough old.doing.world l) new e
+      (within_enough old.doing.world l i count (opening_of l + i * count) less is_count bound) so
 
   pub event_done : (new : Working) → i < events_of l → (steps count room (goes_on now.doing) ≡ finished new.doing.world) × WentOn now new
       → (done room old.doing.world l ≡ finished new.doing.world) × WentOn old new
   event_done new less so = (
     done_is room old.doing.world l
-        ∙ done_behind room old now (begins old.doing.world l) (start.0 + i * count) all_came all_on count (enough old.doing.world l) new.doing.world
-        (within_enough old.doing.world l i count (start.0 + i * count) less is_count bound) so.0,
+        ∙ done_behind room old now (begins old.doing.world l) (opening_of l + i * count) all_came all_on count (enough old.doing.world l) new.doing.world
+        (within_enough old.doing.world l i count (opening_of l + i * count) less is_count bound) so.0,
     went_further old now new all_on so.1,
   )
 
-  pub last_turn : (new : Working) (r : Result Bool WorldErr) → i ≡ events_of l → IsTurned now (next_step room (goes_on now.doing)) new r → HasRun room old l new r
-  last_turn new (Ok true) same so = (
+  whole : i ≡ events_of l → opening_of l + i * count + closing_of l ≡ enough old.doing.world l
+  whole same = all_enough old.doing.world l i count same is_count
+
+  pub last_turns : (new : Working) (r : Result Bool WorldErr) → i ≡ events_of l → HasTurned room now (closing_of l) (goes_on now.doing) new r → HasRun room old l new r
+  last_turns new (Ok true) same so = (
     done_is room old.doing.world l
-        ∙ done_longer (start.0 + i * count + 1) (enough old.doing.world l) room (begins old.doing.world l) new.doing.world
-        (one_more (start.0 + i * count) room (begins old.doing.world l) (finished new.doing.world) now.doing all_came so.0)
-        (last_enough old.doing.world l i count (start.0 + i * count) same is_count bound),
+        ∙ done_behind room old now (begins old.doing.world l) (opening_of l + i * count) all_came all_on (closing_of l) (enough old.doing.world l) new.doing.world
+        (let all = whole same in omega arith) so.0,
     went_further old now new all_on so.1,
   )
-  last_turn new (Ok false) same so = (
-    start.0 + i * count + 1,
-    one_more (start.0 + i * count) room (begins old.doing.world l) (goes_on new.doing) now.doing all_came so.0,
+  last_turns new (Ok false) same so = (
+    done_is room old.doing.world l ∙ ap (λ (n : ℕ). steps n room (begins old.doing.world l)) (sym (whole same))
+        ∙ steps-add (opening_of l + i * count) (closing_of l) room (begins old.doing.world l) ∙ ap (steps (closing_of l) room) all_came ∙ so.0,
     went_further old now new all_on so.1,
   )
-  last_turn new (Err e) same so =
-      has_ended room old now new (begins old.doing.world l) (start.0 + i * count) (enough old.doing.world l) e
-      (let le = last_enough old.doing.world l i count (start.0 + i * count) same is_count bound in omega arith) all_came all_on so
+  last_turns new (Err e) same so =
+      ended_behind room old now (begins old.doing.world l) (opening_of l + i * count) all_came all_on (closing_of l) (enough old.doing.world l) new e
+      (let all = whole same in omega arith) so
 
 pub some_enough : (w : World) (l : Line) → 1 ≤ enough w l
 some_enough w l = omega arith

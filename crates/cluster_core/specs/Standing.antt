@@ -73,6 +73,15 @@ abbrev pub left_of : Line → ℕ
 left_of (line.Settle count) = count
 left_of _ = 0
 
+-- how many steps come before the events of a line, and after them: settling is nothing but its deliveries
+abbrev pub opening_of : Line → ℕ
+opening_of (line.Settle count) = 0
+opening_of _ = 1
+
+abbrev pub closing_of : Line → ℕ
+closing_of (line.Settle count) = 2
+closing_of _ = 1
+
 -- a line within its limits, where it may stand: the times come before the first node
 abbrev pub MayStand : World → Line → Type 0
 MayStand w (line.Times lease drift) = AreTimes lease drift × (w.nodes ≡ [])
@@ -82,10 +91,10 @@ MayStand w l = FitsLine l
 abbrev pub begun_with : World → Line → Doing
 begun_with w l = record { world = w; own = []; left = left_of l }
 
--- A line of this world came to its end; or it went on for so many steps, and isn't done.
+-- A line of this world came to its end; or it isn't done after the steps that it is allowed.
 abbrev pub HasRun : Room → Working → Line → Working → Result Bool WorldErr → Type 0
 HasRun room old l new (Ok true) = (done room old.doing.world l ≡ finished new.doing.world) × WentOn old new
-HasRun room old l new (Ok false) = (k : ℕ) × (steps k room (begins old.doing.world l) ≡ goes_on new.doing) × WentOn old new
+HasRun room old l new (Ok false) = (done room old.doing.world l ≡ goes_on new.doing) × WentOn old new
 HasRun room old l new (Err e) = HasEnded room old (enough old.doing.world l) (begins old.doing.world l) new e
 
 -- the line isn't taken up; or it is the last line, behind the entries of the steps that it finished, if any

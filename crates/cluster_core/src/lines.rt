@@ -1,7 +1,7 @@
 //! What is to be known of a line before its first step.
 ghost use Rattle.std.specs.Prelude.{◌≡◌, ◌++◌, ◌∷◌, [], IfOk, OnOk, OnErr};
 ghost use Rattle.cluster_runs.specs.Lines.{events_of};
-ghost use Rattle.cluster_core.specs.Standing.{left_of};
+ghost use Rattle.cluster_core.specs.Standing.{closing_of, left_of};
 
 use std::alloc::Global;
 use time_line::Line;
@@ -13,6 +13,16 @@ pub fn events_of(line: &Line) -> u128
 {
     match line {
         Line::Settle { count } => *count,
+        _ => 1,
+    }
+}
+
+/// How many steps a line may have after those of its events. Settling is nothing but its deliveries: it has no step before them.
+pub fn closing_of(line: &Line) -> u128
+    ensures { result ≡ closing_of line.now }
+{
+    match line {
+        Line::Settle { .. } => 2,
         _ => 1,
     }
 }

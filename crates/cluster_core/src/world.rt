@@ -5,6 +5,7 @@ ghost use Rattle.cluster_core.specs.Standing.{IsApplied};
 
 use crate::state::State;
 use cluster_fits::steps_fit;
+use line_ends::lines_are_over;
 use node_hosts::NodeCore;
 use std::alloc::Global;
 use std::marker::Model;
@@ -67,13 +68,13 @@ impl<C: NodeCore, H: Hull> World<C, H> {
         }
         self.state.begin(line)?;
         steps_fit();
+        lines_are_over();
         let end = self.state.run(line);
         self.state.show();
-        if end? {
-            self.state.go_on();
-            Ok(())
-        } else {
-            Err(WorldErr::OutOfMemory)
+        if !end? {
+            unreachable!()
         }
+        self.state.go_on();
+        Ok(())
     }
 }

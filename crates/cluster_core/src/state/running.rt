@@ -6,7 +6,7 @@ ghost use Rattle.cluster_fits.specs.Fits.{FitsWorld};
 ghost use Rattle.step_endings.specs.Steps.{IsStepped};
 ghost use Rattle.cluster_core.specs.Standing.{begun_with, IsTurned, HasTurned, HasRun, AllFit, MayStand};
 
-use crate::lines::events_of;
+use crate::lines::{closing_of, events_of};
 use crate::state::State;
 use node_hosts::NodeCore;
 use time_line::Line;
@@ -106,7 +106,7 @@ impl<C: NodeCore, H: Hull> State<C, H> {
         1 + OWN * self.files.len() as u128
     }
 
-    /// The steps of a line that breaks no rule and has begun. True where it is done.
+    /// The steps of a line that breaks no rule and has begun, as many as it is allowed. True where it is done.
     pub fn run(&mut self, line: &Line) -> Result<bool, WorldErr>
         requires legal { refusal self.old.doing.world line.now ≡ None }
         requires values { MayStand self.old.doing.world line.now }
@@ -121,6 +121,6 @@ impl<C: NodeCore, H: Hull> State<C, H> {
                 return Ok(true);
             }
         }
-        self.turn()
+        self.turns(closing_of(line))
     }
 }

@@ -3,7 +3,7 @@ use Rattle.std.proofs.lemmas.Result.{err_from_is_err_and}
 use Rattle.cluster_runs.specs.Lines.{goes_on, enough}
 use Rattle.cluster_core.specs.Standing.{HasTurned}
 use Rattle.cluster_core.proofs.Turns.{went_further}
-use Rattle.cluster_core.proofs.Whole.{first_fits, first_ends, some_enough, event_fits, turn_fits, event_ends, event_done, last_turn, event_more, event_none}
+use Rattle.cluster_core.proofs.Whole.{first_fits, first_ends, some_enough, event_fits, event_ends, event_done, last_turns, event_more, event_none}
 use Rattle.cluster_core.proofs.state.State.run.Goals as goal
 
 pub loop-event-init : goal.loop-event-init
@@ -12,8 +12,8 @@ loop-event-init g c = record { came = event_none g.H.Hull.room c.open.new.self.d
 pub turns-requires : goal.turns-requires
 turns-requires g c = event_fits g.H.Hull.room c.args.self.now c.open.new.self c.loop-event.self c.args.line.now c.loop-event.event c.turns_of_event-count.result c.requires.begun c.in_ok-open.ensures c.turns_of_event-count.ensures c.loop-event.invariant.came c.loop-event.invariant.went_on c.requires.fits
 
-pub turn-requires : goal.turn-requires
-turn-requires g c = turn_fits g.H.Hull.room c.args.self.now c.open.new.self c.loop-event.self c.args.line.now c.loop-event.event c.turns_of_event-count.result c.requires.begun c.in_ok-open.ensures c.turns_of_event-count.ensures c.loop-event.invariant.came c.loop-event.invariant.went_on c.requires.fits
+pub turns-requires-2 : goal.turns-requires-2
+turns-requires-2 g c = event_fits g.H.Hull.room c.args.self.now c.open.new.self c.loop-event.self c.args.line.now c.loop-event.event c.turns_of_event-count.result c.requires.begun c.in_ok-open.ensures c.turns_of_event-count.ensures c.loop-event.invariant.came c.loop-event.invariant.went_on c.requires.fits
 
 pub open-requires-clause-fits : goal.open-requires-clause-fits
 open-requires-clause-fits g c = first_fits g.H.Hull.room c.args.self.now.doing.world c.args.line.now c.requires.fits
@@ -42,6 +42,6 @@ loop-event-preserved g c =
 
 pub returns : goal.returns
 returns g c =
-    last_turn g.H.Hull.room c.args.self.now c.open.new.self c.loop-event.self c.args.line.now c.loop-event.event c.turns_of_event-count.result c.requires.begun c.in_ok-open.ensures c.turns_of_event-count.ensures c.loop-event.invariant.came c.loop-event.invariant.went_on c.turn.new.self c.turn.result
+    last_turns g.H.Hull.room c.args.self.now c.open.new.self c.loop-event.self c.args.line.now c.loop-event.event c.turns_of_event-count.result c.requires.begun c.in_ok-open.ensures c.turns_of_event-count.ensures c.loop-event.invariant.came c.loop-event.invariant.went_on c.turns-2.new.self c.turns-2.result
     (let all : c.loop-event.event ≡ c.events_of-event-end.result = (let least = c.loop-event-test.false in let most = c.loop-event.auto.event-end in omega arith) in all ∙ c.events_of-event-end.ensures)
-    c.turn.ensures
+    (subst (λ (n : ℕ). HasTurned g.H.Hull.room c.loop-event.self n (goes_on c.loop-event.self.doing) c.turns-2.new.self c.turns-2.result) c.closing_of.ensures c.turns-2.ensures)
