@@ -8,3 +8,4 @@ pub mod Counts
 pub mod Serves
 pub mod Whole
 pub mod Kinds
+pub mod Sought

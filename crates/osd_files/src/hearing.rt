@@ -9,11 +9,15 @@ ghost use Rattle.osd_files.specs.Kinds.{acted_on, is_for_replica};
 ghost use Rattle.osd_files.specs.Rows.{IsRow, IsRowBy};
 ghost use Rattle.xt_protocol.specs.SeenBodies.{body_by};
 ghost use Rattle.object_versions.specs.KeptBodies.{fault_of, ReadsOnly};
+ghost use Rattle.peer_searches.specs.Sound.{AreSound};
+ghost use Rattle.xt_protocol.specs.declared.states.Peer.{Peer};
 
 use crate::joining::both;
 use crate::parts::Parts;
+use crate::seeking::begin_anew;
 use crate::staging::note_staged;
 use object_versions::{Bodies, StepErr};
+use peer_searches::Searches;
 use replica_primary::send_any;
 use replica_state::{Replica, fetched_from};
 use std::alloc::Global;
@@ -80,6 +84,26 @@ fn acts(replica: &mut Replica, content: &Payload) -> Result<Acted, OutOfMemory>
     }
 }
 
+/// The same. Where it made a record, the searches for what peers lack begin anew.
+fn acts_anew(
+    replica: &mut Replica,
+    searches: &mut Searches,
+    content: &Payload,
+) -> Result<Acted, OutOfMemory>
+    requires { FitsPayload content.now }
+    ensures row { IfOk result (λ acted. acted ≡
+        acted_on replica.old.file replica.old.head replica.old.held content.now) }
+    ensures kept { IfOk result (λ acted. replica.new ≡ kept_after replica.old acted.rec) }
+    ensures same { OnErr result (replica.new ≡ replica.old) }
+    ensures sound { (peers : List Peer) →
+        AreSound replica.old.head.versions peers searches.old →
+        AreSound replica.new.head.versions peers searches.new }
+{
+    let acted = acts(replica, content)?;
+    begin_anew(searches, acted.rec.is_some());
+    Ok(acted)
+}
+
 /// A message to the replica comes: Gather, Stage, Head or Update.
 pub fn replica_comes(
     file: &mut Parts,
@@ -92,7 +116,7 @@ pub fn replica_comes(
         (shown file.new) turned) }
 {
     let (alloc, node) = (file.alloc, file.awake.node());
-    let acted = acts(&mut file.replica, content)?;
+    let acted = acts_anew(&mut file.replica, &mut file.searches, content)?;
     let turned = replica_acts(alloc, node, from, acted)?;
     note_staged(&mut file.staged, turned)
 }

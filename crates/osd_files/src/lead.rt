@@ -13,6 +13,8 @@ ghost use Rattle.xt_messages.specs.declared.file.FileHead.{FileHead};
 ghost use Rattle.xt_messages.specs.declared.file.ObjectVersion.{ObjectVersion};
 ghost use Rattle.object_versions.specs.Rising.{HeadRises};
 ghost use Rattle.object_versions.specs.KeptBodies.{fault_of, ReadsOnly};
+ghost use Rattle.peer_searches.specs.Sound.{AreSound};
+ghost use Rattle.replica_primary.specs.Moves.{peers_under};
 ghost use Rattle.replica_primary.specs.Written.{ground};
 ghost use Rattle.xt_protocol.specs.FileStates.{members_of};
 ghost use Rattle.xt_protocol.specs.Forgetting.{versions_if, versions_under};
@@ -22,6 +24,7 @@ ghost use Rattle.osd_files.specs.Counts.{heard_at, IsCountedIn, no_majority, no_
 
 use flease::Turn;
 use object_versions::{Bodies, StepErr};
+use peer_searches::Searches;
 use replica_primary::{Phase, Primary};
 use std::alloc::Global;
 use std::marker::Model;
@@ -308,6 +311,7 @@ impl Lead {
             epoch op.now) }
         ensures kept { IfOk result (λ led. self.new ≡
             record self.old { primary = self.new.primary }) }
+        ensures peers { peers_under self.new.primary.tenure ≡ peers_under self.old.primary.tenure }
         ensures waits { IfOk result (λ led. IfNone led (self.new ≡ self.old)) }
         ensures same { OnErr result (self.new ≡ self.old) }
         ensures reads { ReadsOnly B.records B.fault_count bodies.old bodies.new (fault_of result) }
@@ -318,12 +322,13 @@ impl Lead {
         }
     }
 
-    /// A message to the primary, in this turn: `own` and `held` are the head and the held versions of its own replica. Where
-    /// memory is out or a body can't be read, the primary is idle.
+    /// A message to the primary, in this turn: `own` and `held` are the head and the held versions of its own replica, and `searches`
+    /// those for what its peers lack of that head. Where memory is out or a body can't be read, the primary is idle.
     pub fn take<B: Bodies>(
         &mut self,
         turn: &Turn<'_>,
         bodies: &mut B,
+        searches: &mut Searches,
         own: &FileHead,
         held: &HeldSet,
         from: NodeId,
@@ -332,6 +337,8 @@ impl Lead {
         requires turn { turn.now.node ≡ self.old.node }
         requires stored { IsStored self.old.location }
         requires own { HeadRises own.now }
+        requires sound { AreSound own.now.versions (peers_under self.old.primary.tenure)
+            searches.old }
         ensures state { IfOk result (λ led. self.new ≡
             record self.old {
               primary = (hears (ground (place_of self.old) (B.records bodies.old) own.now held.now)
@@ -342,10 +349,16 @@ impl Lead {
             self.old.primary from payload.now).turned) }
         ensures idle { OnErr result (self.new ≡
             record self.old { primary = rows.idle self.old.primary }) }
+        ensures sound { AreSound own.now.versions (peers_under self.new.primary.tenure)
+            searches.new }
         ensures reads { ReadsOnly B.records B.fault_count bodies.old bodies.new (fault_of result) }
     {
         match &mut self.listed {
-            Some(listed) => listed.primary.take(turn, bodies, own, held, from, payload),
+            Some(listed) => {
+                listed
+                    .primary
+                    .take(turn, bodies, searches, own, held, from, payload)
+            }
             None => unreachable!(),
         }
     }

@@ -46,12 +46,18 @@ fn primary_led<B: Bodies>(
     let turned = file.lead.take(
         &turn,
         bodies,
+        &mut file.searches,
         file.replica.head(),
         file.replica.held(),
         from,
         content,
     )?;
-    Ok(noted(&mut file.replica, &mut file.staged, turned)?)
+    Ok(noted(
+        &mut file.replica,
+        &mut file.staged,
+        &mut file.searches,
+        turned,
+    )?)
 }
 
 /// Whether the lease gives a turn.

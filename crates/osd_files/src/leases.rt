@@ -1,4 +1,4 @@
-ghost use Rattle.std.specs.Prelude.{◌≡◌, ◌<◌, ◌^◌, ℕ, List, Bool, true, Option, None, IfOk, IfSome, OnOk, OnErr, map, if◌then◌else◌};
+ghost use Rattle.std.specs.Prelude.{◌≡◌, ◌<◌, ◌^◌, ℕ, List, Bool, true, Option, None, IfOk, IfNone, IfSome, OnOk, OnErr, map, if◌then◌else◌};
 ghost use Rattle.xt_messages.specs.declared.file.Location.{Location};
 ghost use Rattle.xt_base.specs.declared.ids.NodeId.{NodeId};
 ghost use Rattle.xt_base.specs.declared.ids.Boot.{Boot};
@@ -13,14 +13,18 @@ ghost use Rattle.xt_protocol.specs.FileStates.{staged_after};
 ghost use Rattle.xt_protocol.specs.FileLeases as rows;
 ghost use Rattle.xt_protocol.specs.FileSteps.{message_comes};
 ghost use Rattle.osd_files.specs.Answers.{read_answer, write_answer, answered_write, news_of, HasTurn, HoldBy};
+ghost use Rattle.peer_searches.specs.Sound.{AreSound};
+ghost use Rattle.xt_protocol.specs.declared.states.Peer.{Peer};
 ghost use Rattle.osd_files.specs.Views.{shown};
 ghost use Rattle.osd_files.specs.Kinds.{is_for_lease};
 ghost use Rattle.osd_files.specs.Rows.{IsRow};
 
 use crate::joining::{both, join_next};
 use crate::parts::Parts;
+use crate::seeking::begin_anew;
 use crate::staging::note_staged;
 use flease::{FileLease, News, ReadAnswer, WriteAnswer};
+use peer_searches::Searches;
 use replica_state::Replica;
 use std::alloc::Global;
 use xt_base::{Ballot, Boot, FileId, Lease, NodeId, OptionalBox, OutOfMemory, Seq};
@@ -172,6 +176,7 @@ fn note(replica: &mut Replica, rec: &OptionalBox<Record>) -> Result<(), OutOfMem
         record replica.new { location = location } ≡
         kept_after (record replica.old { location = location }) rec.now) }
     ensures file { replica.new.file ≡ replica.old.file }
+    ensures none { IfNone rec.now (replica.new ≡ replica.old) }
 {
     match rec.get() {
         Some(rec) => replica.note(rec),
@@ -179,10 +184,12 @@ fn note(replica: &mut Replica, rec: &OptionalBox<Record>) -> Result<(), OutOfMem
     }
 }
 
-/// What the primary or a member of a striped file gave, once the own replica has taken what it recorded, and the staged bodies follow it.
+/// What the primary or a member of a striped file gave, once the own replica has taken what it recorded, and the staged bodies and the
+/// searches for what peers lack follow it.
 pub fn noted(
     replica: &mut Replica,
     staged: &mut HeldSet,
+    searches: &mut Searches,
     turned: Turned,
 ) -> Result<Turned, OutOfMemory>
     requires { IfSome turned.rec (IsNotable replica.old) }
@@ -192,7 +199,11 @@ pub fn noted(
         record replica.new { location = location } ≡
         kept_after (record replica.old { location = location }) turned.rec) }
     ensures file { replica.new.file ≡ replica.old.file }
+    ensures sound { (peers : List Peer) →
+        AreSound replica.old.head.versions peers searches.old →
+        AreSound replica.new.head.versions peers searches.new }
 {
+    begin_anew(searches, turned.rec.is_some());
     let done = note(replica, &turned.rec);
     let (turned, ()) = both(turned, done)?;
     note_staged(staged, turned)
@@ -221,8 +232,14 @@ fn led_on(file: &mut Parts, now: u64) -> Result<Turned, OutOfMemory>
     let Some(turn) = file.lease.turn(now) else {
         unreachable!()
     };
+    file.searches.clear();
     let turned = file.lead.begin(&turn, file.replica.head())?;
-    noted(&mut file.replica, &mut file.staged, turned)
+    noted(
+        &mut file.replica,
+        &mut file.staged,
+        &mut file.searches,
+        turned,
+    )
 }
 
 /// Lease won, or renewed: it is marked, and an idle primary draws its epoch.

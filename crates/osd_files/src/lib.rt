@@ -16,6 +16,7 @@ mod leading;
 mod leases;
 mod overdue;
 mod parts;
+mod seeking;
 mod serving;
 mod staging;
 mod starting;

@@ -1,9 +1,12 @@
 ghost use Rattle.std.specs.Prelude.{◌≡◌, ◌<◌, ◌^◌};
+ghost use Rattle.peer_searches.specs.Sound.{AreSound};
+ghost use Rattle.replica_primary.specs.Moves.{peers_under};
 ghost use Rattle.osd_files.specs.Owners.{owner_at, owner_of, renewer_of};
 
 use crate::lead::Lead;
 use flease::{Acceptor, Awake, FileLease};
 use osd_asks::OpenAsks;
+use peer_searches::Searches;
 use replica_state::Replica;
 use std::alloc::Global;
 use xt_messages::HeldSet;
@@ -19,6 +22,8 @@ pub struct Parts {
     pub acceptor: Acceptor,
     pub lease: FileLease,
     pub lead: Lead,
+    /// How far the primary has come with what its peers lack of the replica's head.
+    pub searches: Searches,
     /// The end of a lease that this boot met last in time, 0 before the first.
     pub last_end: u64,
     /// The clock at which the file was asked for last.
@@ -29,4 +34,5 @@ pub struct Parts {
     ghost owner: { owner_of lease ≡ owner_at awake },
     ghost renewer: { renewer_of (owner_at awake) lease ≡ owner_at awake },
     ghost past: { used < 2 ^ 62 },
+    ghost sound: { AreSound replica.head.versions (peers_under lead.primary.tenure) searches },
 }

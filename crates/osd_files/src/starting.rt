@@ -7,6 +7,7 @@ use crate::lead::Lead;
 use crate::parts::Parts;
 use flease::{Acceptor, Awake, FileLease};
 use osd_asks::OpenAsks;
+use peer_searches::Searches;
 use replica_state::Replica;
 use std::alloc::Global;
 use xt_messages::{FileRow, HeldSet};
@@ -26,6 +27,7 @@ pub fn file_from(alloc: Global, awake: &Awake, row: FileRow) -> Parts
         acceptor: Acceptor::new(awake.boot()),
         lease: FileLease::new(*awake),
         lead,
+        searches: Searches::new(alloc),
         last_end: 0,
         used: 0,
         asks: OpenAsks::new(alloc),

@@ -115,5 +115,10 @@ pub fn striped_handled<B: Bodies>(
     let acted = member_acts(file, bodies, now, sealed, id, capability, op)?;
     let (alloc, node) = (file.alloc, file.awake.node());
     let turned = replica_acts(alloc, node, id.client, acted)?;
-    Ok(noted(&mut file.replica, &mut file.staged, turned)?)
+    Ok(noted(
+        &mut file.replica,
+        &mut file.staged,
+        &mut file.searches,
+        turned,
+    )?)
 }

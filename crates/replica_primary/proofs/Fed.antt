@@ -13,7 +13,8 @@ use Rattle.xt_protocol.specs.declared.states.Peer.{Peer}
 use Rattle.xt_protocol.specs.Turns.{sends}
 use Rattle.xt_protocol.specs.Primaries.{Ground, fed, if_any, last_sent, with_peer}
 use Rattle.xt_protocol.specs.PrimaryRows.{body_missed, body_staged, feeds, goes_on, peer_sent, target_in, unmoved, with_state}
-use Rattle.replica_primary.specs.Feeding.{is_at_head, known_in}
+use Rattle.peer_searches.specs.Sound.{known_in}
+use Rattle.replica_primary.specs.Feeding.{is_at_head}
 use Rattle.replica_primary.specs.Moves.{feeds_any, misses_in, stages_in}
 
 -- a peer's state that is set twice

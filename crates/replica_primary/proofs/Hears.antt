@@ -1,6 +1,6 @@
 -- what a message does, by how it is tested
 use Rattle.std.proofs.Common.{◌≡◌, ◌∙◌, ◌∷◌, ◌++◌, ◌+◌, ◌<◌, ◌≤◌, [], ℕ, Bool, true, false, Option, Some, None, List, length, take, get_or, inl, inr, refl, ap, sym, arith}
-use Rattle.std.specs.Prelude.{cond, max, not, nat_le, ◌==◌, ◌⊎◌, slice_get}
+use Rattle.std.specs.Prelude.{cond, max, not, nat_le, ◌==◌, ◌⊎◌, reverse, slice_get}
 use Rattle.std.proofs.lemmas.Grind.{common_steps}
 use Rattle.std.proofs.lemmas.List.{take_more}
 use Rattle.std.proofs.lemmas.List.Elements.{filter_map-append}
@@ -32,7 +32,8 @@ use Rattle.xt_protocol.specs.Turns.{message, quiet, sends}
 use Rattle.osd_decisions.specs.Reports.{best_report}
 use Rattle.replica_primary.specs.declared.moving.Heard.TheVariants as heard
 use Rattle.replica_primary.specs.declared.moving.Next.TheVariants as step
-use Rattle.replica_primary.specs.Moves.{IsSplit, any_report, beyond, feeds_any, is_asked, is_to_feed, kept_of, led_by, outpromised, source_in}
+use Rattle.replica_primary.specs.Shown.{shown_progress, shown_tenure}
+use Rattle.replica_primary.specs.Moves.{any_report, beyond, feeds_any, is_asked, is_to_feed, kept_of, led_by, outpromised, source_in}
 
 not_is : (b : Bool) → not b ≡ true → b ≡ false
 not_is true is = absurd cc
@@ -93,11 +94,6 @@ best_at own (r ∷ rs) i d some best is = by (slice_get_cases (r ∷ rs) i).1
     by (inl (x, lt, at, get)) = ap Some is ∙ sym (slice_get-get_or (r ∷ rs) i d lt) ∙ best
     by (inr (past, none)) = absurd (let clash : None ≡ best_report own (r ∷ rs) = sym none ∙ best in cc)
 
--- nothing is wanted
-pub split_none : (wanted : List ObjectVersion) (s : Option (ObjectVersion × List ObjectVersion)) → IsSplit wanted s → s ≡ None → wanted ≡ []
-split_none wanted None is none = is
-split_none wanted (Some s) is none = absurd cc
-
 -- installed, part by part
 pub installed : (g : Ground) (learnt : ℕ) (t installing : Tenure) (chosen target : FileHead) (peers : List Peer) (turned : Turned) (acked : List NodeId)
     → installing ≡ record t { progress = progress.Installing chosen acked } → target ≡ target_of g.own t.epoch chosen → peers ≡ peers_fed g target installing.peers
@@ -129,11 +125,6 @@ fetched_next g learnt t fetching chosen source asked later wanted rec turned it 
     ∙ ap (λ (s : Tenure). goes_on learnt s (asks s)) it
     ∙ ap (λ (vs : List ObjectVersion). after_keeping rec (fetches g learnt t chosen source vs)) (sym iw)
 
-pub split_some : (wanted : List ObjectVersion) (s : Option (ObjectVersion × List ObjectVersion)) (asked : ObjectVersion) (later : List ObjectVersion)
-    → IsSplit wanted s → s ≡ Some (asked, later) → wanted ≡ asked ∷ later
-split_some wanted None asked later is some = absurd cc
-split_some wanted (Some s) asked later is some = let same : s ≡ (asked, later) = cc in is ∙ ap (λ (q : ObjectVersion × List ObjectVersion). q.0 ∷ q.1) same
-
 -- what is fetched doesn't depend on how far the tenure was
 fetched_any : (g : Ground) (learnt : ℕ) (epoch : Epoch) (peers : List Peer) (p q : Progress) (chosen : FileHead) (source : NodeId) (wanted : List ObjectVersion)
     → fetches g learnt (record { epoch = epoch; peers = peers; progress = p }) chosen source wanted ≡ fetches g learnt (record { epoch = epoch; peers = peers; progress = q }) chosen source wanted
@@ -144,16 +135,16 @@ fetched_any g learnt epoch peers p q chosen source (v ∷ later) = refl
 pub fetched_on : (g : Ground) (learnt : ℕ) (t : Tenure) (taken p : Progress) (chosen : FileHead) (source : NodeId) (asked : ObjectVersion) (later : List ObjectVersion)
     (chosen' : FileHead) (source' : NodeId) (asked' : ObjectVersion) (later' : List ObjectVersion)
     → taken ≡ t.progress → taken ≡ progress.Fetching chosen' source' asked' later' → t.progress ≡ progress.Fetching chosen source asked later
-    → fetches g learnt (record { epoch = t.epoch; peers = t.peers; progress = p }) chosen' source' later' ≡ fetches g learnt t chosen source later
+    → fetches g learnt (record { epoch = t.epoch; peers = t.peers; progress = p }) chosen' source' (reverse later') ≡ fetches g learnt (shown_tenure t) chosen source (reverse later)
 fetched_on g learnt t taken p chosen source asked later chosen' source' asked' later' it is was =
     let same : progress.Fetching chosen' source' asked' later' ≡ progress.Fetching chosen source asked later = sym is ∙ it ∙ was in
     let ic : chosen' ≡ chosen = cc in
     let iso : source' ≡ source = cc in
     let il : later' ≡ later = cc in
-    fetched_any g learnt t.epoch t.peers p t.progress chosen' source' later'
-    ∙ ap (λ (h : FileHead). fetches g learnt t h source' later') ic
-    ∙ ap (λ (n : NodeId). fetches g learnt t chosen n later') iso
-    ∙ ap (λ (vs : List ObjectVersion). fetches g learnt t chosen source vs) il
+    fetched_any g learnt t.epoch t.peers p (shown_progress t.progress) chosen' source' (reverse later')
+    ∙ ap (λ (h : FileHead). fetches g learnt (shown_tenure t) h source' (reverse later')) ic
+    ∙ ap (λ (n : NodeId). fetches g learnt (shown_tenure t) chosen n (reverse later')) iso
+    ∙ ap (λ (vs : List ObjectVersion). fetches g learnt (shown_tenure t) chosen source (reverse vs)) il
 
 -- a body that has come is kept first, where it wasn't held
 pub kept_first : (g : Ground) (learnt : ℕ) (t : Tenure) (chosen : FileHead) (source : NodeId) (later : List ObjectVersion) (object : ℕ) (version : Stamp) (bytes : List ℕ) (fetched : Option FetchedBody)
@@ -217,18 +208,18 @@ module _ (g : Ground) (learnt : ℕ) (t : Tenure) where
   -- the object is the one that was asked for
   pub asked_object : (p : Progress) (from : NodeId) (v : ObjectVersion) (bytes : List ℕ) (led : Led) → is_asked p from v ≡ true
       → ((chosen : FileHead) (source : NodeId) (asked : ObjectVersion) (later : List ObjectVersion) → p ≡ progress.Fetching chosen source asked later
-      → led ≡ body_fetched g learnt t chosen source later v.object v.version bytes)
-      → led ≡ hears_object g learnt t p from v.object v.version bytes
+      → led ≡ body_fetched g learnt t chosen source (reverse later) v.object v.version bytes)
+      → led ≡ hears_object g learnt t (shown_progress p) from v.object v.version bytes
   asked_object (progress.Fetching chosen source asked later) from v bytes led is by =
-      by chosen source asked later refl ∙ sym (ap (λ (b : Bool). cond b (body_fetched g learnt t chosen source later v.object v.version bytes) (unmoved learnt t)) is)
+      by chosen source asked later refl ∙ sym (ap (λ (b : Bool). cond b (body_fetched g learnt t chosen source (reverse later) v.object v.version bytes) (unmoved learnt t)) is)
   asked_object progress.Gathering from v bytes led is by = absurd cc
   asked_object (progress.Installing chosen acked) from v bytes led is by = absurd cc
   asked_object (progress.Active committed issued) from v bytes led is by = absurd cc
 
   -- any other object does nothing
-  pub other_object : (p : Progress) (from : NodeId) (v : ObjectVersion) (bytes : List ℕ) → is_asked p from v ≡ false → unmoved learnt t ≡ hears_object g learnt t p from v.object v.version bytes
+  pub other_object : (p : Progress) (from : NodeId) (v : ObjectVersion) (bytes : List ℕ) → is_asked p from v ≡ false → unmoved learnt t ≡ hears_object g learnt t (shown_progress p) from v.object v.version bytes
   other_object (progress.Fetching chosen source asked later) from v bytes is =
-      sym (ap (λ (b : Bool). cond b (body_fetched g learnt t chosen source later v.object v.version bytes) (unmoved learnt t)) is)
+      sym (ap (λ (b : Bool). cond b (body_fetched g learnt t chosen source (reverse later) v.object v.version bytes) (unmoved learnt t)) is)
   other_object progress.Gathering from v bytes is = refl
   other_object (progress.Installing chosen acked) from v bytes is = refl
   other_object (progress.Active committed issued) from v bytes is = refl

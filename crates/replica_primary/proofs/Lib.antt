@@ -4,4 +4,6 @@ pub mod Fed
 pub mod Rises
 pub mod Acks
 pub mod Hears
+pub mod InOrder
+pub mod Sought
 mod Places

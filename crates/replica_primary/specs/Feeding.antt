@@ -1,6 +1,5 @@
 -- a peer that is brought to a head
-use Rattle.std.specs.Prelude.{Bool, true, false, Option, Some, None, List}
-use Rattle.xt_messages.specs.declared.file.ObjectVersion.{ObjectVersion}
+use Rattle.std.specs.Prelude.{ℕ, ◌≡◌, Bool, true, false, Option, Some, None}
 use Rattle.xt_messages.specs.declared.file.FileHead.{FileHead}
 use Rattle.xt_protocol.specs.declared.states.PeerState.{PeerState}
 use Rattle.xt_protocol.specs.declared.states.PeerState.TheVariants as peer
@@ -12,15 +11,15 @@ abbrev pub head_of : Target → FileHead
 head_of (target.Whole head) = head.now
 head_of (target.Under head epoch) = record head.now { promised = epoch; stamp = record { epoch = epoch; count = head.now.stamp.count } }
 
--- what is known of a peer that was sent a body or a head
-abbrev pub known_of : PeerState → Option (List ObjectVersion)
-known_of (peer.Feeding known object version body) = Some known
-known_of (peer.Heading known head) = Some known
-known_of _ = None
+-- it is the own head, unless it is one under an epoch
+abbrev pub IsOfOwn : FileHead → Target → Type 0
+IsOfOwn own (target.Whole head) = head.now ≡ own
+IsOfOwn own (target.Under head epoch) = Unit {0}
 
-abbrev pub known_in : Option PeerState → Option (List ObjectVersion)
-known_in None = None
-known_in (Some state) = known_of state
+-- so many of the own head's versions, where peers are brought to that one
+abbrev pub of_own : Target → ℕ → ℕ
+of_own (target.Whole head) passed = passed
+of_own (target.Under head epoch) passed = 0
 
 -- whether a peer was sent a head last
 abbrev pub is_at_head : Option PeerState → Bool

@@ -6,3 +6,4 @@ pub mod Moves
 pub mod Acks
 pub mod Places
 pub mod Feeding
+pub mod Shown

@@ -1,5 +1,5 @@
 -- what a message makes of a tenure
-use Rattle.std.specs.Prelude.{ℕ, Bool, true, false, ◌≡◌, ◌==◌, ◌&&◌, not, if◌then◌else◌, max, Option, Some, None, List, [], ◌∷◌}
+use Rattle.std.specs.Prelude.{ℕ, Bool, true, false, ◌≡◌, ◌==◌, ◌&&◌, not, if◌then◌else◌, max, Option, Some, None, List, [], ◌∷◌, ◌++◌}
 use Rattle.xt_base.specs.declared.ids.FileId.{FileId}
 use Rattle.xt_base.specs.declared.ids.Epoch.{Epoch}
 use Rattle.xt_base.specs.declared.ids.Stamp.{Stamp}
@@ -21,6 +21,8 @@ use Rattle.xt_protocol.specs.declared.states.Tenure.{Tenure}
 use Rattle.xt_protocol.specs.Primaries.{Ground, Led, is_reported, nodes_of, peer_in}
 use Rattle.xt_protocol.specs.PrimaryRows.{after_keeping, body_beyond, body_missed, body_staged, epoch_drawn, feeds, goes_on, installs, target_in, unmoved}
 use Rattle.xt_protocol.specs.Turns.{quiet}
+use Rattle.peer_searches.specs.declared.searches.Search.{Search}
+use Rattle.peer_searches.specs.Sound.{AreSound}
 use Rattle.replica_primary.specs.declared.moving.FetchedBody.{FetchedBody}
 use Rattle.replica_primary.specs.declared.moving.Next.{Next}
 use Rattle.replica_primary.specs.declared.moving.Next.TheVariants as step
@@ -54,10 +56,10 @@ ground_beyond place records fetched own held =
 abbrev pub beyond : Ground → Option FetchedBody → Ground
 beyond g fetched = record g { body = body_beyond g.place.file (kept_of g.place.file fetched) g.body }
 
--- the wanted versions are none; or the first one and those after it
+-- the wanted versions, last first, are none; or the others and the next one
 abbrev pub IsSplit : List ObjectVersion → Option (ObjectVersion × List ObjectVersion) → Type 0
 IsSplit wanted None = wanted ≡ []
-IsSplit wanted (Some s) = wanted ≡ s.0 ∷ s.1
+IsSplit wanted (Some s) = wanted ≡ s.1 ++ s.0 ∷ []
 
 -- a peer is fed on, where something is known of it, and there is a head to which peers are brought
 abbrev pub feeds_any : Ground → ℕ → Tenure → Option FileHead → NodeId → Option (List ObjectVersion) → Led
@@ -83,14 +85,24 @@ next_of g learnt from t (step.Installs chosen fetched) = after_keeping (kept_of 
 -- a primary that has heard a message from this node
 abbrev pub led_by : Ground → ℕ → NodeId → Tenure → Heard → Led
 led_by g learnt from t (heard.GoesOn n) = next_of g learnt from t n
+led_by g learnt from t (heard.Counts turned) = goes_on learnt t turned
 led_by g learnt from t (heard.Staged v) = stages_in g learnt t from (peer_in t.peers from) v
 led_by g learnt from t (heard.Missed v) = misses_in g learnt t from (peer_in t.peers from) v
 led_by g learnt from t (heard.Redraws above) = epoch_drawn g.place above g.own (nodes_of t.peers)
 
--- whether a message is one that tells of a body that was sent, or ends a tenure
+-- What was heard leaves the searches for what peers lack as sound as they were. Of the other messages it isn't said.
+abbrev pub LeavesSearches : List Peer → List Peer → Heard → Type 0
+LeavesSearches old new (heard.Counts turned) = (versions : List ObjectVersion) (searches : List Search) → AreSound versions old searches → AreSound versions new searches
+LeavesSearches old new (heard.Staged v) = (versions : List ObjectVersion) (searches : List Search) → AreSound versions old searches → AreSound versions new searches
+LeavesSearches old new (heard.GoesOn n) = Unit {0}
+LeavesSearches old new (heard.Missed v) = Unit {0}
+LeavesSearches old new (heard.Redraws above) = Unit {0}
+
+-- whether a message is one that tells of a body that was sent, is an acknowledgement, or ends a tenure
 abbrev pub is_apart : Payload → Bool
 is_apart (payload.Staged file epoch object version) = true
 is_apart (payload.Missing file epoch object version) = true
+is_apart (payload.Ack file stamp) = true
 is_apart (payload.Refused file epoch promised) = true
 is_apart _ = false
 

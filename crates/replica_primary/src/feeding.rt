@@ -1,18 +1,23 @@
-ghost use Rattle.std.specs.Prelude.{◌≡◌, ℕ, List, Some, IfOk, IsTrue, is_some, option_map};
+ghost use Rattle.std.specs.Prelude.{◌≡◌, ℕ, List, None, Some, IfOk, IfSome, IsTrue, OnOk, is_some, option_map, slice_get, take};
+ghost use Rattle.xt_messages.specs.declared.file.FileHead.{FileHead};
+ghost use Rattle.xt_protocol.specs.declared.states.Peer.{Peer};
 ghost use Rattle.xt_messages.specs.declared.file.ObjectVersion.{ObjectVersion};
 ghost use Rattle.xt_protocol.specs.declared.states.PeerState.TheVariants as peer;
 ghost use Rattle.xt_protocol.specs.Primaries as rows;
 ghost use Rattle.xt_protocol.specs.PrimaryRows.{goes_on, target_in, with_state};
+ghost use Rattle.xt_protocol.specs.ReplicaRows.{first_missing};
 ghost use Rattle.xt_protocol.specs.Turns.{sends};
 ghost use Rattle.object_versions.specs.KeptBodies.{fault_of, ReadsOnly};
+ghost use Rattle.peer_searches.specs.Sound.{AreSound, known_in, known_of};
 ghost use Rattle.replica_primary.specs.Written.{ground};
 ghost use Rattle.replica_primary.specs.Moves.{body_seen, feeds_any, misses_in, stages_in};
-ghost use Rattle.replica_primary.specs.Feeding.{head_of, is_at_head, known_in, known_of};
+ghost use Rattle.replica_primary.specs.Feeding.{IsOfOwn, head_of, is_at_head, of_own};
 
 use crate::moving::FetchedBody;
 use crate::peers::{peer_in, set_peer, swap_state};
 use crate::sending::{last_sent, send_any};
-use object_versions::{Bodies, StepErr, first_missing, hold, is_epoch, is_stamp, let_go, seen};
+use object_versions::{Bodies, StepErr, hold, is_epoch, is_stamp, let_go, seen};
+use peer_searches::{Search, Searches, first_unknown};
 use std::alloc::Global;
 use xt_base::{Copies, Epoch, FileId, NodeId, Octets, OutOfMemory, Seq, Stamp};
 use xt_messages::{FileHead, HeldSet, ObjectVersion};
@@ -50,11 +55,22 @@ pub enum Target<'a> {
 
 impl<'a> Target<'a> {
     /// The versions that the peers are to have.
-    fn versions(&self) -> &[ObjectVersion]
+    pub fn versions(&self) -> &[ObjectVersion]
         ensures { result.now ≡ (head_of self.now).versions }
     {
         match self {
             Target::Whole { head } | Target::Under { head, .. } => head.versions.as_slice(),
+        }
+    }
+
+    /// How many of the versions that a search has passed are the own head's, of which all searches are; none where peers are brought to
+    /// another one.
+    fn of_own(&self, passed: usize) -> usize
+        ensures { result ≡ of_own self.now passed }
+    {
+        match self {
+            Target::Whole { .. } => passed,
+            Target::Under { .. } => 0,
         }
     }
 
@@ -74,7 +90,7 @@ impl<'a> Target<'a> {
     }
 }
 
-/// Fed: a peer of which these versions are known, on its way to this head.
+/// Fed: a peer of which these versions are known, on its way to this head. At `found` stands the first of its versions that isn't.
 #[tactic(auto, unfolding(xt_protocol::specs::Primaries::fed))]
 pub fn fed<B: Bodies>(
     bodies: &mut B,
@@ -83,13 +99,16 @@ pub fn fed<B: Bodies>(
     fetched: &Option<FetchedBody>,
     target: &Target<'_>,
     known: HeldSet,
+    found: usize,
 ) -> Result<PeerState, StepErr>
+    requires { slice_get (head_of target.now).versions found ≡
+        first_missing known (head_of target.now).versions }
     ensures value { IfOk result (λ state. state ≡
         rows.fed (body_seen (B.records bodies.old) file.now fetched.now) (head_of target.now)
         known) }
     ensures reads { ReadsOnly B.records B.fault_count bodies.old bodies.new (fault_of result) }
 {
-    match first_missing(&known, target.versions()) {
+    match target.versions().get(found).copied() {
         Some(ObjectVersion { object, version }) => Ok(PeerState::Feeding {
             known,
             object,
@@ -105,7 +124,8 @@ pub fn fed<B: Bodies>(
 
 /// The head to which peers are brought: the own one once it is of the epoch, and before that the chosen one under the epoch.
 pub fn target_of<'a>(own: &'a FileHead, epoch: Epoch, chosen: &'a FileHead) -> Target<'a>
-    ensures { head_of result ≡ rows.target_of own.now epoch chosen.now }
+    ensures head { head_of result ≡ rows.target_of own.now epoch chosen.now }
+    ensures own { IsOfOwn own.now result }
 {
     if is_epoch(own.stamp.epoch, epoch) {
         return Target::Whole { head: own };
@@ -118,7 +138,8 @@ pub fn target_of<'a>(own: &'a FileHead, epoch: Epoch, chosen: &'a FileHead) -> T
 
 /// The head to which peers are brought, if there is one so far.
 fn target_in<'a>(own: &'a FileHead, epoch: Epoch, progress: &'a Progress) -> Option<Target<'a>>
-    ensures { option_map head_of result ≡ target_in own.now epoch progress.now }
+    ensures head { option_map head_of result ≡ target_in own.now epoch progress.now }
+    ensures own { IfSome result (IsOfOwn own.now) }
 {
     match progress {
         Progress::Installing { chosen, .. } => Some(target_of(own, epoch, chosen)),
@@ -162,26 +183,67 @@ fn peer_sent(
     sent
 }
 
-/// A peer of which these versions are known is fed on, where there is a head to which peers are brought.
+/// The next state of a peer of which these versions are known, the first `passed` of the target's among them. The search for what it
+/// lacks comes as far as that.
+fn fed_on<B: Bodies>(
+    bodies: &mut B,
+    alloc: Global,
+    file: &FileId,
+    searches: &mut Searches,
+    target: &Target<'_>,
+    node: NodeId,
+    known: HeldSet,
+    passed: usize,
+) -> Result<PeerState, StepErr>
+    requires { first_missing known (take passed (head_of target.now).versions) ≡ None }
+    ensures value { IfOk result (λ state. state ≡
+        rows.fed (body_seen (B.records bodies.old) file.now None) (head_of target.now) known) }
+    ensures sound { IfOk result (λ state. (own : FileHead) (peers : List Peer) →
+        IsOfOwn own target.now → AreSound own.versions peers searches.old →
+        AreSound own.versions (rows.with_peer peers node state) searches.new) }
+    ensures reads { ReadsOnly B.records B.fault_count bodies.old bodies.new (fault_of result) }
+{
+    let found = first_unknown(&known, target.versions(), passed);
+    searches.put(Search {
+        node,
+        passed: target.of_own(found),
+    })?;
+    fed(bodies, alloc, file, &None, target, known, found)
+}
+
+/// A peer of which these versions are known is fed on, where there is a head to which peers are brought. The search for what it lacks
+/// begins.
 pub fn feeds_on<B: Bodies>(
     bodies: &mut B,
     alloc: Global,
     place: &Place,
     tenure: &mut Tenure,
+    searches: &mut Searches,
     own: &FileHead,
     from: NodeId,
     known: HeldSet,
 ) -> Result<Turned, StepErr>
+    requires { AreSound own.now.versions tenure.old.peers searches.old }
     ensures value { IfOk result (λ turned. (learnt : ℕ) (held : List ObjectVersion) →
         goes_on learnt tenure.new turned ≡
         feeds_any (ground place.now (B.records bodies.old) own.now held) learnt tenure.old
         (target_in own.now tenure.old.epoch tenure.old.progress) from (Some known)) }
+    ensures sound { OnOk result (AreSound own.now.versions tenure.new.peers searches.new) }
     ensures reads { ReadsOnly B.records B.fault_count bodies.old bodies.new (fault_of result) }
 {
     let Some(target) = target_in(own, tenure.epoch, &tenure.progress) else {
         return Ok(quiet(alloc));
     };
-    let state = fed(bodies, alloc, &place.file, &None, &target, known)?;
+    let state = fed_on(
+        bodies,
+        alloc,
+        &place.file,
+        searches,
+        &target,
+        from,
+        known,
+        0,
+    )?;
     Ok(peer_sent(alloc, place, tenure, from, state)?)
 }
 
@@ -230,20 +292,23 @@ fn take_known(peers: &mut Peers, node: NodeId) -> HeldSet
     known
 }
 
-/// Body staged: it is known of the peer, which is fed on.
+/// Body staged: it is known of the peer, which is fed on. The search for what it lacks goes on where it ended.
 pub fn body_staged<B: Bodies>(
     bodies: &mut B,
     alloc: Global,
     place: &Place,
     tenure: &mut Tenure,
+    searches: &mut Searches,
     own: &FileHead,
     from: NodeId,
     version: ObjectVersion,
 ) -> Result<Turned, StepErr>
+    requires { AreSound own.now.versions tenure.old.peers searches.old }
     ensures value { IfOk result (λ turned. (learnt : ℕ) (held : List ObjectVersion) →
         goes_on learnt tenure.new turned ≡
         stages_in (ground place.now (B.records bodies.old) own.now held) learnt tenure.old from
         (rows.peer_in tenure.old.peers from) version) }
+    ensures sound { OnOk result (AreSound own.now.versions tenure.new.peers searches.new) }
     ensures reads { ReadsOnly B.records B.fault_count bodies.old bodies.new (fault_of result) }
 {
     let Some(target) = target_in(own, tenure.epoch, &tenure.progress) else {
@@ -252,9 +317,19 @@ pub fn body_staged<B: Bodies>(
     if !is_fed(tenure.peers.as_slice(), from) {
         return Ok(quiet(alloc));
     }
+    let passed = target.of_own(searches.passed(from));
     let mut known = take_known(&mut tenure.peers, from);
     hold(&mut known, version)?;
-    let state = fed(bodies, alloc, &place.file, &None, &target, known)?;
+    let state = fed_on(
+        bodies,
+        alloc,
+        &place.file,
+        searches,
+        &target,
+        from,
+        known,
+        passed,
+    )?;
     Ok(peer_sent(alloc, place, tenure, from, state)?)
 }
 
@@ -268,20 +343,23 @@ fn is_at_head(peers: &[Peer], node: NodeId) -> bool
     }
 }
 
-/// Body missed: it is no longer known of the peer, which is fed on.
+/// Body missed: it is no longer known of the peer, which is fed on. The search for what it lacks begins anew.
 pub fn body_missed<B: Bodies>(
     bodies: &mut B,
     alloc: Global,
     place: &Place,
     tenure: &mut Tenure,
+    searches: &mut Searches,
     own: &FileHead,
     from: NodeId,
     version: ObjectVersion,
 ) -> Result<Turned, StepErr>
+    requires { AreSound own.now.versions tenure.old.peers searches.old }
     ensures value { IfOk result (λ turned. (learnt : ℕ) (held : List ObjectVersion) →
         goes_on learnt tenure.new turned ≡
         misses_in (ground place.now (B.records bodies.old) own.now held) learnt tenure.old from
         (rows.peer_in tenure.old.peers from) version) }
+    ensures sound { OnOk result (AreSound own.now.versions tenure.new.peers searches.new) }
     ensures reads { ReadsOnly B.records B.fault_count bodies.old bodies.new (fault_of result) }
 {
     let Some(target) = target_in(own, tenure.epoch, &tenure.progress) else {
@@ -292,6 +370,15 @@ pub fn body_missed<B: Bodies>(
     }
     let mut known = take_known(&mut tenure.peers, from);
     let_go(&mut known, version);
-    let state = fed(bodies, alloc, &place.file, &None, &target, known)?;
+    let state = fed_on(
+        bodies,
+        alloc,
+        &place.file,
+        searches,
+        &target,
+        from,
+        known,
+        0,
+    )?;
     Ok(peer_sent(alloc, place, tenure, from, state)?)
 }

@@ -1,4 +1,4 @@
-ghost use Rattle.std.specs.Prelude.{◌≡◌, ℕ, List, Some, IfOk};
+ghost use Rattle.std.specs.Prelude.{◌≡◌, ℕ, List, Some, IfOk, reverse};
 ghost use Rattle.xt_base.specs.declared.ids.FileId.{FileId};
 ghost use Rattle.xt_base.specs.declared.ids.NodeId.{NodeId};
 ghost use Rattle.xt_messages.specs.declared.file.FileHead.{FileHead};
@@ -10,6 +10,7 @@ ghost use Rattle.xt_protocol.specs.declared.states.Progress.TheVariants as progr
 ghost use Rattle.xt_protocol.specs.Primaries.{peer_in};
 ghost use Rattle.xt_protocol.specs.PrimaryRows as rows;
 ghost use Rattle.xt_protocol.specs.ReplicaRows.{stage_record};
+ghost use Rattle.replica_primary.specs.Shown.{shown_progress, shown_tenure};
 ghost use Rattle.replica_primary.specs.Written.{ground};
 ghost use Rattle.replica_primary.specs.Moves.{is_asked, kept_of, led_by, next_of, source_in};
 
@@ -49,9 +50,10 @@ fn body_fetched(
         (learnt : ℕ) (from : NodeId) (records : List Record) (own chosen : FileHead)
         (source : NodeId) (asked : ObjectVersion) (later : List ObjectVersion) →
         tenure.old.progress ≡ progress.Fetching chosen source asked later →
-        next_of (ground place.now records own held.now) learnt from tenure.new next ≡
-        rows.body_fetched (ground place.now records own held.now) learnt tenure.old chosen source
-        later body.object body.version body.bytes) }
+        next_of (ground place.now records own held.now) learnt from (shown_tenure tenure.new)
+        next ≡
+        rows.body_fetched (ground place.now records own held.now) learnt (shown_tenure tenure.old)
+        chosen source (reverse later) body.object body.version body.bytes) }
 {
     let fetched = unless_held(held, body);
     match mem::replace(&mut tenure.progress, Progress::Gathering) {
@@ -91,9 +93,10 @@ pub fn hears_object(
     bytes: &Octets,
 ) -> Result<Next, OutOfMemory>
     ensures { IfOk result (λ next. (learnt : ℕ) (records : List Record) (own : FileHead) →
-        next_of (ground place.now records own held.now) learnt from tenure.new next ≡
-        rows.hears_object (ground place.now records own held.now) learnt tenure.old
-        tenure.old.progress from version.object version.version bytes.now) }
+        next_of (ground place.now records own held.now) learnt from (shown_tenure tenure.new)
+        next ≡
+        rows.hears_object (ground place.now records own held.now) learnt (shown_tenure tenure.old)
+        (shown_progress tenure.old.progress) from version.object version.version bytes.now) }
 {
     if !is_asked(&tenure.progress, from, version) {
         return Ok(unmoved(alloc));
@@ -126,9 +129,9 @@ pub fn hears_missing(
 ) -> Heard
     ensures { (place : Place) (records : List Record) (own : FileHead) (held : List ObjectVersion)
         (state : PeerState) → peer_in tenure.now.peers from ≡ Some state →
-        led_by (ground place records own held) learnt from tenure.now result ≡
-        rows.hears_missing (ground place records own held) learnt tenure.now tenure.now.progress
-        from state version }
+        led_by (ground place records own held) learnt from (shown_tenure tenure.now) result ≡
+        rows.hears_missing (ground place records own held) learnt (shown_tenure tenure.now)
+        (shown_progress tenure.now.progress) from state version }
 {
     let Some(source) = source_of(&tenure.progress) else {
         return Heard::Missed { version };

@@ -1,4 +1,4 @@
-ghost use Rattle.std.specs.Prelude.{◌≡◌, ◌∷◌, ◌++◌, [], ℕ, List, None, Some, IfOk, OnOk};
+ghost use Rattle.std.specs.Prelude.{◌≡◌, ◌∷◌, ◌++◌, [], ℕ, List, None, Some, IfOk, OnOk, reverse};
 ghost use Rattle.xt_base.specs.declared.ids.FileId.{FileId};
 ghost use Rattle.xt_messages.specs.declared.file.ObjectVersion.{ObjectVersion};
 ghost use Rattle.xt_messages.specs.declared.file.FileHead.{FileHead};
@@ -13,6 +13,7 @@ ghost use Rattle.xt_protocol.specs.PrimaryRows as rows;
 ghost use Rattle.xt_protocol.specs.PrimaryRows.{after_keeping, goes_on};
 ghost use Rattle.xt_protocol.specs.Turns.{message, sends};
 ghost use Rattle.object_versions.specs.KeptBodies.{fault_of, ReadsOnly};
+ghost use Rattle.replica_primary.specs.Shown.{shown_progress, shown_tenure};
 ghost use Rattle.replica_primary.specs.Written.{ground};
 ghost use Rattle.replica_primary.specs.Moves.{IsSplit, any_report, ground_beyond, is_to_feed, kept_of, next_of};
 
@@ -22,6 +23,7 @@ use crate::peers::set_peer;
 use crate::sending::last_to_each;
 use object_versions::{Bodies, StepErr, held_from, holds};
 use osd_decisions::{choose, is_majority, statuses_counted};
+use peer_searches::first_unknown;
 use std::alloc::Global;
 use xt_base::{Copies, Epoch, NodeId, OutOfMemory, Seq};
 use xt_messages::{FileHead, HeldSet, ObjectVersion, Payload, Versions};
@@ -107,7 +109,8 @@ fn peer_fed<B: Bodies>(
     }
     let known = known_of_report(alloc, &peer.state)?;
     let target = Target::Whole { head: target };
-    let state = fed(bodies, alloc, &place.file, fetched, &target, known)?;
+    let found = first_unknown(&known, target.versions(), 0);
+    let state = fed(bodies, alloc, &place.file, fetched, &target, known, found)?;
     put(&mut peer.state, state);
     Ok(())
 }
@@ -209,16 +212,15 @@ fn installs<B: Bodies>(
     Ok(install_sent(alloc, place, tenure.epoch, target, tenure.peers.as_slice())?)
 }
 
-/// The first of the wanted versions, and those after it.
+/// The next of the wanted versions, which stand last first, and the others.
 fn split(wanted: Versions) -> Option<(ObjectVersion, Versions)>
     ensures { IsSplit wanted result }
 {
     let mut wanted = wanted;
-    if wanted.items.is_empty() {
-        return None;
+    match wanted.items.pop() {
+        Some(next) => Some((next, wanted)),
+        None => None,
     }
-    let first = wanted.items.remove(0);
-    Some((first, wanted))
 }
 
 /// The head is installed, and the body is kept that was just fetched for it, if one was.
@@ -275,8 +277,8 @@ fn fetch_sent(
     )
 }
 
-/// The next of the wanted bodies is asked for, and with none left the head is installed. The body is kept that was just fetched,
-/// if one was.
+/// The next of the wanted bodies, which stand last first, is asked for, and with none left the head is installed. The body is kept
+/// that was just fetched, if one was.
 pub fn fetches(
     alloc: Global,
     place: &Place,
@@ -289,10 +291,10 @@ pub fn fetches(
     ensures { IfOk result (λ next.
         (learnt : ℕ) (from : NodeId) (records : List Record) (own : FileHead)
         (held : List ObjectVersion) →
-        next_of (ground place.now records own held) learnt from tenure.new next ≡
+        next_of (ground place.now records own held) learnt from (shown_tenure tenure.new) next ≡
         after_keeping (kept_of place.now.file fetched)
-        (rows.fetches (ground_beyond place.now records fetched own held) learnt tenure.old chosen
-        source wanted)) }
+        (rows.fetches (ground_beyond place.now records fetched own held) learnt
+        (shown_tenure tenure.old) chosen source (reverse wanted))) }
 {
     let Some((asked, later)) = split(wanted) else {
         return Ok(Next::Installs { chosen, fetched });
@@ -324,6 +326,15 @@ fn unheld(alloc: Global, held: &HeldSet, want: &Versions) -> Result<Versions, Ou
     Ok(missing)
 }
 
+/// These versions, the last one first.
+fn last_first(versions: Versions) -> Versions
+    ensures { result ≡ reverse versions }
+{
+    let mut versions = versions;
+    versions.items.as_mut_slice().reverse();
+    versions
+}
+
 /// Head chosen: the own one is installed; of another one the bodies are fetched that are wanted.
 fn head_chosen(
     alloc: Global,
@@ -335,8 +346,9 @@ fn head_chosen(
 ) -> Result<Next, OutOfMemory>
     ensures { IfOk result (λ next.
         (learnt : ℕ) (from : NodeId) (records : List Record) (own : FileHead) →
-        next_of (ground place.now records own held.now) learnt from tenure.new next ≡
-        rows.head_chosen (ground place.now records own held.now) learnt tenure.old
+        next_of (ground place.now records own held.now) learnt from (shown_tenure tenure.new)
+        next ≡
+        rows.head_chosen (ground place.now records own held.now) learnt (shown_tenure tenure.old)
         (source, chosen)) }
 {
     if source.0 == place.node.0 {
@@ -345,7 +357,7 @@ fn head_chosen(
             fetched: None,
         });
     }
-    let wanted = unheld(alloc, held, &chosen.versions)?;
+    let wanted = last_first(unheld(alloc, held, &chosen.versions)?);
     fetches(alloc, place, tenure, chosen, source, wanted, None)
 }
 
@@ -359,8 +371,10 @@ fn chooses(
 ) -> Result<Next, OutOfMemory>
     ensures { IfOk result (λ next.
         (learnt : ℕ) (from : NodeId) (records : List Record) (own : FileHead) →
-        next_of (ground place.now records own held.now) learnt from tenure.new next ≡
-        rows.chooses (ground place.now records own held.now) learnt tenure.old reports.now) }
+        next_of (ground place.now records own held.now) learnt from (shown_tenure tenure.new)
+        next ≡
+        rows.chooses (ground place.now records own held.now) learnt (shown_tenure tenure.old)
+        reports.now) }
 {
     if reports.is_empty() {
         return Ok(unmoved(alloc));
@@ -379,8 +393,10 @@ fn status_counted(
 ) -> Result<Next, OutOfMemory>
     ensures { IfOk result (λ next.
         (learnt : ℕ) (from : NodeId) (records : List Record) (own : FileHead) →
-        next_of (ground place.now records own held.now) learnt from tenure.new next ≡
-        rows.status_counted (ground place.now records own held.now) learnt tenure.old) }
+        next_of (ground place.now records own held.now) learnt from (shown_tenure tenure.new)
+        next ≡
+        rows.status_counted (ground place.now records own held.now) learnt
+        (shown_tenure tenure.old)) }
 {
     let peers = tenure.peers.as_slice();
     if !is_majority(peers, statuses_counted(peers)) {
@@ -414,9 +430,10 @@ pub fn status_told(
     head: &FileHead,
 ) -> Result<Next, OutOfMemory>
     ensures { IfOk result (λ next. (learnt : ℕ) (records : List Record) (own : FileHead) →
-        next_of (ground place.now records own held.now) learnt from tenure.new next ≡
-        rows.status_told (ground place.now records own held.now) learnt tenure.old
-        tenure.old.progress from head.now) }
+        next_of (ground place.now records own held.now) learnt from (shown_tenure tenure.new)
+        next ≡
+        rows.status_told (ground place.now records own held.now) learnt (shown_tenure tenure.old)
+        (shown_progress tenure.old.progress) from head.now) }
 {
     match &tenure.progress {
         Progress::Gathering => {

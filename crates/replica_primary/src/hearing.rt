@@ -14,8 +14,10 @@ ghost use Rattle.object_versions.specs.Rising.{HeadRises};
 ghost use Rattle.osd_decisions.specs.Committed.{CommittedUnder};
 ghost use Rattle.replica_primary.specs.declared.moving.Heard.TheVariants as heard;
 ghost use Rattle.replica_primary.specs.declared.moving.Next.TheVariants as step;
+ghost use Rattle.replica_primary.specs.Shown.{shown_state, shown_tenure};
 ghost use Rattle.replica_primary.specs.Written.{ground};
-ghost use Rattle.replica_primary.specs.Moves.{is_apart, led_by, next_of, outpromised, peers_under};
+ghost use Rattle.peer_searches.specs.Sound.{AreSound};
+ghost use Rattle.replica_primary.specs.Moves.{LeavesSearches, is_apart, led_by, next_of, outpromised, peers_under};
 
 use crate::acking::{hears_ack, makes_current};
 use crate::drawing::redrawn;
@@ -25,6 +27,7 @@ use crate::gathering::{installs_keeping, status_told};
 use crate::moving::{Heard, Next, put, unmoved};
 use crate::peers::{peer_in, set_peer};
 use object_versions::{Bodies, StepErr, is_earlier, is_epoch};
+use peer_searches::Searches;
 use std::alloc::Global;
 use xt_base::{Epoch, NodeId, OutOfMemory, Stamp};
 use xt_messages::{FileHead, HeldSet, ObjectVersion, Payload};
@@ -54,9 +57,10 @@ fn hears_status(
 ) -> Result<Next, OutOfMemory>
     ensures { IfOk result (λ next. (learnt : ℕ) (records : List Record) (own : FileHead)
         (state : PeerState) → peer_in tenure.old.peers from ≡ Some state →
-        next_of (ground place.now records own held.now) learnt from tenure.new next ≡
-        rows.hears_status (ground place.now records own held.now) learnt tenure.old from state
-        head.now) }
+        next_of (ground place.now records own held.now) learnt from (shown_tenure tenure.new)
+        next ≡
+        rows.hears_status (ground place.now records own held.now) learnt (shown_tenure tenure.old)
+        from state head.now) }
 {
     if !is_unknown(tenure.peers.as_slice(), from) {
         return Ok(unmoved(alloc));
@@ -162,7 +166,8 @@ fn version_of(object: u64, version: Stamp) -> ObjectVersion
     ObjectVersion { object, version }
 }
 
-/// A message of the primary's epoch, from a peer, that tells of no body that was sent, and after which the tenure goes on.
+/// A message of the primary's epoch, from a peer, that tells of no body that was sent, is no acknowledgement, and after which the tenure
+/// goes on.
 fn goes_on_hearing(
     alloc: Global,
     place: &Place,
@@ -175,9 +180,10 @@ fn goes_on_hearing(
     requires { IsFalse (is_apart payload.now) }
     ensures { IfOk result (λ next. (learnt : ℕ) (records : List Record) (state : PeerState) →
         peer_in tenure.old.peers from ≡ Some state →
-        next_of (ground place.now records own.now held.now) learnt from tenure.new next ≡
-        rows.hears_peer (ground place.now records own.now held.now) learnt tenure.old from state
-        payload.now) }
+        next_of (ground place.now records own.now held.now) learnt from (shown_tenure tenure.new)
+        next ≡
+        rows.hears_peer (ground place.now records own.now held.now) learnt
+        (shown_tenure tenure.old) from state payload.now) }
 {
     match payload {
         Payload::Status { head, .. } => hears_status(alloc, place, tenure, held, from, head),
@@ -189,11 +195,6 @@ fn goes_on_hearing(
         } => {
             let version = version_of(*object, *version);
             hears_object(alloc, place, tenure, held, from, version, bytes)
-        }
-        Payload::Ack { stamp, .. } => {
-            let newly = newly_current(place, tenure.peers.as_slice(), from, *stamp);
-            let turned = hears_ack(alloc, place, tenure, own, from, newly, *stamp)?;
-            Ok(Next::Gives { turned })
         }
         Payload::Behind { .. } => {
             let turned = peer_behind(alloc, place, tenure, from)?;
@@ -214,11 +215,13 @@ fn hears_peer(
     from: NodeId,
     payload: &Payload,
 ) -> Result<Heard, OutOfMemory>
-    ensures { IfOk result (λ heard. (records : List Record) (state : PeerState) →
+    ensures row { IfOk result (λ heard. (records : List Record) (state : PeerState) →
         peer_in tenure.old.peers from ≡ Some state →
-        led_by (ground place.now records own.now held.now) learnt from tenure.new heard ≡
-        rows.hears_peer (ground place.now records own.now held.now) learnt tenure.old from state
-        payload.now) }
+        led_by (ground place.now records own.now held.now) learnt from (shown_tenure tenure.new)
+        heard ≡
+        rows.hears_peer (ground place.now records own.now held.now) learnt
+        (shown_tenure tenure.old) from state payload.now) }
+    ensures searches { IfOk result (LeavesSearches tenure.old.peers tenure.new.peers) }
 {
     match payload {
         Payload::Staged {
@@ -236,6 +239,11 @@ fn hears_peer(
         } => {
             let version = version_of(*object, *version);
             Ok(hears_missing(alloc, learnt, tenure, from, version))
+        }
+        Payload::Ack { stamp, .. } => {
+            let newly = newly_current(place, tenure.peers.as_slice(), from, *stamp);
+            let turned = hears_ack(alloc, place, tenure, own, from, newly, *stamp)?;
+            Ok(Heard::Counts { turned })
         }
         Payload::Refused { promised, .. } => {
             Ok(outpromised(alloc, learnt, tenure.epoch, *promised))
@@ -258,10 +266,12 @@ fn hears_in(
     from: NodeId,
     payload: &Payload,
 ) -> Result<Heard, OutOfMemory>
-    ensures { IfOk result (λ heard. (records : List Record) →
-        led_by (ground place.now records own.now held.now) learnt from tenure.new heard ≡
-        rows.hears_in (ground place.now records own.now held.now) learnt (Some tenure.old) from
-        payload.now) }
+    ensures row { IfOk result (λ heard. (records : List Record) →
+        led_by (ground place.now records own.now held.now) learnt from (shown_tenure tenure.new)
+        heard ≡
+        rows.hears_in (ground place.now records own.now held.now) learnt
+        (Some (shown_tenure tenure.old)) from payload.now) }
+    ensures searches { IfOk result (LeavesSearches tenure.old.peers tenure.new.peers) }
 {
     let Some(epoch) = epoch_told(payload) else {
         return Ok(unheard(alloc));
@@ -275,12 +285,13 @@ fn hears_in(
     }
 }
 
-/// The tenure goes on as a message has it.
+/// The tenure goes on as a message has it. The searches for what peers lack begin anew.
 fn proceeds<B: Bodies>(
     bodies: &mut B,
     alloc: Global,
     place: &Place,
     tenure: &mut Tenure,
+    searches: &mut Searches,
     own: &FileHead,
     from: NodeId,
     next: Next,
@@ -289,11 +300,15 @@ fn proceeds<B: Bodies>(
         goes_on learnt tenure.new turned ≡
         next_of (ground place.now (B.records bodies.old) own.now held) learnt from tenure.old
         next) }
+    ensures sound { OnOk result (AreSound own.now.versions tenure.new.peers searches.new) }
     ensures reads { ReadsOnly B.records B.fault_count bodies.old bodies.new (fault_of result) }
 {
+    searches.clear();
     match next {
         Next::Gives { turned } => Ok(turned),
-        Next::Feeds { known } => feeds_on(bodies, alloc, place, tenure, own, from, known),
+        Next::Feeds { known } => {
+            feeds_on(bodies, alloc, place, tenure, searches, own, from, known)
+        }
         Next::Installs { chosen, fetched } => {
             installs_keeping(bodies, alloc, place, tenure, own, chosen, fetched)
         }
@@ -335,16 +350,21 @@ pub fn hears<B: Bodies>(
     alloc: Global,
     place: &Place,
     primary: &mut PrimaryState,
+    searches: &mut Searches,
     own: &FileHead,
     held: &HeldSet,
     from: NodeId,
     payload: &Payload,
 ) -> Result<Turned, StepErr>
-    ensures row { IfOk result (λ turned. record { primary = primary.new; turned = turned } ≡
-        rows.hears (ground place.now (B.records bodies.old) own.now held.now) primary.old from
-        payload.now) }
+    requires { AreSound own.now.versions (peers_under primary.old.tenure) searches.old }
+    ensures row { IfOk result (λ turned.
+        record { primary = shown_state primary.new; turned = turned } ≡
+        rows.hears (ground place.now (B.records bodies.old) own.now held.now)
+        (shown_state primary.old) from payload.now) }
     ensures rises { OnOk result (HeadRises own.now → CommittedUnder primary.old.tenure →
         CommittedUnder primary.new.tenure) }
+    ensures sound { OnOk result (AreSound own.now.versions (peers_under primary.new.tenure)
+        searches.new) }
     ensures kept { OnErr result (primary.new.learnt ≡ primary.old.learnt) }
     ensures reads { ReadsOnly B.records B.fault_count bodies.old bodies.new (fault_of result) }
 {
@@ -362,9 +382,20 @@ pub fn hears<B: Bodies>(
         payload,
     )?;
     match heard {
-        Heard::GoesOn { next } => proceeds(bodies, alloc, place, tenure, own, from, next),
-        Heard::Staged { version } => body_staged(bodies, alloc, place, tenure, own, from, version),
-        Heard::Missed { version } => body_missed(bodies, alloc, place, tenure, own, from, version),
-        Heard::Redraws { above } => Ok(redraws(alloc, place, primary, own, above)?),
+        Heard::GoesOn { next } => {
+            proceeds(bodies, alloc, place, tenure, searches, own, from, next)
+        }
+        Heard::Counts { turned } => Ok(turned),
+        Heard::Staged { version } => {
+            body_staged(bodies, alloc, place, tenure, searches, own, from, version)
+        }
+        Heard::Missed { version } => {
+            searches.clear();
+            body_missed(bodies, alloc, place, tenure, searches, own, from, version)
+        }
+        Heard::Redraws { above } => {
+            searches.clear();
+            Ok(redraws(alloc, place, primary, own, above)?)
+        }
     }
 }

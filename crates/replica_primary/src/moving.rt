@@ -32,6 +32,8 @@ pub enum Next {
 pub enum Heard {
     /// It goes on.
     GoesOn { next: Next },
+    /// It goes on, and no more is known of a peer that is fed. This is given.
+    Counts { turned: Turned },
     /// It goes on. The sender has this body now, and is fed on.
     Staged { version: ObjectVersion },
     /// It goes on. The sender lacks this body after all, and is fed on.

@@ -7,6 +7,8 @@ ghost use Rattle.xt_messages.specs.declared.file.ObjectVersion.{ObjectVersion};
 ghost use Rattle.xt_messages.specs.Limits.{FitsOp, FitsStripe};
 ghost use Rattle.object_versions.specs.KeptBodies.{fault_of, ReadsOnly};
 ghost use Rattle.object_versions.specs.Rising.{HeadRises};
+ghost use Rattle.peer_searches.specs.Sound.{AreSound};
+ghost use Rattle.replica_primary.specs.Moves.{peers_under};
 ghost use Rattle.replica_primary.specs.Written.{ground};
 ghost use Rattle.replica_primary.specs.Phases.{phase_in, phase_of};
 ghost use Rattle.replica_primary.specs.Rests.{chosen_by, rested_on, rests_on};
@@ -21,6 +23,7 @@ use crate::waking::wakes;
 use flease::Turn;
 use object_versions::{Bodies, StepErr};
 use osd_decisions::{reads_under, statuses_counted};
+use peer_searches::Searches;
 use std::alloc::Global;
 use std::marker::Model;
 use xt_base::{FileId, Members, NodeId, OpId, OutOfMemory};
@@ -48,10 +51,11 @@ pub enum Phase {
 
 impl Model for Primary {
     ghost use Rattle.replica_primary.specs.PrimaryViews.{PrimaryView};
+    ghost use Rattle.replica_primary.specs.Shown.{shown_state};
 
     ghost Value = { PrimaryView };
 
-    ghost view = { λ p. record { place = p.place; state = p.state } };
+    ghost view = { λ p. record { place = p.place; state = shown_state p.state } };
 
     ghost use Rattle.xt_messages.specs.Limits.{FitsStripe};
     ghost use Rattle.osd_decisions.specs.Committed.{CommittedUnder};
@@ -159,6 +163,7 @@ impl Primary {
             writes (ground self.old.place (B.records bodies.old) own held) self.old.state id epoch
             op.now) }
         ensures place { IfOk result (λ led. self.new.place ≡ self.old.place) }
+        ensures peers { peers_under self.new.state.tenure ≡ peers_under self.old.state.tenure }
         ensures waits { IfOk result (λ led. IfNone led (self.new ≡ self.old)) }
         ensures same { OnErr result (self.new ≡ self.old) }
         ensures reads { ReadsOnly B.records B.fault_count bodies.old bodies.new (fault_of result) }
@@ -174,12 +179,14 @@ impl Primary {
         }
     }
 
-    /// A message to the primary, in this turn: `own` and `held` are the head and the held versions of its own replica. Where
-    /// memory is out or a body can't be read, the primary is idle.
+    /// A message to the primary, in this turn: `own` and `held` are the head and the held versions of its own replica. `searches` are
+    /// those for what its peers lack of that head; new ones serve for any. Where memory is out or a body can't be read, the primary
+    /// is idle.
     pub fn take<B: Bodies>(
         &mut self,
         turn: &Turn<'_>,
         bodies: &mut B,
+        searches: &mut Searches,
         own: &FileHead,
         held: &HeldSet,
         from: NodeId,
@@ -187,6 +194,8 @@ impl Primary {
     ) -> Result<Turned, StepErr>
         requires turn { turn.now.node ≡ self.old.place.node }
         requires own { HeadRises own.now }
+        requires sound { AreSound own.now.versions (peers_under self.old.state.tenure)
+            searches.old }
         ensures state { IfOk result (λ led. self.new ≡
             record self.old {
               state = (hears (ground self.old.place (B.records bodies.old) own.now held.now)
@@ -197,12 +206,16 @@ impl Primary {
             from payload.now).turned) }
         ensures idle { OnErr result (self.new ≡
             record self.old { state = rows.idle self.old.state }) }
+        ensures sound { AreSound own.now.versions (peers_under self.new.state.tenure)
+            searches.new }
         ensures reads { ReadsOnly B.records B.fault_count bodies.old bodies.new (fault_of result) }
     {
         let _turn = turn;
         let (alloc, place) = (self.alloc, &self.place);
         let state = &mut self.state;
-        match hears(bodies, alloc, place, state, own, held, from, payload) {
+        match hears(
+            bodies, alloc, place, state, searches, own, held, from, payload,
+        ) {
             Ok(turned) => Ok(turned),
             Err(error) => {
                 put(&mut self.state.tenure, None);

@@ -14,6 +14,7 @@ ghost use Rattle.xt_protocol.specs.Serving as rows;
 ghost use Rattle.object_versions.specs.KeptBodies.{fault_of, ReadsOnly};
 ghost use Rattle.object_versions.specs.Rising.{HeadRises};
 ghost use Rattle.osd_decisions.specs.Committed.{CommittedRises, CommittedUnder};
+ghost use Rattle.replica_primary.specs.Moves.{peers_under};
 ghost use Rattle.replica_primary.specs.Written.{ground, tenure_after, led_of, led_under, with_issued, under_issued};
 
 use crate::moving::put;
@@ -327,6 +328,7 @@ fn put_in_progress(alloc: Global, progress: &mut Progress, update: Update)
 /// An update is issued in the tenure, where there is one.
 pub fn put_issued(alloc: Global, tenure: &mut Option<Tenure>, update: Option<Update>)
     ensures value { tenure.new ≡ under_issued tenure.old update }
+    ensures peers { peers_under tenure.new ≡ peers_under tenure.old }
     ensures rises { CommittedUnder tenure.old → CommittedUnder tenure.new }
 {
     if let Some(update) = update {

@@ -20,7 +20,7 @@ returns c =
     let from = c.args.from in
     let content = c.args.content.now in
     let acted = c.in_ok-acted.acted in
-    let after = c.acts.new.replica in
+    let after = c.acts_anew.new.replica in
     let made = c.in_ok-turned.turned in
     let staged = c.note_staged.new.staged in
     let new : FileState = record old.state { kept = record after { location = f.lead.location }; staged = staged } in

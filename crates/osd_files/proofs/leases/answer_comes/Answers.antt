@@ -22,6 +22,7 @@ invariant_of-file c =
       owner = ap owner_of c.answer-news.ensures.state ∙ own.lease;
       renewer = ap (renewer_of (owner_at f.awake)) c.answer-news.ensures.state ∙ own.renewal;
       past = f.past;
+      sound = f.sound;
     }
 
 pub lease_news-requires-clause-hold : goal.lease_news-requires-clause-hold

@@ -1,10 +1,20 @@
-use Rattle.std.proofs.Common.{ℕ, ap}
+use Rattle.std.proofs.Common.{ℕ, ap, subst, sym}
 use Rattle.xt_protocol.specs.declared.turned.Turned.{Turned}
 use Rattle.xt_protocol.specs.Overdue.{no_lease_for_all, lease_lapses}
+use Rattle.peer_searches.specs.Sound.{AreSound}
+use Rattle.peer_searches.proofs.Set.{none_fed}
+use Rattle.replica_primary.specs.Moves.{peers_under}
+use Rattle.osd_files.specs.Leads.{LeadView}
 use Rattle.osd_files.specs.Rows.{IsRow}
 use Rattle.osd_files.specs.Views.{shown, with_lead}
 use Rattle.osd_files.proofs.Rows.{if_ok, lapses}
 use Rattle.osd_files.proofs.overdue.lease_lapses.Goals as goal
+
+pub invariant_of-file-clause-sound : goal.invariant_of-file-clause-sound
+invariant_of-file-clause-sound c =
+    let f = c.args.file.now in
+    let P : LeadView → Type 0 = λ lead. AreSound f.replica.head.versions (peers_under lead.primary.tenure) f.searches in
+    subst P (sym c.idle.ensures) (none_fed f.replica.head.versions f.searches)
 
 pub returns : goal.returns
 returns c =

@@ -1,11 +1,14 @@
-use Rattle.std.proofs.Common.{◌∙◌, List, ap, sym}
+use Rattle.std.proofs.Common.{◌∙◌, List, ap, subst, sym}
 use Rattle.xt_messages.specs.declared.file.ObjectVersion.{ObjectVersion}
 use Rattle.xt_protocol.specs.declared.states.Peer.{Peer}
 use Rattle.xt_protocol.specs.declared.states.PeerState.TheVariants as peer
+use Rattle.xt_protocol.specs.declared.states.Tenure.{Tenure}
 use Rattle.xt_protocol.specs.Primaries.{fed, peer_in}
+use Rattle.peer_searches.specs.Sound.{AreSound}
 use Rattle.replica_primary.specs.Feeding.{head_of, is_at_head}
 use Rattle.replica_primary.specs.Written.{ground}
 use Rattle.replica_primary.proofs.Fed.{fed_by, known_missed, set_anew}
+use Rattle.replica_primary.proofs.Sought.{taken_sound}
 use Rattle.replica_primary.proofs.feeding.body_missed.Goals as goal
 
 pub returns-clause-value : goal.returns-clause-value
@@ -21,4 +24,12 @@ returns-clause-value g c =
     (set_anew stands learnt t from c.take_known-known.new.peers c.peer_sent.new.tenure peer.Unknown c.in_ok-state.state c.take_known-known.ensures.set c.peer_sent.ensures.state)
     c.in_ok-peer_sent.ensures.sent
     (c.in_ok-state.ensures.value ∙ ap (λ (known : List ObjectVersion). fed stands.body head known) c.let_go.ensures)
-    ∙ known_missed stands learnt t from v head c.take_known-known.result (peer_in t.peers from) c.in-Some.ensures c.take_known-known.ensures.known last
+    ∙ known_missed stands learnt t from v head c.take_known-known.result (peer_in t.peers from) c.in-Some.ensures.head c.take_known-known.ensures.known last
+
+pub returns-clause-sound : goal.returns-clause-sound
+returns-clause-sound g c =
+    let own = c.args.own.now in
+    let taken = c.take_known-known.new.peers in
+    let P : Tenure → Type 0 = λ t. AreSound own.versions t.peers c.fed_on.new.searches in
+    subst P (sym c.peer_sent.ensures.state)
+    (c.in_ok-state.ensures.sound own taken c.in-Some.ensures.own (taken_sound own.versions c.args.tenure.now.peers taken c.args.searches.now c.args.from c.take_known-known.ensures.set c.requires))

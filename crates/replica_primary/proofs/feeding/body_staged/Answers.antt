@@ -1,10 +1,14 @@
-use Rattle.std.proofs.Common.{◌∙◌, List, ap}
+use Rattle.std.proofs.Common.{◌∙◌, ℕ, List, ap, subst, sym, take}
 use Rattle.xt_messages.specs.declared.file.ObjectVersion.{ObjectVersion}
 use Rattle.xt_protocol.specs.declared.states.PeerState.TheVariants as peer
+use Rattle.xt_protocol.specs.declared.states.Tenure.{Tenure}
 use Rattle.xt_protocol.specs.Primaries.{fed, peer_in}
-use Rattle.replica_primary.specs.Feeding.{head_of}
+use Rattle.peer_searches.specs.Sound.{AreSound, passed_at}
+use Rattle.xt_protocol.specs.ReplicaRows.{first_missing}
+use Rattle.replica_primary.specs.Feeding.{head_of, of_own}
 use Rattle.replica_primary.specs.Written.{ground}
 use Rattle.replica_primary.proofs.Fed.{fed_by, known_staged, set_anew}
+use Rattle.replica_primary.proofs.Sought.{begun, taken_sound}
 use Rattle.replica_primary.proofs.feeding.body_staged.Goals as goal
 
 pub returns-clause-value : goal.returns-clause-value
@@ -19,4 +23,23 @@ returns-clause-value g c =
     (set_anew stands learnt t from c.take_known-known.new.peers c.peer_sent.new.tenure peer.Unknown c.in_ok-state.state c.take_known-known.ensures.set c.peer_sent.ensures.state)
     c.in_ok-peer_sent.ensures.sent
     (c.in_ok-state.ensures.value ∙ ap (λ (known : List ObjectVersion). fed stands.body head known) c.in_ok-hold.ensures.held)
-    ∙ known_staged stands learnt t from v head c.take_known-known.result (peer_in t.peers from) c.in-Some.ensures c.take_known-known.ensures.known
+    ∙ known_staged stands learnt t from v head c.take_known-known.result (peer_in t.peers from) c.in-Some.ensures.head c.take_known-known.ensures.known
+
+pub returns-clause-sound : goal.returns-clause-sound
+returns-clause-sound g c =
+    let own = c.args.own.now in
+    let taken = c.take_known-known.new.peers in
+    let P : Tenure → Type 0 = λ t. AreSound own.versions t.peers c.fed_on.new.searches in
+    subst P (sym c.peer_sent.ensures.state)
+    (c.in_ok-state.ensures.sound own taken c.in-Some.ensures.own (taken_sound own.versions c.args.tenure.now.peers taken c.args.searches.now c.args.from c.take_known-known.ensures.set c.requires))
+
+pub fed_on-requires : goal.fed_on-requires
+fed_on-requires g c =
+    let own = c.args.own.now in
+    let from = c.args.from in
+    let searches = c.args.searches.now in
+    let to = c.in-Some.target in
+    let passed = passed_at searches from in
+    let known = c.hold.new.held in
+    ap (λ (n : ℕ). first_missing known (take n (head_of to).versions)) (c.of_own-passed.ensures ∙ ap (of_own to) c.passed.ensures)
+    ∙ begun to own c.args.tenure.now.peers searches from c.take_known-known.result known c.args.version passed c.in-Some.ensures.own (c.requires.passed from) c.take_known-known.ensures.known c.in_ok-hold.ensures.held

@@ -13,4 +13,4 @@ returns-clause-value g c =
     let head = head_of c.in-Some.target in
     fed_by stands learnt t from c.peer_sent.new.tenure c.in_ok-peer_sent.field-0 c.in_ok-state.state head c.args.known c.peer_sent.ensures.state c.in_ok-peer_sent.ensures.sent
     c.in_ok-state.ensures.value
-    ∙ fed_to stands learnt t from head c.args.known c.in-Some.ensures
+    ∙ fed_to stands learnt t from head c.args.known c.in-Some.ensures.head

@@ -1,7 +1,9 @@
 use Rattle.std.proofs.Common.{◌∙◌, ap}
+use Rattle.std.specs.Prelude.{reverse}
 use Rattle.xt_protocol.specs.declared.states.Progress.TheVariants as progress
 use Rattle.xt_protocol.specs.Primaries.{Led}
 use Rattle.xt_protocol.specs.PrimaryRows.{after_keeping}
+use Rattle.replica_primary.specs.Shown.{shown_tenure}
 use Rattle.replica_primary.specs.Written.{ground}
 use Rattle.replica_primary.specs.Moves.{beyond, kept_of}
 use Rattle.replica_primary.proofs.Given.{if_so}
@@ -21,4 +23,4 @@ returns-in-Fetching c =
     ∙ ap (λ (led : Led). after_keeping (kept_of stands.place.file fetched) led)
     (fetched_on (beyond stands fetched) learnt t c.replace.result progress.Gathering chosen source asked later read.chosen read.source read.asked read.later
     c.replace.ensures.value read.is is)
-    ∙ kept_first stands learnt t chosen source later body.object body.version body.bytes fetched (c.unless_held-fetched.ensures stands.place.file))
+    ∙ kept_first stands learnt (shown_tenure t) chosen source (reverse later) body.object body.version body.bytes fetched (c.unless_held-fetched.ensures stands.place.file))

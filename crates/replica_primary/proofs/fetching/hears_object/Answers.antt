@@ -1,6 +1,8 @@
 use Rattle.std.proofs.Common.{◌∙◌, ℕ, List, ap, sym}
+use Rattle.std.specs.Prelude.{reverse}
 use Rattle.xt_protocol.specs.PrimaryRows.{body_fetched}
 use Rattle.replica_primary.specs.declared.moving.Next.{Next}
+use Rattle.replica_primary.specs.Shown.{shown_tenure}
 use Rattle.replica_primary.specs.Written.{ground}
 use Rattle.replica_primary.specs.Moves.{next_of}
 use Rattle.replica_primary.proofs.Given.{if_so}
@@ -12,8 +14,8 @@ returns-then-not-is_asked c =
     λ learnt records own.
     let t = c.args.tenure.now in
     let stands = ground c.args.place.now records own c.args.held.now in
-    ap (λ (n : Next). next_of stands learnt c.args.from t n) c.unmoved.ensures
-    ∙ other_object stands learnt t t.progress c.args.from c.args.version c.args.bytes.now (sym c.is_asked.ensures ∙ c.if-not-is_asked.true)
+    ap (λ (n : Next). next_of stands learnt c.args.from (shown_tenure t) n) c.unmoved.ensures
+    ∙ other_object stands learnt (shown_tenure t) t.progress c.args.from c.args.version c.args.bytes.now (sym c.is_asked.ensures ∙ c.if-not-is_asked.true)
 
 pub returns : goal.returns
 returns c =
@@ -23,7 +25,7 @@ returns c =
     let v = c.args.version in
     let from = c.args.from in
     let stands = ground c.args.place.now records own c.args.held.now in
-    asked_object stands learnt t t.progress from v c.args.bytes.now (next_of stands learnt from c.body_fetched.new.tenure next) (sym c.is_asked.ensures ∙ c.if-not-is_asked.false)
+    asked_object stands learnt (shown_tenure t) t.progress from v c.args.bytes.now (next_of stands learnt from (shown_tenure c.body_fetched.new.tenure) next) (sym c.is_asked.ensures ∙ c.if-not-is_asked.false)
     (λ chosen source asked later is.
     of learnt from records own chosen source asked later is
-    ∙ ap (λ (bytes : List ℕ). body_fetched stands learnt t chosen source later v.object v.version bytes) c.in_ok-copy.ensures))
+    ∙ ap (λ (bytes : List ℕ). body_fetched stands learnt (shown_tenure t) chosen source (reverse later) v.object v.version bytes) c.in_ok-copy.ensures))

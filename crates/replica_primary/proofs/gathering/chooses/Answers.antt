@@ -1,6 +1,7 @@
 use Rattle.std.proofs.Common.{◌∙◌, ap, rules, ◌<◌, length}
 use Rattle.xt_messages.specs.declared.file.FileHead.{FileHead}
 use Rattle.xt_protocol.specs.PrimaryRows.{head_chosen}
+use Rattle.replica_primary.specs.Shown.{shown_tenure}
 use Rattle.replica_primary.specs.Written.{ground}
 use Rattle.replica_primary.proofs.Given.{if_so}
 use Rattle.replica_primary.proofs.Hears.{best_at, chooses_best}
@@ -8,7 +9,7 @@ use Rattle.replica_primary.proofs.gathering.chooses.Goals as goal
 
 pub returns : goal.returns
 returns c =
-    let t = c.args.tenure.now in
+    let t = shown_tenure c.args.tenure.now in
     let reports = c.args.reports.now in
     let best = c.index-reports-choose.result in
     let some : 0 < length reports = search rules in

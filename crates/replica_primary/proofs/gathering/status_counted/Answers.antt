@@ -5,6 +5,7 @@ use Rattle.xt_base.specs.declared.ids.NodeId.{NodeId}
 use Rattle.std.specs.Prelude.{nat_le}
 use Rattle.xt_protocol.specs.Primaries.{majority_among, reports_of, statuses_counted}
 use Rattle.xt_protocol.specs.PrimaryRows.{chooses}
+use Rattle.replica_primary.specs.Shown.{shown_tenure}
 use Rattle.replica_primary.specs.Written.{ground}
 use Rattle.replica_primary.proofs.Given.{if_so}
 use Rattle.replica_primary.proofs.Hears.{majority_told}
@@ -14,7 +15,7 @@ pub returns : goal.returns
 returns c =
     if_so _ _ c.chooses.result c.chooses.ensures
     (λ next of learnt from records own.
-    let t = c.args.tenure.now in
+    let t = shown_tenure c.args.tenure.now in
     let peers = c.as_slice-peers.result.now in
     let majority =
     ap (λ (ps : List Peer). nat_le (majority_among ps) (statuses_counted ps)) (sym c.as_slice-peers.ensures)

@@ -1,11 +1,11 @@
-use Rattle.std.proofs.Common.{◌∙◌, Bool, List, ap, sym}
-use Rattle.xt_protocol.specs.declared.states.Peer.{Peer}
+use Rattle.std.proofs.Common.{◌∙◌, List, ap, sym}
 use Rattle.xt_messages.specs.declared.file.ObjectVersion.{ObjectVersion}
 use Rattle.xt_messages.specs.declared.message.Payload.{Payload}
-use Rattle.xt_protocol.specs.Primaries.{peer_in}
-use Rattle.xt_protocol.specs.PrimaryRows.{hears_ack, hears_object, hears_peer}
+use Rattle.xt_protocol.specs.PrimaryRows.{hears_object, hears_peer}
+use Rattle.replica_primary.specs.Shown.{shown_tenure}
 use Rattle.replica_primary.specs.Written.{ground}
 use Rattle.replica_primary.proofs.Given.{if_so}
+use Rattle.replica_primary.proofs.InOrder.{shown_led}
 use Rattle.replica_primary.proofs.hearing.goes_on_hearing.Goals as goal
 
 pub returns-in-Status : goal.returns-in-Status
@@ -15,13 +15,13 @@ returns-in-Status c =
     let own = c.args.own.now in
     let held = c.args.held.now in
     let stands = ground c.args.place.now records own held in
-    of learnt records own state is ∙ ap (λ (content : Payload). hears_peer stands learnt c.args.tenure.now c.args.from state content) (sym c.in-Status.is))
+    of learnt records own state is ∙ ap (λ (content : Payload). hears_peer stands learnt (shown_tenure c.args.tenure.now) c.args.from state content) (sym c.in-Status.is))
 
 pub returns-in-Object : goal.returns-in-Object
 returns-in-Object c =
     if_so _ _ c.hears_object.result c.hears_object.ensures
     (λ next of learnt records state is.
-    let t = c.args.tenure.now in
+    let t = shown_tenure c.args.tenure.now in
     let from = c.args.from in
     let own = c.args.own.now in
     let stands = ground c.args.place.now records own c.args.held.now in
@@ -29,24 +29,13 @@ returns-in-Object c =
     ∙ ap (λ (v : ObjectVersion). hears_object stands learnt t t.progress from v.object v.version c.in-Object.bytes) c.version_of-version.ensures
     ∙ ap (λ (content : Payload). hears_peer stands learnt t from state content) (sym c.in-Object.is))
 
-pub returns-in_ok-turned-in-Ack : goal.returns-in_ok-turned-in-Ack
-returns-in_ok-turned-in-Ack c =
-    λ learnt records state is.
-    let t = c.args.tenure.now in
-    let from = c.args.from in
-    let told = ap (λ (peers : List Peer). peer_in peers from) c.as_slice.ensures ∙ is in
-    let stands = ground c.args.place.now records c.args.own.now c.args.held.now in
-    c.in_ok-turned-in-Ack.ensures learnt records c.args.held.now
-    ∙ ap (λ (newly : Bool). hears_ack stands learnt t t.progress from newly c.in-Ack.stamp) (c.newly_current-newly.ensures state told)
-    ∙ ap (λ (content : Payload). hears_peer stands learnt t from state content) (sym c.in-Ack.is)
-
 pub returns-in_ok-turned-in-Behind : goal.returns-in_ok-turned-in-Behind
 returns-in_ok-turned-in-Behind c =
     λ learnt records state is.
-    let t = c.args.tenure.now in
+    let t = shown_tenure c.args.tenure.now in
     let from = c.args.from in
     let own = c.args.own.now in
     let held = c.args.held.now in
     let stands = ground c.args.place.now records own held in
-    c.in_ok-turned-in-Behind.ensures learnt records own held state is
+    ap shown_led (c.in_ok-turned-in-Behind.ensures learnt records own held state is)
     ∙ ap (λ (content : Payload). hears_peer stands learnt t from state content) (sym c.in-Behind.is)
