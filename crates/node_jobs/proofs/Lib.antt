@@ -1,3 +1,5 @@
+pub mod Disks
+pub mod Boots
 pub mod Places
 pub mod Jobs
 pub mod Serving

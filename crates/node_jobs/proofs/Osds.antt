@@ -6,7 +6,6 @@ use Rattle.xt_base.specs.declared.ids.NodeId.{NodeId}
 use Rattle.xt_messages.specs.Limits.{FitsBoot, FitsRecord}
 use Rattle.xt_messages.specs.declared.record.Folded.{Folded}
 use Rattle.xt_messages.specs.declared.record.Record.{Record}
-use Rattle.xt_messages.specs.declared.record.Record.TheVariants as kept
 use Rattle.xt_protocol.specs.Folds.{fold_of}
 use Rattle.xt_protocol.specs.LeaseRows.{Silent}
 use Rattle.xt_protocol.specs.OsdSteps.{osd_from}
@@ -20,7 +19,8 @@ use Rattle.osd_keeping.specs.Keeping.{RunsOn}
 use Rattle.osd_keeping.proofs.Steps.{started}
 use Rattle.node_cores.proofs.Rows.{rows_are}
 use Rattle.node_roles.specs.Roles.{OsdRunsOn}
-use Rattle.node_jobs.specs.Jobs.{next_boot, booted, osd_at}
+use Rattle.node_jobs.specs.Boots.{next_boot, boot_record, booted}
+use Rattle.node_jobs.specs.Jobs.{osd_at}
 
 abbrev pub view_at : NodeId → TimeSettings → List ℕ → List Record → ℕ → OsdView
 view_at id times key records reading = record { key = Some key; state = osd_at id times records reading }
@@ -31,7 +31,7 @@ osd_told id times key records records' reading osd is same = is ∙ ap (λ (rs :
 
 -- what the records with the next boot say
 boot_told : (records : List Record) → fold_of (booted records) ≡ record { boot = next_boot records; files = (fold_of records).files }
-boot_told records = fold_of-push records (kept.Boot (next_boot records))
+boot_told records = fold_of-push records (boot_record records)
 
 module _ (records after : List Record) (are : AreRecords records) (boot : FitsBoot (next_boot records)) (is : after ≡ booted records) where
   loaded_is : KeptIs records

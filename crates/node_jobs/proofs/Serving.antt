@@ -1,63 +1,142 @@
 -- a node that was ready and served
-use Rattle.std.proofs.Common.{ℕ, ◌+◌, ◌<◌, ◌^◌, Option, ◌≡◌, sym, ap, subst, ◌∙◌, List, []}
+use Rattle.std.proofs.Common.{ℕ, ◌+◌, ◌<◌, ◌^◌, Option, Some, None, ◌≡◌, sym, ap, subst, ◌∙◌, List, [], ◌∷◌, ◌++◌, append_assoc}
+use mathlib.Core.Path.{transport}
+use Rattle.std.specs.Prelude.{IsTrue}
 use Rattle.std.specs.List.{All}
 use Rattle.std.proofs.lemmas.List.Elements.{All-from_recursion, All-weaker}
+use Rattle.disk_model.specs.declared.disk.Disk.{Ghosts}
+use Rattle.disk_model.specs.Disk.{IsImage}
 use Rattle.xt_base.specs.declared.ids.Boot.{Boot}
 use Rattle.xt_messages.specs.Limits.{FitsBoot, FitsRecord}
 use Rattle.xt_messages.specs.declared.message.Msg.{Msg}
 use Rattle.xt_messages.specs.declared.record.Record.{Record}
 use Rattle.xt_messages.specs.declared.status.Status.{Status}
+use Rattle.xt_messages.specs.declared.status.Status.TheVariants as status
+use Rattle.object_store.specs.declared.store.Store.{Store}
+use Rattle.object_store.specs.Access.{disk_of, records_of}
 use Rattle.object_store.specs.Texts.{AreRecords}
-use Rattle.node_links.specs.declared.link.Datagram.{Datagram}
+use Rattle.cluster_runs.specs.NodeSteps.{one_more}
+use Rattle.node_links.specs.Streams.{Puts}
 use Rattle.node_runs.specs.Hearing.{Ears}
-use Rattle.node_runs.specs.Runs.{Role}
+use Rattle.node_runs.specs.Keeping.{KeepsServed}
+use Rattle.node_runs.specs.Runs.{Role, Served}
 use Rattle.node_runs.specs.Serving.{IsServed}
+use Rattle.node_runs.proofs.Going.{all_go_on}
+use Rattle.node_loop.specs.Events.{TellsDiskCount}
 use Rattle.node_loop.specs.Turns.{standing}
+use Rattle.node_loop.proofs.Counting.{cause_since}
+use Rattle.server_rows.specs.Directory.{DirNode, dir_of}
 use Rattle.server_rows.specs.Metadata.{MrcNode, mrc_of}
 use Rattle.server_limits.specs.Keeping.{MrcRunsOn}
 use Rattle.server_limits.proofs.Keeping.{mrc_starts}
 use Rattle.mrc_core.specs.Picking.{CanTake}
 use Rattle.mrc_core.proofs.Fitting.{can_take}
-use Rattle.node_jobs.specs.Jobs.{IsNodeJob, IsReady, Outside, has_served, next_boot, booted, starting}
-use Rattle.node_jobs.proofs.Jobs.{boot_fits, serves_as, starts_as}
+use Rattle.node_jobs.specs.Boots.{next_boot, booted}
+use Rattle.node_jobs.specs.Disks.{Medium, KeepsFrom, ComesFrom}
+use Rattle.node_jobs.specs.Jobs.{NodeJob, IsNodeJob, IsReady, Outside, EndsEarly, has_served, unready, starting}
+use Rattle.node_jobs.proofs.Disks.{closed_from, keeps_from, medium_of}
+use Rattle.node_jobs.proofs.Jobs.{boot_fits}
+
+-- records that went on, and one more
+one_more-goes : (first all more : List Record) (met : Option Record) → all ≡ first ++ more → (rest : List Record) × (one_more all met ≡ first ++ rest)
+one_more-goes first all more None e = (more, e)
+one_more-goes first all more (Some rec) e = (more ++ rec ∷ [], ap (λ (rs : List Record). rs ++ rec ∷ []) e ∙ append_assoc first more (rec ∷ []))
+
+module _ {D S : Type 0} (m : Medium D) (before after : Outside D) (turns : ℕ) (said : Status) where
+  -- what serving says of a node that was ready in this state, and of its disk
+  abbrev Serves : Role S → Boot → ℕ → Served S → Outside D → Type 0
+  Serves role boot period start ready =
+      (s : IsServed role boot period start turns ready.given after.given ready.sent after.sent ready.losses after.losses ready.readings after.readings said)
+      × KeepsServed m.is_told m.kept m.moment m.left_since ready.disk after.disk start s.end s.undone
+
+  module _ (role : Role S) (boot : Boot) (period : ℕ) (start : Served S) (ready : Outside D) (records : List Record) (comes : ComesFrom m before.disk ready.disk records start.kept)
+      (serves : Serves role boot period start ready) where
+    kept_on : KeepsFrom m before.disk after.disk records serves.0.end.kept serves.0.undone.record_met
+    kept_on =
+        let s = serves.0 in
+        let gone = all_go_on role boot period ready.given start s.to_come s.turns s.posts s.end s.comes in
+        let more = one_more-goes start.kept s.end.kept gone.records s.undone.record_met gone.kept in
+        keeps_from m before.disk ready.disk after.disk records start.kept s.end.kept s.undone.record_met comes
+        (record { more = more.0; goes_on = more.1; leaves = serves.1.each }) serves.1.last
+
+-- the node as it begins
+starts_as : {S : Type 0} (state state' : S) (kept kept' : List Record) (own : List Msg) (ears ears' : Ears) (reading period due : ℕ)
+    → state ≡ state' → kept ≡ kept' → own ≡ [] → ears ≡ ears' → due ≡ reading + period
+    → standing state kept own ears reading due 0 ≡ starting state' kept' ears' reading period
+starts_as state state' kept kept' own ears ears' reading period due s k o e d =
+    λ i. record { state = s i; kept = k i; own = o i; ears = e i; clock = reading; due = d i; count = 0 }
 
 -- a node that was ready and served from there has done its job
-pub has_done : {S : Type 0} (role role' : Role S) (state_of : List Record → ℕ → S) (ready : List ℕ) (ears ears' : Ears) (period period' limit : ℕ)
-    (before after : Outside) (said : Status) (kept : List Record) (boot : Boot) (reading due : ℕ) (state : S) (own : List Msg)
-    (given sent : Option (List Datagram)) (losses : ℕ) (between : Option (List ℕ))
-    → IsReady kept boot reading before.readings between before.held after.held ready
-    → role' ≡ role → state ≡ state_of kept reading → own ≡ [] → ears' ≡ ears → period' ≡ period → due ≡ reading + period'
-    → given ≡ before.given → sent ≡ before.sent → losses ≡ before.losses
-    → IsServed role' boot period' (standing state kept own ears' reading due 0) limit given after.given sent after.sent losses after.losses between after.readings said
-    → IsNodeJob role state_of ready ears period limit before after said
-has_done {S = S} role role' state_of ready ears ears' period period' limit before after said kept boot reading due state own given sent losses between
-    is same told none heard every when got handed lost serves =
-    let s = standing state kept own ears' reading due 0 in
-    has_served (record {
-      records = is.records;
-      are = is.are;
-      reading = reading;
-      between = between;
-      read = is.reads;
-      told = is.told;
-      serves =
-          serves_as role period limit before.given after.given before.sent after.sent before.losses after.losses between after.readings said
-          boot (next_boot is.records) s (starting (state_of (booted is.records) reading) (booted is.records) ears reading period)
-          is.boot_is
-          (starts_as state (state_of (booted is.records) reading) kept (booted is.records) own ears' ears reading period due
-          (told ∙ ap (λ (rs : List Record). state_of rs reading) is.kept) is.kept none heard (when ∙ ap (λ (p : ℕ). reading + p) every))
-          (subst (λ (p : ℕ). IsServed role boot p s limit before.given after.given before.sent after.sent before.losses after.losses between after.readings said) every
-          (subst (λ (n : ℕ). IsServed role boot period' s limit before.given after.given before.sent after.sent n after.losses between after.readings said) lost
-          (subst (λ (x : Option (List Datagram)). IsServed role boot period' s limit before.given after.given x after.sent losses after.losses between after.readings said) handed
-          (subst (λ (x : Option (List Datagram)). IsServed role boot period' s limit x after.given sent after.sent losses after.losses between after.readings said) got
-          (subst (λ (r : Role S). IsServed r boot period' s limit given after.given sent after.sent losses after.losses between after.readings said) same serves)))));
-    })
+module _ {D S : Type 0} (m : Medium D) (job : NodeJob S) (before ready after : Outside D) (said : Status) (kept : List Record) (boot : Boot) (reading : ℕ)
+    (is : IsReady m job.ready before ready kept boot reading) where
+  -- the link as it was when the node was ready is as it was before
+  as_before : ready ≡ record before { readings = ready.readings; held = ready.held; disk = ready.disk }
+  as_before = λ i. record {
+    given = is.silent.given i;
+    sent = is.silent.sent i;
+    losses = is.silent.losses i;
+    readings = ready.readings;
+    held = ready.held;
+    disk = ready.disk;
+  }
+
+  pub has_done : (role : Role S) (ears : Ears) (period due : ℕ) (state : S) (own : List Msg)
+      → role ≡ job.role → state ≡ job.state_of kept reading → own ≡ [] → ears ≡ job.ears → period ≡ job.period → due ≡ reading + period
+      → after.held ≡ ready.held → Serves m before after job.turns said role boot period (standing state kept own ears reading due 0) ready
+      → TellsDiskCount (m.fault_count ready.disk) (m.fault_count after.disk) said → IsNodeJob m job before after said
+  has_done role ears period due state own same told none heard every when held serves count =
+      let started = starting (job.state_of (booted is.records) reading) (booted is.records) job.ears reading job.period in
+      let starts : standing state kept own ears reading due 0 ≡ started =
+      starts_as state (job.state_of (booted is.records) reading) kept (booted is.records) own ears job.ears reading job.period due
+      (told ∙ ap (λ (rs : List Record). job.state_of rs reading) is.all_are) is.all_are none heard (when ∙ ap (λ (p : ℕ). reading + p) every) in
+      let here : Serves m before after job.turns said job.role (next_boot is.records) job.period started
+      (record before { readings = ready.readings; held = ready.held; disk = ready.disk }) =
+      transport (λ i. Serves m before after job.turns said (same i) (is.boot_is i) (every i) (starts i) (as_before i)) serves in
+      has_served (record {
+        records = is.records;
+        are = is.are;
+        fits = is.fits;
+        reading = reading;
+        between = ready.readings;
+        read = is.reads;
+        told = subst (λ (x : Option (List ℕ)). Puts before.held x job.ready) (sym held) is.told;
+        serves = here.0;
+        keeps =
+            kept_on m before after job.turns said job.role (next_boot is.records) job.period started
+            (record before { readings = ready.readings; held = ready.held; disk = ready.disk }) is.records
+            (subst (λ (rs : List Record). ComesFrom m before.disk ready.disk is.records rs) is.all_are is.comes) here;
+        disk_count = cause_since (m.fault_count before.disk) (m.fault_count ready.disk) (m.fault_count after.disk) said is.comes.faults count;
+      })
+
+-- memory ran out after a node was ready, and its store was closed
+pub not_started : {D : Type 0} {g : Ghosts D}
+    → ((disk : D) (image : List ℕ) → IsTrue g.is_told → g.left_since disk (g.moment disk) image → IsImage (g.kept disk) image)
+    → (ready : List ℕ) (limit : ℕ) (before after : Outside D) (store : Store D g) (boot : Boot) (reading : ℕ)
+    → IsReady (medium_of g) ready before (record after { disk = disk_of store }) (records_of store) boot reading → after.disk ≡ disk_of store
+    → EndsEarly (medium_of g) ready limit before after status.OutOfMemory
+not_started {g = g} only_now ready limit before after store boot reading is closed = unready (record {
+  records = is.records;
+  are = is.are;
+  fits = is.fits;
+  silent = record { given = is.silent.given; sent = is.silent.sent; losses = is.silent.losses };
+  why = ((reading, is.reads), is.told);
+  faults = ap g.fault_count closed ∙ is.comes.faults;
+  keeps = closed_from only_now before.disk after.disk store is.records is.comes is.all_are closed;
+})
 
 -- what was said is what is to be said
-pub says_so : (kept : List Record) (boot : Boot) (reading : ℕ) (unread read held_before held_after : Option (List ℕ)) (said ready : List ℕ)
-    → said ≡ ready → IsReady kept boot reading unread read held_before held_after said → IsReady kept boot reading unread read held_before held_after ready
-says_so kept boot reading unread read held_before held_after said ready same is =
-    subst (λ (text : List ℕ). IsReady kept boot reading unread read held_before held_after text) same is
+module _ {D : Type 0} (m : Medium D) (before after : Outside D) (said ready : List ℕ) (same : said ≡ ready) where
+  pub says_so : (kept : List Record) (boot : Boot) (reading : ℕ) → IsReady m said before after kept boot reading → IsReady m ready before after kept boot reading
+  says_so kept boot reading is = subst (λ (text : List ℕ). IsReady m text before after kept boot reading) same is
+
+  pub says_early : (limit : ℕ) (ended : Status) → EndsEarly m said limit before after ended → EndsEarly m ready limit before after ended
+  says_early limit ended is = subst (λ (text : List ℕ). EndsEarly m text limit before after ended) same is
+
+-- ---- the directory service
+
+pub dir_told : (key key' : List ℕ) (records records' : List Record) (dir : DirNode) → dir ≡ record { secret = key'; state = dir_of records' } → key' ≡ key
+    → records' ≡ records → dir ≡ record { secret = key; state = dir_of records }
+dir_told key key' records records' dir is same kept = is ∙ (λ i. record { secret = same i; state = dir_of (kept i) })
 
 -- ---- the metadata server
 

@@ -1,5 +1,5 @@
 -- what the job of a node does
-use Rattle.std.specs.Prelude.{ℕ, ◌≡◌, ◌+◌, ◌/◌, max, Option, List, [], ◌∷◌, ◌++◌, fold, codes}
+use Rattle.std.specs.Prelude.{ℕ, ◌≡◌, ◌+◌, ◌/◌, max, Option, None, List, [], ◌∷◌, ◌++◌, codes}
 use Rattle.std.specs.Fmt.{decimal}
 use Rattle.xt_base.specs.Faults.{Rose}
 use Rattle.xt_base.specs.TimeSettings.{TimeSettings}
@@ -7,30 +7,35 @@ use Rattle.xt_base.specs.declared.ids.Boot.{Boot}
 use Rattle.xt_base.specs.declared.ids.NodeId.{NodeId}
 use Rattle.xt_messages.specs.Limits.{FitsBoot}
 use Rattle.xt_messages.specs.declared.record.Record.{Record}
-use Rattle.xt_messages.specs.declared.record.Record.TheVariants as kept
-use Rattle.xt_messages.specs.declared.status.Limited.TheVariants as limited
 use Rattle.xt_messages.specs.declared.status.Status.{Status}
 use Rattle.xt_messages.specs.declared.status.Status.TheVariants as status
-use Rattle.xt_protocol.specs.Folds.{boot_after, fold_of}
+use Rattle.xt_protocol.specs.Folds.{fold_of}
 use Rattle.xt_protocol.specs.OsdSteps.{OsdState, osd_from}
 use Rattle.object_store.specs.Texts.{AreRecords}
 use Rattle.node_links.specs.Streams.{Puts}
 use Rattle.node_links.specs.declared.link.Datagram.{Datagram}
+use Rattle.schedule_lines.specs.Fronts.{PutsFront}
 use Rattle.node_runs.specs.Hearing.{Ears, with_address}
 use Rattle.node_runs.specs.Links.{Reads}
 use Rattle.node_runs.specs.Runs.{Role, Served}
 use Rattle.node_runs.specs.Serving.{IsServed}
+use Rattle.node_loop.specs.Events.{TellsDiskCount}
+use Rattle.node_jobs.specs.Boots.{next_boot, booted}
+use Rattle.node_jobs.specs.Disks.{Medium, EndsUnopened, IsUnloaded, IsUnbooted, KeepsFrom, ComesFrom}
 
--- the boot that records tell: the last one that was kept, or 0
-abbrev pub stored_boot : List Record → ℕ
-stored_boot records = fold boot_after 0 records
+-- ---- what a node is to do
 
--- the boot after it, and the records with that one
-abbrev pub next_boot : List Record → Boot
-next_boot records = record { 0 = stored_boot records + 1 }
-
-abbrev pub booted : List Record → List Record
-booted records = records ++ kept.Boot (next_boot records) ∷ []
+-- The job of a node: its role, and the state in which it starts from its records at a reading of its clock; what it says when it is
+-- ready, and what it has heard by then; the milliseconds between two Wakes, how many turns it takes at most, and how many bytes its
+-- journal may have.
+pub record NodeJob (S : Type 0) : Type 0 where
+  pub role : Role S
+  pub state_of : List Record → ℕ → S
+  pub ready : List ℕ
+  pub ears : Ears
+  pub period : ℕ
+  pub turns : ℕ
+  pub limit : ℕ
 
 -- a Wake comes each eighth of a lease, in whole milliseconds, and at most once in each
 abbrev pub period_of : TimeSettings → ℕ
@@ -55,71 +60,100 @@ abbrev pub starting : {S : Type 0} → S → List Record → Ears → ℕ → �
 starting state kept ears reading period =
     record { state = state; kept = kept; own = []; ears = ears; clock = reading; due = reading + period; count = 0 }
 
--- Why a node ends within itself, before it serves: its disk failed or isn't a node's, no boot or no room is left, or memory ran out.
-abbrev pub EndsInside : Status → Type 0
-EndsInside (status.DiskFault count) = Unit {0}
-EndsInside (status.NotOurs first) = Unit {0}
-EndsInside (status.Layout version) = Unit {0}
-EndsInside (status.Damaged place) = Unit {0}
-EndsInside (status.JournalFull need limit) = Rose limit need
-EndsInside (status.Limit what limit) = (what ≡ limited.Boots) × (limit ≡ 4611686018427387903)
-EndsInside status.OutOfMemory = Unit {0}
-EndsInside _ = ⊥
+-- ---- what is outside
 
--- why it ends before it serves: so, or its link, its clock or its sink failed
-abbrev pub EndsEarly : Status → Type 0
-EndsEarly (status.LinkFault count) = Unit {0}
-EndsEarly (status.ClockFault count) = Unit {0}
-EndsEarly (status.SinkFault count) = Unit {0}
-EndsEarly said = EndsInside said
+-- What is outside a node: what its link is to give and has taken, how many datagrams were lost, what its clock is to read, what its
+-- sink holds, and its disk.
+pub record Outside (D : Type 0) : Type 0 where
+  pub given : Option (List Datagram)
+  pub sent : Option (List Datagram)
+  pub losses : ℕ
+  pub readings : Option (List ℕ)
+  pub held : Option (List ℕ)
+  pub disk : D
+
+module _ {D : Type 0} where
+  -- nothing was received or sent
+  pub record IsSilent (before after : Outside D) : Type 0 where
+    pub given : after.given ≡ before.given
+    pub sent : after.sent ≡ before.sent
+    pub losses : after.losses ≡ before.losses
+
+  -- and neither was the clock read nor anything said
+  pub record IsIdle (before after : Outside D) : Type 0 where
+    pub silent : IsSilent before after
+    pub readings : after.readings ≡ before.readings
+    pub held : after.held ≡ before.held
 
 -- the count of faults of the sink rose exactly where the status tells of it
 abbrev pub HasSinkCause : ℕ → ℕ → Status → Type 0
 HasSinkCause before after (status.SinkFault count) = Rose before after × (count ≡ after)
 HasSinkCause before after _ = after ≡ before
 
--- what is outside a node: what its link is to give and has taken, how many datagrams were lost, what its clock is to read, and what
--- its sink holds
-pub record Outside : Type 0 where
-  pub given : Option (List Datagram)
-  pub sent : Option (List Datagram)
-  pub losses : ℕ
-  pub readings : Option (List ℕ)
-  pub held : Option (List ℕ)
+-- ---- what a node does
 
--- nothing was received or sent
-pub record IsSilent (before after : Outside) : Type 0 where
-  pub given : after.given ≡ before.given
-  pub sent : after.sent ≡ before.sent
-  pub losses : after.losses ≡ before.losses
+-- the clock was read once
+abbrev pub ReadsOnce : Option (List ℕ) → Option (List ℕ) → Type 0
+ReadsOnce unread read = (reading : ℕ) × Reads unread read (reading ∷ [])
 
--- A node is ready: from these records it kept its boot, then it read its clock once, and then it said so.
-pub record IsReady (after : List Record) (boot : Boot) (reading : ℕ) (unread read : Option (List ℕ)) (held_before held_after : Option (List ℕ))
-    (ready : List ℕ) : Type 0 where
-  pub records : List Record
-  pub are : AreRecords records
-  pub kept : after ≡ booted records
-  pub boot_is : boot ≡ next_boot records
-  pub fits : FitsBoot (next_boot records)
-  pub reads : Reads unread read (reading ∷ [])
-  pub told : Puts held_before held_after ready
+-- Why a node that kept its boot doesn't serve: its clock failed; or its sink, as it said that it is ready; or memory ran out after that.
+abbrev pub EndsUnready : List ℕ → Option (List ℕ) → Option (List ℕ) → Option (List ℕ) → Option (List ℕ) → Status → Type 0
+EndsUnready ready unread read held later (status.ClockFault count) = (read ≡ unread) × (later ≡ held)
+EndsUnready ready unread read held later (status.SinkFault count) = ReadsOnce unread read × PutsFront held later ready
+EndsUnready ready unread read held later status.OutOfMemory = ReadsOnce unread read × Puts held later ready
+EndsUnready ready unread read held later _ = ⊥
 
--- A node served from these records: it kept its boot, then read its clock once, then said that it is ready.
-pub record HasServed {S : Type 0} (role : Role S) (state_of : List Record → ℕ → S) (ready : List ℕ) (ears : Ears) (period limit : ℕ)
-    (before after : Outside) (said : Status) : Type 0 where
-  pub records : List Record
-  pub are : AreRecords records
-  pub reading : ℕ
-  pub between : Option (List ℕ)
-  pub read : Reads before.readings between (reading ∷ [])
-  pub told : Puts before.held after.held ready
-  pub serves : IsServed role (next_boot records) period
-      (starting (state_of (booted records) reading) (booted records) ears reading period) limit
-      before.given after.given before.sent after.sent before.losses after.losses between after.readings said
+module _ {D : Type 0} (m : Medium D) where
+  -- The boot was kept, and no more was done to the disk.
+  pub record IsUnready (ready : List ℕ) (before after : Outside D) (said : Status) : Type 0 where
+    pub records : List Record
+    pub are : AreRecords records
+    pub fits : FitsBoot (next_boot records)
+    pub silent : IsSilent before after
+    pub why : EndsUnready ready before.readings after.readings before.held after.held said
+    pub faults : m.fault_count after.disk ≡ m.fault_count before.disk
+    pub keeps : KeepsFrom m before.disk after.disk records (booted records) None
 
--- The job of a node: it ended before it served, and then nothing was received or sent; or it served.
-pub data IsNodeJob {S : Type 0} (role : Role S) (state_of : List Record → ℕ → S) (ready : List ℕ) (ears : Ears) (period limit : ℕ)
-    (before after : Outside) (said : Status) : Type 0 where
-  ended_early : IsSilent before after → EndsEarly said → IsNodeJob role state_of ready ears period limit before after said
-  has_served : HasServed role state_of ready ears period limit before after said
-      → IsNodeJob role state_of ready ears period limit before after said
+  -- Why a node ends before it serves, and what it has done by then: nothing was received or sent.
+  pub data EndsEarly (ready : List ℕ) (limit : ℕ) (before after : Outside D) (said : Status) : Type 0 where
+    -- nothing was done
+    unopened : after ≡ before → EndsUnopened said → EndsEarly ready limit before after said
+    -- its disk gave no records
+    unloaded : IsIdle before after → IsUnloaded m before.disk after.disk said → EndsEarly ready limit before after said
+    -- its boot isn't kept
+    unbooted : IsIdle before after → IsUnbooted m limit before.disk after.disk said → EndsEarly ready limit before after said
+    -- its boot is kept
+    unready : IsUnready ready before after said → EndsEarly ready limit before after said
+
+  -- A node is ready: its disk gave these records, to which it put that of its boot; then it read its clock once, and then it said so.
+  pub record IsReady (ready : List ℕ) (before after : Outside D) (all : List Record) (boot : Boot) (reading : ℕ) : Type 0 where
+    pub records : List Record
+    pub are : AreRecords records
+    pub fits : FitsBoot (next_boot records)
+    pub all_are : all ≡ booted records
+    pub boot_is : boot ≡ next_boot records
+    pub comes : ComesFrom m before.disk after.disk records all
+    pub silent : IsSilent before after
+    pub reads : Reads before.readings after.readings (reading ∷ [])
+    pub told : Puts before.held after.held ready
+
+  -- A node served from the records that its disk gave: it kept its boot, then read its clock once, then said that it is ready.
+  pub record HasServed {S : Type 0} (job : NodeJob S) (before after : Outside D) (said : Status) : Type 0 where
+    pub records : List Record
+    pub are : AreRecords records
+    pub fits : FitsBoot (next_boot records)
+    pub reading : ℕ
+    pub between : Option (List ℕ)
+    pub read : Reads before.readings between (reading ∷ [])
+    pub told : Puts before.held after.held job.ready
+    pub serves : IsServed job.role (next_boot records) job.period
+        (starting (job.state_of (booted records) reading) (booted records) job.ears reading job.period) job.turns
+        before.given after.given before.sent after.sent before.losses after.losses between after.readings said
+    -- In the end its disk has the records of all steps that were taken, with that of the event in which the node ended or without it.
+    pub keeps : KeepsFrom m before.disk after.disk records serves.end.kept serves.undone.record_met
+    pub disk_count : TellsDiskCount (m.fault_count before.disk) (m.fault_count after.disk) said
+
+  -- The job of a node: it ended before it served, or it served.
+  pub data IsNodeJob {S : Type 0} (job : NodeJob S) (before after : Outside D) (said : Status) : Type 0 where
+    ended_early : EndsEarly job.ready job.limit before after said → IsNodeJob job before after said
+    has_served : HasServed job before after said → IsNodeJob job before after said

@@ -1,1 +1,4 @@
+pub mod Boots
+pub mod Disks
 pub mod Jobs
+pub mod Roles

@@ -1,9 +1,8 @@
-ghost use Rattle.std.specs.Prelude.{◌≡◌, ◌≤◌, ◌++◌, ◌∷◌, [], length, codes};
-ghost use Rattle.server_rows.specs.Directory.{dir_of};
-ghost use Rattle.node_runs.specs.Hearing.{no_ears};
+ghost use Rattle.std.specs.Prelude.{◌≤◌, length};
 ghost use Rattle.node_runs.specs.Serving.{HasServeCause};
-ghost use Rattle.node_roles.specs.Roles.{dir_role};
-ghost use Rattle.node_jobs.specs.Jobs.{IsNodeJob, HasSinkCause, period_of};
+ghost use Rattle.node_jobs.specs.Disks.{medium};
+ghost use Rattle.node_jobs.specs.Jobs.{IsNodeJob, HasSinkCause};
+ghost use Rattle.node_jobs.specs.Roles.{dir_job};
 
 use crate::readiness::{Ready, get_ready};
 use crate::starting::period_of;
@@ -33,15 +32,15 @@ pub fn serve_directory<K: Sink, L: Link, D: Disk, C: Clock>(
 ) -> (Status, D)
     requires some { 1 ≤ length serving.now.key }
     requires short { length serving.now.key ≤ 64 }
-    ensures job { IsNodeJob (dir_role serving.now.key) (λ records reading. dir_of records)
-        (codes "ready 900" ++ 10 ∷ []) no_ears (period_of serving.now.settings.times)
-        serving.now.settings.turns
+    ensures job { IsNodeJob (medium D.is_told D.kept D.moment D.left_since D.fault_count)
+        (dir_job serving.now)
         (record {
           given = L.given link.old;
           sent = L.sent link.old;
           losses = L.loss_count link.old;
           readings = C.readings clock.old;
           held = K.held out.old;
+          disk = disk;
         })
         (record {
           given = L.given link.new;
@@ -49,7 +48,9 @@ pub fn serve_directory<K: Sink, L: Link, D: Disk, C: Clock>(
           losses = L.loss_count link.new;
           readings = C.readings clock.new;
           held = K.held out.new;
-        }) result.0 }
+          disk = result.1;
+        })
+        result.0 }
     ensures cause { HasServeCause (L.fault_count link.old) (L.fault_count link.new)
         (C.fault_count clock.old) (C.fault_count clock.new) result.0 }
     ensures sink { HasSinkCause (K.fault_count out.old) (K.fault_count out.new) result.0 }

@@ -1,9 +1,7 @@
-ghost use Rattle.std.specs.Prelude.{◌≡◌, ◌<◌, ◌^◌, IfOk, IfErr};
-ghost use Rattle.xt_messages.specs.Limits.{FitsBoot};
+ghost use Rattle.std.specs.Prelude.{◌≡◌, IfOk, IfErr};
 ghost use Rattle.xt_protocol.specs.Folds.{boot_after};
-ghost use Rattle.object_store.specs.Access.{records_of};
-ghost use Rattle.object_store.specs.Texts.{AreRecords};
-ghost use Rattle.node_jobs.specs.Jobs.{stored_boot, next_boot, booted, EndsInside};
+ghost use Rattle.node_jobs.specs.Boots.{stored_boot};
+ghost use Rattle.node_jobs.specs.Disks.{medium, IsLoaded, IsUnloaded, IsBooted, CannotBoot};
 
 use disk_model::Disk;
 use node_loop::{Ended, keep};
@@ -19,8 +17,10 @@ const LAST_BOOT: u64 = (1 << 62) - 1;
 /// The store of the records that stand on a disk, which is made a journal where it is empty.
 #[tactic(auto, using(crate::proofs::Places::bad_inside))]
 pub fn loaded<D: Disk>(alloc: Global, disk: D, limit: u64) -> Result<Store<D>, Ended<D>>
-    ensures records { IfOk result (λ store. AreRecords (records_of store)) }
-    ensures ends { IfErr result (λ ended. EndsInside ended.status) }
+    ensures loads { IfOk result (λ store. IsLoaded
+        (medium D.is_told D.kept D.moment D.left_since D.fault_count) disk limit store) }
+    ensures ends { IfErr result (λ ended. IsUnloaded
+        (medium D.is_told D.kept D.moment D.left_since D.fault_count) disk ended.disk ended.status) }
 {
     let (journal, placed) = match Journal::load(alloc, disk, limit) {
         Ok(loaded) => loaded,
@@ -83,10 +83,10 @@ fn stored_boot(records: &[Record]) -> u64
 
 /// Keeps the boot after the last one of the store.
 pub fn booted<D: Disk>(alloc: Global, store: Store<D>) -> Result<(Store<D>, Boot), Ended<D>>
-    ensures records { IfOk result (λ done. records_of done.0 ≡ booted (records_of store)) }
-    ensures boot { IfOk result (λ done. done.1 ≡ next_boot (records_of store)) }
-    ensures fits { IfOk result (λ done. FitsBoot done.1) }
-    ensures ends { IfErr result (λ ended. EndsInside ended.status) }
+    ensures boots { IfOk result (λ done. IsBooted
+        (medium D.is_told D.kept D.moment D.left_since D.fault_count) store done.0 done.1) }
+    ensures ends { IfErr result (λ ended. CannotBoot
+        (medium D.is_told D.kept D.moment D.left_since D.fault_count) store ended.disk ended.status) }
 {
     let last = stored_boot(store.records());
     if last >= LAST_BOOT {

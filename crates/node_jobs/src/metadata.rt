@@ -1,8 +1,8 @@
-ghost use Rattle.std.specs.Prelude.{◌≡◌, ◌≤◌, ◌++◌, ◌∷◌, [], length, codes};
-ghost use Rattle.server_rows.specs.Metadata.{mrc_of};
+ghost use Rattle.std.specs.Prelude.{◌≤◌, length};
 ghost use Rattle.node_runs.specs.Serving.{HasServeCause};
-ghost use Rattle.node_roles.specs.Roles.{mrc_role};
-ghost use Rattle.node_jobs.specs.Jobs.{IsNodeJob, HasSinkCause, knows_dir, period_of};
+ghost use Rattle.node_jobs.specs.Disks.{medium};
+ghost use Rattle.node_jobs.specs.Jobs.{IsNodeJob, HasSinkCause};
+ghost use Rattle.node_jobs.specs.Roles.{mrc_job};
 
 use crate::readiness::{Ready, get_ready};
 use crate::starting::{ears_with, period_of};
@@ -33,16 +33,15 @@ pub fn serve_metadata<K: Sink, L: Link, D: Disk, C: Clock>(
 ) -> (Status, D)
     requires some { 1 ≤ length serving.now.key }
     requires short { length serving.now.key ≤ 64 }
-    ensures job { IsNodeJob (mrc_role serving.now.key)
-        (λ records reading. mrc_of serving.now.key records reading)
-        (codes "ready 901" ++ 10 ∷ []) (knows_dir dir.now)
-        (period_of serving.now.settings.times) serving.now.settings.turns
+    ensures job { IsNodeJob (medium D.is_told D.kept D.moment D.left_since D.fault_count)
+        (mrc_job dir.now serving.now)
         (record {
           given = L.given link.old;
           sent = L.sent link.old;
           losses = L.loss_count link.old;
           readings = C.readings clock.old;
           held = K.held out.old;
+          disk = disk;
         })
         (record {
           given = L.given link.new;
@@ -50,7 +49,9 @@ pub fn serve_metadata<K: Sink, L: Link, D: Disk, C: Clock>(
           losses = L.loss_count link.new;
           readings = C.readings clock.new;
           held = K.held out.new;
-        }) result.0 }
+          disk = result.1;
+        })
+        result.0 }
     ensures cause { HasServeCause (L.fault_count link.old) (L.fault_count link.new)
         (C.fault_count clock.old) (C.fault_count clock.new) result.0 }
     ensures sink { HasSinkCause (K.fault_count out.old) (K.fault_count out.new) result.0 }

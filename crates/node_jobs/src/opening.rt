@@ -1,8 +1,7 @@
 ghost use Rattle.std.specs.Prelude.{◌≡◌, ℕ, IfOk, IfErr};
-ghost use Rattle.object_store.specs.Access.{records_of};
-ghost use Rattle.object_store.specs.Texts.{AreRecords};
 ghost use Rattle.node_runs.specs.Serving.{HasServeCause};
-ghost use Rattle.node_jobs.specs.Jobs.{EndsEarly, HasSinkCause};
+ghost use Rattle.node_jobs.specs.Disks.{medium, IsLoaded, CannotOpen};
+ghost use Rattle.node_jobs.specs.Jobs.{HasSinkCause};
 
 use crate::loading::loaded;
 use disk_model::Disk;
@@ -13,7 +12,6 @@ use std::alloc::Global;
 use xt_messages::Status;
 
 /// Takes an address for the link, chooses the file of the store, and loads that.
-#[tactic(auto, using(crate::proofs::Jobs::inside_early, crate::proofs::Jobs::inside_cause, crate::proofs::Jobs::inside_sink))]
 pub fn opened<L: Link, D: Disk>(
     alloc: Global,
     listen: &str,
@@ -25,9 +23,11 @@ pub fn opened<L: Link, D: Disk>(
     ensures given { L.given link.new ≡ L.given link.old }
     ensures sent { (L.sent link.new ≡ L.sent link.old)
         × (L.loss_count link.new ≡ L.loss_count link.old) }
-    ensures records { IfOk result (λ store. AreRecords (records_of store)) }
+    ensures loads { IfOk result (λ store. IsLoaded
+        (medium D.is_told D.kept D.moment D.left_since D.fault_count) disk limit store) }
     ensures faults { IfOk result (λ store. L.fault_count link.new ≡ L.fault_count link.old) }
-    ensures ends { IfErr result (λ ended. EndsEarly ended.status) }
+    ensures ends { IfErr result (λ ended. CannotOpen
+        (medium D.is_told D.kept D.moment D.left_since D.fault_count) disk ended.disk ended.status) }
     ensures cause { (clock : ℕ) → IfErr result (λ ended.
         HasServeCause (L.fault_count link.old) (L.fault_count link.new) clock clock ended.status) }
     ensures sink { (sink : ℕ) → IfErr result (λ ended. HasSinkCause sink sink ended.status) }

@@ -2,8 +2,9 @@ ghost use Rattle.std.specs.Prelude.{◌≡◌, ◌≤◌, ◌<◌, ◌^◌, Some
 ghost use Rattle.xt_protocol.specs.Folds.{fold_of};
 ghost use Rattle.osd_core.specs.Slots.{AreRows};
 ghost use Rattle.node_runs.specs.Serving.{HasServeCause};
-ghost use Rattle.node_roles.specs.Roles.{osd_role};
-ghost use Rattle.node_jobs.specs.Jobs.{IsNodeJob, HasSinkCause, knows_dir, period_of, osd_at, osd_ready};
+ghost use Rattle.node_jobs.specs.Disks.{medium};
+ghost use Rattle.node_jobs.specs.Jobs.{IsNodeJob, HasSinkCause, osd_at, osd_ready};
+ghost use Rattle.node_jobs.specs.Roles.{osd_job};
 
 use crate::readiness::{Ready, get_ready};
 use crate::starting::{ears_with, period_of};
@@ -77,15 +78,15 @@ pub fn serve_osd<K: Sink, L: Link, D: Disk, C: Clock>(
 ) -> (Status, D)
     requires some { 1 ≤ length serving.now.key }
     requires short { length serving.now.key ≤ 64 }
-    ensures job { IsNodeJob (osd_role id (Some serving.now.key))
-        (osd_at id serving.now.settings.times) (osd_ready id) (knows_dir dir.now)
-        (period_of serving.now.settings.times) serving.now.settings.turns
+    ensures job { IsNodeJob (medium D.is_told D.kept D.moment D.left_since D.fault_count)
+        (osd_job id dir.now serving.now)
         (record {
           given = L.given link.old;
           sent = L.sent link.old;
           losses = L.loss_count link.old;
           readings = C.readings clock.old;
           held = K.held out.old;
+          disk = disk;
         })
         (record {
           given = L.given link.new;
@@ -93,7 +94,9 @@ pub fn serve_osd<K: Sink, L: Link, D: Disk, C: Clock>(
           losses = L.loss_count link.new;
           readings = C.readings clock.new;
           held = K.held out.new;
-        }) result.0 }
+          disk = result.1;
+        })
+        result.0 }
     ensures cause { HasServeCause (L.fault_count link.old) (L.fault_count link.new)
         (C.fault_count clock.old) (C.fault_count clock.new) result.0 }
     ensures sink { HasSinkCause (K.fault_count out.old) (K.fault_count out.new) result.0 }

@@ -1,6 +1,7 @@
 ghost use Rattle.std.specs.Prelude.{◌≡◌, ◌<◌, ◌^◌, IfOk, IfErr};
-ghost use Rattle.object_store.specs.Access.{records_of};
+ghost use Rattle.object_store.specs.Access.{records_of, disk_of};
 ghost use Rattle.node_runs.specs.Serving.{HasServeCause};
+ghost use Rattle.node_jobs.specs.Disks.{medium};
 ghost use Rattle.node_jobs.specs.Jobs.{EndsEarly, HasSinkCause, IsReady};
 
 use crate::loading::booted;
@@ -23,7 +24,6 @@ pub struct Ready<D: Disk> {
 }
 
 /// Makes a node ready: its link is bound, its store loaded or made, its boot kept, its clock read; then the text says so.
-#[tactic(auto, using(crate::proofs::Jobs::inside_early, crate::proofs::Jobs::inside_cause, crate::proofs::Jobs::inside_sink))]
 pub fn get_ready<K: Sink, L: Link, D: Disk, C: Clock>(
     alloc: Global,
     serving: &Serving,
@@ -33,16 +33,49 @@ pub fn get_ready<K: Sink, L: Link, D: Disk, C: Clock>(
     disk: D,
     clock: &mut C,
 ) -> Result<Ready<D>, Ended<D>>
-    ensures given { L.given link.new ≡ L.given link.old }
-    ensures sent { (L.sent link.new ≡ L.sent link.old)
-        × (L.loss_count link.new ≡ L.loss_count link.old) }
-    ensures ready { IfOk result (λ ready. IsReady (records_of ready.store) ready.boot ready.reading
-        (C.readings clock.old) (C.readings clock.new) (K.held out.old) (K.held out.new) text.now) }
+    ensures ready { IfOk result (λ ready. IsReady
+        (medium D.is_told D.kept D.moment D.left_since D.fault_count) text.now
+        (record {
+          given = L.given link.old;
+          sent = L.sent link.old;
+          losses = L.loss_count link.old;
+          readings = C.readings clock.old;
+          held = K.held out.old;
+          disk = disk;
+        })
+        (record {
+          given = L.given link.new;
+          sent = L.sent link.new;
+          losses = L.loss_count link.new;
+          readings = C.readings clock.new;
+          held = K.held out.new;
+          disk = disk_of ready.store;
+        })
+        (records_of ready.store) ready.boot ready.reading) }
     ensures small { IfOk result (λ ready. ready.reading < 2 ^ 62) }
     ensures faults { IfOk result (λ ready. (L.fault_count link.new ≡ L.fault_count link.old)
         × (C.fault_count clock.new ≡ C.fault_count clock.old)
         × (K.fault_count out.new ≡ K.fault_count out.old)) }
-    ensures ends { IfErr result (λ ended. EndsEarly ended.status) }
+    ensures ends { IfErr result (λ ended. EndsEarly
+        (medium D.is_told D.kept D.moment D.left_since D.fault_count) text.now
+        serving.now.settings.limit
+        (record {
+          given = L.given link.old;
+          sent = L.sent link.old;
+          losses = L.loss_count link.old;
+          readings = C.readings clock.old;
+          held = K.held out.old;
+          disk = disk;
+        })
+        (record {
+          given = L.given link.new;
+          sent = L.sent link.new;
+          losses = L.loss_count link.new;
+          readings = C.readings clock.new;
+          held = K.held out.new;
+          disk = ended.disk;
+        })
+        ended.status) }
     ensures cause { IfErr result (λ ended.
         HasServeCause (L.fault_count link.old) (L.fault_count link.new)
         (C.fault_count clock.old) (C.fault_count clock.new) ended.status) }

@@ -3,7 +3,7 @@ ghost use Rattle.xt_base.specs.TimeSettings.{AreTimes};
 ghost use Rattle.node_links.specs.Streams.{Puts};
 ghost use Rattle.node_runs.specs.Links.{Reads};
 ghost use Rattle.node_runs.specs.Serving.{HasServeCause};
-ghost use Rattle.node_jobs.specs.Jobs.{EndsEarly, HasSinkCause, knows_dir, period_of};
+ghost use Rattle.node_jobs.specs.Jobs.{EndsUnready, HasSinkCause, knows_dir, period_of};
 
 use node_links::{Clock, Sink};
 use node_mail::Ears;
@@ -38,7 +38,8 @@ pub fn ready<C: Clock, K: Sink>(clock: &mut C, out: &mut K, text: &[u8]) -> Resu
     ensures told { OnOk result (Puts (K.held out.old) (K.held out.new) text.now) }
     ensures faults { OnOk result ((C.fault_count clock.new ≡ C.fault_count clock.old)
         × (K.fault_count out.new ≡ K.fault_count out.old)) }
-    ensures ends { IfErr result EndsEarly }
+    ensures ends { IfErr result (EndsUnready text.now (C.readings clock.old) (C.readings clock.new)
+        (K.held out.old) (K.held out.new)) }
     ensures cause { (link : ℕ) → IfErr result
         (HasServeCause link link (C.fault_count clock.old) (C.fault_count clock.new)) }
     ensures sink { IfErr result (HasSinkCause (K.fault_count out.old) (K.fault_count out.new)) }

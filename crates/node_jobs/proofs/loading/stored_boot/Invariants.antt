@@ -1,5 +1,5 @@
 use Rattle.std.proofs.Common.{◌≡◌, take}
-use Rattle.node_jobs.specs.Jobs.{stored_boot}
+use Rattle.node_jobs.specs.Boots.{stored_boot}
 use Rattle.node_jobs.proofs.loading.stored_boot.Given as goal
 
 abbrev pub invariant-loop-rec : goal.invariant-loop-rec

@@ -2,29 +2,36 @@ use Rattle.std.proofs.Common.{ap, subst, sym, refl, ◌∙◌}
 use Rattle.server_rows.specs.Metadata.{MrcNode}
 use Rattle.node_loop.proofs.Coming.{cause_from}
 use Rattle.node_roles.specs.Roles.{mrc_role}
-use Rattle.node_jobs.specs.Jobs.{HasSinkCause}
+use Rattle.node_jobs.specs.Jobs.{HasSinkCause, ended_early}
 use Rattle.node_jobs.proofs.Jobs.{served_sink}
-use Rattle.node_jobs.proofs.Serving.{can_be_taken, has_done, mrc_ready, mrc_told}
+use Rattle.node_jobs.proofs.Serving.{can_be_taken, has_done, mrc_ready, mrc_told, not_started}
 use Rattle.node_jobs.proofs.metadata.serve_metadata.Goals as goal
 
 pub start-requires-clause-can : goal.start-requires-clause-can
 start-requires-clause-can g c =
     let ready = c.in-Ok-get_ready.ensures.ready in
-    can_be_taken ready.records _ ready.are ready.fits (c.records.ensures ∙ ready.kept)
+    can_be_taken ready.records _ ready.are ready.fits (c.records.ensures ∙ ready.all_are)
 
 pub serve-requires-clause-runs : goal.serve-requires-clause-runs
 serve-requires-clause-runs g c =
     let ready = c.in-Ok-get_ready.ensures.ready in
-    mrc_ready ready.records _ ready.are ready.fits ready.kept c.args.serving.now.key _ _ c.in-Ok-get_ready.ensures.small
+    mrc_ready ready.records _ ready.are ready.fits ready.all_are c.args.serving.now.key _ _ c.in-Ok-get_ready.ensures.small
     (mrc_told _ _ _ _ _ _ c.in-Ok-start.ensures c.as_slice.ensures c.records.ensures)
+
+pub returns-in-Err-clause-job : goal.returns-in-Err-clause-job
+returns-in-Err-clause-job g c = ended_early c.in-Err.ensures.ends
+
+pub returns-in_default-start-clause-job : goal.returns-in_default-start-clause-job
+returns-in_default-start-clause-job g c =
+    ended_early (not_started (λ disk image told left. g.met.D.Disk.only_now disk image told left) _ _ _ _ c.in-Ok-get_ready.ready.store _ _ c.in-Ok-get_ready.ensures.ready
+    c.close.ensures)
 
 pub returns-clause-job : goal.returns-clause-job
 returns-clause-job g c =
     let told = mrc_told _ _ _ _ _ _ c.in-Ok-start.ensures c.as_slice.ensures c.records.ensures in
-    has_done _ _ _ _ _ _ _ _ _ _ _ _ _ _ _ _ _ _ _ _ _ _ c.in-Ok-get_ready.ensures.ready
+    has_done _ _ _ _ _ _ _ _ _ c.in-Ok-get_ready.ensures.ready _ _ _ _ _ _
     (ap (λ (m : MrcNode). mrc_role m.secret) told) (ap (λ (m : MrcNode). m.state) told)
-    c.new.ensures c.in-Ok-ears_with.ensures c.period_of-period.ensures.value refl
-    c.get_ready.ensures.given c.get_ready.ensures.sent.0 c.get_ready.ensures.sent.1 c.serve.ensures.served
+    c.new.ensures c.in-Ok-ears_with.ensures c.period_of-period.ensures.value refl refl c.serve.ensures.keeps c.serve.ensures.disk_cause
 
 pub returns-clause-cause : goal.returns-clause-cause
 returns-clause-cause g c =

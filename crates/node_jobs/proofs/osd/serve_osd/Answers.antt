@@ -2,32 +2,40 @@ use Rattle.std.proofs.Common.{ap, subst, sym, refl, ◌∙◌}
 use Rattle.osd_core.specs.Views.{OsdView}
 use Rattle.node_loop.proofs.Coming.{cause_from}
 use Rattle.node_roles.specs.Roles.{osd_role}
-use Rattle.node_jobs.specs.Jobs.{HasSinkCause}
+use Rattle.node_jobs.specs.Jobs.{HasSinkCause, ended_early}
 use Rattle.node_jobs.proofs.Jobs.{served_sink}
-use Rattle.node_jobs.proofs.Serving.{has_done, says_so}
+use Rattle.node_jobs.proofs.Serving.{has_done, not_started, says_early, says_so}
 use Rattle.node_jobs.proofs.Osds.{osd_rows, osd_runs, osd_told}
 use Rattle.node_jobs.proofs.osd.serve_osd.Goals as goal
 
 pub started-requires-clause-rows : goal.started-requires-clause-rows
 started-requires-clause-rows g c =
     let ready = c.in-Ok-get_ready.ensures.ready in
-    osd_rows ready.records _ ready.are ready.fits (c.records.ensures ∙ ready.kept)
+    osd_rows ready.records _ ready.are ready.fits (c.records.ensures ∙ ready.all_are)
 
 pub serve-requires-clause-runs : goal.serve-requires-clause-runs
 serve-requires-clause-runs g c =
     let ready = c.in-Ok-get_ready.ensures.ready in
-    osd_runs ready.records _ ready.are ready.fits ready.kept c.args.id c.args.serving.now.settings.times _ c.args.serving.now.key _
+    osd_runs ready.records _ ready.are ready.fits ready.all_are c.args.id c.args.serving.now.settings.times _ c.args.serving.now.key _
     c.ready_text.ensures.number c.period_of-period.ensures.times c.in-Ok-get_ready.ensures.small
     (osd_told _ _ _ _ _ _ _ c.in-Ok-started.ensures c.records.ensures)
+
+pub returns-in-Err-clause-job : goal.returns-in-Err-clause-job
+returns-in-Err-clause-job g c =
+    ended_early (says_early _ _ _ _ _ (c.as_bytes.ensures.value ∙ c.in-Ok-ready_text.ensures.text) _ _ c.in-Err.ensures.ends)
+
+pub returns-in_default-started-clause-job : goal.returns-in_default-started-clause-job
+returns-in_default-started-clause-job g c =
+    ended_early (not_started (λ disk image told left. g.met.D.Disk.only_now disk image told left) _ _ _ _ c.in-Ok-get_ready.ready.store _ _
+    (says_so _ _ _ _ _ (c.as_bytes.ensures.value ∙ c.in-Ok-ready_text.ensures.text) _ _ _ c.in-Ok-get_ready.ensures.ready) c.close.ensures)
 
 pub returns-clause-job : goal.returns-clause-job
 returns-clause-job g c =
     let told = osd_told _ _ _ _ _ _ _ c.in-Ok-started.ensures c.records.ensures in
-    has_done _ _ _ _ _ _ _ _ _ _ _ _ _ _ _ _ _ _ _ _ _ _
-    (says_so _ _ _ _ _ _ _ _ _ (c.as_bytes.ensures.value ∙ c.in-Ok-ready_text.ensures.text) c.in-Ok-get_ready.ensures.ready)
+    has_done _ _ _ _ _ _ _ _ _
+    (says_so _ _ _ _ _ (c.as_bytes.ensures.value ∙ c.in-Ok-ready_text.ensures.text) _ _ _ c.in-Ok-get_ready.ensures.ready) _ _ _ _ _ _
     (ap (λ (v : OsdView). osd_role v.state.started.node v.key) told) (ap (λ (v : OsdView). v.state) told)
-    c.new.ensures c.in-Ok-ears_with.ensures c.period_of-period.ensures.value refl
-    c.get_ready.ensures.given c.get_ready.ensures.sent.0 c.get_ready.ensures.sent.1 c.serve.ensures.served
+    c.new.ensures c.in-Ok-ears_with.ensures c.period_of-period.ensures.value refl refl c.serve.ensures.keeps c.serve.ensures.disk_cause
 
 pub returns-clause-cause : goal.returns-clause-cause
 returns-clause-cause g c =

@@ -1,5 +1,9 @@
-use Rattle.std.proofs.Common.{subst, sym}
-use Rattle.node_runs.specs.Serving.{HasServeCause}
+use Rattle.std.proofs.Common.{ap, ◌∙◌, refl, subst, sym}
+use Rattle.xt_messages.specs.Limits.{FitsBoot}
+use Rattle.object_store.specs.Access.{disk_of, records_of}
+use Rattle.node_loop.proofs.Coming.{cause_from}
+use Rattle.node_jobs.specs.Jobs.{unbooted, unready}
+use Rattle.node_jobs.proofs.Disks.{closed_from, comes_on, medium_of, unbooted_from}
 use Rattle.node_jobs.proofs.readiness.get_ready.Goals as goal
 
 pub returns-in-Err-clause-cause : goal.returns-in-Err-clause-cause
@@ -8,8 +12,57 @@ returns-in-Err-clause-cause g c = c.in-Err.ensures.cause (g.C.Clock.fault_count 
 pub returns-in-Err-clause-sink : goal.returns-in-Err-clause-sink
 returns-in-Err-clause-sink g c = c.in-Err.ensures.sink (g.K.Sink.fault_count c.args.out.now)
 
+pub returns-in-Err-booted-clause-ends : goal.returns-in-Err-booted-clause-ends
+returns-in-Err-booted-clause-ends g c =
+    let opened = c.in-Ok.ensures in
+    let D = g.D.Disk in
+    unbooted (record {
+      silent = record { given = opened.given; sent = opened.sent.0; losses = opened.sent.1 };
+      readings = refl;
+      held = refl;
+    })
+    (unbooted_from (medium_of D) (λ disk t image told le is. g.met.D.Disk.counts_now disk t image told le is) c.args.disk c.args.serving.now.settings.limit c.in-Ok.store
+    c.in-Err-booted.ended.disk c.in-Err-booted.ended.status opened.loads c.in-Err-booted.ensures.ends)
+
+pub returns-in-Ok-ready-clause-ready : goal.returns-in-Ok-ready-clause-ready
+returns-in-Ok-ready-clause-ready g c =
+    let opened = c.in-Ok.ensures in
+    let boots = c.in-Ok-booted.ensures.boots in
+    let old = c.in-Ok.store in
+    let new = c.in-Ok-booted.booted.0 in
+    record {
+      records = records_of old;
+      are = opened.loads.are;
+      fits = subst FitsBoot boots.boot_is boots.fits;
+      all_are = boots.records;
+      boot_is = boots.boot_is;
+      comes = comes_on (medium_of g.D.Disk) c.args.disk (disk_of old) (disk_of new) (records_of old) (records_of old) (records_of new) opened.loads.comes boots.keeps
+          boots.faults;
+      silent = record { given = opened.given; sent = opened.sent.0; losses = opened.sent.1 };
+      reads = c.in-Ok-ready.ensures.read;
+      told = c.in-Ok-ready.ensures.told;
+    }
+
+pub returns-in-Err-ready-clause-ends : goal.returns-in-Err-ready-clause-ends
+returns-in-Err-ready-clause-ends g c =
+    let D = g.D.Disk in
+    let opened = c.in-Ok.ensures in
+    let boots = c.in-Ok-booted.ensures.boots in
+    let old = c.in-Ok.store in
+    let new = c.in-Ok-booted.booted.0 in
+    let comes = comes_on (medium_of D) c.args.disk (disk_of old) (disk_of new) (records_of old) (records_of old) (records_of new) opened.loads.comes boots.keeps
+    boots.faults in
+    unready (record {
+      records = records_of old;
+      are = opened.loads.are;
+      fits = subst FitsBoot boots.boot_is boots.fits;
+      silent = record { given = opened.given; sent = opened.sent.0; losses = opened.sent.1 };
+      why = c.in-Err-ready.ensures.ends;
+      faults = ap D.fault_count c.close.ensures ∙ comes.faults;
+      keeps = closed_from (λ disk image told left. g.met.D.Disk.only_now disk image told left) c.args.disk c.close.result new (records_of old) comes boots.records
+          c.close.ensures;
+    })
+
 pub returns-in-Err-ready-clause-cause : goal.returns-in-Err-ready-clause-cause
 returns-in-Err-ready-clause-cause g c =
-    let link = g.L.Link.fault_count c.args.link.now in
-    subst (λ n. HasServeCause link n (g.C.Clock.fault_count c.args.clock.now) (g.C.Clock.fault_count c.ready.new.clock) c.in-Err-ready.status)
-    (sym c.in-Ok.ensures.faults) (c.in-Err-ready.ensures.cause link)
+    cause_from _ _ _ _ _ _ _ c.in-Ok.ensures.faults refl (c.in-Err-ready.ensures.cause (g.L.Link.fault_count c.opened-opened.new.link))

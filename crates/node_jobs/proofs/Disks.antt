@@ -1,0 +1,172 @@
+-- what a node does to its disk, one thing after the other
+use Rattle.std.proofs.Common.{ℕ, ◌≡◌, ◌≤◌, ◌<◌, sym, ◌∙◌, ap, subst, inl, inr, ⊎_elim, Option, None, List, [], length, Ok}
+use Rattle.std.specs.Prelude.{Bool, IsTrue}
+use Rattle.std.proofs.lemmas.Bool.{cases_lt}
+use Rattle.disk_model.specs.declared.disk.Disk.{Ghosts}
+use Rattle.disk_model.specs.Disk.{Kept, IsImage, Elapses, LeavesOnly, at_rest}
+use Rattle.disk_model.proofs.Moments.{joined, unchanged, weaker}
+use Rattle.xt_messages.specs.declared.record.Record.{Record}
+use Rattle.xt_messages.specs.declared.status.Status.{Status}
+use Rattle.xt_messages.specs.declared.status.Status.TheVariants as status
+use Rattle.xt_journal.specs.Format.{StandsFor, KeepsJournal, journal_of}
+use Rattle.xt_journal.specs.Loaded.{LeavesAsBefore}
+use Rattle.xt_journal.specs.declared.journal.Journal.{Journal}
+use Rattle.xt_journal.specs.declared.placed.Placed.{Placed}
+use Rattle.xt_journal.specs.Access as journal
+use Rattle.xt_journal.specs.Access.{limit_of}
+use Rattle.xt_journal.specs.Reading.{IsTheReading, Stands, Foreign, Unknown, Damaged, payloads_of}
+use Rattle.xt_journal.proofs.Steps.{each_stands}
+use Rattle.object_store.specs.declared.store.Store.{Store}
+use Rattle.object_store.specs.Access.{disk_of, records_of}
+use Rattle.object_store.specs.Loading.{IsLoadOf}
+use Rattle.object_store.specs.Texts.{texts_of}
+use Rattle.cluster_runs.specs.NodeSteps.{one_more}
+use Rattle.node_runs.specs.Keeping.{IsUpToSome, KeepsOn}
+use Rattle.node_runs.proofs.Keeping.{keeps_more, stands_last, stays, stays_closed}
+use Rattle.node_loop.specs.Events.{HasDiskCause}
+use Rattle.node_jobs.specs.Boots.{booted}
+use Rattle.node_jobs.specs.Disks.{Medium, MayBeLeft, StandsWith, HasBadRecord, EndsUnloaded, EndsUnbooted, IsLeftUnloaded, IsUnloaded, IsUnbooted, KeepsFrom, ComesFrom, IsLoaded, CannotBoot}
+
+-- what contracts are told of a disk, as a trait's members
+abbrev pub medium_of : {D : Type 0} → Ghosts D → Medium D
+medium_of g = record { is_told = g.is_told; kept = g.kept; moment = g.moment; left_since = g.left_since; fault_count = g.fault_count }
+
+-- why a disk gives no records, where it is told that it reads the same bytes
+reread : (is_told : Bool) (bytes same : List ℕ) → (IsTrue is_told → same ≡ bytes) → (said : Status)
+    → EndsUnloaded is_told same said → EndsUnloaded is_told bytes said
+reread is_told bytes same is (status.NotOurs first) why = λ told. subst (λ (b : List ℕ). IsTheReading b (Foreign first)) (is told) (why told)
+reread is_told bytes same is (status.Layout version) why = λ told. subst (λ (b : List ℕ). IsTheReading b (Unknown version)) (is told) (why told)
+reread is_told bytes same is (status.Damaged place) why = λ told.
+    ⊎_elim (λ damaged. inl (subst (λ (b : List ℕ). IsTheReading b (Damaged place)) (is told) damaged))
+    (λ bad. inr (subst (λ (b : List ℕ). HasBadRecord b place) (is told) bad))
+    (why told)
+reread is_told bytes same is _ why = why
+
+-- a load that gave a journal, and no store
+pub left_unloaded : (old new : Kept) (payloads : List (List ℕ)) → KeepsJournal new payloads → (13 < length old.read → new.read ≡ old.read)
+    → (length old.read ≤ 13 → new ≡ at_rest (journal_of [])) → IsLeftUnloaded old new
+left_unloaded old new payloads keeps same fresh =
+    ⊎_elim (λ long. inl (inr (inl (keeps.rests ∙ ap at_rest (same long))))) (λ short. inr (short, fresh short)) (cases_lt 13 (length old.read))
+
+module _ {D : Type 0} (m : Medium D) where
+  -- ---- the file is chosen
+
+  module _ (before chosen : D) (same : IsTrue m.is_told → m.kept chosen ≡ m.kept before)
+      (time : IsTrue m.is_told → Elapses (m.moment before) (m.moment chosen) (m.left_since before) (m.left_since chosen) (m.kept chosen))
+      (only_now : (image : List ℕ) → IsTrue m.is_told → m.left_since before (m.moment before) image → IsImage (m.kept before) image) where
+    choosing : IsTrue m.is_told → LeavesOnly m.moment m.left_since before chosen (IsImage (m.kept before))
+    choosing told =
+        unchanged m.moment m.left_since before chosen (m.kept before) (m.kept chosen) (same told) (λ image left. only_now image told left) (time told)
+
+    -- it can't be
+    pub unchosen : (count : ℕ) → HasDiskCause (m.fault_count before) (m.fault_count chosen) (status.DiskFault count)
+        → IsUnloaded m before chosen (status.DiskFault count)
+    unchosen count cause = record {
+      why = tt;
+      cause = cause;
+      each = λ told. weaker m.moment m.left_since before chosen (IsImage (m.kept before)) (LeavesAsBefore (m.kept before)) (choosing told) (λ image was. inl was);
+      left = λ told. inl (inl (same told));
+    }
+
+    module _ (faults : m.fault_count chosen ≡ m.fault_count before) where
+      loads_from : (after : D) → (IsTrue m.is_told → LeavesOnly m.moment m.left_since chosen after (LeavesAsBefore (m.kept chosen)))
+          → IsTrue m.is_told → LeavesOnly m.moment m.left_since before after (LeavesAsBefore (m.kept before))
+      loads_from after loads told =
+          joined m.moment m.left_since before chosen after (IsImage (m.kept before)) (LeavesAsBefore (m.kept chosen)) (LeavesAsBefore (m.kept before))
+          (choosing told) (loads told) (λ image was. inl was)
+          (λ image left. subst (λ (k : Kept). LeavesAsBefore k image) (same told) left)
+
+      pub unloaded_from : (after : D) (said : Status) → IsUnloaded m chosen after said → IsUnloaded m before after said
+      unloaded_from after said is = record {
+        why = reread m.is_told (m.kept before).read (m.kept chosen).read (λ told. ap (λ (k : Kept). k.read) (same told)) said is.why;
+        cause = subst (λ (n : ℕ). HasDiskCause n (m.fault_count after) said) faults is.cause;
+        each = loads_from after is.each;
+        left = λ told. subst (λ (k : Kept). IsLeftUnloaded k (m.kept after)) (same told) (is.left told);
+      }
+
+      pub loaded_from : {g : Ghosts D} (limit : ℕ) (store : Store D g) → IsLoaded m chosen limit store → IsLoaded m before limit store
+      loaded_from limit store is = record {
+        are = is.are;
+        room = is.room;
+        comes = record {
+          loaded = is.comes.loaded;
+          stood = λ told. subst (λ (k : Kept). StandsFor k.read (texts_of (records_of store))) (same told) (is.comes.stood told);
+          loads = loads_from is.comes.loaded is.comes.loads;
+          goes = is.comes.goes;
+          faults = is.comes.faults ∙ faults;
+        };
+      }
+
+  -- ---- records were given, and others after them
+
+  pub comes_on : (before mid after : D) (records now all : List Record) → ComesFrom m before mid records now
+      → KeepsOn m.is_told m.moment m.left_since mid after now all → m.fault_count after ≡ m.fault_count mid → ComesFrom m before after records all
+  comes_on before mid after records now all comes on faults = record {
+    loaded = comes.loaded;
+    stood = comes.stood;
+    loads = comes.loads;
+    goes = keeps_more m.is_told m.kept m.moment m.left_since comes.loaded mid after records now all comes.goes on;
+    faults = faults ∙ comes.faults;
+  }
+
+  pub keeps_from : (before mid after : D) (records now settled : List Record) (met : Option Record) → ComesFrom m before mid records now
+      → KeepsOn m.is_told m.moment m.left_since mid after now (one_more settled met)
+      → (IsTrue m.is_told → (image : List ℕ) → IsImage (m.kept after) image → StandsWith settled met image)
+      → KeepsFrom m before after records settled met
+  keeps_from before mid after records now settled met comes on last =
+      let all = one_more settled met in
+      let goes = keeps_more m.is_told m.kept m.moment m.left_since comes.loaded mid after records now all comes.goes on in
+      record {
+        stood = comes.stood;
+        each = λ told. joined m.moment m.left_since before comes.loaded after (LeavesAsBefore (m.kept before)) (IsUpToSome records all)
+            (MayBeLeft (m.kept before) records all) (comes.loads told) (goes.leaves told) (λ image was. inl was) (λ image up. inr up);
+        last = last;
+      }
+
+  module _ {g : Ghosts D}
+      (counts_now : (disk : D) (t : ℕ) (image : List ℕ) → IsTrue m.is_told → t ≤ m.moment disk → IsImage (m.kept disk) image → m.left_since disk t image) where
+    pub unbooted_from : (before : D) (limit : ℕ) (store : Store D g) (after : D) (said : Status) → IsLoaded m before limit store
+        → CannotBoot m store after said → IsUnbooted m limit before after said
+    unbooted_from before limit store after said is cannot =
+        let records = records_of store in
+        record {
+          records = records;
+          are = is.are;
+          met = cannot.met;
+          why = subst (λ (n : ℕ). EndsUnbooted m.is_told records n cannot.met said) is.room cannot.why;
+          cause = subst (λ (n : ℕ). HasDiskCause n (m.fault_count after) said) is.comes.faults cannot.cause;
+          keeps = keeps_from before (disk_of store) after records records records cannot.met is.comes cannot.keeps
+              (λ told image now. stands_last m.is_told m.kept m.moment m.left_since (disk_of store) after records cannot.met
+              (λ i t later is. counts_now after (m.moment (disk_of store)) i t later is) cannot.keeps told image now);
+        }
+
+module _ {D : Type 0} {g : Ghosts D}
+    (only_now : (disk : D) (image : List ℕ) → IsTrue g.is_told → g.left_since disk (g.moment disk) image → IsImage (g.kept disk) image) where
+  -- the store of a node that kept its boot is closed
+  pub closed_from : (before after : D) (store : Store D g) (records : List Record) → ComesFrom (medium_of g) before (disk_of store) records (records_of store)
+      → records_of store ≡ booted records → after ≡ disk_of store → KeepsFrom (medium_of g) before after records (booted records) None
+  closed_from before after store records comes is same =
+      let all = records_of store in
+      subst (λ (rs : List Record). KeepsFrom (medium_of g) before after records rs None) is
+      (keeps_from (medium_of g) before (disk_of store) after records all all None comes
+      (stays_closed g.is_told g.kept g.moment g.left_since (disk_of store) after all same store.keeps (λ image told left. only_now (disk_of store) image told left))
+      (λ told image now. inl (each_stands (g.kept (disk_of store)) (texts_of all) image (store.keeps told)
+      (subst (λ (d : D). IsImage (g.kept d) image) same now))))
+
+  -- a store that was loaded from a disk
+  pub loaded_is : (before : D) (limit : ℕ) (from : Journal D g) (placed : List Placed) (payloads : List (List ℕ)) (store : Store D g)
+      → (IsTrue g.is_told → IsTheReading (g.kept before).read (Stands placed)) → payloads ≡ payloads_of placed → limit_of from ≡ limit
+      → (IsTrue g.is_told → LeavesOnly g.moment g.left_since before (journal.disk_of from) (LeavesAsBefore (g.kept before)))
+      → g.fault_count (journal.disk_of from) ≡ g.fault_count before → IsLoadOf from payloads (Ok store) → IsLoaded (medium_of g) before limit store
+  loaded_is before limit from placed payloads store reads are room loads faults is = record {
+    are = is.2;
+    room = ap (λ (j : Journal D g). limit_of j) is.0 ∙ room;
+    comes = record {
+      loaded = disk_of store;
+      stood = λ told. subst (λ (ps : List (List ℕ)). StandsFor (g.kept before).read ps) (sym (is.1 ∙ are)) (reads told).reads.0;
+      loads = λ told.
+          subst (λ (j : Journal D g). LeavesOnly g.moment g.left_since before (journal.disk_of j) (LeavesAsBefore (g.kept before))) (sym is.0) (loads told);
+      goes = stays g.is_told g.kept g.moment g.left_since (disk_of store) (records_of store) store.keeps (λ image told left. only_now (disk_of store) image told left);
+      faults = ap (λ (j : Journal D g). g.fault_count (journal.disk_of j)) is.0 ∙ faults;
+    };
+  }
