@@ -1,5 +1,5 @@
 -- what words ask for is within its ranges
-use Rattle.std.proofs.Common.{◌≡◌, ℕ, ◌+◌, ◌*◌, ◌<◌, ◌≤◌, ◌^◌, ◌&&◌, nat_le, Bool, true, false, cond, List, [], ◌∷◌, length, Option, Some, None, IfSome, IsSome, Result, Ok, Err, option_map, codes, refl, lit≤, arith}
+use Rattle.std.proofs.Common.{◌≡◌, ℕ, ◌+◌, ◌*◌, ◌<◌, ◌≤◌, ◌^◌, ◌&&◌, not, is_some, nat_le, Bool, true, false, cond, List, [], ◌∷◌, length, Option, Some, None, IfSome, IsSome, Result, Ok, Err, option_map, codes, refl, lit≤, arith}
 use Rattle.std.specs.List.{list_all}
 use Rattle.std.proofs.lemmas.Bool.Decides.{nat_tests}
 use Rattle.clap.specs.Words.{Kinds, Text, first_of, fault_of, subcommand_of}
@@ -12,11 +12,13 @@ use Rattle.command_words.specs.Jobs.{Rows, named, node_at, path_at, address_at, 
 use Rattle.command_words.specs.declared.job.Settings.{Settings}
 use Rattle.command_words.specs.declared.job.Serving.{Serving}
 use Rattle.command_words.specs.declared.job.Defaults.{Defaults}
+use Rattle.command_words.specs.declared.job.Layout.{Layout}
 use Rattle.command_words.specs.declared.job.Order.{Order}
 use Rattle.command_words.specs.declared.job.Order.TheVariants as order
 use Rattle.command_words.specs.declared.job.Job.{Job}
 use Rattle.command_words.specs.declared.job.Job.TheVariants as job
 use Rattle.asked_jobs.specs.Asking.{IsSecret, HasTurns, EndsInFile, end_in, IsClientWithin, IsWithin}
+use Rattle.asked_jobs.specs.Lines.{client_in, WritesPattern, IsLineWithin}
 use Rattle.asked_jobs.proofs.Chains.{then_some, then_if, mapped, mapped_if, either}
 
 -- ---- numbers
@@ -115,82 +117,114 @@ range_within rows =
     then_some InFile _ (number_if_at 0 281474976710656 (codes "at") rows) (λ at.
     then_some InFile _ (number_if_at 0 281474976710656 (codes "len") rows) (λ len. ranges_end at len))
 
-get_within : (rows : Rows) → IfSome (get_of rows) EndsInFile
+-- where the words are a line, `put` writes the pattern
+abbrev WritesIn : Order → Bool → Type 0
+WritesIn (order.Put path None lies stripe) true = ⊥
+WritesIn _ _ = Unit {0}
+
+abbrev IsOrder : Bool → Order → Type 0
+IsOrder inside o = EndsInFile o × WritesIn o inside
+
+get_within : (inside : Bool) (rows : Rows) → IfSome (get_of rows) (IsOrder inside)
 unfolding get_of
-get_within rows =
-    then_if EndsInFile InFile _ (range_at rows) (range_within rows) (λ range ends.
-    mapped EndsInFile _ (path_at (codes "path") rows) (λ path. ends))
+get_within inside rows =
+    then_if (IsOrder inside) InFile _ (range_at rows) (range_within rows) (λ range ends.
+    mapped (IsOrder inside) _ (path_at (codes "path") rows) (λ path. (ends, tt {0})))
 
 -- a path, and what is made of it
-of_path : (rows : Rows) (f : Text → Order) → ((path : Text) → EndsInFile (f path)) → IfSome (option_map f (path_at (codes "path") rows)) EndsInFile
-of_path rows f each = mapped EndsInFile f (path_at (codes "path") rows) each
+of_path : (inside : Bool) (rows : Rows) (f : Text → Order) → ((path : Text) → IsOrder inside (f path))
+    → IfSome (option_map f (path_at (codes "path") rows)) (IsOrder inside)
+of_path inside rows f each = mapped (IsOrder inside) f (path_at (codes "path") rows) each
 
-register_within : (rows : Rows) → IfSome (register_of rows) EndsInFile
+register_within : (inside : Bool) (rows : Rows) → IfSome (register_of rows) (IsOrder inside)
 unfolding register_of
-register_within rows =
-    then_some EndsInFile _ (node_at (codes "node") rows) (λ node. then_some EndsInFile _ (number_at 1 2 (codes "kind") rows) (λ kind.
-    mapped EndsInFile _ (address_at (codes "addr") rows) (λ address. tt {0})))
+register_within inside rows =
+    then_some (IsOrder inside) _ (node_at (codes "node") rows) (λ node. then_some (IsOrder inside) _ (number_at 1 2 (codes "kind") rows) (λ kind.
+    mapped (IsOrder inside) _ (address_at (codes "addr") rows) (λ address. (tt {0}, tt {0}))))
 
-mkdir_within : (rows : Rows) → IfSome (mkdir_of rows) EndsInFile
+mkdir_within : (inside : Bool) (rows : Rows) → IfSome (mkdir_of rows) (IsOrder inside)
 unfolding mkdir_of
-mkdir_within rows = of_path rows (λ path. order.Mkdir path) (λ path. tt {0})
+mkdir_within inside rows = of_path inside rows (λ path. order.Mkdir path) (λ path. (tt {0}, tt {0}))
 
-rmdir_within : (rows : Rows) → IfSome (rmdir_of rows) EndsInFile
+rmdir_within : (inside : Bool) (rows : Rows) → IfSome (rmdir_of rows) (IsOrder inside)
 unfolding rmdir_of
-rmdir_within rows = of_path rows (λ path. order.Rmdir path) (λ path. tt {0})
+rmdir_within inside rows = of_path inside rows (λ path. order.Rmdir path) (λ path. (tt {0}, tt {0}))
 
-rm_within : (rows : Rows) → IfSome (rm_of rows) EndsInFile
+rm_within : (inside : Bool) (rows : Rows) → IfSome (rm_of rows) (IsOrder inside)
 unfolding rm_of
-rm_within rows = of_path rows (λ path. order.Rm path) (λ path. tt {0})
+rm_within inside rows = of_path inside rows (λ path. order.Rm path) (λ path. (tt {0}, tt {0}))
 
-mv_within : (rows : Rows) → IfSome (mv_of rows) EndsInFile
+mv_within : (inside : Bool) (rows : Rows) → IfSome (mv_of rows) (IsOrder inside)
 unfolding mv_of
-mv_within rows =
-    then_some EndsInFile _ (path_at (codes "from") rows) (λ from. mapped EndsInFile _ (path_at (codes "to") rows) (λ to. tt {0}))
+mv_within inside rows =
+    then_some (IsOrder inside) _ (path_at (codes "from") rows) (λ from. mapped (IsOrder inside) _ (path_at (codes "to") rows) (λ to. (tt {0}, tt {0})))
 
-chmod_within : (rows : Rows) → IfSome (chmod_of rows) EndsInFile
+chmod_within : (inside : Bool) (rows : Rows) → IfSome (chmod_of rows) (IsOrder inside)
 unfolding chmod_of
-chmod_within rows =
-    then_some EndsInFile _ (mode_at (codes "mode") rows) (λ mode. of_path rows (λ path. order.Chmod path mode) (λ path. tt {0}))
+chmod_within inside rows =
+    then_some (IsOrder inside) _ (mode_at (codes "mode") rows) (λ mode. of_path inside rows (λ path. order.Chmod path mode) (λ path. (tt {0}, tt {0})))
 
-ls_within : (rows : Rows) → IfSome (ls_of rows) EndsInFile
+ls_within : (inside : Bool) (rows : Rows) → IfSome (ls_of rows) (IsOrder inside)
 unfolding ls_of
-ls_within rows = of_path rows (λ path. order.Ls path) (λ path. tt {0})
+ls_within inside rows = of_path inside rows (λ path. order.Ls path) (λ path. (tt {0}, tt {0}))
 
-stat_within : (rows : Rows) → IfSome (stat_of rows) EndsInFile
+stat_within : (inside : Bool) (rows : Rows) → IfSome (stat_of rows) (IsOrder inside)
 unfolding stat_of
-stat_within rows = of_path rows (λ path. order.Stat path) (λ path. tt {0})
+stat_within inside rows = of_path inside rows (λ path. order.Stat path) (λ path. (tt {0}, tt {0}))
 
-put_within : (rows : Rows) → IfSome (put_of false rows) EndsInFile
+-- a line names a pattern
+abbrev IsNamed : Bool → Option ℕ → Type 0
+IsNamed true None = ⊥
+IsNamed _ _ = Unit {0}
+
+pattern_named : (inside : Bool) (rows : Rows) → IfSome (pattern_at inside rows) (IsNamed inside)
+unfolding pattern_at
+pattern_named inside rows = then_some (IsNamed inside) _ (number_if_at 0 281474976710656 (codes "pattern") rows) (named_or_not inside)
+  where
+    named_or_not : (inside : Bool) (pattern : Option ℕ) → IfSome (cond (inside && not (is_some pattern)) None (Some pattern)) (IsNamed inside)
+    named_or_not true None = tt
+    named_or_not true (Some size) = tt
+    named_or_not false None = tt
+    named_or_not false (Some size) = tt
+
+put_writes : (inside : Bool) (pattern : Option ℕ) (path : Text) (lies : Layout) (stripe : ℕ) → IsNamed inside pattern
+    → IsOrder inside (order.Put path pattern lies stripe)
+put_writes true None path lies stripe is = absurd is
+put_writes true (Some size) path lies stripe is = (tt, tt)
+put_writes false None path lies stripe is = (tt, tt)
+put_writes false (Some size) path lies stripe is = (tt, tt)
+
+put_within : (inside : Bool) (rows : Rows) → IfSome (put_of inside rows) (IsOrder inside)
 unfolding put_of
-put_within rows =
-    then_some EndsInFile _ (pattern_at false rows) (λ pattern. then_some EndsInFile _ (layout_at rows) (λ lies.
-    then_some EndsInFile _ (stripe_at rows) (λ stripe. of_path rows (λ path. order.Put path pattern lies stripe) (λ path. tt {0}))))
+put_within inside rows =
+    then_if (IsOrder inside) (IsNamed inside) _ (pattern_at inside rows) (pattern_named inside rows) (λ pattern is.
+    then_some (IsOrder inside) _ (layout_at rows) (λ lies. then_some (IsOrder inside) _ (stripe_at rows) (λ stripe.
+    of_path inside rows (λ path. order.Put path pattern lies stripe) (λ path. put_writes inside pattern path lies stripe is))))
 
-truncate_within : (rows : Rows) → IfSome (truncate_of rows) EndsInFile
+truncate_within : (inside : Bool) (rows : Rows) → IfSome (truncate_of rows) (IsOrder inside)
 unfolding truncate_of
-truncate_within rows =
-    then_some EndsInFile _ (number_at 0 281474976710656 (codes "size") rows) (λ size.
-    of_path rows (λ path. order.Truncate path size) (λ path. tt {0}))
+truncate_within inside rows =
+    then_some (IsOrder inside) _ (number_at 0 281474976710656 (codes "size") rows) (λ size.
+    of_path inside rows (λ path. order.Truncate path size) (λ path. (tt {0}, tt {0})))
 
-file_order_within : (name : Text) (rows : Rows) → IfSome (file_order false name rows) EndsInFile
+file_order_within : (inside : Bool) (name : Text) (rows : Rows) → IfSome (file_order inside name rows) (IsOrder inside)
 unfolding file_order
-file_order_within name rows =
-    either EndsInFile (named (codes "ls") name) _ _ (ls_within rows)
-    (either EndsInFile (named (codes "stat") name) _ _ (stat_within rows)
-    (either EndsInFile (named (codes "put") name) _ _ (put_within rows)
-    (either EndsInFile (named (codes "get") name) _ _ (get_within rows)
-    (either EndsInFile (named (codes "truncate") name) (truncate_of rows) None (truncate_within rows) tt))))
+file_order_within inside name rows =
+    either (IsOrder inside) (named (codes "ls") name) _ _ (ls_within inside rows)
+    (either (IsOrder inside) (named (codes "stat") name) _ _ (stat_within inside rows)
+    (either (IsOrder inside) (named (codes "put") name) _ _ (put_within inside rows)
+    (either (IsOrder inside) (named (codes "get") name) _ _ (get_within inside rows)
+    (either (IsOrder inside) (named (codes "truncate") name) (truncate_of rows) None (truncate_within inside rows) tt))))
 
-order_within : (name : Text) (rows : Rows) → IfSome (order_of false name rows) EndsInFile
+order_within : (inside : Bool) (name : Text) (rows : Rows) → IfSome (order_of inside name rows) (IsOrder inside)
 unfolding order_of
-order_within name rows =
-    either EndsInFile (named (codes "register") name) _ _ (register_within rows)
-    (either EndsInFile (named (codes "mkdir") name) _ _ (mkdir_within rows)
-    (either EndsInFile (named (codes "rmdir") name) _ _ (rmdir_within rows)
-    (either EndsInFile (named (codes "rm") name) _ _ (rm_within rows)
-    (either EndsInFile (named (codes "mv") name) _ _ (mv_within rows)
-    (either EndsInFile (named (codes "chmod") name) _ _ (chmod_within rows) (file_order_within name rows))))))
+order_within inside name rows =
+    either (IsOrder inside) (named (codes "register") name) _ _ (register_within inside rows)
+    (either (IsOrder inside) (named (codes "mkdir") name) _ _ (mkdir_within inside rows)
+    (either (IsOrder inside) (named (codes "rmdir") name) _ _ (rmdir_within inside rows)
+    (either (IsOrder inside) (named (codes "rm") name) _ _ (rm_within inside rows)
+    (either (IsOrder inside) (named (codes "mv") name) _ _ (mv_within inside rows)
+    (either (IsOrder inside) (named (codes "chmod") name) _ _ (chmod_within inside rows) (file_order_within inside name rows))))))
 
 -- ---- jobs
 
@@ -205,8 +239,8 @@ client_within base name rows few =
     then_some IsClientWithin _ (who_of base.who rows) (λ who.
     then_if IsClientWithin (λ directory. IsSome directory) _ (directory_at false rows) (directory_within rows) (λ directory there.
     then_some IsClientWithin _ (key_if_at rows) (λ key.
-    mapped_if IsClientWithin EndsInFile _ (order_of false name rows) (order_within name rows) (λ order ends.
-    record { directory = there; turns = turns; range = ends })))))
+    mapped_if IsClientWithin (IsOrder false) _ (order_of false name rows) (order_within false name rows) (λ order is.
+    record { directory = there; turns = turns; range = is.0 })))))
 
 abbrev IsServing : Serving → Type 0
 IsServing serving = IsSecret serving.key
@@ -250,7 +284,8 @@ make_within : (rows : Rows) → IfSome (make_of rows) IsWithin
 unfolding make_of
 make_within rows =
     then_some IsWithin _ (number_at 0 18446744073709551615 (codes "number") rows) (λ number.
-    mapped IsWithin (λ size. job.Make number size) (number_at 0 4096 (codes "size") rows) (λ size. tt {0}))
+    mapped_if IsWithin (Between 0 4096) (λ size. job.Make number size) (number_at 0 4096 (codes "size") rows)
+    (number_at_within 0 4096 (codes "size") rows) (λ size within. within.1))
 
 node_job_within : (base : Defaults) (name : Text) (rows : Rows) → HasTurns base.settings → IfSome (node_job base false name rows) IsWithin
 unfolding node_job
@@ -281,3 +316,90 @@ pub jobs_are_within : (base : Defaults) (words : List Text) → HasTurns base.se
 unfolding job_of
 jobs_are_within base words few =
     unless_within (fault_of (program_app false) words) _ (chosen_within base (subcommand_of (program_app false) words) few)
+
+-- ---- lines
+
+patterned : (o : Order) → WritesIn o true → WritesPattern o
+patterned (order.Put path None lies stripe) is = is
+patterned _ is = tt
+
+line_within : (base : Defaults) (name : Text) (rows : Rows) → IfSome (client_of base true name rows) IsLineWithin
+unfolding client_of
+line_within base name rows =
+    then_some IsLineWithin _ (settings_of base.settings rows) (λ settings.
+    then_some IsLineWithin _ (who_of base.who rows) (λ who.
+    then_some IsLineWithin _ (directory_at true rows) (λ directory.
+    then_some IsLineWithin _ (key_if_at rows) (λ key.
+    mapped_if IsLineWithin (IsOrder true) _ (order_of true name rows) (order_within true name rows) (λ order is.
+    record { pattern = patterned order is.1; range = is.0 })))))
+
+-- a client command is within the ranges of a line; of other jobs nothing is said
+abbrev IsLineJob : Job → Type 0
+IsLineJob (job.Client client) = IsLineWithin client
+IsLineJob _ = Unit {0}
+
+make_line : (rows : Rows) → IfSome (make_of rows) IsLineJob
+unfolding make_of
+make_line rows =
+    then_some IsLineJob _ (number_at 0 18446744073709551615 (codes "number") rows) (λ number.
+    mapped IsLineJob (λ size. job.Make number size) (number_at 0 4096 (codes "size") rows) (λ size. tt {0}))
+
+osd_line : (base : Settings) (rows : Rows) → IfSome (osd_of base rows) IsLineJob
+unfolding osd_of
+osd_line base rows =
+    then_some IsLineJob _ (node_at (codes "id") rows) (λ id. then_some IsLineJob _ (address_at (codes "dir") rows) (λ directory.
+    mapped IsLineJob _ (serving_of base rows) (λ serving. tt {0})))
+
+mrc_line : (base : Settings) (rows : Rows) → IfSome (mrc_of base rows) IsLineJob
+unfolding mrc_of
+mrc_line base rows =
+    then_some IsLineJob _ (address_at (codes "dir") rows) (λ directory. mapped IsLineJob _ (serving_of base rows) (λ serving. tt {0}))
+
+dir_line : (base : Settings) (rows : Rows) → IfSome (dir_of base rows) IsLineJob
+unfolding dir_of
+dir_line base rows = mapped IsLineJob (λ serving. job.Dir serving) (serving_of base rows) (λ serving. tt {0})
+
+cluster_line : (base : Defaults) (rows : Rows) → IfSome (cluster_of base rows) IsLineJob
+unfolding cluster_of
+cluster_line base rows =
+    then_some IsLineJob _ (number_at 1 50 (codes "osds") rows) (λ osds.
+    then_some IsLineJob _ (number_at 1 65000 (codes "port") rows) (λ port.
+    then_some IsLineJob _ (settings_of base.settings rows) (λ settings.
+    then_some IsLineJob _ (who_of base.who rows) (λ who.
+    then_some IsLineJob _ (key_at rows) (λ key.
+    mapped IsLineJob _ (path_at (codes "store") rows) (λ store. tt {0}))))))
+
+node_line : (base : Defaults) (name : Text) (rows : Rows) → IfSome (node_job base true name rows) IsLineJob
+unfolding node_job
+node_line base name rows =
+    either IsLineJob (named (codes "osd") name) _ _ (osd_line base.settings rows)
+    (either IsLineJob (named (codes "mrc") name) _ _ (mrc_line base.settings rows)
+    (either IsLineJob (named (codes "dir") name) _ _ (dir_line base.settings rows)
+    (either IsLineJob (named (codes "cluster") name) _ _ (cluster_line base rows)
+    (mapped_if IsLineJob IsLineWithin (λ client. job.Client client) (client_of base true name rows) (line_within base name rows)
+    (λ client within. within)))))
+
+job_line : (base : Defaults) (name : Text) (rows : Rows) → IfSome (job_in base true name rows) IsLineJob
+unfolding job_in
+job_line base name rows =
+    either IsLineJob (named (codes "replay") name) (Some job.Replay) _ tt
+    (either IsLineJob (named (codes "audit") name) (Some job.Audit) _ tt
+    (either IsLineJob (named (codes "make") name) _ _ (make_line rows) (node_line base name rows)))
+
+chosen_line : (base : Defaults) (met : Option (Text × Rows)) → IfSome (chosen_in base true met) IsLineJob
+chosen_line base None = tt
+chosen_line base (Some met) = job_line base met.0 met.1
+
+unless_line : (kinds : Kinds) (asked : Option Job) → IfSome asked IsLineJob → IfSome (unless_fault kinds asked) IsLineJob
+unless_line [] asked within = within
+unless_line (kind ∷ kinds) asked within = tt
+
+client_line : (asked : Option Job) → IfSome asked IsLineJob → IfSome (client_in asked) IsLineWithin
+client_line (Some (job.Client client)) within = within
+client_line _ within = tt
+
+pub lines_are_within : (base : Defaults) (words : List Text) → IfSome (client_in (job_of base true words)) IsLineWithin
+unfolding job_of
+lines_are_within base words =
+    client_line (job_of base true words)
+    (unless_line (fault_of (program_app true) words) _ (chosen_line base (subcommand_of (program_app true) words)))

@@ -39,7 +39,12 @@ pub record IsClusterWithin (cluster : ClusterJob) : Type 0 where
   pub secret : IsSecret cluster.key
   pub turns : HasTurns cluster.settings
 
+-- a schedule that is generated has so many turns at most
+abbrev pub IsSize : ℕ → Type 0
+IsSize size = size ≤ 4096
+
 abbrev pub IsWithin : Job → Type 0
+IsWithin (job.Make number size) = IsSize size
 IsWithin (job.Osd id directory serving) = IsSecret serving.key
 IsWithin (job.Mrc directory serving) = IsSecret serving.key
 IsWithin (job.Dir serving) = IsSecret serving.key

@@ -1,4 +1,5 @@
 pub mod Counting
 pub mod Pattern
+pub mod Sessions
 pub mod Taken
 pub mod Working

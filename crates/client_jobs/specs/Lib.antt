@@ -1,3 +1,4 @@
 pub mod Content
 pub mod Limits
+pub mod Lines
 pub mod Running

@@ -1,6 +1,8 @@
 -- a client command from its start to its end
-use Rattle.std.specs.Prelude.{ℕ, ◌≡◌, ◌⊎◌, ◌+◌, ◌*◌, ◌^◌, ◌%◌, Bool, true, false, ◌&&◌, IsSome, Option, Some, None, List, [], ◌∷◌, ◌++◌, length}
+use Rattle.std.specs.Prelude.{ℕ, ◌≡◌, ◌⊎◌, ◌+◌, ◌*◌, ◌^◌, ◌%◌, Bool, true, false, ◌&&◌, IsSome, Option, Some, None, Result, Ok, Err, List, [], ◌∷◌, ◌++◌, length}
 use Rattle.xt_base.specs.Faults.{Rose}
+use Rattle.xt_base.specs.TimeSettings.{TimeSettings}
+use Rattle.xt_base.specs.declared.ids.NodeId.{NodeId}
 use Rattle.xt_messages.specs.declared.event.Call.{Call}
 use Rattle.xt_messages.specs.Limits.{FitsNode}
 use Rattle.xt_messages.specs.declared.status.Limited.TheVariants as limited
@@ -24,12 +26,14 @@ use Rattle.client_loop.specs.Carrying.{Around, HasCarried, CannotCarry, Task as 
 use Rattle.command_words.specs.declared.job.ClientJob.{ClientJob}
 use Rattle.command_words.specs.declared.job.Order.{Order}
 use Rattle.command_words.specs.declared.job.Order.TheVariants as order
+use Rattle.client_plans.specs.declared.stage.Goes.{Goes}
 use Rattle.client_plans.specs.declared.stage.Stage.{Stage}
 use Rattle.client_plans.specs.Plans.{Task, task_of, begins, operation_of, goes_on, after, status_at}
 use Rattle.client_jobs.specs.Content.{pattern_from}
 use Rattle.client_jobs.specs.Limits.{fits_call, unasked}
 use Rattle.client_jobs.specs.declared.running.Advanced.{Advanced}
 use Rattle.client_jobs.specs.declared.running.Advanced.TheVariants as to
+use Rattle.client_jobs.specs.declared.session.Session.{Session}
 
 -- ---- what is around a command
 
@@ -72,16 +76,20 @@ driver_of job reading = record {
   };
 }
 
-abbrev pub client_of : ClientJob → ℕ → ClientView
-client_of job reading = record {
-  node = job.who.id;
-  times = job.settings.times;
+-- a client that has made no call, whose first one has this number
+abbrev pub new_client : NodeId → TimeSettings → ℕ → ClientView
+new_client node times first = record {
+  node = node;
+  times = times;
   state = record {
-    replicas = record { last = 0; next = first_number reading; running = None; files = [] };
+    replicas = record { last = 0; next = first; running = None; files = [] };
     held = [];
     made = None;
   };
 }
+
+abbrev pub client_of : ClientJob → ℕ → ClientView
+client_of job first = new_client job.who.id job.settings.times first
 
 -- whether a command writes to a file, and how many bytes of the pattern, if not those of the source
 abbrev pub put_in : Order → Option (Option ℕ)
@@ -107,31 +115,34 @@ pub record Command : Type 0 where
 abbrev pub command_of : ClientJob → List ℕ → Command
 command_of job bytes = record { task = task_of job bytes; tries = job.who.tries }
 
--- how far it is
+-- how far it is: what its calls are made by, and its stage
 pub record Standing : Type 0 where
-  pub driver : DriverView
-  pub client : ClientView
+  pub session : Session
   pub stage : Stage
 
--- A call was carried out over the link, by the clock, and has a result.
-pub record HasCalled (call : Carried) (before after : Around) (driver : DriverView) (client : ClientView) : Type 0 where
-  pub carried : HasCarried call before after driver client
-  pub ended : IsSome (rows.result_in client.state.made)
+-- a call that is to be carried out in a session
+abbrev pub call_in : Session → Call → ℕ → Carried
+call_in session asked tries = record { driver = session.driver; client = session.client; call = asked; tries = tries }
+
+-- A call was carried out over the link, by the clock, and has a result; this is what it left.
+pub record HasCalled (call : Carried) (before after : Around) (left : Session) : Type 0 where
+  pub carried : HasCarried call before after left.driver left.client
+  pub ended : IsSome (rows.result_in left.client.state.made)
 
 -- The operation of a stage was carried out, and ended so.
-pub record HasOperated (c : Command) (before after : Around) (s : Standing) (driver : DriverView) (client : ClientView) (ended : CallResult) : Type 0 where
+pub record HasOperated (c : Command) (before after : Around) (s : Standing) (left : Session) (ended : CallResult) : Type 0 where
   pub asked : Call
   pub is : operation_of c.task s.stage ≡ Some asked
-  pub carried : HasCarried (record { driver = s.driver; client = s.client; call = asked; tries = c.tries }) before after driver client
-  pub result : rows.result_in client.state.made ≡ Some ended
+  pub carried : HasCarried (call_in s.session asked c.tries) before after left.driver left.client
+  pub result : rows.result_in left.client.state.made ≡ Some ended
 
 -- So many operations were carried out, one after the other, each that of its stage; this is what they came to, and what is to be
 -- written.
 pub data Runs (c : Command) (from : Around) (start : Standing) : ℕ → Around → Standing → List ℕ → Type 0 where
   begun : Runs c from start 0 from start []
-  carried : (count : ℕ) (between after : Around) (s : Standing) (text : List ℕ) (driver : DriverView) (client : ClientView) (ended : CallResult)
-      → Runs c from start count between s text → HasOperated c between after s driver client ended
-      → Runs c from start (count + 1) after (record { driver = driver; client = client; stage = (goes_on c.task s.stage ended).stage })
+  carried : (count : ℕ) (between after : Around) (s : Standing) (text : List ℕ) (left : Session) (ended : CallResult)
+      → Runs c from start count between s text → HasOperated c between after s left ended
+      → Runs c from start (count + 1) after (record { session = left; stage = (goes_on c.task s.stage ended).stage })
       (text ++ (goes_on c.task s.stage ended).text)
 
 -- There are so many results that the plan comes to this by them.
@@ -152,30 +163,37 @@ status_of error.OutOfMemory = status.OutOfMemory
 
 -- A call isn't carried out: it uses a file that isn't held, or no message holds it; or the link, the clock, the turns, the numbers or
 -- memory end it.
-abbrev pub CannotCall : Carried → Around → Around → Status → Type 0
-CannotCall call before after why =
+abbrev pub CannotCall : Carried → Around → Around → Session → Status → Type 0
+CannotCall call before after left why =
     ((is_ready call.client.state.held call.call && fits_call call.call) ≡ false) × (why ≡ unasked call.call) × (after ≡ before)
-    ⊎ (failed : DriveErr) × (driver : DriverView) × (client : ClientView) × (why ≡ status_of failed) × CannotCarry call before after driver client failed
+    × (left.driver ≡ call.driver) × (left.client ≡ call.client)
+    ⊎ (failed : DriveErr) × (why ≡ status_of failed) × CannotCarry call before after left.driver left.client failed
 
 -- the operation of a stage isn't carried out
-pub record CannotOperate (c : Command) (before after : Around) (s : Standing) (why : Status) : Type 0 where
+pub record CannotOperate (c : Command) (before after : Around) (s : Standing) (left : Session) (why : Status) : Type 0 where
   pub asked : Call
   pub is : operation_of c.task s.stage ≡ Some asked
-  pub ends : CannotCall (record { driver = s.driver; client = s.client; call = asked; tries = c.tries }) before after why
+  pub ends : CannotCall (call_in s.session asked c.tries) before after left why
 
 -- Where memory runs out over an operation or over what is written of it, nothing of that is written.
-abbrev pub EndsAt : Command → Around → Around → Standing → Status → Type 0
-EndsAt c before after s why = CannotOperate c before after s why ⊎ (why ≡ status.OutOfMemory)
+abbrev pub EndsAt : Command → Around → Around → Standing → Session → Status → Type 0
+EndsAt c before after s left why = CannotOperate c before after s left why ⊎ (why ≡ status.OutOfMemory)
 
--- what one operation comes to
-abbrev pub HasAdvanced : Command → Around → Around → Standing → Option (List ℕ) → Option (List ℕ) → DriverView → ClientView → Advanced → Type 0
-HasAdvanced c before after s held later driver client (to.On stage) =
-    (ended : CallResult) × HasOperated c before after s driver client ended × (stage ≡ (goes_on c.task s.stage ended).stage)
+-- what the operation of a stage comes to, where there is one: how the command goes on, or why it ends
+abbrev pub HasStepped : Command → Around → Around → Standing → Session → Result (Option Goes) Status → Type 0
+HasStepped c before after s left (Ok (Some goes)) = (ended : CallResult) × HasOperated c before after s left ended × (goes ≡ goes_on c.task s.stage ended)
+HasStepped c before after s left (Ok None) = (operation_of c.task s.stage ≡ None) × (after ≡ before) × (left ≡ s.session)
+HasStepped c before after s left (Err why) = EndsAt c before after s left why
+
+-- and once that is written which it writes
+abbrev pub HasAdvanced : Command → Around → Around → Standing → Option (List ℕ) → Option (List ℕ) → Session → Advanced → Type 0
+HasAdvanced c before after s held later left (to.On stage) =
+    (ended : CallResult) × HasOperated c before after s left ended × (stage ≡ (goes_on c.task s.stage ended).stage)
     × Puts held later (goes_on c.task s.stage ended).text
-HasAdvanced c before after s held later driver client (to.Cut count) =
-    (ended : CallResult) × HasOperated c before after s driver client ended × PutsFront held later (goes_on c.task s.stage ended).text
-HasAdvanced c before after s held later driver client to.Over = (operation_of c.task s.stage ≡ None) × (after ≡ before) × (later ≡ held)
-HasAdvanced c before after s held later driver client (to.Ends why) = EndsAt c before after s why × (later ≡ held)
+HasAdvanced c before after s held later left (to.Cut count) =
+    (ended : CallResult) × HasOperated c before after s left ended × PutsFront held later (goes_on c.task s.stage ended).text
+HasAdvanced c before after s held later left to.Over = (operation_of c.task s.stage ≡ None) × (after ≡ before) × (later ≡ held) × (left ≡ s.session)
+HasAdvanced c before after s held later left (to.Ends why) = EndsAt c before after s left why × (later ≡ held)
 
 -- which counts rose in it: those of the link and the clock as its status tells, or the sink's
 abbrev pub HasAdvanceCause : Counts → Counts → ℕ → ℕ → Advanced → Type 0
@@ -216,13 +234,16 @@ GoesOn _ = ⊥
 -- ---- the whole
 
 -- its clock has been read once, and what `put` writes is known
-pub record Begins (job : ClientJob) (left rest : Option (List ℕ)) (to_read unread : Option (List ℕ)) (driver : DriverView) (client : ClientView)
-    (bytes : List ℕ) : Type 0 where
+pub record Begins (job : ClientJob) (left rest : Option (List ℕ)) (to_read unread : Option (List ℕ)) (session : Session) (bytes : List ℕ) : Type 0 where
   pub reading : ℕ
   pub reads : Reads to_read unread (reading ∷ [])
   pub content : IsContent job.order left rest bytes
-  pub knows : driver ≡ driver_of job reading
-  pub starts : client ≡ client_of job reading
+  pub knows : session.driver ≡ driver_of job reading
+  pub starts : session.client ≡ client_of job (first_number reading)
+
+-- where its operations begin
+abbrev pub starts_in : ClientJob → Session → Standing
+starts_in job session = record { session = session; stage = begins job.order }
 
 -- So many operations were carried out, and what they were to write was put.
 pub record IsUnderWay (c : Command) (from : Around) (start : Standing) (held : Option (List ℕ)) (count : ℕ) (now : Around) (s : Standing)
@@ -237,33 +258,37 @@ IsSound before now = (now.link ≡ before.link) × (now.clock ≡ before.clock)
 
 -- A stage has no operation; or its operation isn't carried out, or memory runs out over what it writes; or as many were carried out as
 -- a client has numbers.
-abbrev pub EndsBy : Command → ℕ → Around → Around → Standing → Counts → Counts → Status → Type 0
-EndsBy c count between after s before now why =
-    ((operation_of c.task s.stage ≡ None) × (why ≡ status_at s.stage) × (after ≡ between) × IsSound before now)
-    ⊎ ((EndsAt c between after s why × HasWhy before now why)
-    ⊎ ((count ≡ 2 ^ 62) × (why ≡ status_of error.NumbersSpent) × (after ≡ between) × IsSound before now))
+abbrev pub EndsBy : Command → ℕ → Around → Around → Standing → Session → Counts → Counts → Status → Type 0
+EndsBy c count between after s left before now why =
+    ((operation_of c.task s.stage ≡ None) × (why ≡ status_at s.stage) × (after ≡ between) × (left ≡ s.session) × IsSound before now)
+    ⊎ ((EndsAt c between after s left why × HasWhy before now why)
+    ⊎ ((count ≡ 2 ^ 62) × (why ≡ status_of error.NumbersSpent) × (after ≡ between) × (left ≡ s.session) × IsSound before now))
 
--- How its operations end: what they were to write was put, and the last line of the status after it; or the sink failed over a front
--- of what they were to write; or as many were carried out as a client has numbers.
-pub record HasEnded (c : Command) (from after : Around) (start : Standing) (held later : Option (List ℕ)) (sink risen : ℕ) (before now : Counts) (ended : Status)
-    : Type 0 where
+-- Its operations came to an end, for this reason: what they were to write, and what they left.
+pub record Ends (c : Command) (from after : Around) (start : Standing) (left : Session) (before now : Counts) (why : Status) (text : List ℕ) : Type 0 where
   pub count : ℕ
   pub between : Around
   pub s : Standing
-  pub text : List ℕ
   pub runs : Runs c from start count between s text
+  pub ends : EndsBy c count between after s left before now why
+
+-- How its operations end: what they were to write was put, and the last line of the status after it; or the sink failed over a front
+-- of what they were to write; or as many were carried out as a client has numbers.
+pub record HasEnded (c : Command) (from after : Around) (start : Standing) (left : Session) (held later : Option (List ℕ)) (sink risen : ℕ)
+    (before now : Counts) (ended : Status) : Type 0 where
   pub why : Status
-  pub ends : EndsBy c count between after s before now why
+  pub text : List ℕ
+  pub ends : Ends c from after start left before now why text
   pub put : Option (List ℕ)
   pub puts : Puts held put text
   pub closes : Closes put later sink risen why ended
 
-pub record IsCut (c : Command) (from after : Around) (start : Standing) (held later : Option (List ℕ)) (sink risen : ℕ) (before now : Counts) (ended : Status)
-    : Type 0 where
+pub record IsCut (c : Command) (from after : Around) (start : Standing) (left : Session) (held later : Option (List ℕ)) (sink risen : ℕ)
+    (before now : Counts) (ended : Status) : Type 0 where
   pub count : ℕ
-  pub s : Standing
+  pub stage : Stage
   pub text : List ℕ
-  pub runs : Runs c from start count after s text
+  pub runs : Runs c from start count after (record { session = left; stage = stage }) text
   pub puts : PutsFront held later text
   pub times : ℕ
   pub is : ended ≡ status.SinkFault times
@@ -271,9 +296,9 @@ pub record IsCut (c : Command) (from after : Around) (start : Standing) (held la
   pub told : times ≡ risen
   pub sound : IsSound before now
 
-abbrev pub HasWorked : Command → Around → Around → Standing → Option (List ℕ) → Option (List ℕ) → ℕ → ℕ → Counts → Counts → Status → Type 0
-HasWorked c from after start held later sink risen before now ended =
-    HasEnded c from after start held later sink risen before now ended ⊎ IsCut c from after start held later sink risen before now ended
+abbrev pub HasWorked : Command → Around → Around → Standing → Session → Option (List ℕ) → Option (List ℕ) → ℕ → ℕ → Counts → Counts → Status → Type 0
+HasWorked c from after start left held later sink risen before now ended =
+    HasEnded c from after start left held later sink risen before now ended ⊎ IsCut c from after start left held later sink risen before now ended
 
 -- it ends before its first operation: the link can't be bound, the clock can't be read, the source can't, or memory runs out
 pub record EndsEarly (after : Around) (before : Around) (held later : Option (List ℕ)) (sink risen : ℕ) (counts now : Counts) (ended : Status) : Type 0 where
@@ -286,11 +311,11 @@ pub record HasBegun (job : ClientJob) (before after : Around) (left rest held la
     : Type 0 where
   pub bytes : List ℕ
   pub unread : Option (List ℕ)
-  pub driver : DriverView
-  pub client : ClientView
-  pub starts : Begins job left rest before.to_read unread driver client bytes
-  pub works : HasWorked (command_of job bytes) (record before { to_read = unread }) after
-      (record { driver = driver; client = client; stage = begins job.order }) held later sink risen counts now ended
+  pub session : Session
+  pub starts : Begins job left rest before.to_read unread session bytes
+  pub leaves : Session
+  pub works : HasWorked (command_of job bytes) (record before { to_read = unread }) after (starts_in job session) leaves held later sink risen
+      counts now ended
 
 -- What a client command does.
 abbrev pub IsClientJob : ClientJob → Around → Around → Option (List ℕ) → Option (List ℕ) → Option (List ℕ) → Option (List ℕ) → ℕ → ℕ → Counts → Counts → Status → Type 0

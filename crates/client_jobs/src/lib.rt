@@ -1,13 +1,21 @@
 //! A client command over a link and a clock: its operations, one after the other, as its plan has them, what it writes, and why it
 //! ends.
+//!
+//! `run_client` runs one that has a link of its own. `run_line` runs one of a session, whose commands come one after the other over one
+//! end of a link: each goes on with the numbers, the receives and the addresses that the one before it left. `run_lists` makes the lists
+//! alone with which commands begin.
 #![tactic(auto)]
 
 mod asking;
 mod content;
 mod going;
 mod limits;
+mod lines;
 mod pieces;
 mod running;
+mod session;
 mod showing;
 
-pub use running::{commands_keep_their_plans, run_client};
+pub use lines::{run_line, run_lists};
+pub use running::{close, commands_keep_their_plans, first_number, run_client, status_of};
+pub use session::Session;

@@ -5,15 +5,16 @@ ghost use Rattle.client_plans.specs.Plans.{begins, end_of};
 ghost use Rattle.client_jobs.specs.Content.{bytes_of, HasReadCause};
 ghost use Rattle.client_jobs.specs.Running as spec;
 ghost use Rattle.client_loop.specs.Carrying.{Around};
-ghost use Rattle.client_jobs.specs.Running.{Command, Standing, Runs, IsPlanned, HasWhy, first_number, driver_of, client_of, IsContent, command_of, CannotCall, HasCalled, HasAdvanced, HasAdvanceCause, has_last_line, Closes, CanAsk, GoesOn, Begins, IsClientJob, HasWorked};
+ghost use Rattle.client_jobs.specs.Running.{Command, Standing, Runs, IsPlanned, HasWhy, first_number, driver_of, client_of, IsContent, command_of, call_in, CannotCall, HasCalled, HasStepped, HasAdvanced, Ends, HasAdvanceCause, has_last_line, Closes, CanAsk, GoesOn, Begins, IsClientJob, HasWorked, starts_in};
 
 use crate::asking::operation_of;
 use crate::content::{Content, ReadErr, read_all};
 use crate::going::goes_by;
 use crate::limits::{fits_call, unasked};
+use crate::session::Session;
 use client_core::Client;
 use client_loop::{DriveErr, Driver};
-use client_plans::Stage;
+use client_plans::{Goes, Stage};
 use command_words::{ClientJob, Order};
 use node_links::{Clock, Link, Sink, Source};
 use schedule_lines::{finish, put_all};
@@ -21,12 +22,11 @@ use std::alloc::Global;
 use xt_base::{Boot, COUNTS, NodeId, Octets};
 use xt_messages::{Call, Limited, Status};
 
-/// What a command goes on with.
+/// What a command begins with.
 #[derive(Drop)]
-pub struct Working {
-    pub driver: Driver,
-    pub client: Client,
-    pub content: Content,
+struct Begun {
+    session: Session,
+    content: Content,
 }
 
 /// What an operation came to.
@@ -43,7 +43,7 @@ pub enum Advanced {
 }
 
 /// The number of the first call of a client that begins at this reading.
-fn first_number(reading: u64) -> u64
+pub fn first_number(reading: u64) -> u64
     ensures value { result ≡ first_number reading }
     ensures small { result < 2 ^ 62 }
 {
@@ -64,7 +64,7 @@ fn begins(order: &Order) -> Stage
 }
 
 /// The status of a call that isn't carried out.
-fn status_of(error: DriveErr) -> Status
+pub fn status_of(error: DriveErr) -> Status
     ensures { result ≡ spec.status_of error }
 {
     match error {
@@ -92,7 +92,7 @@ fn unread(error: ReadErr) -> Status
 }
 
 /// Whether a command writes to a file, and how many bytes of the pattern, if not those of the source.
-fn put_in(order: &Order) -> Option<Option<u64>>
+pub(crate) fn put_in(order: &Order) -> Option<Option<u64>>
     ensures { result ≡ spec.put_in order.now }
 {
     match order {
@@ -122,23 +122,21 @@ fn content_of<S: Source>(alloc: Global, order: &Order, src: &mut S) -> Result<Co
     }
 }
 
-/// A client whose first call has this number, and its end of the link.
-fn worker(alloc: Global, job: &ClientJob, content: Content, reading: u64) -> Option<Working>
+/// A session of this command alone, which begins at this reading.
+fn session_of(alloc: Global, job: &ClientJob, reading: u64) -> Option<Session>
     requires dir { IsSome job.now.dir }
     requires turns { job.now.settings.turns < 2 ^ 62 }
-    ensures { IfSome result (λ working. (working.driver ≡ driver_of job.now reading)
-        × (working.client ≡ client_of job.now reading) × (working.content ≡ content)
-        × CanAsk working.client) }
+    ensures { IfSome result (λ session. (session.driver ≡ driver_of job.now reading)
+        × (session.client ≡ client_of job.now (first_number reading)) × CanAsk session.client) }
 {
     let Some(dir) = &job.dir else { unreachable!() };
     let first = first_number(reading);
     let (node, times) = (job.who.id, job.settings.times);
     let boot = Boot(first);
     match Driver::new(alloc, node, boot, times, dir, job.settings.turns) {
-        Ok(driver) => Some(Working {
+        Ok(driver) => Some(Session {
             driver,
             client: Client::new(alloc, node, times, first),
-            content,
         }),
         Err(_) => None,
     }
@@ -185,16 +183,15 @@ fn begin<S: Source, L: Link, C: Clock>(
     src: &mut S,
     link: &mut L,
     clock: &mut C,
-) -> Result<Working, Status>
+) -> Result<Begun, Status>
     requires dir { IsSome job.now.dir }
     requires turns { job.now.settings.turns < 2 ^ 62 }
     ensures link { (L.given link.new ≡ L.given link.old) × (L.sent link.new ≡ L.sent link.old)
         × (L.loss_count link.new ≡ L.loss_count link.old) }
-    ensures begins { IfOk result (λ working. Begins job.now (S.left src.old) (S.left src.new)
-        (C.readings clock.old) (C.readings clock.new) working.driver working.client
-        (bytes_of working.content)) }
-    ensures asks { IfOk result (λ working. CanAsk working.client) }
-    ensures sound { IfOk result (λ working. (L.fault_count link.new ≡ L.fault_count link.old)
+    ensures begins { IfOk result (λ begun. Begins job.now (S.left src.old) (S.left src.new)
+        (C.readings clock.old) (C.readings clock.new) begun.session (bytes_of begun.content)) }
+    ensures asks { IfOk result (λ begun. CanAsk begun.session.client) }
+    ensures sound { IfOk result (λ begun. (L.fault_count link.new ≡ L.fault_count link.old)
         × (C.fault_count clock.new ≡ C.fault_count clock.old)
         × (S.fault_count src.new ≡ S.fault_count src.old)) }
     ensures cause { IfErr result (HasWhy
@@ -217,30 +214,24 @@ fn begin<S: Source, L: Link, C: Clock>(
         Ok(content) => content,
         Err(status) => return Err(status),
     };
-    match worker(alloc, job, content, reading) {
-        Some(working) => Ok(working),
+    match session_of(alloc, job, reading) {
+        Some(session) => Ok(Begun { session, content }),
         None => Err(Status::OutOfMemory),
     }
 }
 
 /// Carries a call out.
 fn operate<L: Link, C: Clock>(
-    working: &mut Working,
+    session: &mut Session,
     call: &Call,
     tries: u32,
     link: &mut L,
     clock: &mut C,
 ) -> Result<(), Status>
-    requires asks { CanAsk working.old.client }
-    ensures asks { IfOk result (λ done. CanAsk working.new.client) }
-    ensures content { working.new.content ≡ working.old.content }
-    ensures called { IfOk result (λ done. HasCalled
-        (record {
-          driver = working.old.driver;
-          client = working.old.client;
-          call = call.now;
-          tries = tries;
-        })
+    requires asks { CanAsk session.old.client }
+    ensures asks { IfOk result (λ done. CanAsk session.new.client) }
+    ensures turns { session.new.driver.listener.turns ≡ session.old.driver.listener.turns }
+    ensures called { IfOk result (λ done. HasCalled (call_in session.old call.now tries)
         (record {
           to_come = L.given link.old;
           sent = L.sent link.old;
@@ -253,14 +244,8 @@ fn operate<L: Link, C: Clock>(
           losses = L.loss_count link.new;
           to_read = C.readings clock.new;
         })
-        working.new.driver working.new.client) }
-    ensures cannot { IfErr result (CannotCall
-        (record {
-          driver = working.old.driver;
-          client = working.old.client;
-          call = call.now;
-          tries = tries;
-        })
+        session.new) }
+    ensures cannot { IfErr result (CannotCall (call_in session.old call.now tries)
         (record {
           to_come = L.given link.old;
           sent = L.sent link.old;
@@ -272,7 +257,8 @@ fn operate<L: Link, C: Clock>(
           sent = L.sent link.new;
           losses = L.loss_count link.new;
           to_read = C.readings clock.new;
-        })) }
+        })
+        session.new) }
     ensures cause { (source : ℕ) → IfErr result (HasWhy
         (record {
           link = L.fault_count link.old;
@@ -287,15 +273,75 @@ fn operate<L: Link, C: Clock>(
     ensures sound { IfOk result (λ done. (L.fault_count link.new ≡ L.fault_count link.old)
         × (C.fault_count clock.new ≡ C.fault_count clock.old)) }
 {
-    if !working.client.is_ready(call) || !fits_call(call) {
+    if !session.client.is_ready(call) || !fits_call(call) {
         return Err(unasked(call));
     }
-    match working
+    match session
         .driver
-        .carry_out(&mut working.client, call, tries, link, clock)
+        .carry_out(&mut session.client, call, tries, link, clock)
     {
         Ok(()) => Ok(()),
         Err(error) => Err(status_of(error)),
+    }
+}
+
+/// Carries out the operation of a stage: how the command goes on then. The stage may have none.
+pub(crate) fn step<L: Link, C: Clock>(
+    alloc: Global,
+    job: &ClientJob,
+    content: &Content,
+    session: &mut Session,
+    stage: &Stage,
+    link: &mut L,
+    clock: &mut C,
+) -> Result<Option<Goes>, Status>
+    requires range { end_of job.now.order ≤ 281474976710656 }
+    requires asks { CanAsk session.old.client }
+    ensures asks { IfOk result (λ goes. CanAsk session.new.client) }
+    ensures turns { session.new.driver.listener.turns ≡ session.old.driver.listener.turns }
+    ensures stepped { HasStepped (command_of job.now (bytes_of content.now))
+        (record {
+          to_come = L.given link.old;
+          sent = L.sent link.old;
+          losses = L.loss_count link.old;
+          to_read = C.readings clock.old;
+        })
+        (record {
+          to_come = L.given link.new;
+          sent = L.sent link.new;
+          losses = L.loss_count link.new;
+          to_read = C.readings clock.new;
+        })
+        (record { session = session.old; stage = stage.now }) session.new result }
+    ensures cause { (source : ℕ) → IfErr result (HasWhy
+        (record {
+          link = L.fault_count link.old;
+          clock = C.fault_count clock.old;
+          source = source;
+        })
+        (record {
+          link = L.fault_count link.new;
+          clock = C.fault_count clock.new;
+          source = source;
+        })) }
+    ensures sound { IfOk result (λ goes. (L.fault_count link.new ≡ L.fault_count link.old)
+        × (C.fault_count clock.new ≡ C.fault_count clock.old)) }
+{
+    let call = match operation_of(alloc, job, content, stage) {
+        Ok(Some(call)) => call,
+        Ok(None) => return Ok(None),
+        Err(_) => return Err(Status::OutOfMemory),
+    };
+    match operate(session, &call, job.who.tries, link, clock) {
+        Ok(()) => {}
+        Err(status) => return Err(status),
+    }
+    let Some(ended) = session.client.result() else {
+        unreachable!()
+    };
+    match goes_by(alloc, content.size(), &job.order, stage, ended) {
+        Ok(goes) => Ok(Some(goes)),
+        Err(_) => Err(Status::OutOfMemory),
     }
 }
 
@@ -309,8 +355,9 @@ fn has_last_line(status: &Status) -> bool
     }
 }
 
-/// Puts the last line of a status.
-fn close<K: Sink>(alloc: Global, out: &mut K, status: Status) -> Status
+/// Puts the last line of a status, and gives the status, or the one that came of the putting. A command that is done has no last line,
+/// and none is put where the sink failed.
+pub fn close<K: Sink>(alloc: Global, out: &mut K, status: Status) -> Status
     ensures { Closes (K.held out.old) (K.held out.new) (K.fault_count out.old)
         (K.fault_count out.new) status result }
 {
@@ -324,17 +371,18 @@ fn close<K: Sink>(alloc: Global, out: &mut K, status: Status) -> Status
 fn advance<K: Sink, L: Link, C: Clock>(
     alloc: Global,
     job: &ClientJob,
-    working: &mut Working,
+    content: &Content,
+    session: &mut Session,
     stage: &Stage,
     out: &mut K,
     link: &mut L,
     clock: &mut C,
 ) -> Advanced
     requires range { end_of job.now.order ≤ 281474976710656 }
-    requires asks { CanAsk working.old.client }
-    ensures asks { GoesOn result → CanAsk working.new.client }
-    ensures content { working.new.content ≡ working.old.content }
-    ensures advanced { HasAdvanced (command_of job.now (bytes_of working.old.content))
+    requires asks { CanAsk session.old.client }
+    ensures asks { GoesOn result → CanAsk session.new.client }
+    ensures turns { session.new.driver.listener.turns ≡ session.old.driver.listener.turns }
+    ensures advanced { HasAdvanced (command_of job.now (bytes_of content.now))
         (record {
           to_come = L.given link.old;
           sent = L.sent link.old;
@@ -347,8 +395,8 @@ fn advance<K: Sink, L: Link, C: Clock>(
           losses = L.loss_count link.new;
           to_read = C.readings clock.new;
         })
-        (record { driver = working.old.driver; client = working.old.client; stage = stage.now })
-        (K.held out.old) (K.held out.new) working.new.driver working.new.client result }
+        (record { session = session.old; stage = stage.now }) (K.held out.old) (K.held out.new)
+        session.new result }
     ensures cause { (source : ℕ) → HasAdvanceCause
         (record {
           link = L.fault_count link.old;
@@ -362,30 +410,10 @@ fn advance<K: Sink, L: Link, C: Clock>(
         })
         (K.fault_count out.old) (K.fault_count out.new) result }
 {
-    let call = match operation_of(alloc, job, &working.content, stage) {
-        Ok(Some(call)) => call,
+    let goes = match step(alloc, job, content, session, stage, link, clock) {
+        Ok(Some(goes)) => goes,
         Ok(None) => return Advanced::Over,
-        Err(_) => {
-            return Advanced::Ends {
-                status: Status::OutOfMemory,
-            };
-        }
-    };
-    match operate(working, &call, job.who.tries, link, clock) {
-        Ok(()) => {}
         Err(status) => return Advanced::Ends { status },
-    }
-    let Some(ended) = working.client.result() else {
-        unreachable!()
-    };
-    let size = working.content.size();
-    let goes = match goes_by(alloc, size, &job.order, stage, ended) {
-        Ok(goes) => goes,
-        Err(_) => {
-            return Advanced::Ends {
-                status: Status::OutOfMemory,
-            };
-        }
     };
     match put_all(out, goes.text.as_slice()) {
         Ok(()) => Advanced::On { stage: goes.stage },
@@ -395,18 +423,20 @@ fn advance<K: Sink, L: Link, C: Clock>(
     }
 }
 
-/// Carries out the operations of a command, from its first stage on.
-fn work<K: Sink, L: Link, C: Clock>(
+/// Carries out the operations of a command, from its first stage on, and puts the last line of its status.
+pub(crate) fn work<K: Sink, L: Link, C: Clock>(
     alloc: Global,
     job: &ClientJob,
-    working: &mut Working,
+    content: &Content,
+    session: &mut Session,
     out: &mut K,
     link: &mut L,
     clock: &mut C,
 ) -> Status
     requires range { end_of job.now.order ≤ 281474976710656 }
-    requires asks { CanAsk working.old.client }
-    ensures { (source : ℕ) → HasWorked (command_of job.now (bytes_of working.old.content))
+    requires asks { CanAsk session.old.client }
+    ensures turns { session.new.driver.listener.turns ≡ session.old.driver.listener.turns }
+    ensures worked { (source : ℕ) → HasWorked (command_of job.now (bytes_of content.now))
         (record {
           to_come = L.given link.old;
           sent = L.sent link.old;
@@ -419,12 +449,8 @@ fn work<K: Sink, L: Link, C: Clock>(
           losses = L.loss_count link.new;
           to_read = C.readings clock.new;
         })
-        (record {
-          driver = working.old.driver;
-          client = working.old.client;
-          stage = begins job.now.order;
-        })
-        (K.held out.old) (K.held out.new) (K.fault_count out.old) (K.fault_count out.new)
+        (starts_in job.now session.old) session.new (K.held out.old) (K.held out.new)
+        (K.fault_count out.old) (K.fault_count out.new)
         (record {
           link = L.fault_count link.old;
           clock = C.fault_count clock.old;
@@ -439,7 +465,7 @@ fn work<K: Sink, L: Link, C: Clock>(
 {
     let mut stage = begins(&job.order);
     for _ in 0..COUNTS {
-        match advance(alloc, job, working, &stage, out, link, clock) {
+        match advance(alloc, job, content, session, &stage, out, link, clock) {
             Advanced::On { stage: next } => stage = next,
             Advanced::Over => return close(alloc, out, stage.into_status()),
             Advanced::Ends { status } => return close(alloc, out, status),
@@ -447,6 +473,55 @@ fn work<K: Sink, L: Link, C: Clock>(
         }
     }
     close(alloc, out, status_of(DriveErr::NumbersSpent))
+}
+
+/// Carries out the operations of a command, from this stage on, and leaves out what they are to write.
+pub(crate) fn work_quietly<L: Link, C: Clock>(
+    alloc: Global,
+    job: &ClientJob,
+    content: &Content,
+    session: &mut Session,
+    first: Stage,
+    link: &mut L,
+    clock: &mut C,
+) -> Status
+    requires range { end_of job.now.order ≤ 281474976710656 }
+    requires asks { CanAsk session.old.client }
+    ensures { (source : ℕ) → (text : List ℕ) × Ends (command_of job.now (bytes_of content.now))
+        (record {
+          to_come = L.given link.old;
+          sent = L.sent link.old;
+          losses = L.loss_count link.old;
+          to_read = C.readings clock.old;
+        })
+        (record {
+          to_come = L.given link.new;
+          sent = L.sent link.new;
+          losses = L.loss_count link.new;
+          to_read = C.readings clock.new;
+        })
+        (record { session = session.old; stage = first }) session.new
+        (record {
+          link = L.fault_count link.old;
+          clock = C.fault_count clock.old;
+          source = source;
+        })
+        (record {
+          link = L.fault_count link.new;
+          clock = C.fault_count clock.new;
+          source = source;
+        })
+        result text }
+{
+    let mut stage = first;
+    for _ in 0..COUNTS {
+        match step(alloc, job, content, session, &stage, link, clock) {
+            Ok(Some(goes)) => stage = goes.stage,
+            Ok(None) => return stage.into_status(),
+            Err(status) => return status,
+        }
+    }
+    status_of(DriveErr::NumbersSpent)
 }
 
 /// Runs a client command that names the DIR: over the link, by the clock, with what the source has for `put` and what it writes
@@ -489,11 +564,15 @@ pub fn run_client<S: Source, K: Sink, L: Link, C: Clock>(
         })
         result }
 {
-    let mut working = match begin(alloc, job, src, link, clock) {
-        Ok(working) => working,
+    let begun = match begin(alloc, job, src, link, clock) {
+        Ok(begun) => begun,
         Err(status) => return close(alloc, out, status),
     };
-    work(alloc, job, &mut working, out, link, clock)
+    let Begun {
+        mut session,
+        content,
+    } = begun;
+    work(alloc, job, &content, &mut session, out, link, clock)
 }
 
 /// What a command does is its plan: by the results of its operations the plan comes to where the command is, and to what it writes.

@@ -4,3 +4,4 @@ pub mod Fitting
 pub mod Looking
 pub mod Mailed
 pub mod Waited
+pub mod Hearing

@@ -2,3 +2,4 @@ pub mod Carrying
 pub mod Listening
 pub mod Mailing
 pub mod Waiting
+pub mod Terms

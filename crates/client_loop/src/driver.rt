@@ -6,13 +6,15 @@ ghost use Rattle.node_runs.specs.Links.{Sends};
 ghost use Rattle.node_runs.specs.Posting.{HasPosted};
 ghost use Rattle.node_runs.specs.Hearing.{address_of, with_address};
 ghost use Rattle.client_loop.specs.Listening.{HasLooked, CannotLook, HasDriveCause, FitsListened};
-ghost use Rattle.client_loop.specs.Waiting.{HasWaited, CannotWait};
+ghost use Rattle.client_loop.specs.Terms.{terms_of, on_terms};
+ghost use Rattle.client_loop.specs.Waiting.{HasWaited, CannotWait, HearsOnce, HasListened, CannotListen};
 ghost use Rattle.client_loop.specs.Mailing.{IsTaken, FrontMailed};
 ghost use Rattle.client_loop.specs.Carrying.{mails};
 
 use crate::errors::DriveErr;
 use crate::listening::{Listened, Listener};
 use crate::mailing::{mail, mail_all};
+use crate::terms::Terms;
 use node_links::{Clock, Link};
 use node_mail::{Ears, Sender};
 use std::alloc::Global;
@@ -85,6 +87,31 @@ impl Driver {
         })
     }
 
+    /// The terms on which it works.
+    pub fn terms(&self) -> Terms
+        ensures value { result ≡ terms_of self.now }
+        ensures turns { (result.spent ≤ result.turns) × (result.turns < 2 ^ 62) }
+    {
+        Terms {
+            sender: self.sender,
+            times: self.times,
+            turns: self.listener.turns,
+            spent: self.listener.spent,
+        }
+    }
+
+    /// Works on these terms from now on. What was heard so far stays: where nodes are reached, and the half joined messages.
+    pub fn set_terms(&mut self, terms: &Terms)
+        requires { (terms.now.spent ≤ terms.now.turns) × (terms.now.turns < 2 ^ 62) }
+        ensures { self.new ≡ on_terms self.old terms.now }
+    {
+        self.sender = terms.sender;
+        self.times = terms.times;
+        self.listener.node = terms.sender.node;
+        self.listener.turns = terms.turns;
+        self.listener.spent = terms.spent;
+    }
+
     /// Sends a message: true exactly where its receiver has an address and each of its parts was taken by the link.
     pub fn send<L: Link>(&mut self, msg: &Msg, link: &mut L) -> Result<bool, OutOfMemory>
         requires fits { FitsMessage msg.now }
@@ -107,11 +134,7 @@ impl Driver {
     }
 
     /// Sends these messages, in order. Where memory runs out, a front of them was sent.
-    pub(crate) fn send_all<L: Link>(
-        &mut self,
-        msgs: &[Msg],
-        link: &mut L,
-    ) -> Result<(), OutOfMemory>
+    pub fn send_all<L: Link>(&mut self, msgs: &[Msg], link: &mut L) -> Result<(), OutOfMemory>
         requires fits { All FitsMessage msgs.now }
         ensures given { L.given link.new ≡ L.given link.old }
         ensures faults { L.fault_count link.new ≡ L.fault_count link.old }
@@ -196,6 +219,67 @@ impl Driver {
                 Ok(Listened::Late { reading: _ }) => return Ok(None),
                 Ok(Listened::Nothing) => {}
                 Ok(Listened::Heard { msg }) => return Ok(Some(msg)),
+                Err(error) => return Err(error),
+            }
+        }
+        unreachable!()
+    }
+
+    /// Looks for a message until this time, and tells whether the clock reads that or more. A message does nothing.
+    fn hear<L: Link, C: Clock>(
+        &mut self,
+        until: u64,
+        link: &mut L,
+        clock: &mut C,
+    ) -> Result<bool, DriveErr>
+        ensures same { (self.new.times ≡ self.old.times) × (self.new.sender ≡ self.old.sender) }
+        ensures turns { (self.new.listener.turns ≡ self.old.listener.turns)
+            × (self.new.listener.spent ≤ self.new.listener.turns)
+            × (self.new.listener.turns < 2 ^ 62) }
+        ensures sent { (L.sent link.new ≡ L.sent link.old)
+            × (L.loss_count link.new ≡ L.loss_count link.old) }
+        ensures looked { IfOk result (HearsOnce until self.old.listener (L.given link.old)
+            (L.given link.new) (C.readings clock.old) (C.readings clock.new) self.new.listener) }
+        ensures cannot { IfErr result (CannotLook until self.old.listener (L.given link.old)
+            (L.given link.new) (C.readings clock.old) (C.readings clock.new)) }
+        ensures cause { IfErr result (HasDriveCause (L.fault_count link.old) (L.fault_count link.new)
+            (C.fault_count clock.old) (C.fault_count clock.new)) }
+        ensures sound { IfOk result (λ late. (L.fault_count link.new ≡ L.fault_count link.old)
+            × (C.fault_count clock.new ≡ C.fault_count clock.old)) }
+    {
+        match self.look(until, link, clock) {
+            Ok(Listened::Late { reading: _ }) => Ok(true),
+            Ok(Listened::Nothing) => Ok(false),
+            Ok(Listened::Heard { msg: _ }) => Ok(false),
+            Err(error) => Err(error),
+        }
+    }
+
+    /// Hears what comes, until the clock reads this time or more. The clock is read before each receive, which waits for what is left.
+    pub fn listen<L: Link, C: Clock>(
+        &mut self,
+        until: u64,
+        link: &mut L,
+        clock: &mut C,
+    ) -> Result<(), DriveErr>
+        ensures same { (self.new.times ≡ self.old.times) × (self.new.sender ≡ self.old.sender) }
+        ensures sent { (L.sent link.new ≡ L.sent link.old)
+            × (L.loss_count link.new ≡ L.loss_count link.old) }
+        ensures listened { OnOk result (HasListened until self.old.listener (L.given link.old)
+            (L.given link.new) (C.readings clock.old) (C.readings clock.new) self.new.listener) }
+        ensures cannot { IfErr result (CannotListen until self.old.listener (L.given link.old)
+            (L.given link.new) (C.readings clock.old) (C.readings clock.new)) }
+        ensures cause { IfErr result (HasDriveCause (L.fault_count link.old) (L.fault_count link.new)
+            (C.fault_count clock.old) (C.fault_count clock.new)) }
+        ensures sound { OnOk result ((L.fault_count link.new ≡ L.fault_count link.old)
+            × (C.fault_count clock.new ≡ C.fault_count clock.old)) }
+    {
+        // the turns that were taken are within those that may be
+        let _ = &self.listener;
+        for _ in 0..u64::MAX {
+            match self.hear(until, link, clock) {
+                Ok(true) => return Ok(()),
+                Ok(false) => {}
                 Err(error) => return Err(error),
             }
         }

@@ -12,6 +12,8 @@ mod errors;
 mod giving;
 mod listening;
 mod mailing;
+mod terms;
 
 pub use driver::Driver;
 pub use errors::DriveErr;
+pub use terms::Terms;

@@ -4,7 +4,7 @@ ghost use Rattle.cluster_words.specs.Children.{local, option_words, number_words
 
 use command_words::{ClusterJob, Given};
 use std::alloc::Global;
-use xt_base::{OutOfMemory, Words};
+use xt_base::{Address, OutOfMemory, Words};
 
 /// A node of a cluster.
 #[derive(Clone, Copy)]
@@ -48,6 +48,17 @@ fn local(alloc: Global, port: u16) -> Result<String, OutOfMemory>
     ensures { IfOk result (λ text. string_bytes text ≡ local port) }
 {
     format!(in alloc; "127.0.0.1:{port}")
+}
+
+/// The same as an address.
+pub fn address(alloc: Global, port: u16) -> Result<Address, OutOfMemory>
+    ensures { IfOk result (λ made. made ≡ local port) }
+{
+    let text = local(alloc, port)?;
+    match Address::of(text.as_str()) {
+        Some(made) => Ok(made),
+        None => unreachable!(),
+    }
 }
 
 /// The path of a node's store.

@@ -3,4 +3,4 @@
 
 mod children;
 
-pub use children::{ClusterNode, child_words};
+pub use children::{ClusterNode, address, child_words};

@@ -7,13 +7,13 @@ use Rattle.client_jobs.proofs.running.run_client.Goals as goal
 pub returns : goal.returns
 returns g c =
     inr (record {
-      bytes = bytes_of c.in-Ok.working.content;
+      bytes = bytes_of c.in-Ok.begun.content;
       unread = g.C.Clock.readings c.begin.new.clock;
-      driver = c.in-Ok.working.driver;
-      client = c.in-Ok.working.client;
+      session = c.in-Ok.begun.session;
       starts = c.in-Ok.ensures.begins;
+      leaves = c.work.new.session;
       works =
-          job_works (command_of c.args.job.now (bytes_of c.in-Ok.working.content)) _ _ _ _ _ _ _ _ _ _ _ _ _ _ _ _ _ _ _ _ _ c.in-Ok.ensures.link.0
+          job_works (command_of c.args.job.now (bytes_of c.in-Ok.begun.content)) _ _ _ _ _ _ _ _ _ _ _ _ _ _ _ _ _ _ _ _ _ _ c.in-Ok.ensures.link.0
           c.in-Ok.ensures.link.1 c.in-Ok.ensures.link.2 c.in-Ok.ensures.sound.0 c.in-Ok.ensures.sound.1 c.in-Ok.ensures.sound.2
-          (c.work.ensures (g.S.Source.fault_count c.begin.new.src));
+          (c.work.ensures.worked (g.S.Source.fault_count c.begin.new.src));
     })

@@ -9,12 +9,12 @@ pub loop-init : goal.loop-init
 loop-init g c =
     record {
       asks = c.requires.asks;
-      content = refl;
+      turns = refl;
       link = refl;
       clock = refl;
       sink = refl;
       way =
-          way_begins (command_of c.args.job.now (bytes_of c.args.working.now.content)) _ c.args.working.now.driver c.args.working.now.client
+          way_begins (command_of c.args.job.now (bytes_of c.args.content.now)) _ c.args.session.now
           (begins c.args.job.now.order) c.begins-stage.result (g.K.Sink.held c.args.out.now) c.begins-stage.ensures;
     }
 
@@ -22,38 +22,38 @@ pub loop-preserved : goal.loop-preserved
 loop-preserved g c =
     record {
       asks = c.in-On.ensures.asks tt;
-      content = c.in-On.ensures.content ∙ c.loop.invariant.content;
+      turns = c.in-On.ensures.turns ∙ c.loop.invariant.turns;
       link = (c.in-On.ensures.cause 0).0 ∙ c.loop.invariant.link;
       clock = (c.in-On.ensures.cause 0).1 ∙ c.loop.invariant.clock;
       sink = (c.in-On.ensures.cause 0).2 ∙ c.loop.invariant.sink;
       way =
-          way_goes c.args.job.now c.loop.working.content c.args.working.now.content _ _ _ _ _ _ _ _ c.loop.counter c.advance.new.working.driver
-          c.advance.new.working.client c.in-On.next c.loop.invariant.content c.loop.invariant.way c.in-On.ensures.advanced;
+          way_goes (command_of c.args.job.now (bytes_of c.args.content.now)) _ _ _ _ _ _ _ _ c.loop.counter c.advance.new.session c.in-On.next
+          c.loop.invariant.way c.in-On.ensures.advanced;
     }
 
-pub returns-in-Over : goal.returns-in-Over
-returns-in-Over g c source =
-    work_over c.args.job.now c.loop.working.content c.args.working.now.content _ _ _ _ _ _ _ _ _ c.loop.counter c.advance.new.working.driver
-    c.advance.new.working.client _ _ _ _ _ c.into_status.result _ c.loop.invariant.content c.loop.invariant.way c.in-Over.ensures.advanced
+pub returns-in-Over-clause-worked : goal.returns-in-Over-clause-worked
+returns-in-Over-clause-worked g c source =
+    work_over (command_of c.args.job.now (bytes_of c.args.content.now)) _ _ _ _ _ _ _ _ _ c.loop.counter c.advance.new.session
+    _ _ _ _ _ c.into_status.result _ c.loop.invariant.way c.in-Over.ensures.advanced
     ((c.in-Over.ensures.cause 0).0 ∙ c.loop.invariant.link) ((c.in-Over.ensures.cause 0).1 ∙ c.loop.invariant.clock)
     ((c.in-Over.ensures.cause 0).2 ∙ c.loop.invariant.sink) c.into_status.ensures c.close.ensures
 
-pub returns-in-Ends : goal.returns-in-Ends
-returns-in-Ends g c source =
-    work_ends c.args.job.now c.loop.working.content c.args.working.now.content _ _ _ _ _ _ _ _ _ c.loop.counter c.advance.new.working.driver
-    c.advance.new.working.client _ _ _ _ _ source _ _ _ c.in-Ends.status _ c.loop.invariant.content c.loop.invariant.way c.in-Ends.ensures.advanced
+pub returns-in-Ends-clause-worked : goal.returns-in-Ends-clause-worked
+returns-in-Ends-clause-worked g c source =
+    work_ends (command_of c.args.job.now (bytes_of c.args.content.now)) _ _ _ _ _ _ _ _ _ c.loop.counter c.advance.new.session
+    _ _ _ _ _ source _ _ _ c.in-Ends.status _ c.loop.invariant.way c.in-Ends.ensures.advanced
     c.loop.invariant.link c.loop.invariant.clock (c.in-Ends.ensures.cause source).0 ((c.in-Ends.ensures.cause source).1 ∙ c.loop.invariant.sink)
     c.close-in-Ends.ensures
 
-pub returns-in-Cut : goal.returns-in-Cut
-returns-in-Cut g c source =
-    work_cut c.args.job.now c.loop.working.content c.args.working.now.content _ _ _ _ _ _ _ _ c.loop.counter c.in-Cut.count
-    c.advance.new.working.driver c.advance.new.working.client _ _ _ _ _ _ c.loop.invariant.content c.loop.invariant.way c.in-Cut.ensures.advanced
+pub returns-in-Cut-clause-worked : goal.returns-in-Cut-clause-worked
+returns-in-Cut-clause-worked g c source =
+    work_cut (command_of c.args.job.now (bytes_of c.args.content.now)) _ _ _ _ _ _ _ _ c.loop.counter c.in-Cut.count
+    c.advance.new.session _ _ _ _ _ _ c.loop.invariant.way c.in-Cut.ensures.advanced
     ((c.in-Cut.ensures.cause 0).2 ∙ c.loop.invariant.link) ((c.in-Cut.ensures.cause 0).3 ∙ c.loop.invariant.clock) c.loop.invariant.sink
     (c.in-Cut.ensures.cause 0).0 (c.in-Cut.ensures.cause 0).1 refl
 
-pub returns : goal.returns
-returns g c source =
-    work_spent (command_of c.args.job.now (bytes_of c.args.working.now.content)) _ _ _ _ _ _ _ c.loop.counter _ _ _ _ _ c.status_of.result _
+pub returns-clause-worked : goal.returns-clause-worked
+returns-clause-worked g c source =
+    work_spent (command_of c.args.job.now (bytes_of c.args.content.now)) _ _ _ _ _ _ _ c.loop.counter _ _ _ _ _ c.status_of.result _
     c.loop.invariant.way c.loop.invariant.link c.loop.invariant.clock c.loop.invariant.sink c.loop.auto.counter-end c.loop-test.false c.status_of.ensures
     c.close-2.ensures

@@ -8,20 +8,20 @@ use Rattle.client_jobs.proofs.running.work.Given as goal
 abbrev pub invariant-loop : goal.invariant-loop
 invariant-loop g l =
     record {
-      asks : CanAsk l.working.client;
-      content : l.working.content ≡ l.fn.working.content;
+      asks : CanAsk l.session.client;
+      turns : l.session.driver.listener.turns ≡ l.fn.session.driver.listener.turns;
       link : g.L.Link.fault_count l.link ≡ g.L.Link.fault_count l.fn.link;
       clock : g.C.Clock.fault_count l.clock ≡ g.C.Clock.fault_count l.fn.clock;
       sink : g.K.Sink.fault_count l.out ≡ g.K.Sink.fault_count l.fn.out;
       way :
-          IsUnderWay (command_of l.job (bytes_of l.fn.working.content))
+          IsUnderWay (command_of l.job (bytes_of l.content))
           (record {
             to_come = g.L.Link.given l.fn.link;
             sent = g.L.Link.sent l.fn.link;
             losses = g.L.Link.loss_count l.fn.link;
             to_read = g.C.Clock.readings l.fn.clock;
           })
-          (record { driver = l.fn.working.driver; client = l.fn.working.client; stage = begins l.job.order })
+          (record { session = l.fn.session; stage = begins l.job.order })
           (g.K.Sink.held l.fn.out) l.counter
           (record {
             to_come = g.L.Link.given l.link;
@@ -29,5 +29,5 @@ invariant-loop g l =
             losses = g.L.Link.loss_count l.link;
             to_read = g.C.Clock.readings l.clock;
           })
-          (record { driver = l.working.driver; client = l.working.client; stage = l.stage }) (g.K.Sink.held l.out);
+          (record { session = l.session; stage = l.stage }) (g.K.Sink.held l.out);
     }

@@ -1,0 +1,4 @@
+pub mod Opened
+pub mod Parted
+pub mod Registered
+pub mod Led
