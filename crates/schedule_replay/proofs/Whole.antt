@@ -64,7 +64,7 @@ lines_after room old new l is =
     ∙ ap (λ (ls : List Line). ls ++ l ∷ []) (sym (ap (λ (n : Next). (so_far n).lines) is.finished_in) ∙ grows.same)
 
 -- the world after one more
-world_after : (room : Room) (old new : Standing) (l : Line) → IsDone room old l new → new.world ≡ after room old.world l
+pub world_after : (room : Room) (old new : Standing) (l : Line) → IsDone room old l new → new.world ≡ after room old.world l
 unfolding after
 world_after room old new l is =
     ap (λ (s : Standing). s.world) is.after_it ∙ sym (ap (λ (n : Next). with_line (so_far n) l) is.finished_in)

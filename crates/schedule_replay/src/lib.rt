@@ -9,3 +9,4 @@ mod replaying;
 mod step;
 
 pub use replaying::replay;
+pub use step::status_of;

@@ -14,7 +14,7 @@ use world_hull::{Hull, WorldErr};
 use xt_messages::Status;
 
 /// The status with which a line ends a replay that isn't done.
-fn status_of(number: u64, error: WorldErr) -> Status
+pub fn status_of(number: u64, error: WorldErr) -> Status
     ensures { result ≡ status_for number error }
 {
     match error {

@@ -1,0 +1,37 @@
+ghost use Rattle.std.specs.Prelude.{◌≡◌, ◌≢◌, false, MatchResult};
+ghost use Rattle.xt_messages.specs.declared.status.Status.TheVariants as status;
+ghost use Rattle.time_line.specs.Bounds.{AreLines};
+ghost use Rattle.cluster_runs.specs.World.{start_world};
+ghost use Rattle.cluster_runs.specs.Runs.{run_of};
+ghost use Rattle.schedule_replay.specs.Replay.{AreDoneFrom};
+ghost use Rattle.make_job.specs.Make.{EndsWith};
+
+use cluster_core::World;
+use node_hosts::NodeCore;
+use schedule_replay::status_of;
+use time_line::Line;
+use world_hull::Hull;
+use xt_messages::Status;
+
+/// Replays these lines, one after the other, over a world that begins. An error is the status with which the first line that isn't
+/// done ends the replay.
+pub fn replay_lines<C: NodeCore, H: Hull>(
+    world: &mut World<C, H>,
+    lines: &[Line],
+) -> Result<(), Status>
+    requires start { world.old.world ≡ start_world }
+    requires going { world.old.ended ≡ false }
+    requires values { AreLines lines.now }
+    ensures { MatchResult result
+        (λ _. AreDoneFrom H.room start_world lines.now ×
+        (world.new.world ≡ run_of H.room lines.now))
+        (λ s. EndsWith H.room lines.now s × (s ≢ status.Done)) }
+{
+    for line in lines {
+        let number = world.lines().len() as u64 + 1;
+        if let Err(error) = world.apply(line) {
+            return Err(status_of(number, error));
+        }
+    }
+    Ok(())
+}
