@@ -1,0 +1,4 @@
+use Rattle.trace_drawing.proofs.words.+push_count.Given as goal
+
+abbrev pub decreases-push_count : goal.decreases-push_count
+decreases-push_count l = l.number

@@ -1,0 +1,34 @@
+//! `trace_picture [--file N]`: reads a trace, as `xtfs replay` prints it, from its standard input, and writes a picture of it, of all or of
+//! file N alone, as an SVG to its standard output.
+//!
+//! `main` makes what stands for the standard streams, and ends with the status of `run`; its last line goes to standard error.
+#![tactic(auto)]
+
+mod picturing;
+mod words;
+
+use node_links::{StdinSource, StdoutSink};
+use picturing::{run, tell};
+use std::process::ExitCode;
+use std::{env, io};
+use xt_base::Words;
+use xt_messages::Status;
+
+fn main(rt: HostRuntime) -> io::Result<ExitCode> {
+    let alloc = rt.alloc();
+    let mut words = Words::new(alloc);
+    let mut args = env::args(&rt)?;
+    let _name = args.next();
+    for word in args {
+        words.push(alloc, word.as_str())?;
+    }
+    let mut source = StdinSource::new(alloc, rt.reader())?;
+    let mut sink = StdoutSink::new(io::writer(&rt));
+    let status = run(alloc, words.as_slice(), &mut source, &mut sink);
+    let mut told = StdoutSink::new(rt.stderr());
+    tell(alloc, &mut told, &status);
+    if matches!(&status, Status::Usage) {
+        let _told = eprintln!(rt; "usage: trace_picture [--file N] <TRACE >PICTURE.svg");
+    }
+    Ok(ExitCode::from(status.code()))
+}
