@@ -166,8 +166,9 @@ for line in MALFORMED_FIRST:
 check("no line feed", replay(b"osd 46\nosd 47"), 3, b"! malformed 2\n")
 check("too many lines", replay(b"osd 1\n" * 1 + b"settle 0\n" * 65_536), 15, b"! limit lines 65536\n")
 
-for words in ([], ["replays"], ["replay", "replay"]):
-    check(f"the words {words}", run(words, stdin=subprocess.DEVNULL), 2, b"! usage\n")
+for words in ([], ["replays"], ["replay", "replay"], [b"\xff"], [b"replay", b"\xc3\x28"], ["make", "7", "4097"]):
+    # the help that goes to standard error is no matter here
+    check(f"the words {words}", run(words, stdin=subprocess.DEVNULL, stderr=subprocess.DEVNULL), 2, b"! usage\n")
 
 
 def from_halting(front):

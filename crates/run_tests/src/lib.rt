@@ -5,7 +5,7 @@
 #[cfg(test)]
 mod tests {
     use disk_model::MemoryDisk;
-    use node_links::{FixedClock, MemoryLink, MemorySink, MemorySource, Readings};
+    use node_links::{FixedClock, MemoryLink, MemorySink, MemorySource, NoSpawner, Readings};
     use std::alloc::Global;
     use std::test::Fail;
     use std::thread::Threads;
@@ -42,25 +42,43 @@ mod tests {
         disk: MemoryDisk,
     }
 
-    /// Runs the program on a disk with these bytes, whose device calls of these numbers fail. Nothing comes over its link, and its clock
-    /// stands still.
+    /// The numbers of the calls that fail, of a disk and of a spawner.
+    #[derive(Clone, Copy)]
+    struct Failing {
+        device: &'static [u64],
+        child: &'static [u64],
+    }
+
+    /// No call fails.
+    const NONE: Failing = Failing {
+        device: &[],
+        child: &[],
+    };
+
+    fn calls(alloc: Global, numbers: &[u64]) -> Result<CallList, OutOfMemory> {
+        let mut calls = CallList::new(alloc);
+        for number in numbers {
+            calls.push(*number)?;
+        }
+        Ok(calls)
+    }
+
+    /// Runs the program on a disk with these bytes. Nothing comes over its link, and its clock stands still.
     fn ran<R: Threads + Sync>(
         rt: &R,
         alloc: Global,
         texts: &[&str],
         bytes: &[u8],
-        failing: &[u64],
+        failing: Failing,
     ) -> Result<Left, OutOfMemory> {
         let words = words(alloc, texts)?;
-        let mut calls = CallList::new(alloc);
-        for call in failing {
-            calls.push(*call)?;
-        }
-        let disk = MemoryDisk::new(alloc, Octets::of(alloc, bytes)?, calls, None);
+        let failing_calls = calls(alloc, failing.device)?;
+        let disk = MemoryDisk::new(alloc, Octets::of(alloc, bytes)?, failing_calls, None);
         let mut source = MemorySource::new(Octets::new(alloc), 4_096, CallList::new(alloc));
         let mut sink = MemorySink::new(alloc, 4_096, CallList::new(alloc))?;
         let mut link = MemoryLink::new(alloc, Seq::new(alloc), 1 << 20, CallList::new(alloc));
         let mut clock = FixedClock::new(Readings::new(alloc), CallList::new(alloc));
+        let mut spawner = NoSpawner::new(alloc, calls(alloc, failing.child)?);
         let (status, disk) = run(
             rt,
             alloc,
@@ -70,6 +88,7 @@ mod tests {
             &mut link,
             disk,
             &mut clock,
+            &mut spawner,
         );
         Ok(Left { status, sink, disk })
     }
@@ -82,7 +101,7 @@ mod tests {
 
     #[test]
     fn an_osd_serves_and_keeps_its_boot(rt: HostRuntime) -> Result<(), Fail> {
-        let left = ran(&rt, rt.alloc(), OSD, ONE, &[])?;
+        let left = ran(&rt, rt.alloc(), OSD, ONE, NONE)?;
         assert_eq!(rt; left.sink.as_slice(), b"ready 1\n! turns 3\n".as_slice());
         assert_eq!(rt; left.status.code(), 11);
         assert_eq!(rt; left.disk.image()?.as_slice(), TWO);
@@ -92,7 +111,7 @@ mod tests {
     #[test]
     fn a_client_takes_its_turns(rt: HostRuntime) -> Result<(), Fail> {
         let get = &["get", "/v/a", "--dir", "a:1", "--turns", "3"];
-        let left = ran(&rt, rt.alloc(), get, &[], &[])?;
+        let left = ran(&rt, rt.alloc(), get, &[], NONE)?;
         assert_eq!(rt; left.sink.as_slice(), b"! turns 3\n".as_slice());
         assert_eq!(rt; left.status.code(), 11);
         Ok(())
@@ -101,11 +120,27 @@ mod tests {
     /// A node attaches its disk, and looks at it and syncs it in three calls more; the calls of its first append come then.
     #[test]
     fn a_failed_call_of_an_append_is_told(rt: HostRuntime) -> Result<(), Fail> {
-        for call in 5..9u64 {
-            let left = ran(&rt, rt.alloc(), OSD, ONE, &[call])?;
+        const CALLS: [&[u64]; 4] = [&[5], &[6], &[7], &[8]];
+        for device in CALLS {
+            let left = ran(&rt, rt.alloc(), OSD, ONE, Failing { device, child: &[] })?;
             assert_eq!(rt; left.sink.as_slice(), b"! disk 1\n".as_slice());
             assert_eq!(rt; left.status.code(), 5);
         }
+        Ok(())
+    }
+
+    #[test]
+    fn a_child_that_is_not_started_is_told(rt: HostRuntime) -> Result<(), Fail> {
+        let cluster = &[
+            "cluster", "--osds", "1", "--port", "7400", "--store", "s", "--key", "00",
+        ];
+        let failing = Failing {
+            device: &[],
+            child: &[1],
+        };
+        let left = ran(&rt, rt.alloc(), cluster, &[], failing)?;
+        assert_eq!(rt; left.sink.as_slice(), b"! child 1\n".as_slice());
+        assert_eq!(rt; left.status.code(), 10);
         Ok(())
     }
 }

@@ -1,37 +1,67 @@
-//! `xtfs`: replays a schedule, judges a trace, serves a node, or carries out a client command, as the words of the command line ask.
+//! `xtfs`: replays a schedule, judges a trace, serves a node, carries out a client command, or does all that a cluster is, as the words of
+//! the command line ask.
 //!
-//! `main` makes what stands for the standard streams, a socket, a file and the clock of this machine, and ends with the status of
-//! `xtfs_run::run`, which does all that the program does. Where words are refused, the commands are told on standard error.
+//! `main` makes what stands for the standard streams, a socket, a file, the clock of this machine and its processes, and ends with the status
+//! of `xtfs_run::run`, which does all that the program does. Where words are refused, the commands are told on standard error.
 #![tactic(auto)]
 
 use command_words::help_text;
 use disk_model::FileDisk;
-use node_links::{StdinSource, StdoutSink, SystemClock, UdpLink};
+use node_links::{ChildSpawner, StdinSource, StdoutSink, SystemClock, UdpLink};
+use std::env;
+use std::io::{self, ErrorKind};
 use std::process::ExitCode;
-use std::{env, io};
 use xt_base::Words;
 use xt_messages::Status;
 use xtfs_run::run;
 
 /// Tells on standard error what the commands are.
 fn help(rt: &HostRuntime) -> io::Result<()> {
-    eprint!(rt; "{}", help_text(rt.alloc())?)?;
-    eprintln!(rt; "make and cluster aren't built yet.")
+    eprint!(rt; "{}", help_text(rt.alloc())?)
 }
 
-fn main(rt: HostRuntime) -> io::Result<ExitCode> {
+/// How the program was called: what it is called by, and the words after that.
+#[derive(Drop)]
+struct CommandLine {
+    program: String,
+    words: Words,
+}
+
+/// Reads the command line. Where one of its words isn't UTF-8 there are none, which ask for nothing either. An error is want of memory.
+fn read_command_line(rt: &HostRuntime) -> io::Result<CommandLine> {
     let alloc = rt.alloc();
+    let mut program = String::new(alloc);
     let mut words = Words::new(alloc);
-    let mut args = env::args(&rt)?;
-    let _name = args.next();
+    let mut args = match env::args(rt) {
+        Ok(args) => args,
+        Err(error) if error.kind() == ErrorKind::InvalidData => {
+            return Ok(CommandLine { program, words });
+        }
+        Err(error) => return Err(error),
+    };
+    if let Some(name) = args.next() {
+        program = name;
+    }
     for word in args {
         words.push(alloc, word.as_str())?;
     }
-    let mut source = StdinSource::new(alloc, rt.reader())?;
+    Ok(CommandLine { program, words })
+}
+
+fn main(rt: HostRuntime) -> ExitCode {
+    let alloc = rt.alloc();
+    let (Ok(CommandLine { program, words }), Ok(mut source)) = (
+        read_command_line(&rt),
+        StdinSource::new(alloc, rt.reader()),
+    ) else {
+        // Memory ran out before anything was done.
+        return ExitCode::from(Status::OutOfMemory.code());
+    };
     let mut sink = StdoutSink::new(io::writer(&rt));
     let mut link = UdpLink::new(alloc, &rt);
     let mut clock = SystemClock::new(&rt);
     let disk = FileDisk::new(&rt);
+    let mut spawner = ChildSpawner::new(alloc, &rt, program);
     let (status, _disk) = run(
         &rt,
         alloc,
@@ -41,10 +71,11 @@ fn main(rt: HostRuntime) -> io::Result<ExitCode> {
         &mut link,
         disk,
         &mut clock,
+        &mut spawner,
     );
     if matches!(&status, Status::Usage) {
         // The status stands, whether or not anybody can be told more.
         let _told = help(&rt);
     }
-    Ok(ExitCode::from(status.code()))
+    ExitCode::from(status.code())
 }

@@ -1,6 +1,6 @@
 -- what words ask for, and what is done
-use Rattle.std.proofs.Common.{◌≡◌, ◌≤◌, lit≤, ℕ, List, Option, Some, None, sym, subst}
-use Rattle.asked_jobs.specs.Asking.{IsWithin, IsClientWithin, EndsInFile}
+use Rattle.std.proofs.Common.{◌≡◌, ◌≤◌, lit≤, ℕ, Option, Some, None, subst}
+use Rattle.asked_jobs.specs.Asking.{IsWithin, IsClientWithin, IsClusterWithin, EndsInFile}
 use Rattle.client_plans.specs.Plans.{end_of}
 use Rattle.command_words.specs.declared.job.ClientJob.{ClientJob}
 use Rattle.command_words.specs.declared.job.ClusterJob.{ClusterJob}
@@ -9,21 +9,21 @@ use Rattle.command_words.specs.declared.job.Order.TheVariants as order
 use Rattle.command_words.specs.declared.job.Job.{Job}
 use Rattle.command_words.specs.declared.job.Job.TheVariants as job
 use Rattle.xt_messages.specs.declared.status.Status.{Status}
+use Rattle.node_jobs.specs.Disks.{Medium}
 use Rattle.xtfs_run.specs.Around.{Environment}
-use Rattle.xtfs_run.specs.Doing.{Does, IsRefused}
+use Rattle.xtfs_run.specs.Doing.{Does}
 
-pub as_asked : {D : Type 0} {before after : Environment D} {said : Status} (given asked : Option Job) → given ≡ asked
-    → Does given before after said → Does asked before after said
-as_asked {D} {before} {after} {said} given asked same does = subst (λ (o : Option Job). Does o before after said) same does
+pub as_asked : {D : Type 0} {m : Medium D} {before after : Environment D} {said : Status} (given asked : Option Job) → given ≡ asked
+    → Does m given before after said → Does m asked before after said
+as_asked {D} {m} {before} {after} {said} given asked same does = subst (λ (o : Option Job). Does m o before after said) same does
 
-pub none_refused : (asked : Option Job) → None ≡ asked → IsRefused asked
-none_refused asked none = subst IsRefused none tt
+-- a size that words ask for is within its range
+pub size_within : (asked : Job) (number size : ℕ) → asked ≡ job.Make number size → IsWithin asked → size ≤ 4096
+size_within asked number size is within = subst IsWithin is within
 
-pub make_refused : (asked : Job) (number size : ℕ) → asked ≡ job.Make number size → IsRefused (Some asked)
-make_refused asked number size is = subst (λ (j : Job). IsRefused (Some j)) (sym is) tt
-
-pub cluster_refused : (asked : Job) (cluster : ClusterJob) → asked ≡ job.Cluster cluster → IsRefused (Some asked)
-cluster_refused asked cluster is = subst (λ (j : Job). IsRefused (Some j)) (sym is) tt
+-- a cluster that words ask for is within its ranges
+pub cluster_within : (asked : Job) (cluster : ClusterJob) → asked ≡ job.Cluster cluster → IsWithin asked → IsClusterWithin cluster
+cluster_within asked cluster is within = subst IsWithin is within
 
 -- a client command that words ask for is within its ranges
 pub client_within : (asked : Job) (client : ClientJob) → asked ≡ job.Client client → IsWithin asked → IsClientWithin client

@@ -5,6 +5,7 @@ use Rattle.xt_base.specs.declared.ids.NodeId.{NodeId}
 use Rattle.xt_messages.specs.declared.status.Status.{Status}
 use Rattle.xt_messages.specs.declared.status.Status.TheVariants as status
 use Rattle.command_words.specs.declared.job.ClientJob.{ClientJob}
+use Rattle.command_words.specs.declared.job.ClusterJob.{ClusterJob}
 use Rattle.command_words.specs.declared.job.Serving.{Serving}
 use Rattle.command_words.specs.declared.job.Job.{Job}
 use Rattle.command_words.specs.declared.job.Job.TheVariants as job
@@ -12,17 +13,15 @@ use Rattle.schedule_lines.specs.Causes.{HasCause, CausesEnd}
 use Rattle.schedule_lines.specs.Putting.{IsFinished}
 use Rattle.trace_audit.specs.Audit.{IsAudit, Completes}
 use Rattle.xtfs_job.specs.Job.{IsReplayJob}
-use Rattle.node_jobs.specs.Jobs.{Outside}
+use Rattle.node_disks.specs.Room.{journal_room}
+use Rattle.make_job.specs.Make.{IsMake}
+use Rattle.node_jobs.specs.Disks.{Medium}
+use Rattle.node_jobs.specs.Jobs.{NodeJob}
+use Rattle.node_jobs.specs.Roles.{dir_job, mrc_job, osd_job}
 use Rattle.client_jobs.specs.Running.{IsClientJob}
-use Rattle.xtfs_run.specs.Around.{Environment, IsUnread, IsAlone, outside, around, counts}
-use Rattle.xtfs_run.specs.Nodes.{NodeCounts, IsNodeCommand, IsDirJob, IsMrcJob, IsOsdJob}
-
--- words that match no command or have a value out of its range, and the commands that aren't there yet
-abbrev pub IsRefused : Option Job → Type 0
-IsRefused None = Unit {0}
-IsRefused (Some (job.Make number size)) = Unit {0}
-IsRefused (Some (job.Cluster cluster)) = Unit {0}
-IsRefused (Some _) = ⊥
+use Rattle.cluster_job.specs.Cluster.{IsClusterJob}
+use Rattle.xtfs_run.specs.Around.{Environment, IsUnread, IsAlone, IsChildless, outside, around, counts, moment}
+use Rattle.xtfs_run.specs.Nodes.{NodeCounts, IsNodeCommand}
 
 module _ {D : Type 0} where
   -- the last line of a status is put, and nothing else is done
@@ -47,31 +46,48 @@ module _ {D : Type 0} where
         → Completes before.left before.held after.held said
     pub alone : IsAlone before after
 
+  pub record Makes (number size : ℕ) (before after : Environment D) (said : Status) : Type 0 where
+    -- the generated schedule is replayed, over journals of a limited length, and its trace is audited and counted
+    pub make : IsMake journal_room number size before.held after.held before.sink_faults after.sink_faults said
+    pub unread : IsUnread before after
+    pub alone : IsAlone before after
+
   abbrev pub node_counts : Environment D → NodeCounts
   node_counts e = record { link = e.link_faults; clock = e.clock_faults; sink = e.sink_faults }
 
   -- a node serves, whatever its job is
-  pub record Serves (IsJob : Outside → Outside → Status → Type 0) (before after : Environment D) (said : Status) : Type 0 where
-    pub node : IsNodeCommand IsJob (outside before) (outside after) (node_counts before) (node_counts after) said
+  pub record Serves {S : Type 0} (m : Medium D) (job : NodeJob S) (before after : Environment D) (said : Status) : Type 0 where
+    pub node : IsNodeCommand m job (outside before) (outside after) (node_counts before) (node_counts after) said
     pub unread : IsUnread before after
+    pub childless : IsChildless before after
 
   pub record Commands (client : ClientJob) (before after : Environment D) (said : Status) : Type 0 where
     pub command : IsClientJob client (around before) (around after) before.left after.left before.held after.held
         before.sink_faults after.sink_faults (counts before) (counts after) said
     pub disk : after.disk ≡ before.disk
+    pub childless : IsChildless before after
 
-  -- What the program does, by what its words ask for, and the status with which it ends.
-  pub data Does (asked : Option Job) (before after : Environment D) (said : Status) : Type 0 where
+  pub record Clusters (asked : ClusterJob) (before after : Environment D) (said : Status) : Type 0 where
+    -- its nodes are started, registered and in the end stopped, and each line of its source is a client command
+    pub cluster : IsClusterJob asked (moment before) (moment after) said
+    pub disk : after.disk ≡ before.disk
+
+  -- What the program does with a disk, by what its words ask for, and the status with which it ends.
+  pub data Does (m : Medium D) (asked : Option Job) (before after : Environment D) (said : Status) : Type 0 where
     -- memory ran out as the words were read
-    words_unread : OnlyTells status.OutOfMemory before after said → Does asked before after said
-    refuses : IsRefused asked → OnlyTells status.Usage before after said → Does asked before after said
-    replays : asked ≡ Some job.Replay → Replays before after said → Does asked before after said
-    audits : asked ≡ Some job.Audit → Audits before after said → Does asked before after said
+    words_unread : OnlyTells status.OutOfMemory before after said → Does m asked before after said
+    -- words that match no command, or have a value out of its range
+    refuses : asked ≡ None → OnlyTells status.Usage before after said → Does m asked before after said
+    replays : asked ≡ Some job.Replay → Replays before after said → Does m asked before after said
+    audits : asked ≡ Some job.Audit → Audits before after said → Does m asked before after said
+    makes : (number size : ℕ) → asked ≡ Some (job.Make number size) → Makes number size before after said → Does m asked before after said
     serves_directory : (serving : Serving) → asked ≡ Some (job.Dir serving)
-        → Serves (IsDirJob serving) before after said → Does asked before after said
+        → Serves m (dir_job serving) before after said → Does m asked before after said
     serves_metadata : (directory : List ℕ) (serving : Serving) → asked ≡ Some (job.Mrc directory serving)
-        → Serves (IsMrcJob directory serving) before after said → Does asked before after said
+        → Serves m (mrc_job directory serving) before after said → Does m asked before after said
     serves_osd : (id : NodeId) (directory : List ℕ) (serving : Serving) → asked ≡ Some (job.Osd id directory serving)
-        → Serves (IsOsdJob id directory serving) before after said → Does asked before after said
+        → Serves m (osd_job id directory serving) before after said → Does m asked before after said
+    clusters : (cluster : ClusterJob) → asked ≡ Some (job.Cluster cluster)
+        → Clusters cluster before after said → Does m asked before after said
     commands : (client : ClientJob) → asked ≡ Some (job.Client client)
-        → Commands client before after said → Does asked before after said
+        → Commands client before after said → Does m asked before after said

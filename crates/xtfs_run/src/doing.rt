@@ -2,14 +2,17 @@ ghost use Rattle.std.specs.Prelude.{◌≡◌, false, Some};
 ghost use Rattle.command_words.specs.Jobs.{job_of};
 ghost use Rattle.command_words.specs.Worked.{usual};
 ghost use Rattle.asked_jobs.specs.Asking.{IsWithin};
+ghost use Rattle.node_jobs.specs.Disks.{medium};
 ghost use Rattle.xtfs_run.specs.Doing.{Does};
 
 use crate::serving::{run_directory, run_metadata, run_osd};
 use asked_jobs::asked_job;
 use client_jobs::run_client;
+use cluster_job::run_cluster;
 use command_words::Job;
 use disk_model::Disk;
-use node_links::{Clock, Link, Sink, Source};
+use make_job::make;
+use node_links::{Clock, Link, Sink, Source, Spawner};
 use par_halves::NoGate;
 use schedule_lines::finish;
 use std::alloc::Global;
@@ -20,7 +23,7 @@ use xt_messages::Status;
 use xtfs_job::run_replay;
 
 /// Does a job that words ask for.
-fn do_job<R: Threads + Sync, S: Source, K: Sink, L: Link, D: Disk, C: Clock>(
+fn do_job<R: Threads + Sync, S: Source, K: Sink, L: Link, D: Disk, C: Clock, P: Spawner>(
     rt: &R,
     alloc: Global,
     job: &Job,
@@ -29,9 +32,11 @@ fn do_job<R: Threads + Sync, S: Source, K: Sink, L: Link, D: Disk, C: Clock>(
     link: &mut L,
     disk: D,
     clock: &mut C,
+    spawner: &mut P,
 ) -> (Status, D)
     requires { IsWithin job.now }
-    ensures { Does (Some job.now)
+    ensures { Does (medium D.is_told D.kept D.moment D.left_since D.fault_count)
+        (Some job.now)
         (record {
           left = S.left src.old;
           held = K.held out.old;
@@ -40,10 +45,12 @@ fn do_job<R: Threads + Sync, S: Source, K: Sink, L: Link, D: Disk, C: Clock>(
           losses = L.loss_count link.old;
           readings = C.readings clock.old;
           disk = disk;
+          calls = P.calls spawner.old;
           source_faults = S.fault_count src.old;
           sink_faults = K.fault_count out.old;
           link_faults = L.fault_count link.old;
           clock_faults = C.fault_count clock.old;
+          child_faults = P.fault_count spawner.old;
         })
         (record {
           left = S.left src.new;
@@ -53,10 +60,12 @@ fn do_job<R: Threads + Sync, S: Source, K: Sink, L: Link, D: Disk, C: Clock>(
           losses = L.loss_count link.new;
           readings = C.readings clock.new;
           disk = result.1;
+          calls = P.calls spawner.new;
           source_faults = S.fault_count src.new;
           sink_faults = K.fault_count out.new;
           link_faults = L.fault_count link.new;
           clock_faults = C.fault_count clock.new;
+          child_faults = P.fault_count spawner.new;
         })
         result.0 }
 {
@@ -69,14 +78,17 @@ fn do_job<R: Threads + Sync, S: Source, K: Sink, L: Link, D: Disk, C: Clock>(
             run_osd(alloc, *id, serving, dir, out, link, disk, clock)
         }
         Job::Client(client) => (run_client(alloc, client, src, out, link, clock), disk),
-        Job::Make { .. } => (finish(alloc, out, Status::Usage), disk),
-        Job::Cluster(_) => (finish(alloc, out, Status::Usage), disk),
+        Job::Make { number, size } => (make(rt, alloc, *number, *size, out, &NoGate), disk),
+        Job::Cluster(cluster) => {
+            let status = run_cluster(alloc, cluster, src, out, link, clock, spawner);
+            (status, disk)
+        }
     }
 }
 
 /// Does all that the program does, as its words ask, and hands the disk back. The link isn't bound and the disk has no file before: the job
-/// of a node binds the one and chooses the other.
-pub fn run<R: Threads + Sync, S: Source, K: Sink, L: Link, D: Disk, C: Clock>(
+/// of a node binds the one and chooses the other. The spawner starts this program again, for the nodes of a cluster.
+pub fn run<R: Threads + Sync, S: Source, K: Sink, L: Link, D: Disk, C: Clock, P: Spawner>(
     rt: &R,
     alloc: Global,
     words: &Words,
@@ -85,8 +97,10 @@ pub fn run<R: Threads + Sync, S: Source, K: Sink, L: Link, D: Disk, C: Clock>(
     link: &mut L,
     disk: D,
     clock: &mut C,
+    spawner: &mut P,
 ) -> (Status, D)
-    ensures { Does (job_of usual false words.now)
+    ensures { Does (medium D.is_told D.kept D.moment D.left_since D.fault_count)
+        (job_of usual false words.now)
         (record {
           left = S.left src.old;
           held = K.held out.old;
@@ -95,10 +109,12 @@ pub fn run<R: Threads + Sync, S: Source, K: Sink, L: Link, D: Disk, C: Clock>(
           losses = L.loss_count link.old;
           readings = C.readings clock.old;
           disk = disk;
+          calls = P.calls spawner.old;
           source_faults = S.fault_count src.old;
           sink_faults = K.fault_count out.old;
           link_faults = L.fault_count link.old;
           clock_faults = C.fault_count clock.old;
+          child_faults = P.fault_count spawner.old;
         })
         (record {
           left = S.left src.new;
@@ -108,15 +124,17 @@ pub fn run<R: Threads + Sync, S: Source, K: Sink, L: Link, D: Disk, C: Clock>(
           losses = L.loss_count link.new;
           readings = C.readings clock.new;
           disk = result.1;
+          calls = P.calls spawner.new;
           source_faults = S.fault_count src.new;
           sink_faults = K.fault_count out.new;
           link_faults = L.fault_count link.new;
           clock_faults = C.fault_count clock.new;
+          child_faults = P.fault_count spawner.new;
         })
         result.0 }
 {
     match asked_job(alloc, words) {
-        Ok(Some(job)) => do_job(rt, alloc, &job, src, out, link, disk, clock),
+        Ok(Some(job)) => do_job(rt, alloc, &job, src, out, link, disk, clock, spawner),
         Ok(None) => (finish(alloc, out, Status::Usage), disk),
         Err(_) => (finish(alloc, out, Status::OutOfMemory), disk),
     }

@@ -1,7 +1,9 @@
 ghost use Rattle.std.specs.Prelude.{◌≡◌, ◌<◌, ◌≤◌};
 ghost use Rattle.asked_jobs.specs.Asking.{IsSecret};
 ghost use Rattle.client_jobs.specs.Running.{Closes, has_last_line};
-ghost use Rattle.xtfs_run.specs.Nodes.{IsNodeCommand, IsDirJob, IsMrcJob, IsOsdJob};
+ghost use Rattle.node_jobs.specs.Disks.{medium};
+ghost use Rattle.node_jobs.specs.Roles.{dir_job, mrc_job, osd_job};
+ghost use Rattle.xtfs_run.specs.Nodes.{IsNodeCommand};
 
 use command_words::Serving;
 use disk_model::Disk;
@@ -43,13 +45,15 @@ pub fn run_directory<K: Sink, L: Link, D: Disk, C: Clock>(
     clock: &mut C,
 ) -> (Status, D)
     requires { IsSecret serving.now.key }
-    ensures { IsNodeCommand (IsDirJob serving.now)
+    ensures { IsNodeCommand (medium D.is_told D.kept D.moment D.left_since D.fault_count)
+        (dir_job serving.now)
         (record {
           given = L.given link.old;
           sent = L.sent link.old;
           losses = L.loss_count link.old;
           readings = C.readings clock.old;
           held = K.held out.old;
+          disk = disk;
         })
         (record {
           given = L.given link.new;
@@ -57,6 +61,7 @@ pub fn run_directory<K: Sink, L: Link, D: Disk, C: Clock>(
           losses = L.loss_count link.new;
           readings = C.readings clock.new;
           held = K.held out.new;
+          disk = result.1;
         })
         (record {
           link = L.fault_count link.old;
@@ -85,13 +90,15 @@ pub fn run_metadata<K: Sink, L: Link, D: Disk, C: Clock>(
     clock: &mut C,
 ) -> (Status, D)
     requires { IsSecret serving.now.key }
-    ensures { IsNodeCommand (IsMrcJob dir.now serving.now)
+    ensures { IsNodeCommand (medium D.is_told D.kept D.moment D.left_since D.fault_count)
+        (mrc_job dir.now serving.now)
         (record {
           given = L.given link.old;
           sent = L.sent link.old;
           losses = L.loss_count link.old;
           readings = C.readings clock.old;
           held = K.held out.old;
+          disk = disk;
         })
         (record {
           given = L.given link.new;
@@ -99,6 +106,7 @@ pub fn run_metadata<K: Sink, L: Link, D: Disk, C: Clock>(
           losses = L.loss_count link.new;
           readings = C.readings clock.new;
           held = K.held out.new;
+          disk = result.1;
         })
         (record {
           link = L.fault_count link.old;
@@ -128,13 +136,15 @@ pub fn run_osd<K: Sink, L: Link, D: Disk, C: Clock>(
     clock: &mut C,
 ) -> (Status, D)
     requires { IsSecret serving.now.key }
-    ensures { IsNodeCommand (IsOsdJob id dir.now serving.now)
+    ensures { IsNodeCommand (medium D.is_told D.kept D.moment D.left_since D.fault_count)
+        (osd_job id dir.now serving.now)
         (record {
           given = L.given link.old;
           sent = L.sent link.old;
           losses = L.loss_count link.old;
           readings = C.readings clock.old;
           held = K.held out.old;
+          disk = disk;
         })
         (record {
           given = L.given link.new;
@@ -142,6 +152,7 @@ pub fn run_osd<K: Sink, L: Link, D: Disk, C: Clock>(
           losses = L.loss_count link.new;
           readings = C.readings clock.new;
           held = K.held out.new;
+          disk = result.1;
         })
         (record {
           link = L.fault_count link.old;

@@ -1,7 +1,7 @@
-use Rattle.std.proofs.Common.{Some, refl, ap, subst}
+use Rattle.std.proofs.Common.{rules, Some, refl, ap, subst}
 use Rattle.asked_jobs.specs.Asking.{IsWithin}
-use Rattle.xtfs_run.specs.Doing.{refuses, replays, audits, serves_directory, serves_metadata, serves_osd, commands}
-use Rattle.xtfs_run.proofs.Asked.{client_within, cluster_refused, ends_in_file, make_refused}
+use Rattle.xtfs_run.specs.Doing.{replays, audits, makes, serves_directory, serves_metadata, serves_osd, clusters, commands}
+use Rattle.xtfs_run.proofs.Asked.{client_within, cluster_within, ends_in_file, size_within}
 use Rattle.xtfs_run.proofs.doing.do_job.Goals as goal
 
 pub run_directory-requires : goal.run_directory-requires
@@ -30,6 +30,7 @@ returns-in-Replay g c =
         disk = refl;
         link_faults = refl;
         clock_faults = refl;
+        childless = record { calls = refl; faults = refl };
       };
     })
 
@@ -47,6 +48,7 @@ returns-in-Audit g c =
         disk = refl;
         link_faults = refl;
         clock_faults = refl;
+        childless = record { calls = refl; faults = refl };
       };
     })
 
@@ -55,6 +57,7 @@ returns-in-Dir g c =
     serves_directory c.in-Dir.serving (ap Some c.in-Dir.is) (record {
       node = c.run_directory.ensures;
       unread = record { left = refl; faults = refl };
+      childless = record { calls = refl; faults = refl };
     })
 
 pub returns-in-Mrc : goal.returns-in-Mrc
@@ -62,6 +65,7 @@ returns-in-Mrc g c =
     serves_metadata c.in-Mrc.dir c.in-Mrc.serving (ap Some c.in-Mrc.is) (record {
       node = c.run_metadata.ensures;
       unread = record { left = refl; faults = refl };
+      childless = record { calls = refl; faults = refl };
     })
 
 pub returns-in-Osd : goal.returns-in-Osd
@@ -69,17 +73,24 @@ returns-in-Osd g c =
     serves_osd c.in-Osd.id c.in-Osd.dir c.in-Osd.serving (ap Some c.in-Osd.is) (record {
       node = c.run_osd.ensures;
       unread = record { left = refl; faults = refl };
+      childless = record { calls = refl; faults = refl };
     })
 
 pub returns-in-Client : goal.returns-in-Client
 returns-in-Client g c =
-    commands c.in-Client.client (ap Some c.in-Client.is) (record { command = c.run_client.ensures; disk = refl })
+    commands c.in-Client.client (ap Some c.in-Client.is) (record {
+      command = c.run_client.ensures;
+      disk = refl;
+      childless = record { calls = refl; faults = refl };
+    })
+
+pub make-requires : goal.make-requires
+make-requires g c = (search rules, (search rules, size_within c.args.job.now c.in-Make.number c.in-Make.size c.in-Make.is c.requires))
 
 pub returns-in-Make : goal.returns-in-Make
 returns-in-Make g c =
-    refuses (make_refused c.args.job.now c.in-Make.number c.in-Make.size c.in-Make.is) (record {
-      finished = c.finish.ensures.finished;
-      cause = c.finish.ensures.cause;
+    makes c.in-Make.number c.in-Make.size (ap Some c.in-Make.is) (record {
+      make = c.make.ensures;
       unread = record { left = refl; faults = refl };
       alone = record {
         given = refl;
@@ -89,22 +100,22 @@ returns-in-Make g c =
         disk = refl;
         link_faults = refl;
         clock_faults = refl;
+        childless = record { calls = refl; faults = refl };
       };
     })
 
+pub run_cluster-status-requires-clause-turns : goal.run_cluster-status-requires-clause-turns
+run_cluster-status-requires-clause-turns g c = (cluster_within c.args.job.now c.in-Cluster.cluster c.in-Cluster.is c.requires).turns
+
+pub run_cluster-status-requires-clause-port : goal.run_cluster-status-requires-clause-port
+run_cluster-status-requires-clause-port g c = (cluster_within c.args.job.now c.in-Cluster.cluster c.in-Cluster.is c.requires).port.1
+
+pub run_cluster-status-requires-clause-some : goal.run_cluster-status-requires-clause-some
+run_cluster-status-requires-clause-some g c = (cluster_within c.args.job.now c.in-Cluster.cluster c.in-Cluster.is c.requires).secret.some
+
+pub run_cluster-status-requires-clause-short : goal.run_cluster-status-requires-clause-short
+run_cluster-status-requires-clause-short g c = (cluster_within c.args.job.now c.in-Cluster.cluster c.in-Cluster.is c.requires).secret.short
+
 pub returns-in-Cluster : goal.returns-in-Cluster
 returns-in-Cluster g c =
-    refuses (cluster_refused c.args.job.now c.in-Cluster.field-0 c.in-Cluster.is) (record {
-      finished = c.finish-in-Cluster.ensures.finished;
-      cause = c.finish-in-Cluster.ensures.cause;
-      unread = record { left = refl; faults = refl };
-      alone = record {
-        given = refl;
-        sent = refl;
-        losses = refl;
-        readings = refl;
-        disk = refl;
-        link_faults = refl;
-        clock_faults = refl;
-      };
-    })
+    clusters c.in-Cluster.cluster (ap Some c.in-Cluster.is) (record { cluster = c.run_cluster-status.ensures; disk = refl })

@@ -1,6 +1,6 @@
 use Rattle.std.proofs.Common.{◌∙◌, refl, sym}
 use Rattle.xtfs_run.specs.Doing.{words_unread, refuses}
-use Rattle.xtfs_run.proofs.Asked.{as_asked, none_refused}
+use Rattle.xtfs_run.proofs.Asked.{as_asked}
 use Rattle.xtfs_run.proofs.doing.run.Goals as goal
 
 pub returns-in-Ok-Some : goal.returns-in-Ok-Some
@@ -8,7 +8,7 @@ returns-in-Ok-Some g c = as_asked _ _ (sym c.in-Ok-Some.field-0-is ∙ c.in-Ok-S
 
 pub returns-in-Ok-None : goal.returns-in-Ok-None
 returns-in-Ok-None g c =
-    refuses (none_refused _ (sym c.in-Ok-None.field-0-is ∙ c.in-Ok-None.ensures.asked)) (record {
+    refuses (sym (sym c.in-Ok-None.field-0-is ∙ c.in-Ok-None.ensures.asked)) (record {
       finished = c.finish.ensures.finished;
       cause = c.finish.ensures.cause;
       unread = record { left = refl; faults = refl };
@@ -20,6 +20,7 @@ returns-in-Ok-None g c =
         disk = refl;
         link_faults = refl;
         clock_faults = refl;
+        childless = record { calls = refl; faults = refl };
       };
     })
 
@@ -37,5 +38,6 @@ returns-in-Err g c =
         disk = refl;
         link_faults = refl;
         clock_faults = refl;
+        childless = record { calls = refl; faults = refl };
       };
     })
