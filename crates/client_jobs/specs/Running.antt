@@ -300,10 +300,19 @@ abbrev pub HasWorked : Command → Around → Around → Standing → Session �
 HasWorked c from after start left held later sink risen before now ended =
     HasEnded c from after start left held later sink risen before now ended ⊎ IsCut c from after start left held later sink risen before now ended
 
--- it ends before its first operation: the link can't be bound, the clock can't be read, the source can't, or memory runs out
+-- why it ends before its first operation: the link can't be bound, the clock can't be read, the source can't, or memory runs out
+abbrev pub IsEarly : Status → Type 0
+IsEarly (status.LinkFault count) = Unit {0}
+IsEarly (status.ClockFault count) = Unit {0}
+IsEarly (status.SourceFault count) = Unit {0}
+IsEarly status.OutOfMemory = Unit {0}
+IsEarly _ = ⊥
+
+-- it ends so
 pub record EndsEarly (after : Around) (before : Around) (held later : Option (List ℕ)) (sink risen : ℕ) (counts now : Counts) (ended : Status) : Type 0 where
   pub quiet : (after.to_come ≡ before.to_come) × (after.sent ≡ before.sent) × (after.losses ≡ before.losses)
   pub why : Status
+  pub early : IsEarly why
   pub cause : HasWhy counts now why
   pub closes : Closes held later sink risen why ended
 

@@ -5,7 +5,7 @@ ghost use Rattle.client_plans.specs.Plans.{begins, end_of};
 ghost use Rattle.client_jobs.specs.Content.{bytes_of, HasReadCause};
 ghost use Rattle.client_jobs.specs.Running as spec;
 ghost use Rattle.client_loop.specs.Carrying.{Around};
-ghost use Rattle.client_jobs.specs.Running.{Command, Standing, Runs, IsPlanned, HasWhy, first_number, driver_of, client_of, IsContent, command_of, call_in, CannotCall, HasCalled, HasStepped, HasAdvanced, Ends, HasAdvanceCause, has_last_line, Closes, CanAsk, GoesOn, Begins, IsClientJob, HasWorked, starts_in};
+ghost use Rattle.client_jobs.specs.Running.{Command, Standing, Runs, IsPlanned, HasWhy, first_number, driver_of, client_of, IsContent, command_of, call_in, CannotCall, HasCalled, HasStepped, HasAdvanced, Ends, HasAdvanceCause, has_last_line, Closes, CanAsk, GoesOn, Begins, IsClientJob, HasWorked, starts_in, IsEarly};
 
 use crate::asking::operation_of;
 use crate::content::{Content, ReadErr, read_all};
@@ -81,7 +81,8 @@ pub fn status_of(error: DriveErr) -> Status
 
 /// The status of a source that isn't read to its end.
 fn unread(error: ReadErr) -> Status
-    ensures { (link clock : ℕ) (before later : ℕ) → HasReadCause before later error →
+    ensures early { IsEarly result }
+    ensures cause { (link clock : ℕ) (before later : ℕ) → HasReadCause before later error →
         HasWhy (record { link = link; clock = clock; source = before })
         (record { link = link; clock = clock; source = later }) result }
 {
@@ -106,6 +107,7 @@ fn content_of<S: Source>(alloc: Global, order: &Order, src: &mut S) -> Result<Co
     ensures content { IfOk result (λ content.
         IsContent order.now (S.left src.old) (S.left src.new) (bytes_of content)) }
     ensures sound { IfOk result (λ content. S.fault_count src.new ≡ S.fault_count src.old) }
+    ensures early { IfErr result IsEarly }
     ensures cause { (link clock : ℕ) → IfErr result (HasWhy
         (record { link = link; clock = clock; source = S.fault_count src.old })
         (record { link = link; clock = clock; source = S.fault_count src.new })) }
@@ -151,6 +153,7 @@ fn opened<L: Link, C: Clock>(link: &mut L, clock: &mut C) -> Result<u64, Status>
     ensures link_sound { IfOk result (λ reading. L.fault_count link.new ≡ L.fault_count link.old) }
     ensures clock_sound { IfOk result (λ reading.
         C.fault_count clock.new ≡ C.fault_count clock.old) }
+    ensures early { IfErr result IsEarly }
     ensures cause { (source : ℕ) → IfErr result (HasWhy
         (record {
           link = L.fault_count link.old;
@@ -194,6 +197,7 @@ fn begin<S: Source, L: Link, C: Clock>(
     ensures sound { IfOk result (λ begun. (L.fault_count link.new ≡ L.fault_count link.old)
         × (C.fault_count clock.new ≡ C.fault_count clock.old)
         × (S.fault_count src.new ≡ S.fault_count src.old)) }
+    ensures early { IfErr result IsEarly }
     ensures cause { IfErr result (HasWhy
         (record {
           link = L.fault_count link.old;

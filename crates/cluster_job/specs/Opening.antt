@@ -43,10 +43,12 @@ pub record HasOpened (job : ClusterJob) (before after : Around) (session : Sessi
   pub reads : OnlyReads before after (reading ∷ [])
   pub session_is : session ≡ session_at job reading
 
--- what was read then: memory runs out only after that
+-- What was read by then: memory runs out only after the clock was read.
 abbrev pub ReadsUntil : Around → Around → Status → Type 0
+ReadsUntil before after (status.LinkFault count) = OnlyReads before after []
+ReadsUntil before after (status.ClockFault count) = OnlyReads before after []
 ReadsUntil before after status.OutOfMemory = (reading : ℕ) × OnlyReads before after (reading ∷ [])
-ReadsUntil before after _ = OnlyReads before after []
+ReadsUntil before after _ = ⊥
 
 -- Why there is no end of the link: it isn't bound, the clock isn't read, or memory runs out.
 pub record CannotOpen (before after : Around) (counts now : Counts) (why : Status) : Type 0 where
