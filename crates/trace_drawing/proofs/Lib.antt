@@ -1,2 +1,4 @@
 mod Heights
 mod Times
+pub mod Extending
+mod Laid

@@ -1,1 +1,4 @@
 pub mod Edges
+pub mod Drawn
+pub mod PictureOf
+pub mod Scenes

@@ -1,6 +1,9 @@
 ghost use Rattle.std.specs.Prelude.{◌≡◌, ◌≤◌, ◌<◌, ◌↔◌, IfOk, length};
 ghost use Rattle.time_line.specs.TimeLine.{times_of};
 ghost use Rattle.trace_shapes.specs.WellFormed.{IsDocument};
+ghost use Rattle.trace_drawing.specs.Drawn.{AreNumbered};
+ghost use Rattle.trace_drawing.specs.PictureOf.{IsPictureOf};
+ghost use Rattle.trace_drawing.specs.Scenes.{IsLaidOut};
 
 use crate::ENTRIES;
 use crate::calls::node_of;
@@ -43,7 +46,7 @@ impl From<OutOfMemory> for DrawErr {
 const DRIFT: u64 = 1_000;
 
 /// The narrowest paper, in pixels.
-const NARROWEST: u64 = 680;
+const NARROWEST: u64 = 712;
 
 /// Where the legend begins, from the upper edge of the paper.
 const LEGEND: u64 = 82;
@@ -104,6 +107,7 @@ fn lay_out<'a>(
     lanes: Vec<Lane>,
 ) -> Result<Scene<'a>, OutOfMemory>
     requires { length entries.now ≤ ENTRIES }
+    ensures { IfOk result (λ scene. IsLaidOut entries.now only scene) }
 {
     let mut lanes = lanes;
     let files = files_of(alloc, entries, only)?;
@@ -197,7 +201,11 @@ fn draw_front(alloc: Global, scene: &Scene<'_>, sheet: &mut Sheet) -> Result<(),
 }
 
 /// Draws a picture.
-fn draw_scene(alloc: Global, scene: &Scene<'_>) -> Result<Picture, OutOfMemory> {
+fn draw_scene(alloc: Global, scene: &Scene<'_>) -> Result<Picture, OutOfMemory>
+    ensures { IfOk result (λ picture.
+        AreNumbered scene.now.heights.items scene.now.edges.items scene.now.bottom
+        (length scene.now.entries.now) picture.shapes.items) }
+{
     let mut sheet = Sheet::new(alloc);
     draw_front(alloc, scene, &mut sheet)?;
     draw_lanes(scene, &mut sheet, lanes_top(scene.size.x))?;
@@ -218,6 +226,7 @@ fn draw_scene(alloc: Global, scene: &Scene<'_>) -> Result<Picture, OutOfMemory> 
 pub fn draw(alloc: Global, entries: &[Entry], only: Option<u64>) -> Result<Octets, DrawErr>
     // It is one well-formed element.
     ensures document { IfOk result (λ text. IsDocument text) }
+    ensures rows { IfOk result (λ text. IsPictureOf entries.now only text) }
     ensures entries { (result ≡ Err DrawErr.TooManyEntries) ↔ (ENTRIES < length entries.now) }
 {
     if entries.len() > ENTRIES {

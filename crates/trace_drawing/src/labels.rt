@@ -71,6 +71,19 @@ fn push_place(out: &mut Vec<u8>, object: u64, at: u32) -> Result<(), OutOfMemory
     push_words(out, &[Word::Text(b" at "), Word::Count(u64::from(at))])
 }
 
+/// Appends how many bytes a read wants.
+fn push_wanted(out: &mut Vec<u8>, len: u32) -> Result<(), OutOfMemory> {
+    let bytes: &[u8] = if len == 1 { b" byte" } else { b" bytes" };
+    push_words(
+        out,
+        &[
+            Word::Text(b"read "),
+            Word::Count(u64::from(len)),
+            Word::Text(bytes),
+        ],
+    )
+}
+
 fn push_call(out: &mut Vec<u8>, call: &Call) -> Result<(), OutOfMemory> {
     match call {
         Call::Read {
@@ -79,7 +92,7 @@ fn push_call(out: &mut Vec<u8>, call: &Call) -> Result<(), OutOfMemory> {
             at,
             len,
         } => {
-            push_words(out, &[Word::Text(b"read "), Word::Count(u64::from(*len))])?;
+            push_wanted(out, *len)?;
             push_place(out, *object, *at)
         }
         Call::Write {

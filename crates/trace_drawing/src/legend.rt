@@ -40,7 +40,7 @@ const SAMPLES: [Sample; 12] = [
 ];
 
 /// How wide and how high a sample is.
-const WIDTH: u64 = 210;
+const WIDTH: u64 = 224;
 
 const HEIGHT: u64 = 24;
 
@@ -49,14 +49,14 @@ fn meaning(sample: Sample) -> &'static [u8] {
     match sample {
         Sample::Held => b"holds the file's lease",
         Sample::Active => b"is its active primary",
-        Sample::Issued => b"issues the write of this place",
+        Sample::Issued => b"issues write 1 of the file",
         Sample::Committed => b"commits it: a majority has it",
-        Sample::Answered => b"answers after so many writes",
+        Sample::Answered => b"answers after write 1",
         Sample::Gone => b"issued, and gone for good",
-        Sample::Found => b"issued, found by a primary",
+        Sample::Found => b"found by a later primary",
         Sample::Call => b"a call, to its end",
         Sample::Open => b"a call without an end",
-        Sample::Ask => b"what serves and answers a call",
+        Sample::Ask => b"serves and answers a call",
         Sample::Stop => b"stops or crashes",
         Sample::Tick => b"all clocks advance",
     }
@@ -100,17 +100,14 @@ fn draw_sample(sheet: &mut Sheet, sample: Sample, at: Point) -> Result<(), OutOf
 fn columns(width: u64) -> u64
     ensures { 1 ≤ result }
 {
-    (width / WIDTH).max(1)
+    (width.saturating_sub(2 * MARGIN) / WIDTH).max(1)
 }
 
 /// How high the legend is on a paper of this width.
 pub(crate) fn legend_height(width: u64) -> u64
     ensures { result ≤ 288 }
 {
-    (SAMPLES.len() as u64)
-        .div_ceil(columns(width))
-        .min(12)
-        .saturating_mul(HEIGHT)
+    (SAMPLES.len() as u64).div_ceil(columns(width)) * HEIGHT
 }
 
 /// Draws the legend from a height on.

@@ -1,3 +1,6 @@
+ghost use Rattle.std.specs.Prelude.{◌≡◌, ◌<◌, ◌+◌, ◌++◌, ◌∷◌, [], OnOk, length};
+ghost use Rattle.trace_drawing.specs.Drawn.{Extends, AreNumbered, numeral, middle_of};
+
 use crate::calls::{Fate, fate_of};
 use crate::lanes::Lane;
 use crate::nodes::Role;
@@ -10,7 +13,10 @@ use trace_shapes::{Point, Script, Style};
 use xt_base::{Octets, OutOfMemory};
 
 /// Draws the round mark of an entry on a lane's line.
-fn draw_dot(sheet: &mut Sheet, at: Point, entry: &Entry) -> Result<(), OutOfMemory> {
+#[tactic(auto, using(crate::proofs::Extending::again, crate::proofs::Extending::same))]
+fn draw_dot(sheet: &mut Sheet, at: Point, entry: &Entry) -> Result<(), OutOfMemory>
+    ensures { OnOk result (Extends sheet.old.shapes.items sheet.new.shapes.items) }
+{
     match entry {
         Entry::Up { .. } => sheet.circle(Style::Start, at, 5),
         Entry::Begin { .. } => sheet.circle(Style::Begin, at, 4),
@@ -28,13 +34,16 @@ fn issue_styles(fate: &Fate) -> (Style, Script) {
 }
 
 /// Draws the mark with the write's place that the entry names; where the words after it begin.
+#[tactic(auto, using(crate::proofs::Extending::again, crate::proofs::Extending::same))]
 fn draw_place(
     scene: &Scene<'_>,
     sheet: &mut Sheet,
     at: usize,
     place: Point,
     entry: &Entry,
-) -> Result<u64, OutOfMemory> {
+) -> Result<u64, OutOfMemory>
+    ensures { OnOk result (Extends sheet.old.shapes.items sheet.new.shapes.items) }
+{
     let (round, inside, count) = match entry {
         Entry::Active { file, count, .. } if *count > 0 => (
             Style::Active(scene.colour(*file)),
@@ -69,6 +78,7 @@ fn label_script(lane: &Lane, entry: &Entry) -> Script {
 }
 
 /// Draws an entry in its lane.
+#[tactic(auto, using(crate::proofs::Extending::again, crate::proofs::Extending::same))]
 fn draw_in_lane(
     alloc: Global,
     scene: &Scene<'_>,
@@ -76,7 +86,9 @@ fn draw_in_lane(
     lane: &Lane,
     at: usize,
     entry: &Entry,
-) -> Result<(), OutOfMemory> {
+) -> Result<(), OutOfMemory>
+    ensures { OnOk result (Extends sheet.old.shapes.items sheet.new.shapes.items) }
+{
     let y = scene.middle(at);
     draw_dot(sheet, Point { x: lane.axis, y }, entry)?;
     let place = Point {
@@ -99,13 +111,16 @@ fn draw_in_lane(
 }
 
 /// Draws an entry that stands in no lane.
+#[tactic(auto, using(crate::proofs::Extending::again, crate::proofs::Extending::same))]
 fn draw_across(
     alloc: Global,
     scene: &Scene<'_>,
     sheet: &mut Sheet,
     at: usize,
     entry: &Entry,
-) -> Result<(), OutOfMemory> {
+) -> Result<(), OutOfMemory>
+    ensures { OnOk result (Extends sheet.old.shapes.items sheet.new.shapes.items) }
+{
     let y = scene.middle(at);
     let (style, x) = match entry {
         Entry::Tick { .. } => (Script::Tick, MARGIN + 38),
@@ -138,25 +153,48 @@ fn draw_across(
 }
 
 /// Draws the number of an entry, and what it says.
+#[tactic(auto, using(crate::proofs::Extending::again))]
 fn draw_entry(
     alloc: Global,
     scene: &Scene<'_>,
     sheet: &mut Sheet,
     at: usize,
     entry: &Entry,
-) -> Result<(), OutOfMemory> {
-    sheet.write(
-        Script::Number,
-        Point {
-            x: MARGIN + 28,
-            y: scene.middle(at),
-        },
-        &[Word::Count((at as u64).saturating_add(1))],
-    )?;
+) -> Result<(), OutOfMemory>
+    requires { at < 18446744073709551615 }
+    ensures { OnOk result (Extends
+        (sheet.old.shapes.items ++
+        numeral (middle_of scene.now.edges.items scene.now.bottom at) (at + 1) ∷ [])
+        sheet.new.shapes.items) }
+{
+    sheet.number(scene.middle(at), at as u64 + 1)?;
     match scene.lane_of(entry) {
         Some(lane) => draw_in_lane(alloc, scene, sheet, lane, at, entry),
         None => draw_across(alloc, scene, sheet, at, entry),
     }
+}
+
+/// Draws an entry, where it has a row.
+#[tactic(auto, using(crate::proofs::Extending::numbered, crate::proofs::Extending::unnumbered))]
+fn draw_row(
+    alloc: Global,
+    scene: &Scene<'_>,
+    sheet: &mut Sheet,
+    at: usize,
+    entry: &Entry,
+) -> Result<(), OutOfMemory>
+    requires { at < 18446744073709551615 }
+    ensures { OnOk result
+        (AreNumbered scene.now.heights.items scene.now.edges.items scene.now.bottom at
+        sheet.old.shapes.items →
+        AreNumbered scene.now.heights.items scene.now.edges.items scene.now.bottom (at + 1)
+        sheet.new.shapes.items) }
+{
+    if !scene.is_shown(at) {
+        return Ok(());
+    }
+    draw_entry(alloc, scene, sheet, at, entry)?;
+    Ok(())
 }
 
 /// Draws the entries.
@@ -164,11 +202,13 @@ pub(crate) fn draw_entries(
     alloc: Global,
     scene: &Scene<'_>,
     sheet: &mut Sheet,
-) -> Result<(), OutOfMemory> {
-    for (at, entry) in scene.entries.iter().enumerate() {
-        if scene.is_shown(at) {
-            draw_entry(alloc, scene, sheet, at, entry)?;
-        }
+) -> Result<(), OutOfMemory>
+    ensures { OnOk result
+        (AreNumbered scene.now.heights.items scene.now.edges.items scene.now.bottom
+        (length scene.now.entries.now) sheet.new.shapes.items) }
+{
+    for at in 0..scene.entries.len() {
+        draw_row(alloc, scene, sheet, at, &scene.entries[at])?;
     }
     Ok(())
 }

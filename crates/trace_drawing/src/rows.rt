@@ -58,6 +58,7 @@ fn height(entry: &Entry) -> u64
 /// How high the row of the entry at this place is in a picture of this file, or of all: nothing where it isn't shown.
 fn row_height(entries: &[Entry], only: Option<u64>, lanes: &[Lane], at: usize, entry: &Entry) -> u64
     ensures low { result ≤ TICK_ROW }
+    ensures high { 0 < result → ROW ≤ result }
     ensures all { only ≡ None → ROW ≤ result }
 {
     match only {

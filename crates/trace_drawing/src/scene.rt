@@ -1,3 +1,6 @@
+ghost use Rattle.std.specs.Prelude.{◌≡◌, ◌<◌, nat_lt};
+ghost use Rattle.trace_drawing.specs.Drawn.{height_at, middle_of};
+
 use crate::calls::node_of;
 use crate::lanes::{Lane, SLOT};
 use time_line::Entry;
@@ -30,7 +33,7 @@ pub(crate) struct Scene<'a> {
 pub(crate) const MARGIN: u64 = 20;
 
 /// Where the lanes begin at the left.
-pub(crate) const LANES: u64 = 124;
+pub(crate) const LANES: u64 = 136;
 
 /// The colours of files, in the order in which they are named first.
 const COLOURS: [Colour; 6] = [
@@ -52,7 +55,10 @@ fn place_in(files: &[u64], file: u64) -> usize {
 
 impl<'a> Scene<'a> {
     /// The middle of the row of the entry at this place, or the end of the lanes after the last one.
-    pub(crate) fn middle(&self, at: usize) -> u64 {
+    pub(crate) fn middle(&self, at: usize) -> u64
+        ensures { at < 18446744073709551615 →
+            result ≡ middle_of self.now.edges.items self.now.bottom at }
+    {
         let upper = self.edges.get(at).copied();
         let lower = self.edges.get(at.saturating_add(1)).copied();
         match (upper, lower) {
@@ -61,7 +67,10 @@ impl<'a> Scene<'a> {
         }
     }
 
-    pub(crate) fn is_shown(&self, at: usize) -> bool {
+    /// Whether the entry at this place has a row.
+    pub(crate) fn is_shown(&self, at: usize) -> bool
+        ensures { result ≡ nat_lt 0 (height_at self.now.heights.items at) }
+    {
         self.heights.get(at).copied().unwrap_or(0) > 0
     }
 

@@ -1,7 +1,15 @@
+ghost use Rattle.std.specs.Prelude.{◌≡◌, ◌++◌, ◌∷◌, [], OnOk, IfOk};
+ghost use Rattle.std.specs.Fmt.{decimal};
+ghost use Rattle.trace_drawing.specs.Drawn.{Extends, numeral};
+
 use crate::words::{Word, words};
+use itoa::Buffer;
 use std::alloc::Global;
 use trace_shapes::{Point, Script, Shape, Style};
 use xt_base::{Octets, OutOfMemory};
+
+/// Where the numbers of entries end, from the left edge of the paper.
+const NUMBERS: u64 = 48;
 
 /// What was drawn so far, the first undermost.
 #[derive(Drop)]
@@ -18,18 +26,24 @@ impl Sheet {
         }
     }
 
-    pub(crate) fn line(&mut self, style: Style, from: Point, to: Point) -> Result<(), OutOfMemory> {
+    #[tactic(auto, using(crate::proofs::Extending::one))]
+    pub(crate) fn line(&mut self, style: Style, from: Point, to: Point) -> Result<(), OutOfMemory>
+        ensures { OnOk result (Extends self.old.shapes.items self.new.shapes.items) }
+    {
         self.shapes.push(Shape::Line { style, from, to })?;
         Ok(())
     }
 
+    #[tactic(auto, using(crate::proofs::Extending::one))]
     pub(crate) fn panel(
         &mut self,
         style: Style,
         corner: Point,
         size: Point,
         round: u64,
-    ) -> Result<(), OutOfMemory> {
+    ) -> Result<(), OutOfMemory>
+        ensures { OnOk result (Extends self.old.shapes.items self.new.shapes.items) }
+    {
         self.shapes.push(Shape::Panel {
             style,
             corner,
@@ -39,12 +53,15 @@ impl Sheet {
         Ok(())
     }
 
+    #[tactic(auto, using(crate::proofs::Extending::one))]
     pub(crate) fn circle(
         &mut self,
         style: Style,
         centre: Point,
         radius: u64,
-    ) -> Result<(), OutOfMemory> {
+    ) -> Result<(), OutOfMemory>
+        ensures { OnOk result (Extends self.old.shapes.items self.new.shapes.items) }
+    {
         self.shapes.push(Shape::Circle {
             style,
             centre,
@@ -53,29 +70,57 @@ impl Sheet {
         Ok(())
     }
 
+    #[tactic(auto, using(crate::proofs::Extending::one))]
     pub(crate) fn text(
         &mut self,
         script: Script,
         at: Point,
         text: Octets,
-    ) -> Result<(), OutOfMemory> {
+    ) -> Result<(), OutOfMemory>
+        ensures { OnOk result (Extends self.old.shapes.items self.new.shapes.items) }
+    {
         self.shapes.push(Shape::Text { script, at, text })?;
         Ok(())
     }
 
     /// Writes these words, whose middle stands at this height.
+    #[tactic(auto, using(crate::proofs::Extending::again))]
     pub(crate) fn write(
         &mut self,
         script: Script,
         at: Point,
         parts: &[Word<'_>],
-    ) -> Result<(), OutOfMemory> {
+    ) -> Result<(), OutOfMemory>
+        ensures { OnOk result (Extends self.old.shapes.items self.new.shapes.items) }
+    {
         let text = words(self.alloc, parts)?;
         self.text(script, lowered(at), text)
     }
 
+    /// Writes the number of an entry whose row has its middle at this height.
+    pub(crate) fn number(&mut self, y: u64, number: u64) -> Result<(), OutOfMemory>
+        ensures { OnOk result (self.new.shapes.items ≡
+            self.old.shapes.items ++ numeral y number ∷ []) }
+    {
+        let mut buffer = Buffer::new();
+        let text = Octets::of(self.alloc, buffer.format(number).as_bytes())?;
+        let at = Point {
+            x: NUMBERS,
+            y: y.saturating_add(4),
+        };
+        self.shapes.push(Shape::Text {
+            script: Script::Number,
+            at,
+            text,
+        })?;
+        Ok(())
+    }
+
     /// A cross at a place.
-    pub(crate) fn cross(&mut self, at: Point) -> Result<(), OutOfMemory> {
+    #[tactic(auto, using(crate::proofs::Extending::again))]
+    pub(crate) fn cross(&mut self, at: Point) -> Result<(), OutOfMemory>
+        ensures { OnOk result (Extends self.old.shapes.items self.new.shapes.items) }
+    {
         self.line(Style::Stop, shifted(at, 6, 6), placed(at, 6, 6))?;
         let left = Point {
             x: at.x.saturating_sub(6),
@@ -89,13 +134,16 @@ impl Sheet {
     }
 
     /// A write's place in a round mark that begins at a place; where the mark ends.
+    #[tactic(auto, using(crate::proofs::Extending::again))]
     pub(crate) fn place(
         &mut self,
         round: Style,
         inside: Script,
         at: Point,
         count: u64,
-    ) -> Result<u64, OutOfMemory> {
+    ) -> Result<u64, OutOfMemory>
+        ensures { OnOk result (Extends self.old.shapes.items self.new.shapes.items) }
+    {
         let text = words(self.alloc, &[Word::Name(count)])?;
         let width = (text.as_slice().len() as u64)
             .saturating_mul(7)

@@ -1,4 +1,4 @@
-use Rattle.std.proofs.Common.{◌≡◌, ◌≤◌, None, length}
+use Rattle.std.proofs.Common.{◌≡◌, ◌≤◌, ◌<◌, None, length}
 use Rattle.std.specs.Prelude.{All}
 use Rattle.trace_drawing.specs.declared.rows.TheConstants.{ROW, TICK_ROW}
 use Rattle.trace_drawing.proofs.rows.heights_of.Given as goal
@@ -7,4 +7,5 @@ use Rattle.trace_drawing.proofs.rows.heights_of.Given as goal
 abbrev pub invariant-loop-at : goal.invariant-loop-at
 invariant-loop-at l =
     (length l.heights.items ≡ l.at) × All (λ height. height ≤ TICK_ROW) l.heights.items
+    × All (λ height. 0 < height → ROW ≤ height) l.heights.items
     × (l.only ≡ None → All (λ height. ROW ≤ height) l.heights.items)
