@@ -19,3 +19,4 @@ pub mod Served
 pub mod Sealing
 pub mod Requests
 pub mod Registry
+pub mod CatchUp

@@ -6,6 +6,7 @@
 #![tactic(auto)]
 
 pub mod bytes;
+pub mod catching_up;
 pub mod clients;
 pub mod disks;
 pub mod leases;
