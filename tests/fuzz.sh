@@ -214,6 +214,10 @@ def words_changed(rng):
     words = [w.replace(b"\0", b"?") for w in words]
     if b"--turns" not in words[:-1] and words[:1] not in ([b"replay"], [b"audit"]):
         words += [b"--turns", b"1"]
+    for at, w in enumerate(words[:-1]):
+        # a long lease is a long wait
+        if w == b"--lease" and len(words[at + 1]) > 4:
+            words[at + 1] = b"1000"
     return words
 
 
@@ -274,11 +278,14 @@ class Node:
         self.child.wait()
 
 
-def serves(words, told):
-    """Whether a command is carried out."""
-    done = once(words, b"some bytes")
-    if done is None or done[0] != 0:
-        tell(f"a node doesn't serve {told}: {done}", words, b"")
+def serves(words, told, tries=1):
+    """Sees that a command is carried out, at the last of so many tries."""
+    for _ in range(tries):
+        done = once(words, b"some bytes")
+        if done is not None and done[0] == 0:
+            return
+        time.sleep(0.1)
+    tell(f"a node doesn't serve {told}: {done}", words, b"")
 
 
 def nodes_are_told(rng, folder, count):
@@ -293,6 +300,9 @@ def nodes_are_told(rng, folder, count):
     time.sleep(1.2)
     serves(["register", "901", "2", taps[1].at, *common], "at first")
     serves(["register", "1", "1", taps[2].at, *common], "at first")
+    serves(["mkdir", "/seen", *common], "at first")
+    # the MRC learns of the OSD at a Wake
+    serves(["put", "/seen/f", *common], "at first", 100)
     for tap in taps:
         tap.heard.clear()
     serves(["register", "7", "2", NAMED.decode(), *common], "at first")
