@@ -9,19 +9,35 @@ mod words;
 
 use node_links::{StdinSource, StdoutSink};
 use picturing::{run, tell};
+use std::env;
+use std::io::{self, ErrorKind};
 use std::process::ExitCode;
-use std::{env, io};
 use xt_base::Words;
 use xt_messages::Status;
 
-fn main(rt: HostRuntime) -> io::Result<ExitCode> {
+/// The words of the command line, after the program's name. Where one of them isn't UTF-8 an empty word stands for them, which asks for
+/// nothing either. An error is want of memory.
+fn words_of(rt: &HostRuntime) -> io::Result<Words> {
     let alloc = rt.alloc();
     let mut words = Words::new(alloc);
-    let mut args = env::args(&rt)?;
+    let mut args = match env::args(rt) {
+        Ok(args) => args,
+        Err(error) if error.kind() == ErrorKind::InvalidData => {
+            words.push(alloc, "")?;
+            return Ok(words);
+        }
+        Err(error) => return Err(error),
+    };
     let _name = args.next();
     for word in args {
         words.push(alloc, word.as_str())?;
     }
+    Ok(words)
+}
+
+fn main(rt: HostRuntime) -> io::Result<ExitCode> {
+    let alloc = rt.alloc();
+    let words = words_of(&rt)?;
     let mut source = StdinSource::new(alloc, rt.reader())?;
     let mut sink = StdoutSink::new(io::writer(&rt));
     let status = run(alloc, words.as_slice(), &mut source, &mut sink);
