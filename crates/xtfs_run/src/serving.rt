@@ -1,39 +1,17 @@
 ghost use Rattle.std.specs.Prelude.{◌≡◌, ◌<◌, ◌≤◌};
 ghost use Rattle.asked_jobs.specs.Asking.{IsSecret};
-ghost use Rattle.client_jobs.specs.Running.{Closes, has_last_line};
 ghost use Rattle.node_jobs.specs.Disks.{medium};
 ghost use Rattle.node_jobs.specs.Roles.{dir_job, mrc_job, osd_job};
 ghost use Rattle.xtfs_run.specs.Nodes.{IsNodeCommand};
 
+use client_jobs::close;
 use command_words::Serving;
 use disk_model::Disk;
 use node_jobs::{serve_directory, serve_metadata, serve_osd};
 use node_links::{Clock, Link, Sink};
-use schedule_lines::finish;
 use std::alloc::Global;
 use xt_base::{Address, NodeId};
 use xt_messages::Status;
-
-/// Whether a status has a last line that is put when the job has ended: one that is done has none, and none is put where the sink failed.
-fn has_last_line(status: &Status) -> bool
-    ensures { result ≡ has_last_line status.now }
-{
-    match status {
-        Status::Done | Status::SinkFault { .. } => false,
-        _ => true,
-    }
-}
-
-/// Puts the last line of a status, where it has one.
-fn close<K: Sink>(alloc: Global, out: &mut K, status: Status) -> Status
-    ensures { Closes (K.held out.old) (K.held out.new) (K.fault_count out.old)
-        (K.fault_count out.new) status result }
-{
-    if !has_last_line(&status) {
-        return status;
-    }
-    finish(alloc, out, status)
-}
 
 /// Serves the directory, and puts the last line of the status.
 pub fn run_directory<K: Sink, L: Link, D: Disk, C: Clock>(
