@@ -13,25 +13,25 @@ use Rattle.xt_messages.specs.declared.message.Payload.{Payload}
 use Rattle.xt_messages.specs.declared.message.Payload.TheVariants as payload
 use Rattle.xt_messages.specs.declared.event.Event.{Event}
 use Rattle.xt_messages.specs.declared.event.Event.TheVariants as event
-use Rattle.cluster_runs.specs.declared.RunningCall.{RunningCall}
-use Rattle.cluster_runs.specs.declared.ClientState.{ClientState}
-use Rattle.cluster_runs.specs.Steps.{Step}
-use Rattle.cluster_runs.specs.Clients.{KnownFiles, step_of_client}
+use Rattle.client_rows.specs.declared.RunningCall.{RunningCall}
+use Rattle.client_rows.specs.declared.ClientState.{ClientState}
+use Rattle.client_rows.specs.Steps.{Step}
+use Rattle.client_rows.specs.Clients.{KnownFiles, step_of_client}
 use Rattle.replica_client.specs.Views.{awaits}
-use Rattle.client_core.specs.declared.progress.Learnt.{Learnt}
-use Rattle.client_core.specs.declared.progress.Learnt.TheVariants as learnt
-use Rattle.client_core.specs.declared.progress.Progress.{Progress}
-use Rattle.client_core.specs.declared.requests.Request.{Request}
-use Rattle.client_core.specs.declared.requests.Request.TheVariants as request
-use Rattle.client_core.specs.declared.requests.CallResult.{CallResult}
-use Rattle.client_core.specs.declared.requests.CallResult.TheVariants as result
-use Rattle.client_core.specs.declared.requests.Stage.{Stage}
-use Rattle.client_core.specs.declared.requests.Stage.TheVariants as stage
-use Rattle.client_core.specs.declared.requests.MadeCall.{MadeCall}
-use Rattle.client_core.specs.Holding.{Held, mark_with}
-use Rattle.client_core.specs.Requests.{next_asked, bytes_shown}
-use Rattle.client_core.specs.Waiting.{asks_or_ends, reply_comes, reply_to, reply_heard}
-use Rattle.client_core.specs.Rows.{WholeClient, clock_of, result_of, result_in, stage_after, replicas_step, goes_on, goes_on_with}
+use Rattle.client_rows.specs.declared.progress.Learnt.{Learnt}
+use Rattle.client_rows.specs.declared.progress.Learnt.TheVariants as learnt
+use Rattle.client_rows.specs.declared.progress.Progress.{Progress}
+use Rattle.client_rows.specs.declared.requests.Request.{Request}
+use Rattle.client_rows.specs.declared.requests.Request.TheVariants as request
+use Rattle.client_rows.specs.declared.requests.CallResult.{CallResult}
+use Rattle.client_rows.specs.declared.requests.CallResult.TheVariants as result
+use Rattle.client_rows.specs.declared.requests.Stage.{Stage}
+use Rattle.client_rows.specs.declared.requests.Stage.TheVariants as stage
+use Rattle.client_rows.specs.declared.requests.MadeCall.{MadeCall}
+use Rattle.client_rows.specs.Holding.{Held, mark_with}
+use Rattle.client_rows.specs.Requests.{next_asked, bytes_shown}
+use Rattle.client_rows.specs.Waiting.{asks_or_ends, reply_comes, reply_to, reply_heard}
+use Rattle.client_rows.specs.Rows.{WholeClient, clock_of, result_of, result_in, stage_after, replicas_step, goes_on, goes_on_with}
 use Rattle.xt_protocol.specs.declared.turned.Turned.{Turned}
 use Rattle.client_core.specs.Views.{ClientView, Does}
 use Rattle.client_core.specs.Answered.{waits_last, ok_ends, ok_ends_made, says_ok, is_answered_by, is_answered, is_done}

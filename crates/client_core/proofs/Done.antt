@@ -6,9 +6,9 @@ use Rattle.xt_base.specs.declared.TheConstants.{COUNTS}
 use Rattle.xt_messages.specs.declared.event.Call.{Call}
 use Rattle.xt_messages.specs.declared.event.Event.{Event}
 use Rattle.xt_protocol.specs.declared.turned.Turned.{Turned}
-use Rattle.client_core.specs.declared.requests.Request.{Request}
-use Rattle.client_core.specs.Requests.{request_of}
-use Rattle.client_core.specs.Rows.{passes, asked_for, called, goes_on_with, stepped}
+use Rattle.client_rows.specs.declared.requests.Request.{Request}
+use Rattle.client_rows.specs.Requests.{request_of}
+use Rattle.client_rows.specs.Rows.{passes, asked_for, called, goes_on_with, stepped}
 use Rattle.client_core.specs.Views.{ClientView, Does}
 
 -- a call without a number left, and one with

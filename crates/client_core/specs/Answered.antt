@@ -8,15 +8,15 @@ use Rattle.xt_messages.specs.declared.message.Payload.TheVariants as payload
 use Rattle.xt_messages.specs.declared.event.Event.{Event}
 use Rattle.xt_messages.specs.declared.event.Event.TheVariants as event
 use Rattle.replica_client.specs.Views.{awaits}
-use Rattle.client_core.specs.declared.requests.Request.{Request}
-use Rattle.client_core.specs.declared.requests.Request.TheVariants as request
-use Rattle.client_core.specs.declared.requests.CallResult.{CallResult}
-use Rattle.client_core.specs.declared.requests.CallResult.TheVariants as result
-use Rattle.client_core.specs.declared.requests.Stage.{Stage}
-use Rattle.client_core.specs.declared.requests.Stage.TheVariants as stage
-use Rattle.client_core.specs.declared.requests.MadeCall.{MadeCall}
-use Rattle.client_core.specs.Requests.{next_asked}
-use Rattle.client_core.specs.Rows.{WholeClient}
+use Rattle.client_rows.specs.declared.requests.Request.{Request}
+use Rattle.client_rows.specs.declared.requests.Request.TheVariants as request
+use Rattle.client_rows.specs.declared.requests.CallResult.{CallResult}
+use Rattle.client_rows.specs.declared.requests.CallResult.TheVariants as result
+use Rattle.client_rows.specs.declared.requests.Stage.{Stage}
+use Rattle.client_rows.specs.declared.requests.Stage.TheVariants as stage
+use Rattle.client_rows.specs.declared.requests.MadeCall.{MadeCall}
+use Rattle.client_rows.specs.Requests.{next_asked}
+use Rattle.client_rows.specs.Rows.{WholeClient}
 
 -- whether an operation on a striped file waits for this node alone: a truncation does once the last member is its target
 abbrev pub waits_last : NodeId → NodeId → Request → Bool

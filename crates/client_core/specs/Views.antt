@@ -3,12 +3,12 @@ use Rattle.std.specs.Prelude.{ℕ, ◌≡◌, Option, Some, None}
 use Rattle.xt_base.specs.TimeSettings.{TimeSettings}
 use Rattle.xt_base.specs.declared.ids.NodeId.{NodeId}
 use Rattle.xt_protocol.specs.declared.turned.Turned.{Turned}
-use Rattle.cluster_runs.specs.declared.ClientState.{ClientState}
-use Rattle.cluster_runs.specs.Steps.{Step, stays}
-use Rattle.cluster_runs.specs.Clients.{ClientSite}
+use Rattle.client_rows.specs.declared.ClientState.{ClientState}
+use Rattle.client_rows.specs.Steps.{Step, stays}
+use Rattle.client_rows.specs.Clients.{ClientSite}
 use Rattle.replica_client.specs.Views as replica
-use Rattle.client_core.specs.declared.requests.MadeCall.{MadeCall}
-use Rattle.client_core.specs.Rows.{WholeClient, at_clock}
+use Rattle.client_rows.specs.declared.requests.MadeCall.{MadeCall}
+use Rattle.client_rows.specs.Rows.{WholeClient, at_clock}
 
 -- which node it is, the times that it goes by, and its state
 pub record ClientView : Type 0 where

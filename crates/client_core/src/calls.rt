@@ -1,14 +1,14 @@
 //! How the last call starts, goes on and ends, on the parts of a client.
 ghost use Rattle.std.specs.Prelude.{◌≡◌, ◌<◌, ◌+◌, ◌^◌, max, Some, IsSome, IfOk, OnOk, OnErr};
-ghost use Rattle.client_core.specs.declared.requests.MadeCall.{MadeCall};
-ghost use Rattle.client_core.specs.Requests.{first_stage};
-ghost use Rattle.client_core.specs.Rows as rows;
+ghost use Rattle.client_rows.specs.declared.requests.MadeCall.{MadeCall};
+ghost use Rattle.client_rows.specs.Requests.{first_stage};
+ghost use Rattle.client_rows.specs.Rows as rows;
 ghost use Rattle.client_core.specs.Views.{Starts};
 
 use crate::ends::outcome_of;
 use crate::holding::HeldFiles;
-use crate::progress::{Learnt, Next};
-use crate::requests::{CallResult, MadeCall, Request, Stage};
+use crate::requests::{asks, begin, first_asked};
+use client_rows::{CallResult, Learnt, MadeCall, Next, Request, Stage};
 use replica_client::{ReplicaClient, gives};
 use std::alloc::Global;
 use xt_base::{Copies, NodeId, OutOfMemory, Seq, SizeMark};
@@ -80,7 +80,7 @@ fn sent(alloc: Global, node: NodeId, made: &MadeCall, next: &Next) -> Result<Msg
     ensures { IfOk result (λ outs. outs ≡ rows.sent node made.now next.now) }
 {
     match next {
-        Next::Ask { target } => made.request.asks(alloc, node, made.number, *target),
+        Next::Ask { target } => asks(alloc, node, made.number, &made.request, *target),
         Next::Wait | Next::End { .. } => Ok(Seq::new(alloc)),
     }
 }
@@ -153,7 +153,7 @@ pub fn first_stage(replicas: &ReplicaClient, now: u64, request: &Request) -> Sta
         Request::Replicated { .. } => Stage::OnReplicas,
         Request::Striped { .. } | Request::Meta { .. } | Request::Registry { .. } => {
             Stage::Waiting {
-                target: request.first_asked(),
+                target: first_asked(request),
                 deadline: replicas.deadline(replicas.clock(now)),
             }
         }
@@ -177,7 +177,7 @@ pub fn start(
     ensures err { OnErr result (replicas.new ≡ replicas.old) }
 {
     let Request::Replicated { capability, op } = request else {
-        let turned = request.begins(alloc, replicas.node(), replicas.next(), call)?;
+        let turned = begin(alloc, replicas.node(), replicas.next(), call, request)?;
         let clock = replicas.clock(now);
         replicas.pass(clock);
         replicas.take_number();
@@ -203,10 +203,8 @@ pub fn start_again(
     ensures err { OnErr result (replicas.new ≡ replicas.old) }
 {
     let Request::Replicated { capability, op } = &made.request else {
-        let target = made.request.first_asked();
-        let outs = made
-            .request
-            .asks(alloc, replicas.node(), made.number, target)?;
+        let target = first_asked(&made.request);
+        let outs = asks(alloc, replicas.node(), made.number, &made.request, target)?;
         let clock = replicas.clock(now);
         replicas.pass(clock);
         return Ok(sends(alloc, outs));

@@ -1,10 +1,10 @@
 ghost use Rattle.std.specs.Prelude.{◌≡◌, ◌<◌, ◌^◌, ◌↔◌, [], None, Some, IsSome, IsTrue, not, ◌&&◌, IfOk, OnOk, OnErr, Err};
 ghost use Rattle.std.specs.Option.{option_copied, option_map};
 ghost use Rattle.xt_base.specs.declared.TheConstants.{COUNTS};
-ghost use Rattle.cluster_runs.specs.Clients.{aimed, raised, knows, known_in};
-ghost use Rattle.client_core.specs.Holding.{holds, held_of};
-ghost use Rattle.client_core.specs.Requests.{is_ready};
-ghost use Rattle.client_core.specs.Rows as rows;
+ghost use Rattle.client_rows.specs.Clients.{aimed, raised, knows, known_in};
+ghost use Rattle.client_rows.specs.Holding.{holds, held_of};
+ghost use Rattle.client_rows.specs.Requests.{is_ready};
+ghost use Rattle.client_rows.specs.Rows as rows;
 ghost use Rattle.client_core.specs.Views.{Does, CallActs};
 ghost use Rattle.client_core.specs.Answered.{is_answered, is_done};
 
@@ -12,9 +12,9 @@ use crate::calls::{
     first_stage, given, go_on, mark_told, put_made, result_of, set_stage, start, start_again,
 };
 use crate::holding::HeldFiles;
-use crate::progress::Progress;
-use crate::requests::{CallResult, MadeCall, Request, Stage, request_of};
+use crate::requests::{file_of, request_of};
 use crate::waiting::handle;
+use client_rows::{CallResult, MadeCall, Progress, Request, Stage};
 use replica_client::ReplicaClient;
 use std::alloc::Global;
 use std::marker::Model;
@@ -69,9 +69,25 @@ impl Client {
           };
         } }
     {
+        Client::start(alloc, node, times, first, 0)
+    }
+
+    /// A client that has made no call, and whose clock reads `now`, in milliseconds. Its first call has the number `first`.
+    pub fn start(alloc: Global, node: NodeId, times: Times, first: u64, now: u64) -> Client
+        requires { now < 2 ^ 62 }
+        ensures { result ≡ record {
+          node = node;
+          times = times;
+          state = record {
+            replicas = record { last = now; next = first; running = None; files = [] };
+            held = [];
+            made = None;
+          };
+        } }
+    {
         Client {
             alloc,
-            replicas: ReplicaClient::new(alloc, node, times, first, 0),
+            replicas: ReplicaClient::new(alloc, node, times, first, now),
             held: HeldFiles::new(alloc),
             made: None,
         }
@@ -323,7 +339,7 @@ impl Client {
     }
 
     /// The last call asks its first node once more.
-    #[tactic(auto, unfolding(crate::specs::Rows::called_again))]
+    #[tactic(auto, unfolding(client_rows::specs::Rows::called_again))]
     fn repeat(&mut self, now: u64) -> Result<Turned, OutOfMemory>
         requires { now < 2 ^ 62 }
         ensures step { IfOk result (λ turned.
@@ -391,7 +407,7 @@ impl Client {
         let Some(made) = &self.made else {
             unreachable!()
         };
-        let file = made.request.file();
+        let file = file_of(&made.request);
         if let Some(how) = result_of(&mut self.held, file, told, outcome) {
             set_stage(&mut self.made, Stage::Ended { result: how });
         }

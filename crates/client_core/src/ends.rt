@@ -1,8 +1,8 @@
 //! How the ends of calls are shown.
 ghost use Rattle.std.specs.Prelude.{◌≡◌, IfOk, map};
-ghost use Rattle.client_core.specs.Requests as spec;
+ghost use Rattle.client_rows.specs.Requests as spec;
 
-use crate::requests::CallResult;
+use client_rows::CallResult;
 use std::alloc::Global;
 use xt_base::{Copies, NodeId, OutOfMemory, Seq};
 use xt_messages::{MetaAnswer, MetaOutcome, Outcome, RegistryAnswer, RegistryOutcome, RegistryRow};

@@ -1,20 +1,14 @@
 ghost use Rattle.std.specs.Prelude.{◌≡◌, [], OnOk, OnErr};
 ghost use Rattle.std.specs.Option.{option_copied};
-ghost use Rattle.client_core.specs.Holding as spec;
+ghost use Rattle.client_rows.specs.Holding as spec;
 
+use client_rows::HeldFile;
 use std::alloc::Global;
 use std::collections::BTreeMap;
 use std::marker::Model;
 use truncate_epochs::merge;
 use xt_base::{OutOfMemory, SizeMark};
 use xt_messages::Capability;
-
-/// What is held of a file: the capability under which it is used, and the greatest size mark that was learnt of it.
-#[derive(Clone, Copy)]
-pub struct HeldFile {
-    pub capability: Capability,
-    pub mark: SizeMark,
-}
 
 /// What is held of files, rising by their numbers.
 #[derive(Drop)]
@@ -23,7 +17,7 @@ pub struct HeldFiles {
 }
 
 impl Model for HeldFiles {
-    ghost use Rattle.client_core.specs.Holding.{Held};
+    ghost use Rattle.client_rows.specs.Holding.{Held};
 
     ghost Value = { Held };
 

@@ -15,5 +15,3 @@ mod striped;
 mod waiting;
 
 pub use client::{CallErr, Client};
-pub use holding::HeldFile;
-pub use requests::{CallResult, MadeCall, Request, Stage};

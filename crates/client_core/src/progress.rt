@@ -1,49 +1,8 @@
 //! How a call that waits for a node goes on.
 ghost use Rattle.std.specs.Prelude.{◌≡◌};
-ghost use Rattle.client_core.specs.Waiting as rows;
+ghost use Rattle.client_rows.specs.Waiting as rows;
 
-use crate::requests::CallResult;
-use xt_base::{FileId, NodeId, SizeMark};
-use xt_messages::Capability;
-
-/// What a client learns of a file.
-#[derive(Clone, Copy)]
-pub enum Learnt {
-    Nothing,
-    /// A size mark of the file of this number.
-    Mark {
-        file: u64,
-        mark: SizeMark,
-    },
-    /// A capability of its file, with a size mark.
-    Capability {
-        capability: Capability,
-        mark: SizeMark,
-    },
-    /// A truncate epoch of the file.
-    Epoch {
-        file: FileId,
-        epoch: u64,
-    },
-}
-
-/// How a call goes on.
-#[derive(Drop)]
-pub enum Next {
-    /// It waits on.
-    Wait,
-    /// It asks this node.
-    Ask { target: NodeId },
-    /// It ends so.
-    End { how: CallResult },
-}
-
-/// What comes of an event: what the client learns, and how its call goes on.
-#[derive(Drop)]
-pub struct Progress {
-    pub learnt: Learnt,
-    pub next: Next,
-}
+use client_rows::{CallResult, Learnt, Next, Progress};
 
 /// Nothing.
 pub fn waits_on() -> Progress

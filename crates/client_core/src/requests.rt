@@ -1,112 +1,16 @@
 //! What calls ask, and whom.
 ghost use Rattle.std.specs.Prelude.{◌≡◌, IfOk};
-ghost use Rattle.client_core.specs.Holding.{held_of};
-ghost use Rattle.client_core.specs.Requests as spec;
+ghost use Rattle.client_rows.specs.Holding.{held_of};
+ghost use Rattle.client_rows.specs.Requests as spec;
 
 use crate::holding::HeldFiles;
 use crate::striped::first_of;
+use client_rows::Request;
 use replica_client::{begins, gives};
 use std::alloc::Global;
-use xt_base::{Copies, DIR_NODE, MRC_NODE, NodeId, Octets, OutOfMemory, SizeMark};
-use xt_messages::{
-    Answers, AskRefusal, Call, Capability, Kind, MetaAnswer, MetaReq, Msgs, Op, Payload,
-    RegistryAnswer, RegistryReq,
-};
+use xt_base::{Copies, DIR_NODE, MRC_NODE, NodeId, OutOfMemory};
+use xt_messages::{Call, Capability, Kind, MetaReq, Msgs, Op, Payload};
 use xt_protocol::{Turned, message, one};
-
-/// What a call asks.
-#[derive(Drop)]
-pub enum Request {
-    /// An operation on a replicated file.
-    Replicated {
-        capability: Capability,
-        op: Op,
-    },
-    /// An operation on a striped file.
-    Striped {
-        capability: Capability,
-        op: Op,
-    },
-    /// A request to the metadata server of a user in a group.
-    Meta {
-        user: u32,
-        group: u32,
-        request: MetaReq,
-    },
-    /// A request to the directory service.
-    Registry {
-        request: RegistryReq,
-    },
-}
-
-/// How a call ended.
-pub enum CallResult {
-    /// The operation is done, or these bytes were read. `mark` is the greatest size mark that was learnt of the file.
-    Ok {
-        count: u64,
-        mark: SizeMark,
-        bytes: Octets,
-    },
-    /// Nobody answered; the call may be made again.
-    Retry {
-        answers: Answers,
-    },
-    /// A member of the file's list refused it so.
-    Refused {
-        reply: AskRefusal,
-    },
-    Meta {
-        answer: MetaAnswer,
-    },
-    Registry {
-        answer: RegistryAnswer,
-    },
-}
-
-/// How far a call is.
-#[derive(Drop)]
-pub enum Stage {
-    /// It runs, among the calls on replicated files.
-    OnReplicas,
-    /// It runs, and waits for the answer of this node until the deadline.
-    Waiting { target: NodeId, deadline: u64 },
-    Ended { result: CallResult },
-}
-
-/// The call that a client made last: its number, what it asks, and how far it is.
-pub struct MadeCall {
-    pub number: u64,
-    pub request: Request,
-    pub stage: Stage,
-}
-
-// A derived drop is part of the code of each function that may drop a value, and proved there. These are proved once.
-
-impl Drop for CallResult {
-    fn drop(self) {
-        match self {
-            CallResult::Ok {
-                count: _,
-                mark: _,
-                bytes: _,
-            } => {}
-            CallResult::Retry { answers: _ } => {}
-            CallResult::Refused { reply: _ } => {}
-            CallResult::Meta { answer: _ } => {}
-            CallResult::Registry { answer: _ } => {}
-        }
-    }
-}
-
-impl Drop for MadeCall {
-    fn drop(self) {
-        let MadeCall {
-            number: _,
-            request: _,
-            stage: _,
-        } = self;
-    }
-}
 
 /// An operation on a file, as one of its kind.
 fn on_file(capability: &Capability, op: Op) -> Request
@@ -205,87 +109,85 @@ pub fn request_of(
     }
 }
 
-impl Request {
-    /// The number of the file that is asked for, and 0 where none is.
-    pub fn file(&self) -> u64
-        ensures { result ≡ spec.file_of self.now }
-    {
-        match self {
-            Request::Replicated { capability, .. } | Request::Striped { capability, .. } => {
-                capability.file.number
-            }
-            Request::Meta { .. } | Request::Registry { .. } => 0,
+/// The number of the file that is asked for, and 0 where none is.
+pub fn file_of(request: &Request) -> u64
+    ensures { result ≡ spec.file_of request.now }
+{
+    match request {
+        Request::Replicated { capability, .. } | Request::Striped { capability, .. } => {
+            capability.file.number
         }
+        Request::Meta { .. } | Request::Registry { .. } => 0,
     }
+}
 
-    /// Whom it asks first, where it isn't on a replicated file.
-    pub fn first_asked(&self) -> NodeId
-        ensures { result ≡ spec.first_asked self.now }
-    {
-        match self {
-            Request::Replicated { capability, op } | Request::Striped { capability, op } => {
-                first_of(&capability.location.members, op)
-            }
-            Request::Meta { .. } => MRC_NODE,
-            Request::Registry { .. } => DIR_NODE,
+/// Whom a request asks first, where it isn't on a replicated file.
+pub fn first_asked(request: &Request) -> NodeId
+    ensures { result ≡ spec.first_asked request.now }
+{
+    match request {
+        Request::Replicated { capability, op } | Request::Striped { capability, op } => {
+            first_of(&capability.location.members, op)
         }
+        Request::Meta { .. } => MRC_NODE,
+        Request::Registry { .. } => DIR_NODE,
     }
+}
 
-    /// What is sent for it.
-    pub fn payload(&self, alloc: Global, number: u64) -> Result<Payload, OutOfMemory>
-        ensures { IfOk result (λ content. content ≡ spec.payload_of number self.now) }
-    {
-        match self {
-            Request::Replicated { capability, op } | Request::Striped { capability, op } => {
-                Ok(Payload::Ask {
-                    number,
-                    capability: *capability,
-                    op: op.copy(alloc)?,
-                })
-            }
-            Request::Meta {
-                user,
-                group,
-                request,
-            } => Ok(Payload::Meta {
+/// What is sent for a request.
+fn payload_of(alloc: Global, number: u64, request: &Request) -> Result<Payload, OutOfMemory>
+    ensures { IfOk result (λ content. content ≡ spec.payload_of number request.now) }
+{
+    match request {
+        Request::Replicated { capability, op } | Request::Striped { capability, op } => {
+            Ok(Payload::Ask {
                 number,
-                user: *user,
-                group: *group,
-                request: request.copy(alloc)?,
-            }),
-            Request::Registry { request } => Ok(Payload::Registry {
-                number,
-                request: request.copy(alloc)?,
-            }),
+                capability: *capability,
+                op: op.copy(alloc)?,
+            })
         }
+        Request::Meta {
+            user,
+            group,
+            request,
+        } => Ok(Payload::Meta {
+            number,
+            user: *user,
+            group: *group,
+            request: request.copy(alloc)?,
+        }),
+        Request::Registry { request } => Ok(Payload::Registry {
+            number,
+            request: request.copy(alloc)?,
+        }),
     }
+}
 
-    /// A node asks for it, under this number.
-    pub fn asks(
-        &self,
-        alloc: Global,
-        node: NodeId,
-        number: u64,
-        target: NodeId,
-    ) -> Result<Msgs, OutOfMemory>
-        ensures { IfOk result (λ outs. outs ≡ spec.asks node number self.now target) }
-    {
-        let content = self.payload(alloc, number)?;
-        one(alloc, message(node, target, content))
-    }
+/// A node asks for this, under this number.
+pub fn asks(
+    alloc: Global,
+    node: NodeId,
+    number: u64,
+    request: &Request,
+    target: NodeId,
+) -> Result<Msgs, OutOfMemory>
+    ensures { IfOk result (λ outs. outs ≡ spec.asks node number request.now target) }
+{
+    let content = payload_of(alloc, number, request)?;
+    one(alloc, message(node, target, content))
+}
 
-    /// A call that asks for it is marked, and asks its first node.
-    pub fn begins(
-        &self,
-        alloc: Global,
-        node: NodeId,
-        number: u64,
-        call: &Call,
-    ) -> Result<Turned, OutOfMemory>
-        ensures { IfOk result (λ turned. turned ≡ spec.begins node number call.now self.now) }
-    {
-        let marks = begins(alloc, number, call)?;
-        let outs = self.asks(alloc, node, number, self.first_asked())?;
-        Ok(gives(outs, marks))
-    }
+/// A call that asks for this is marked, and asks its first node.
+pub fn begin(
+    alloc: Global,
+    node: NodeId,
+    number: u64,
+    call: &Call,
+    request: &Request,
+) -> Result<Turned, OutOfMemory>
+    ensures { IfOk result (λ turned. turned ≡ spec.begins node number call.now request.now) }
+{
+    let marks = begins(alloc, number, call)?;
+    let outs = asks(alloc, node, number, request, first_asked(request))?;
+    Ok(gives(outs, marks))
 }

@@ -1,6 +1,6 @@
 //! Whom an operation on a striped file asks, and what a read of one shows.
 ghost use Rattle.std.specs.Prelude.{◌≡◌, IfOk};
-ghost use Rattle.client_core.specs.Requests as spec;
+ghost use Rattle.client_rows.specs.Requests as spec;
 
 use object_versions::readable;
 use replica_client::first_member;

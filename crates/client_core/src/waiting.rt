@@ -1,11 +1,11 @@
 //! What comes of an event while a call waits for a node.
 ghost use Rattle.std.specs.Prelude.{◌≡◌, IfOk};
-ghost use Rattle.client_core.specs.Waiting as rows;
+ghost use Rattle.client_rows.specs.Waiting as rows;
 
 use crate::holding::HeldFiles;
-use crate::progress::{Learnt, Next, Progress, ends, waits_on};
-use crate::requests::{CallResult, MadeCall, Request};
+use crate::progress::{ends, waits_on};
 use crate::striped::{bytes_shown, next_asked, was_asked};
+use client_rows::{CallResult, Learnt, MadeCall, Next, Progress, Request};
 use std::alloc::Global;
 use xt_base::{Copies, NodeId, Octets, OutOfMemory, SizeMark};
 use xt_messages::{

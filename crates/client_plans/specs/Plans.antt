@@ -25,8 +25,8 @@ use Rattle.xt_messages.specs.declared.status.Refusal.TheVariants as ends_by
 use Rattle.xt_messages.specs.declared.status.Status.{Status}
 use Rattle.xt_messages.specs.declared.status.Status.TheVariants as status
 use Rattle.truncate_epochs.specs.SizeMarks.{merged}
-use Rattle.client_core.specs.declared.requests.CallResult.{CallResult}
-use Rattle.client_core.specs.declared.requests.CallResult.TheVariants as how
+use Rattle.client_rows.specs.declared.requests.CallResult.{CallResult}
+use Rattle.client_rows.specs.declared.requests.CallResult.TheVariants as how
 use Rattle.client_plans.specs.declared.stage.Stage.{Stage}
 use Rattle.client_plans.specs.declared.stage.Stage.TheVariants as next
 use Rattle.client_plans.specs.declared.stage.Goes.{Goes}

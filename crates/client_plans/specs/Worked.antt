@@ -13,8 +13,8 @@ use Rattle.xt_messages.specs.declared.registry.RegistryRow.{RegistryRow}
 use Rattle.xt_messages.specs.declared.registry.RegistryAnswer.TheVariants as row
 use Rattle.xt_messages.specs.declared.status.Refusal.TheVariants as ends_by
 use Rattle.xt_messages.specs.declared.status.Status.TheVariants as status
-use Rattle.client_core.specs.declared.requests.CallResult.{CallResult}
-use Rattle.client_core.specs.declared.requests.CallResult.TheVariants as how
+use Rattle.client_rows.specs.declared.requests.CallResult.{CallResult}
+use Rattle.client_rows.specs.declared.requests.CallResult.TheVariants as how
 use Rattle.command_words.specs.declared.job.Layout.TheVariants as layout
 use Rattle.command_words.specs.declared.job.Order.{Order}
 use Rattle.command_words.specs.declared.job.Order.TheVariants as order

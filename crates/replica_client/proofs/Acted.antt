@@ -13,13 +13,14 @@ use Rattle.xt_messages.specs.declared.event.Outcome.TheVariants as outcome
 use Rattle.xt_messages.specs.declared.reply.Reply.{Reply}
 use Rattle.xt_messages.specs.declared.reply.Retry.{Retry}
 use Rattle.xt_protocol.specs.declared.turned.Turned.{Turned}
-use Rattle.cluster_runs.specs.declared.Tried.{Tried}
-use Rattle.cluster_runs.specs.declared.RunningCall.{RunningCall}
-use Rattle.cluster_runs.specs.declared.ClientState.{ClientState}
-use Rattle.cluster_runs.specs.Steps.{Step, stays}
-use Rattle.cluster_runs.specs.Clients.{ClientSite, call_of_client, step_of_client, begins_call, event_comes, answered, asks, ends_call, turned_away, with_outcome, next_of, named, answers_in, was_tried}
-use Rattle.replica_client.specs.Again.{asks_first, again_of_client}
-use Rattle.replica_client.specs.Views.{ClientView, site_at, at_clock, ended_by, Acts, where_running, CallActs}
+use Rattle.client_rows.specs.declared.Tried.{Tried}
+use Rattle.client_rows.specs.declared.RunningCall.{RunningCall}
+use Rattle.client_rows.specs.declared.ClientState.{ClientState}
+use Rattle.client_rows.specs.Steps.{Step, stays}
+use Rattle.client_rows.specs.Clients.{ClientSite, call_of_client, step_of_client, begins_call, event_comes, answered, asks, ends_call, turned_away, with_outcome, next_of, named, answers_in, was_tried}
+use Rattle.client_rows.specs.Again.{asks_first, again_of_client}
+use Rattle.replica_client.specs.Views.{ClientView, site_at, at_clock, Acts, where_running, CallActs}
+use Rattle.client_rows.specs.Ends.{ended_by}
 
 -- a row of client and clock
 abbrev pub Row : Type 0

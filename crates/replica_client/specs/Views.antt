@@ -1,15 +1,14 @@
 -- a client, as contracts see it, and how they say that what it does is a row
-use Rattle.std.specs.Prelude.{ℕ, Bool, false, ◌≡◌, ◌==◌, ◌&&◌, Option, Some, None, List, [], ◌∷◌}
+use Rattle.std.specs.Prelude.{ℕ, Bool, false, ◌≡◌, ◌==◌, ◌&&◌, Option, Some, None}
 use Rattle.xt_base.specs.TimeSettings.{TimeSettings}
 use Rattle.xt_base.specs.declared.ids.NodeId.{NodeId}
 use Rattle.xt_messages.specs.declared.event.Outcome.{Outcome}
-use Rattle.xt_messages.specs.declared.event.Mark.{Mark}
-use Rattle.xt_messages.specs.declared.event.Mark.TheVariants as mark
 use Rattle.xt_protocol.specs.declared.turned.Turned.{Turned}
-use Rattle.cluster_runs.specs.declared.RunningCall.{RunningCall}
-use Rattle.cluster_runs.specs.declared.ClientState.{ClientState}
-use Rattle.cluster_runs.specs.Steps.{Step, stays}
-use Rattle.cluster_runs.specs.Clients.{ClientSite, was_tried}
+use Rattle.client_rows.specs.declared.RunningCall.{RunningCall}
+use Rattle.client_rows.specs.declared.ClientState.{ClientState}
+use Rattle.client_rows.specs.Steps.{Step, stays}
+use Rattle.client_rows.specs.Clients.{ClientSite, was_tried}
+use Rattle.client_rows.specs.Ends.{ended_by}
 
 -- which node it is, the times that it goes by, its state, and how the call that ended last ended, until that is taken
 pub record ClientView : Type 0 where
@@ -25,12 +24,6 @@ site_at client now = record { node = client.node; times = client.times; now = no
 -- its state once this is the clock that it used last
 abbrev pub at_clock : ClientView → ℕ → ClientState
 at_clock client now = record client.state { last = now }
-
--- how a call ended by the marks of a step, or before it
-abbrev pub ended_by : Option Outcome → List Mark → Option Outcome
-ended_by before [] = before
-ended_by before (mark.Done number how ∷ marks) = ended_by (Some how) marks
-ended_by before (_ ∷ marks) = ended_by before marks
 
 -- what a client does at a clock is this row: it has the row's state then, and gives what the row gives
 abbrev pub Acts : (ClientSite → ClientState → Step ClientState) → ℕ → ClientView → ClientView → Turned → Type 0

@@ -3,9 +3,9 @@ ghost use Rattle.std.specs.Prelude.{◌≡◌, ◌∷◌, [], IfOk, IsSome, Some
 ghost use Rattle.xt_messages.specs.declared.message.Payload.TheVariants as payload;
 ghost use Rattle.xt_messages.specs.declared.event.Mark.TheVariants as mark;
 ghost use Rattle.xt_protocol.specs.Turns as turns;
-ghost use Rattle.cluster_runs.specs.Clients as rows;
+ghost use Rattle.client_rows.specs.Clients as rows;
 
-use cluster_runs::{RunningCall, Tried};
+use client_rows::{RunningCall, Tried};
 use std::alloc::Global;
 use xt_base::{Copies, Members, NodeId, OptionalBox, OutOfMemory, Seq};
 use xt_messages::{Call, Capability, Mark, Marks, Msgs, Op, Outcome, Payload};

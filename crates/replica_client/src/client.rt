@@ -1,17 +1,18 @@
 ghost use Rattle.std.specs.Prelude.{◌≡◌, ◌<◌, ◌+◌, ◌^◌, ◌∷◌, [], Some, None, IsSome, is_some, IfOk, OnOk, OnErr, max};
-ghost use Rattle.cluster_runs.specs.declared.RunningCall.{RunningCall};
-ghost use Rattle.cluster_runs.specs.declared.ClientState.{ClientState};
-ghost use Rattle.cluster_runs.specs.Steps.{stays};
-ghost use Rattle.cluster_runs.specs.Clients as rows;
+ghost use Rattle.client_rows.specs.declared.RunningCall.{RunningCall};
+ghost use Rattle.client_rows.specs.declared.ClientState.{ClientState};
+ghost use Rattle.client_rows.specs.Steps.{stays};
+ghost use Rattle.client_rows.specs.Clients as rows;
 ghost use Rattle.xt_protocol.specs.Turns as turns;
 ghost use Rattle.xt_messages.specs.declared.event.Mark.TheVariants as mark;
-ghost use Rattle.replica_client.specs.Views.{Acts, CallActs, ended_by};
-ghost use Rattle.replica_client.specs.Again.{asks_first, again_of_client};
+ghost use Rattle.replica_client.specs.Views.{Acts, CallActs};
+ghost use Rattle.client_rows.specs.Ends.{ended_by};
+ghost use Rattle.client_rows.specs.Again.{asks_first, again_of_client};
 
 use crate::asking::{asks, begins, ends, first_target, gives, run, turn_to};
 use crate::known::{KnownFiles, aimed, raised};
-use asked_members::{answers_in, next_target, was_tried, with_outcome};
-use cluster_runs::{KnownFile, RunningCall, Tried};
+use client_members::{answers_in, next_target, was_tried, with_outcome};
+use client_rows::{KnownFile, RunningCall, Tried};
 use std::alloc::Global;
 use std::marker::Model;
 use std::mem;

@@ -1,7 +1,7 @@
 ghost use Rattle.std.specs.Prelude.{◌≡◌, [], OnOk, OnErr};
-ghost use Rattle.cluster_runs.specs.Clients.{known_in, with_known, aimed, raised};
+ghost use Rattle.client_rows.specs.Clients.{known_in, with_known, aimed, raised};
 
-use cluster_runs::KnownFile;
+use client_rows::KnownFile;
 use std::alloc::Global;
 use std::collections::BTreeMap;
 use std::marker::Model;
@@ -20,7 +20,7 @@ pub struct KnownFiles {
 }
 
 impl Model for KnownFiles {
-    ghost use Rattle.cluster_runs.specs.Clients.{KnownFiles as Known};
+    ghost use Rattle.client_rows.specs.Clients.{KnownFiles as Known};
 
     ghost Value = { Known };
 

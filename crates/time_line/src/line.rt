@@ -60,6 +60,10 @@ pub enum Line {
         client: NodeId,
         call: Call,
     },
+    /// A client's last call, once more.
+    Again {
+        client: NodeId,
+    },
     /// A client's first target for a file.
     Aim {
         client: NodeId,
@@ -103,6 +107,7 @@ impl Drop for Line {
             Line::Tick { count: _ } => {}
             Line::Wake { node: _ } => {}
             Line::Call { client: _, call: _ } => {}
+            Line::Again { client: _ } => {}
             Line::Aim {
                 client: _,
                 file: _,

@@ -1,8 +1,8 @@
 use Rattle.std.proofs.Common.{◌∙◌, ◌≤◌, ◌<◌, ℕ, ap, sym, subst, Some, None}
 use Rattle.std.proofs.lemmas.Result.{IfOk-weaker}
 use Rattle.xt_base.specs.declared.TheConstants.{COUNTS}
-use Rattle.client_core.specs.Requests.{request_of}
-use Rattle.client_core.specs.Rows.{asked_for, called}
+use Rattle.client_rows.specs.Requests.{request_of}
+use Rattle.client_rows.specs.Rows.{asked_for, called}
 use Rattle.client_core.specs.Views.{ClientView, Does}
 use Rattle.client_core.proofs.Done.{call_passes, call_asks}
 use Rattle.client_core.proofs.client.Client.begin.Goals as goal

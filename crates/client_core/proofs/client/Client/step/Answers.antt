@@ -1,6 +1,6 @@
 use Rattle.std.proofs.lemmas.Result.{IfOk-weaker}
 use Rattle.std.proofs.Common.{IsTrue}
-use Rattle.client_core.specs.Rows.{goes_on_with, stepped, result_in}
+use Rattle.client_rows.specs.Rows.{goes_on_with, stepped, result_in}
 use Rattle.client_core.specs.Views.{Does}
 use Rattle.client_core.specs.Answered.{is_answered, is_done}
 use Rattle.client_core.proofs.Done.{stepped_is}

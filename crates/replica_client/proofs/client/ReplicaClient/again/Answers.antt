@@ -1,6 +1,6 @@
 use Rattle.std.proofs.Common.{◌∙◌, ap, max, subst, sym}
 use Rattle.xt_protocol.specs.declared.turned.Turned.{Turned}
-use Rattle.replica_client.specs.Again.{asks_first}
+use Rattle.client_rows.specs.Again.{asks_first}
 use Rattle.replica_client.specs.Views.{ClientView, Acts}
 use Rattle.replica_client.proofs.Acted.{Row, again_is}
 use Rattle.replica_client.proofs.client.ReplicaClient.again.Goals as goal

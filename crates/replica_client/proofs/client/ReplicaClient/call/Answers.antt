@@ -2,9 +2,9 @@ use Rattle.std.proofs.Common.{◌≡◌, ◌∙◌, ◌≤◌, ◌<◌, ℕ, ap,
 use Rattle.std.proofs.lemmas.Result.{IfOk-weaker}
 use Rattle.xt_base.specs.declared.TheConstants.{COUNTS}
 use Rattle.xt_protocol.specs.declared.turned.Turned.{Turned}
-use Rattle.cluster_runs.specs.Steps.{Step}
-use Rattle.cluster_runs.specs.declared.ClientState.{ClientState}
-use Rattle.cluster_runs.specs.Clients.{call_of_client, begins_call}
+use Rattle.client_rows.specs.Steps.{Step}
+use Rattle.client_rows.specs.declared.ClientState.{ClientState}
+use Rattle.client_rows.specs.Clients.{call_of_client, begins_call}
 use Rattle.replica_client.specs.Views.{ClientView, Acts}
 use Rattle.replica_client.proofs.Acted.{Row, call_stays, call_begins}
 use Rattle.replica_client.proofs.client.ReplicaClient.call.Goals as goal

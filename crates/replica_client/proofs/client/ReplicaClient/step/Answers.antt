@@ -1,10 +1,11 @@
 use Rattle.std.proofs.Common.{◌≡◌, ◌∙◌, ap, max}
 use Rattle.std.proofs.lemmas.Result.{IfOk-weaker}
 use Rattle.xt_protocol.specs.declared.turned.Turned.{Turned}
-use Rattle.cluster_runs.specs.Steps.{Step}
-use Rattle.cluster_runs.specs.declared.ClientState.{ClientState}
-use Rattle.cluster_runs.specs.Clients.{step_of_client, event_comes}
-use Rattle.replica_client.specs.Views.{ClientView, Acts, ended_by}
+use Rattle.client_rows.specs.Steps.{Step}
+use Rattle.client_rows.specs.declared.ClientState.{ClientState}
+use Rattle.client_rows.specs.Clients.{step_of_client, event_comes}
+use Rattle.replica_client.specs.Views.{ClientView, Acts}
+use Rattle.client_rows.specs.Ends.{ended_by}
 use Rattle.replica_client.proofs.Acted.{Row, event_is, ended_is}
 use Rattle.replica_client.proofs.client.ReplicaClient.step.Goals as goal
 

@@ -1,6 +1,6 @@
 use Rattle.std.proofs.Common.{◌∙◌, ap, List, Some, None, filter, not}
-use Rattle.cluster_runs.specs.declared.Tried.{Tried}
-use Rattle.cluster_runs.specs.Clients.{with_outcome, next_of, named, was_tried}
+use Rattle.client_rows.specs.declared.Tried.{Tried}
+use Rattle.client_rows.specs.Clients.{with_outcome, next_of, named, was_tried}
 use Rattle.replica_client.proofs.Acted.{turn_done}
 use Rattle.replica_client.proofs.client.ReplicaClient.turn_away.Goals as goal
 

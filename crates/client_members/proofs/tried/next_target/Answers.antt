@@ -1,8 +1,8 @@
 use Rattle.std.proofs.Common.{ap, sym, ◌∙◌, filter, Option}
 use Rattle.xt_base.specs.declared.ids.NodeId.{NodeId}
-use Rattle.cluster_runs.specs.Clients.{next_of}
-use Rattle.asked_members.proofs.Left.{is_new, first_left, named_next, other_next}
-use Rattle.asked_members.proofs.tried.next_target.Goals as goal
+use Rattle.client_rows.specs.Clients.{next_of}
+use Rattle.client_members.proofs.Left.{is_new, first_left, named_next, other_next}
+use Rattle.client_members.proofs.tried.next_target.Goals as goal
 
 pub returns-in-None : goal.returns-in-None
 returns-in-None c =

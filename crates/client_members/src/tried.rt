@@ -1,9 +1,9 @@
 //! The members that a call has asked, and what came of them.
 ghost use Rattle.std.specs.Prelude.{◌≡◌, ◌==◌, ◌&&◌, if◌then◌else◌, not, find, filter, Some, IfOk};
 ghost use Rattle.xt_base.specs.MemberList.{has_node};
-ghost use Rattle.cluster_runs.specs.Clients as rows;
+ghost use Rattle.client_rows.specs.Clients as rows;
 
-use cluster_runs::Tried;
+use client_rows::Tried;
 use std::alloc::Global;
 use xt_base::{Members, NodeId, OutOfMemory, Seq};
 use xt_messages::{Answered, Answers, Retry};
@@ -48,7 +48,7 @@ pub fn with_outcome(
 }
 
 /// What came of a member, if it was asked and anything has come of it.
-#[tactic(auto, unfolding(cluster_runs::specs::Clients::outcome_in))]
+#[tactic(auto, unfolding(client_rows::specs::Clients::outcome_in))]
 fn outcome_in(tried: &[Tried], node: NodeId) -> Option<Retry>
     ensures { result ≡ rows.outcome_in tried.now node }
 {

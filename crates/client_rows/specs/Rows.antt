@@ -1,4 +1,4 @@
--- what a client does, row by row: its calls on replicated files are those of `cluster_runs`, and beside them it has one call at
+-- what a client does, row by row: its calls on replicated files are those of `world_spec`, and beside them it has one call at
 -- a time on a striped file, to the metadata server or to the directory service
 use Rattle.std.specs.Prelude.{ℕ, Bool, true, false, nat_lt, ◌+◌, max, if◌then◌else◌, Option, Some, None, List, [], ◌∷◌}
 use Rattle.xt_base.specs.TimeSettings.{TimeSettings}
@@ -19,26 +19,26 @@ use Rattle.xt_messages.specs.declared.event.Outcome.TheVariants as outcome
 use Rattle.xt_base.specs.declared.TheConstants.{COUNTS}
 use Rattle.xt_protocol.specs.Turns.{sends}
 use Rattle.xt_protocol.specs.declared.turned.Turned.{Turned}
-use Rattle.cluster_runs.specs.declared.ClientState.{ClientState}
-use Rattle.cluster_runs.specs.Steps.{Step, stays}
-use Rattle.cluster_runs.specs.Clients.{ClientSite, call_of_client, step_of_client, knows, raised}
-use Rattle.replica_client.specs.Views.{ended_by}
-use Rattle.replica_client.specs.Again.{again_of_client}
-use Rattle.client_core.specs.declared.progress.Learnt.{Learnt}
-use Rattle.client_core.specs.declared.progress.Learnt.TheVariants as learnt
-use Rattle.client_core.specs.declared.progress.Next.{Next}
-use Rattle.client_core.specs.declared.progress.Next.TheVariants as next
-use Rattle.client_core.specs.declared.progress.Progress.{Progress}
-use Rattle.client_core.specs.declared.requests.Request.{Request}
-use Rattle.client_core.specs.declared.requests.Request.TheVariants as request
-use Rattle.client_core.specs.declared.requests.CallResult.{CallResult}
-use Rattle.client_core.specs.declared.requests.CallResult.TheVariants as result
-use Rattle.client_core.specs.declared.requests.Stage.{Stage}
-use Rattle.client_core.specs.declared.requests.Stage.TheVariants as stage
-use Rattle.client_core.specs.declared.requests.MadeCall.{MadeCall}
-use Rattle.client_core.specs.Holding.{Held, holds, joins, mark_with}
-use Rattle.client_core.specs.Requests.{request_of, file_of, first_asked, first_stage, asks, begins, outcome_of}
-use Rattle.client_core.specs.Waiting.{event_comes}
+use Rattle.client_rows.specs.declared.ClientState.{ClientState}
+use Rattle.client_rows.specs.Steps.{Step, stays}
+use Rattle.client_rows.specs.Clients.{ClientSite, call_of_client, step_of_client, knows, raised}
+use Rattle.client_rows.specs.Ends.{ended_by}
+use Rattle.client_rows.specs.Again.{again_of_client}
+use Rattle.client_rows.specs.declared.progress.Learnt.{Learnt}
+use Rattle.client_rows.specs.declared.progress.Learnt.TheVariants as learnt
+use Rattle.client_rows.specs.declared.progress.Next.{Next}
+use Rattle.client_rows.specs.declared.progress.Next.TheVariants as next
+use Rattle.client_rows.specs.declared.progress.Progress.{Progress}
+use Rattle.client_rows.specs.declared.requests.Request.{Request}
+use Rattle.client_rows.specs.declared.requests.Request.TheVariants as request
+use Rattle.client_rows.specs.declared.requests.CallResult.{CallResult}
+use Rattle.client_rows.specs.declared.requests.CallResult.TheVariants as result
+use Rattle.client_rows.specs.declared.requests.Stage.{Stage}
+use Rattle.client_rows.specs.declared.requests.Stage.TheVariants as stage
+use Rattle.client_rows.specs.declared.requests.MadeCall.{MadeCall}
+use Rattle.client_rows.specs.Holding.{Held, holds, joins, mark_with}
+use Rattle.client_rows.specs.Requests.{request_of, file_of, first_asked, first_stage, asks, begins, outcome_of}
+use Rattle.client_rows.specs.Waiting.{event_comes}
 
 -- the state of a client: its calls on replicated files, with its clock and its next number; what it holds of files; and the call
 -- that it made last

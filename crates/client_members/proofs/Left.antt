@@ -3,8 +3,8 @@ use Rattle.std.proofs.Common.{◌≡◌, ◌∙◌, List, [], ◌∷◌, refl, s
 use Rattle.std.specs.Prelude.{not, filter, find, ◌==◌, ◌&&◌, ◌||◌}
 use Rattle.xt_base.specs.declared.ids.NodeId.{NodeId}
 use Rattle.xt_base.specs.MemberList.{has_node}
-use Rattle.cluster_runs.specs.declared.Tried.{Tried}
-use Rattle.cluster_runs.specs.Clients.{was_tried, next_of}
+use Rattle.client_rows.specs.declared.Tried.{Tried}
+use Rattle.client_rows.specs.Clients.{was_tried, next_of}
 
 -- whether a member wasn't asked
 abbrev pub is_new : List Tried → NodeId → Bool
