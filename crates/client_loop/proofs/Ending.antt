@@ -8,11 +8,11 @@ use Rattle.xt_messages.specs.declared.event.Event.{Event}
 use Rattle.xt_messages.specs.declared.event.Event.TheVariants as event
 use Rattle.node_runs.specs.Hearing.{hears}
 use Rattle.node_runs.specs.Runs.{next_due}
-use Rattle.client_core.specs.declared.requests.MadeCall.{MadeCall}
-use Rattle.client_core.specs.declared.requests.Stage.{Stage}
-use Rattle.client_core.specs.declared.requests.Stage.TheVariants as stage
-use Rattle.client_core.specs.Rows as rows
-use Rattle.client_core.specs.Rows.{WholeClient}
+use Rattle.client_rows.specs.declared.requests.MadeCall.{MadeCall}
+use Rattle.client_rows.specs.declared.requests.Stage.{Stage}
+use Rattle.client_rows.specs.declared.requests.Stage.TheVariants as stage
+use Rattle.client_rows.specs.Rows as rows
+use Rattle.client_rows.specs.Rows.{WholeClient}
 use Rattle.client_core.specs.Views.{ClientView}
 use Rattle.client_loop.specs.declared.course.Course.{Course}
 use Rattle.client_loop.specs.declared.course.Handed.{Handed}

@@ -7,9 +7,9 @@ use Rattle.xt_messages.specs.declared.message.Msg.{Msg}
 use Rattle.xt_messages.specs.declared.event.Event.{Event}
 use Rattle.xt_messages.specs.declared.event.Call.{Call}
 use Rattle.client_core.specs.Views.{ClientView}
-use Rattle.client_core.specs.Rows as rows
-use Rattle.client_fits.specs.Fits.{FitsCall, FitsClient}
-use Rattle.client_fits.proofs.Limits.{again_fits, called_fits, stepped_fits}
+use Rattle.client_rows.specs.Rows as rows
+use Rattle.client_limits.specs.Fits.{FitsCall, FitsClient}
+use Rattle.client_limits.proofs.Limits.{again_fits, called_fits, stepped_fits}
 
 module _ (c new : ClientView) (now : ℕ) (who : FitsNode c.node) (is : FitsClient c.state) where
   pub outs_of_call : (asked : Call) (outs : List Msg) → FitsCall asked

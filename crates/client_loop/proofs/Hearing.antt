@@ -8,7 +8,6 @@ use Rattle.node_runs.specs.Links.{Reads}
 use Rattle.node_runs.proofs.Sending.{takes_none, takes_more, reads_none, reads_more}
 use Rattle.client_loop.specs.declared.errors.DriveErr.{DriveErr}
 use Rattle.client_loop.specs.declared.listening.Listener.{Listener}
-use Rattle.client_loop.specs.declared.listening.Listened.{Listened}
 use Rattle.client_loop.specs.Listening.{Look, late, came, reading_of, datagrams_of, looks, told_by, heard_as, received_as, MayLook, GaveIn, CannotLook}
 use Rattle.client_loop.specs.Waiting.{silent, received, is_late, HearsOnce, HasHeard, HasListened, CannotListen}
 use Rattle.client_loop.proofs.Waited.{took}

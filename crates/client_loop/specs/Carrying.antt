@@ -5,14 +5,14 @@ use Rattle.xt_messages.specs.declared.event.Event.TheVariants as event
 use Rattle.xt_messages.specs.declared.event.Call.{Call}
 use Rattle.xt_messages.specs.declared.message.Msg.{Msg}
 use Rattle.xt_messages.specs.Limits.{FitsEvent}
-use Rattle.cluster_runs.specs.Steps.{Step}
+use Rattle.client_rows.specs.Steps.{Step}
 use Rattle.node_links.specs.declared.link.Datagram.{Datagram}
 use Rattle.node_links.specs.Streams.{Takes}
 use Rattle.node_runs.specs.Links.{Reads, Sends}
 use Rattle.node_runs.specs.Posting.{Posted, none_posted}
 use Rattle.node_runs.specs.Runs.{next_due}
-use Rattle.client_core.specs.Rows as rows
-use Rattle.client_core.specs.Rows.{WholeClient}
+use Rattle.client_rows.specs.Rows as rows
+use Rattle.client_rows.specs.Rows.{WholeClient}
 use Rattle.client_core.specs.Views.{ClientView}
 use Rattle.client_loop.specs.declared.errors.DriveErr.{DriveErr}
 use Rattle.client_loop.specs.declared.errors.DriveErr.TheVariants as error

@@ -1,9 +1,9 @@
 ghost use Rattle.std.specs.Prelude.{◌≡◌, ◌≤◌, ◌<◌, ◌^◌, ◌+◌, ◌↔◌, Err, IsSome, IsTrue, true, false, IfOk, IfErr};
 ghost use Rattle.xt_messages.specs.Limits.{FitsNode};
 ghost use Rattle.xt_messages.specs.declared.event.Event.TheVariants as event;
-ghost use Rattle.client_core.specs.Requests.{is_ready};
-ghost use Rattle.client_core.specs.Rows as rows;
-ghost use Rattle.client_fits.specs.Fits.{FitsCall, FitsClient};
+ghost use Rattle.client_rows.specs.Requests.{is_ready};
+ghost use Rattle.client_rows.specs.Rows as rows;
+ghost use Rattle.client_limits.specs.Fits.{FitsCall, FitsClient};
 ghost use Rattle.client_loop.specs.declared.course.Handed.TheVariants as handed_to;
 ghost use Rattle.client_loop.specs.Listening.{HasDriveCause};
 ghost use Rattle.client_loop.specs.Carrying.{FitsHanded, HasHanded, HasNotHanded, HasCalled, CannotCall, HasMoved, HasNotMoved, Nears, RestsRightly, is_over, HasCarried, CannotCarry};

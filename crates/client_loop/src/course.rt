@@ -1,6 +1,6 @@
 ghost use Rattle.std.specs.Prelude.{◌≡◌, ◌≤◌, ◌<◌, ◌^◌, ◌+◌, ◌-◌, ◌/◌, ◌&&◌, not, is_some, None};
 ghost use Rattle.xt_messages.specs.declared.event.Event.TheVariants as event;
-ghost use Rattle.client_core.specs.Rows as rows;
+ghost use Rattle.client_rows.specs.Rows as rows;
 ghost use Rattle.client_loop.specs.declared.course.Handed.TheVariants as handed_to;
 ghost use Rattle.client_loop.specs.Carrying.{period_of, or_end_of, stop_of, has_rested, late_by, handed_by, course_after, settled};
 ghost use Rattle.node_runs.specs.Runs.{next_due};

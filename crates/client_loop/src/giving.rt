@@ -1,9 +1,9 @@
 ghost use Rattle.std.specs.Prelude.{◌≡◌, ◌<◌, ◌^◌, IfOk, IfErr, IsTrue, false, true};
 ghost use Rattle.std.specs.List.{All};
 ghost use Rattle.xt_messages.specs.Limits.{FitsNode, FitsMessage};
-ghost use Rattle.client_core.specs.Requests.{is_ready};
-ghost use Rattle.client_core.specs.Rows as rows;
-ghost use Rattle.client_fits.specs.Fits.{FitsCall, FitsClient};
+ghost use Rattle.client_rows.specs.Requests.{is_ready};
+ghost use Rattle.client_rows.specs.Rows as rows;
+ghost use Rattle.client_limits.specs.Fits.{FitsCall, FitsClient};
 ghost use Rattle.client_loop.specs.declared.course.Handed.TheVariants as handed_to;
 ghost use Rattle.client_loop.specs.Carrying.{step_of, FitsHanded};
 

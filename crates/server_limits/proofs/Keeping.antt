@@ -11,7 +11,7 @@ use Rattle.xt_messages.specs.declared.record.Record.{Record}
 use Rattle.xt_messages.specs.declared.record.Record.TheVariants as kept
 use Rattle.xt_messages.specs.declared.record.Folded.{Folded}
 use Rattle.xt_protocol.specs.Folds.{IsInPlace, fold_of}
-use Rattle.cluster_runs.specs.NodeSteps.{one_more}
+use Rattle.world_spec.specs.NodeSteps.{one_more}
 use Rattle.server_rows.specs.Metadata.{Catalogue, MrcState, catalogue_of, empty_catalogue, mrc_of, step_of_mrc}
 use Rattle.server_rows.specs.Metadata as metadata
 use Rattle.server_rows.specs.Directory.{DirState, dir_of, empty_dir, step_of_dir}

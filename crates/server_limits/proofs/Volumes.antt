@@ -42,7 +42,8 @@ use Rattle.server_rows.specs.declared.NewSizes.{NewSizes}
 use Rattle.server_rows.specs.Requests as rows
 use Rattle.server_rows.specs.Requests.{outcome_of, place_of, placed, location_on, nodes_in, settled, grant_settled, report_settled, grant_at, wants_truncating, capability_of, is_last_epoch, is_spent}
 use Rattle.server_limits.specs.Limits.{FitsStored, FitsContent, FitsEntry, FitsPlace, FitsVolumes}
-use Rattle.server_limits.proofs.Bytes.{tag_fits, volume_bytes, volume_length}
+use Rattle.client_limits.proofs.Tags.{tag_fits}
+use Rattle.server_limits.proofs.Bytes.{volume_bytes, volume_length}
 use Rattle.server_limits.proofs.Texts.{PathFits, path_fits}
 
 abbrev Names : Path → Type 0

@@ -5,7 +5,7 @@ use Rattle.std.specs.List.{AllByRecursion}
 use Rattle.xt_messages.specs.Limits.{FitsMessage, FitsRecord}
 use Rattle.xt_messages.specs.declared.record.Record.{Record}
 use Rattle.xt_protocol.specs.Folds.{IsInPlace, fold_of}
-use Rattle.cluster_runs.specs.NodeSteps.{one_more}
+use Rattle.world_spec.specs.NodeSteps.{one_more}
 use Rattle.server_rows.specs.Metadata.{MrcState, MrcStep, catalogue_of}
 use Rattle.server_rows.specs.Directory.{DirState, DirStep, dir_of}
 use Rattle.server_limits.specs.Limits.{FitsMrc, FitsDir}

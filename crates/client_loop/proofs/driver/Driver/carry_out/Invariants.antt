@@ -1,5 +1,5 @@
 use Rattle.std.proofs.Common.{◌≡◌, ◌≤◌, ◌<◌, ◌+◌, ◌^◌}
-use Rattle.client_fits.specs.Fits.{FitsClient}
+use Rattle.client_limits.specs.Fits.{FitsClient}
 use Rattle.client_loop.specs.Carrying.{HasCome, RestsRightly, tries_after}
 use Rattle.client_loop.proofs.driver.Driver.carry_out.Given as goal
 

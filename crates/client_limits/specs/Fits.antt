@@ -1,5 +1,5 @@
 -- the limits of what a client holds and asks
-use Rattle.std.specs.Prelude.{ℕ, ◌<◌, ◌^◌}
+use Rattle.std.specs.Prelude.{◌≡◌, ◌<◌, ◌^◌, None}
 use Rattle.std.specs.Option.{IfSome}
 use Rattle.std.specs.List.{AllByRecursion}
 use Rattle.xt_base.specs.FieldLimits.{IsCount}
@@ -7,14 +7,15 @@ use Rattle.xt_messages.specs.declared.file.Op.TheVariants as op
 use Rattle.xt_messages.specs.declared.event.Call.{Call}
 use Rattle.xt_messages.specs.declared.event.Call.TheVariants as call
 use Rattle.xt_messages.specs.Limits.{FitsCapability, FitsMark, FitsOp, FitsMetaReq, FitsRegistryReq, FitsMessage}
-use Rattle.cluster_runs.specs.declared.RunningCall.{RunningCall}
-use Rattle.cluster_runs.specs.declared.ClientState.{ClientState}
-use Rattle.cluster_runs.specs.Steps.{Step}
-use Rattle.client_core.specs.declared.holding.HeldFile.{HeldFile}
-use Rattle.client_core.specs.declared.requests.Request.{Request}
-use Rattle.client_core.specs.declared.requests.Request.TheVariants as request
-use Rattle.client_core.specs.declared.requests.MadeCall.{MadeCall}
-use Rattle.client_core.specs.Rows.{WholeClient}
+use Rattle.client_rows.specs.declared.RunningCall.{RunningCall}
+use Rattle.client_rows.specs.declared.ClientState.{ClientState}
+use Rattle.client_rows.specs.declared.KnownFile.{KnownFile}
+use Rattle.client_rows.specs.Steps.{Step}
+use Rattle.client_rows.specs.declared.holding.HeldFile.{HeldFile}
+use Rattle.client_rows.specs.declared.requests.Request.{Request}
+use Rattle.client_rows.specs.declared.requests.Request.TheVariants as request
+use Rattle.client_rows.specs.declared.requests.MadeCall.{MadeCall}
+use Rattle.client_rows.specs.Rows.{WholeClient}
 
 -- what a call asks is within the limits of its message
 abbrev pub FitsCall : Call → Type 0
@@ -47,10 +48,14 @@ pub record FitsRunning (running : RunningCall) : Type 0 where
   pub right : FitsCapability running.capability
   pub asks : FitsOp running.op
 
+-- what is known of a replicated file
+abbrev pub FitsKnown : KnownFile → Type 0
+FitsKnown known = IsCount known.epoch
+
 -- its calls on replicated files
 pub record FitsReplicas (replicas : ClientState) : Type 0 where
   pub call : IfSome replicas.running FitsRunning
-  pub known : AllByRecursion (λ e. IsCount e.1.epoch) replicas.files
+  pub known : AllByRecursion (λ e. FitsKnown e.1) replicas.files
 
 -- a client
 pub record FitsClient (client : WholeClient) : Type 0 where
@@ -58,7 +63,8 @@ pub record FitsClient (client : WholeClient) : Type 0 where
   pub holds : AllByRecursion (λ e. FitsHeldFile e.1) client.held
   pub last : IfSome client.made FitsMade
 
--- what it sends in a step is within the limits of messages, and so is what it holds and asks then
+-- what it sends in a step is within the limits of messages, and so is what it holds and asks then; it keeps no record
 pub record FitsStep (step : Step WholeClient) : Type 0 where
   pub client : FitsClient step.state
   pub messages : AllByRecursion FitsMessage step.turned.outs
+  pub keeps_none : step.turned.rec ≡ None

@@ -1,5 +1,5 @@
 -- what a client holds and sends stays within its limits, row by row
-use Rattle.std.proofs.Common.{◌≡◌, ◌==◌, ◌&&◌, ◌||◌, ◌<◌, ◌+◌, ◌%◌, ◌^◌, max, ℕ, nat_lt, List, [], ◌∷◌, length, refl, subst, suc, zero, Option, Some, None, Bool, true, false, cond, arith}
+use Rattle.std.proofs.Common.{◌==◌, ◌&&◌, ◌<◌, ◌+◌, ◌%◌, ◌^◌, max, ℕ, nat_lt, List, [], ◌∷◌, length, refl, suc, zero, Option, Some, None, Bool, true, false, cond, arith}
 use Rattle.std.specs.Prelude.{slice_get}
 use Rattle.std.specs.Option.{IfSome}
 use Rattle.std.specs.List.{AllByRecursion}
@@ -7,12 +7,9 @@ use Rattle.std.specs.Map.{lookup}
 use Rattle.std.specs.Ordering.{nat_cmp, is_eq, match_ordering}
 use Rattle.std.specs.declared.cmp.Ordering.{Ordering}
 use Rattle.std.specs.declared.cmp.Ordering.TheVariants.{Less, Equal, Greater}
-use Rattle.std.proofs.lemmas.Bool.{eqb-true}
-use Rattle.std.proofs.lemmas.Bool.Decides.{nat_tests}
 use Rattle.std.specs.BTreeMap.{insert_entry}
 use Rattle.xt_base.specs.FieldLimits.{IsCount}
 use Rattle.xt_base.specs.TimeSettings.{TimeSettings}
-use Rattle.xt_base.specs.MemberList.{has_node}
 use Rattle.xt_base.specs.declared.TheConstants.{COUNTS}
 use Rattle.xt_base.specs.declared.ids.NodeId.{NodeId}
 use Rattle.xt_base.specs.declared.ids.SizeMark.{SizeMark}
@@ -27,7 +24,6 @@ use Rattle.xt_messages.specs.declared.event.Event.{Event}
 use Rattle.xt_messages.specs.declared.event.Event.TheVariants as event
 use Rattle.xt_messages.specs.declared.event.Outcome.{Outcome}
 use Rattle.xt_messages.specs.declared.event.Outcome.TheVariants as outcome
-use Rattle.xt_messages.specs.declared.message.Msg.{Msg}
 use Rattle.xt_messages.specs.declared.message.Payload.{Payload}
 use Rattle.xt_messages.specs.declared.message.Payload.TheVariants as payload
 use Rattle.xt_messages.specs.declared.meta.MetaAnswer.{MetaAnswer}
@@ -42,65 +38,38 @@ use Rattle.xt_messages.specs.declared.status.AskRefusal.TheVariants as refusal
 use Rattle.xt_messages.specs.Limits.{FitsNode, FitsCapability, FitsMark, FitsOp, FitsMetaAnswer, FitsPayload, FitsReply, FitsMessage, FitsEvent}
 use Rattle.truncate_epochs.specs.SizeMarks.{is_smaller, merged}
 use Rattle.object_versions.proofs.HeadLimits.{either, when}
-use Rattle.cluster_runs.specs.declared.ClientState.{ClientState}
-use Rattle.cluster_runs.specs.declared.RunningCall.{RunningCall}
-use Rattle.cluster_runs.specs.Clients.{ClientSite, first_member, first_target, known_in, knows, raised, asks, call_of_client, step_of_client}
-use Rattle.cluster_runs.specs.Steps.{Step}
-use Rattle.replica_client.specs.Again.{again_of_client}
-use Rattle.replica_client.specs.Views.{ended_by}
-use Rattle.cluster_fits.proofs.Clients.{ClientIs, ClientStepIs, CallIs, begins_is, client_step_is, learns_is}
-use Rattle.client_core.specs.declared.holding.HeldFile.{HeldFile}
-use Rattle.client_core.specs.declared.progress.Learnt.{Learnt}
-use Rattle.client_core.specs.declared.progress.Learnt.TheVariants as learnt
-use Rattle.client_core.specs.declared.progress.Next.{Next}
-use Rattle.client_core.specs.declared.progress.Next.TheVariants as next
-use Rattle.client_core.specs.declared.progress.Progress.{Progress}
-use Rattle.client_core.specs.declared.requests.Request.{Request}
-use Rattle.client_core.specs.declared.requests.Request.TheVariants as request
-use Rattle.client_core.specs.declared.requests.CallResult.{CallResult}
-use Rattle.client_core.specs.declared.requests.CallResult.TheVariants as result
-use Rattle.client_core.specs.declared.requests.Stage.{Stage}
-use Rattle.client_core.specs.declared.requests.Stage.TheVariants as stage
-use Rattle.client_core.specs.declared.requests.MadeCall.{MadeCall}
-use Rattle.client_core.specs.Holding.{Held, held_of, joined_with, mark_with, holds, marked, joins}
-use Rattle.client_core.specs.Requests as asked_by
-use Rattle.client_core.specs.Waiting as waiting
-use Rattle.client_core.specs.Rows as rows
-use Rattle.client_core.specs.Rows.{WholeClient}
-use Rattle.client_fits.specs.Fits.{FitsCall, FitsRequest, FitsHeldFile, FitsMade, FitsRunning, FitsReplicas, FitsClient, FitsStep}
+use Rattle.client_rows.specs.declared.ClientState.{ClientState}
+use Rattle.client_rows.specs.Clients.{ClientSite, raised, step_of_client}
+use Rattle.client_rows.specs.Steps.{Step}
+use Rattle.client_rows.specs.Ends.{ended_by}
+use Rattle.client_rows.specs.declared.holding.HeldFile.{HeldFile}
+use Rattle.client_rows.specs.declared.progress.Learnt.{Learnt}
+use Rattle.client_rows.specs.declared.progress.Learnt.TheVariants as learnt
+use Rattle.client_rows.specs.declared.progress.Next.{Next}
+use Rattle.client_rows.specs.declared.progress.Next.TheVariants as next
+use Rattle.client_rows.specs.declared.progress.Progress.{Progress}
+use Rattle.client_rows.specs.declared.requests.Request.{Request}
+use Rattle.client_rows.specs.declared.requests.Request.TheVariants as request
+use Rattle.client_rows.specs.declared.requests.CallResult.{CallResult}
+use Rattle.client_rows.specs.declared.requests.CallResult.TheVariants as result
+use Rattle.client_rows.specs.declared.requests.Stage.{Stage}
+use Rattle.client_rows.specs.declared.requests.Stage.TheVariants as stage
+use Rattle.client_rows.specs.declared.requests.MadeCall.{MadeCall}
+use Rattle.client_rows.specs.Holding.{Held, held_of, joined_with, mark_with, holds, marked, joins}
+use Rattle.client_rows.specs.Requests as asked_by
+use Rattle.client_rows.specs.Waiting as waiting
+use Rattle.client_rows.specs.Rows as rows
+use Rattle.client_rows.specs.Rows.{WholeClient}
+use Rattle.client_limits.specs.Fits.{FitsCall, FitsRequest, FitsHeldFile, FitsMade, FitsReplicas, FitsClient, FitsStep}
+use Rattle.client_limits.proofs.Messages.{sent}
+use Rattle.client_limits.proofs.Replicas.{CallsFit, moved_fits, left_fits, learns_fits, raised_fits, first_fits, replicas_step, replicas_call, replicas_again}
 
-pub new_fits : (first : ℕ) → FitsClient (record {
-  replicas = record { last = 0; next = first; running = None; files = [] };
+pub new_fits : (clock first : ℕ) → FitsClient (record {
+  replicas = record { last = clock; next = first; running = None; files = [] };
   held = [];
   made = None;
 })
-new_fits first = record { calls = record { call = tt; known = tt }; holds = tt; last = tt }
-
--- ---- the calls on replicated files
-
-running_is : (o : Option RunningCall) → IfSome o FitsRunning → IfSome o CallIs
-running_is None fits = tt
-running_is (Some running) fits = record { number_fits = fits.place; seal = fits.right; asked = fits.asks }
-
-running_fits : (o : Option RunningCall) → IfSome o CallIs → IfSome o FitsRunning
-running_fits None is = tt
-running_fits (Some running) is = record { place = is.number_fits; right = is.seal; asks = is.asked }
-
-replicas_are : (c : ClientState) → FitsReplicas c → ClientIs c
-replicas_are c fits = record { call = running_is c.running fits.call; known = fits.known }
-
-replicas_fit : (c : ClientState) → ClientIs c → FitsReplicas c
-replicas_fit c is = record { call = running_fits c.running is.call; known = is.known }
-
--- the same at another clock, or with another next number
-moved_fits : (c : ClientState) (last next : ℕ) → FitsReplicas c → FitsReplicas (record c { last = last; next = next })
-moved_fits c last next fits = record { call = fits.call; known = fits.known }
-
-raised_fits : (epoch known : ℕ) → IsCount epoch → IsCount known → IsCount (max known epoch)
-raised_fits epoch known fits is = both known epoch is fits
-  where
-    both : (a b : ℕ) → a < 2 ^ 62 → b < 2 ^ 62 → max a b < 2 ^ 62
-    both a b x y = omega arith
+new_fits clock first = record { calls = record { call = tt; known = tt }; holds = tt; last = tt }
 
 -- ---- what is held
 
@@ -135,7 +104,7 @@ joined_fits (Some h) mark held fits = merged_fits h.mark mark held.size fits
 mark_fits : (held : Held) (file : ℕ) (mark : SizeMark) → AreHeld held → FitsMark mark → FitsMark (mark_with held file mark)
 mark_fits held file mark all fits = joined_fits (held_of held file) mark (found_fits held file all) fits
 
-holds_fits : (held : Held) (capability : Capability) (mark : SizeMark) → AreHeld held → FitsCapability capability → FitsMark mark → AreHeld (holds held capability mark)
+pub holds_fits : (held : Held) (capability : Capability) (mark : SizeMark) → AreHeld held → FitsCapability capability → FitsMark mark → AreHeld (holds held capability mark)
 holds_fits held capability mark all right fits =
     put_fits held capability.file.number (record { capability = capability; mark = mark_with held capability.file.number mark }) all
     (record { right = right; size = mark_fits held capability.file.number mark all fits })
@@ -175,12 +144,7 @@ learnt_known c learnt.Nothing is fits = is
 learnt_known c (learnt.Mark file mark) is fits = is
 learnt_known c (learnt.Capability capability mark) is fits = is
 learnt_known c (learnt.Epoch file epoch) is fits =
-    replicas_fit (knows c file (raised epoch))
-    (learns_is c file (raised epoch) (replicas_are c is) (λ known fine. raised_fits epoch known.epoch fits fine))
-
-first_fits : (members : List NodeId) → AllByRecursion FitsNode members → FitsNode (first_member members)
-first_fits [] all = omega arith
-first_fits (m ∷ ms) all = all.0
+    learns_fits c file (raised epoch) is (λ known fine. raised_fits epoch known fits fine)
 
 get_fits : (members : List NodeId) (i : ℕ) → AllByRecursion FitsNode members → IfSome (slice_get members i) FitsNode
 get_fits [] i all = tt
@@ -227,7 +191,7 @@ payload_fits number (request.Registry asked) small fits = (small, fits)
 asks_fit : (node : NodeId) (number : ℕ) (asked : Request) (target : NodeId) → FitsNode node → IsCount number → FitsRequest asked → FitsNode target
     → AllByRecursion FitsMessage (asked_by.asks node number asked target)
 asks_fit node number asked target who small fits to =
-    (record { sender = who; receiver = to; first = refl; content = payload_fits number asked small fits }, tt)
+    (sent node target (asked_by.payload_of number asked) who to (payload_fits number asked small fits), tt)
 
 sent_fits : (node : NodeId) (made : MadeCall) (n : Next) → FitsNode node → FitsMade made → NextFits n → AllByRecursion FitsMessage (rows.sent node made n)
 sent_fits node made next.Wait who fits goes = tt
@@ -243,6 +207,7 @@ proceeds_fits site client made comes who is fits goes = record {
     last = record { place = fits.place; asks = fits.asks };
   };
   messages = sent_fits site.node made comes.next who fits goes.1;
+  keeps_none = refl;
 }
 
 -- ---- while a call waits
@@ -369,12 +334,13 @@ behind_fits client (Some made) size (Some how) is last fits = record {
 replicas_step_fits : (node : NodeId) (times : TimeSettings) (client : WholeClient) (reading : ℕ) (happens : Event) → FitsNode node → FitsClient client → FitsEvent happens
     → FitsStep (rows.replicas_step node times client reading happens)
 replicas_step_fits node times client reading happens who is fits =
-    let one = client_step_is node times client.replicas reading happens who (replicas_are client.replicas is.calls) fits in
+    let one = replicas_step node times client.replicas reading happens who is.calls fits in
     let step = step_of_client node times client.replicas reading happens in
     record {
       client = behind_fits (record client { replicas = step.state }) client.made (rows.mark_told happens) (ended_by None step.turned.marks)
-          (record { calls = replicas_fit step.state one.state; holds = is.holds; last = is.last }) is.last (told_fits happens fits);
-      messages = one.outs;
+          (record { calls = one.calls; holds = is.holds; last = is.last }) is.last (told_fits happens fits);
+      messages = one.messages;
+      keeps_none = one.keeps_none;
     }
 
 -- ---- the client
@@ -383,6 +349,7 @@ passes_fits : (client : WholeClient) (reading : ℕ) → FitsClient client → F
 passes_fits client reading is = record {
   client = record { calls = moved_fits client.replicas (rows.clock_of client reading) client.replicas.next is.calls; holds = is.holds; last = is.last };
   messages = tt;
+  keeps_none = refl;
 }
 
 waits_fit : (node : NodeId) (times : TimeSettings) (client : WholeClient) (reading : ℕ) (happens : Event) (made : MadeCall) (target : NodeId) (deadline : ℕ)
@@ -433,41 +400,32 @@ request_fits held (call.Meta user group asked) all fits = fits
 request_fits held (call.Report user group file) all fits = report_fits user group (held_of held file) fits.0 fits.1 (found_fits held file all)
 request_fits held (call.Registry asked) all fits = fits
 
--- what the start of a call gives
-record StartFits (step : Step ClientState) : Type 0 where
-  calls : FitsReplicas step.state
-  messages : AllByRecursion FitsMessage step.turned.outs
-
 made_fits : (times : TimeSettings) (client : WholeClient) (reading number : ℕ) (asked : Request) (step : Step ClientState) → FitsClient client → IsCount number → FitsRequest asked
-    → StartFits step → FitsStep (rows.has_started times client reading number asked step)
+    → CallsFit step → FitsStep (rows.has_started times client reading number asked step)
 made_fits times client reading number asked step is small fits start = record {
   client = record { calls = start.calls; holds = is.holds; last = record { place = small; asks = fits } };
   messages = start.messages;
+  keeps_none = start.keeps_none;
 }
 
-replicated_starts : (node : NodeId) (times : TimeSettings) (c : ClientState) (reading : ℕ) (k : Call) (capability : Capability) (asked : Op) → FitsNode node → FitsReplicas c
-    → FitsCapability capability → FitsOp asked → StartFits (call_of_client node times c reading capability k asked)
-unfolding call_of_client
-replicated_starts node times c reading k capability asked who is right fits =
-    let now = max reading c.last in
-    let one = begins_is (record { node = node; times = times; now = now }) who (record c { last = now }) capability k asked
-    (replicas_are (record c { last = now }) (moved_fits c now c.next is)) right fits in
-    record { calls = replicas_fit _ one.state; messages = one.outs }
-
 starts_fit : (node : NodeId) (times : TimeSettings) (c : ClientState) (reading : ℕ) (k : Call) (asked : Request) → FitsNode node → FitsReplicas c → IsCount c.next → FitsRequest asked
-    → StartFits (rows.starts node times c reading k asked)
-starts_fit node times c reading k (request.Replicated capability asked) who is small fits = replicated_starts node times c reading k capability asked who is fits.0 fits.1
+    → CallsFit (rows.starts node times c reading k asked)
+starts_fit node times c reading k (request.Replicated capability asked) who is small fits =
+    replicas_call node times c reading capability k asked who is fits.0 fits.1
 starts_fit node times c reading k (request.Striped capability asked) who is small fits = record {
   calls = moved_fits c (max reading c.last) (c.next + 1) is;
   messages = asks_fit node c.next (request.Striped capability asked) _ who small fits (first_asked_fits (request.Striped capability asked) fits);
+  keeps_none = refl;
 }
 starts_fit node times c reading k (request.Meta user group asked) who is small fits = record {
   calls = moved_fits c (max reading c.last) (c.next + 1) is;
   messages = asks_fit node c.next (request.Meta user group asked) _ who small fits (first_asked_fits (request.Meta user group asked) fits);
+  keeps_none = refl;
 }
 starts_fit node times c reading k (request.Registry asked) who is small fits = record {
   calls = moved_fits c (max reading c.last) (c.next + 1) is;
   messages = asks_fit node c.next (request.Registry asked) _ who small fits (first_asked_fits (request.Registry asked) fits);
+  keeps_none = refl;
 }
 
 asked_for_fits : (node : NodeId) (times : TimeSettings) (client : WholeClient) (reading : ℕ) (k : Call) (o : Option Request) → FitsNode node → FitsClient client
@@ -482,57 +440,29 @@ pub called_fits : (node : NodeId) (times : TimeSettings) (client : WholeClient) 
 unfolding rows.called
 called_fits node times client reading k who is fits =
     when FitsStep (nat_lt client.replicas.next COUNTS) (rows.asked_for node times client reading k (asked_by.request_of client.held k)) (rows.passes client reading)
-    (λ room. asked_for_fits node times client reading k (asked_by.request_of client.held k) who is (below client.replicas.next room) (request_fits client.held k is.holds fits))
+    (λ room. asked_for_fits node times client reading k (asked_by.request_of client.held k) who is (left_fits client.replicas.next room) (request_fits client.held k is.holds fits))
     (λ full. passes_fits client reading is)
-  where
-    below : (n : ℕ) → nat_lt n COUNTS ≡ true → n < 2 ^ 62
-    below n less = grind (arith, nat_tests)
 
 -- ---- the last call again
 
-listed_fits : (members : List NodeId) (n : ℕ) → AllByRecursion FitsNode members → has_node members n ≡ true → n < 2 ^ 32
-listed_fits [] n all is = absurd cc
-listed_fits (m ∷ ms) n all is = at (m.0 == n) refl is (listed_fits ms n all.1)
-  where
-    at : (b : Bool) → (m.0 == n) ≡ b → (b || has_node ms n) ≡ true → (has_node ms n ≡ true → n < 2 ^ 32) → n < 2 ^ 32
-    at true same there later = subst (λ (k : ℕ). k < 2 ^ 32) (eqb-true m.0 n same) all.0
-    at false other there later = later there
-
-target_fits : (members : List NodeId) (o : Option NodeId) → AllByRecursion FitsNode members → FitsNode (first_target members o)
-target_fits members None all = first_fits members all
-target_fits members (Some node) all =
-    when FitsNode (has_node members node.0) node (first_member members) (λ there. listed_fits members node.0 all there) (λ strange. first_fits members all)
-
-replicated_again : (node : NodeId) (times : TimeSettings) (c : ClientState) (reading number : ℕ) (capability : Capability) (asked : Op) → FitsNode node → FitsReplicas c
-    → IsCount number → FitsCapability capability → FitsOp asked → StartFits (again_of_client node times c reading number capability asked)
-unfolding again_of_client
-replicated_again node times c reading number capability asked who is small right fits = record {
-  calls = record { call = record { place = small; right = right; asks = fits }; known = is.known };
-  messages = (
-    record {
-      sender = who;
-      receiver = target_fits capability.location.members (known_in c.files capability.file).target right.place.nodes.each;
-      first = refl;
-      content = (small, right, fits);
-    },
-    tt,
-  );
-}
-
 again_starts : (node : NodeId) (times : TimeSettings) (c : ClientState) (reading number : ℕ) (asked : Request) → FitsNode node → FitsReplicas c → IsCount number → FitsRequest asked
-    → StartFits (rows.starts_again node times c reading number asked)
-again_starts node times c reading number (request.Replicated capability asked) who is small fits = replicated_again node times c reading number capability asked who is small fits.0 fits.1
+    → CallsFit (rows.starts_again node times c reading number asked)
+again_starts node times c reading number (request.Replicated capability asked) who is small fits =
+    replicas_again node times c reading number capability asked who is small fits.0 fits.1
 again_starts node times c reading number (request.Striped capability asked) who is small fits = record {
   calls = moved_fits c (max reading c.last) c.next is;
   messages = asks_fit node number (request.Striped capability asked) _ who small fits (first_asked_fits (request.Striped capability asked) fits);
+  keeps_none = refl;
 }
 again_starts node times c reading number (request.Meta user group asked) who is small fits = record {
   calls = moved_fits c (max reading c.last) c.next is;
   messages = asks_fit node number (request.Meta user group asked) _ who small fits (first_asked_fits (request.Meta user group asked) fits);
+  keeps_none = refl;
 }
 again_starts node times c reading number (request.Registry asked) who is small fits = record {
   calls = moved_fits c (max reading c.last) c.next is;
   messages = asks_fit node number (request.Registry asked) _ who small fits (first_asked_fits (request.Registry asked) fits);
+  keeps_none = refl;
 }
 
 repeated_fits : (node : NodeId) (times : TimeSettings) (client : WholeClient) (reading : ℕ) (o : Option MadeCall) → FitsNode node → FitsClient client → IfSome o FitsMade

@@ -1,4 +1,5 @@
-//! The limits of what a client holds and asks: what it sends is within those of messages, in each of its calls and steps.
+//! The limits of what a client holds and asks: what it sends is within those of messages, in each of its calls and steps, and it keeps
+//! no record.
 //!
 //! Definitions and theorems alone; nothing runs here.
 #![tactic(auto)]
@@ -9,13 +10,13 @@ ghost use Rattle.xt_base.specs.declared.ids.NodeId.{NodeId};
 ghost use Rattle.xt_messages.specs.declared.event.Call.{Call};
 ghost use Rattle.xt_messages.specs.declared.event.Event.{Event};
 ghost use Rattle.xt_messages.specs.Limits.{FitsNode, FitsEvent};
-ghost use Rattle.client_core.specs.Rows.{WholeClient, called, called_again, stepped};
-ghost use Rattle.client_fits.specs.Fits.{FitsCall, FitsClient, FitsStep};
+ghost use Rattle.client_rows.specs.Rows.{WholeClient, called, called_again, stepped};
+ghost use Rattle.client_limits.specs.Fits.{FitsCall, FitsClient, FitsStep};
 
-/// A client that has made no call.
+/// A client that has made no call, whatever its clock and its first number are.
 pub fn new_clients_fit()
-    ensures { (first : ℕ) → FitsClient (record {
-      replicas = record { last = 0; next = first; running = None; files = [] };
+    ensures { (clock first : ℕ) → FitsClient (record {
+      replicas = record { last = clock; next = first; running = None; files = [] };
       held = [];
       made = None;
     }) }

@@ -1,5 +1,0 @@
-use Rattle.client_fits.proofs.Limits
-use Rattle.client_fits.proofs.repeated_calls_fit.Goals as goal
-
-pub returns : goal.returns
-returns c = Limits.again_fits

@@ -1,0 +1,6 @@
+pub mod Asks
+pub mod Cases
+pub mod Held
+pub mod Replicas
+pub mod Steps
+pub mod Waits
