@@ -1,11 +1,11 @@
-//! A run of a world of nodes, as definitions, for replicated files with leases and failover: what each line of a schedule
-//! does, step by step, and the entries that it adds to the trace.
+//! A run of a world of nodes, as definitions, for replicated files with leases and failover and for striped files: what each line of
+//! a schedule does, step by step, and the entries that it adds to the trace.
 //!
 //! The types here are the parts of a world that hold no lease; a type that holds an OSD's state stands in `specs/`.
 #![tactic(auto)]
 
-use xt_base::{FileId, NodeId, Seq};
-use xt_messages::{Capability, Location, Msg, Op, Retry};
+use xt_base::NodeId;
+use xt_messages::{Location, Msg};
 
 /// How many nodes a schedule may declare.
 pub const NODES: u64 = 64;
@@ -37,50 +37,15 @@ pub struct Sent {
     pub pending: bool,
 }
 
-/// What a client knows of a file: its first target, if it was aimed or a member has answered, and its truncate epoch.
-#[derive(Clone, Copy)]
-pub struct KnownFile {
-    pub target: Option<NodeId>,
-    pub epoch: u64,
-}
-
-/// A member that a call has asked, and what came of it, if anything yet.
-#[derive(Clone, Copy)]
-pub struct Tried {
-    pub node: NodeId,
-    pub outcome: Option<Retry>,
-}
-
-/// A client's call that runs: what it asks, the member that it asks now and until when, and all that it has asked.
-#[derive(Drop)]
-pub struct RunningCall {
-    pub number: u64,
-    pub capability: Capability,
-    pub op: Op,
-    pub target: NodeId,
-    pub deadline: u64,
-    pub tried: Seq<Tried>,
-}
-
-/// The state of a client: the clock that it used last, the number of its next call, the call that runs, and the files
-/// that it knows, rising.
-#[derive(Drop)]
-pub struct ClientState {
-    pub last: u64,
-    pub next: u64,
-    pub running: Option<RunningCall>,
-    pub files: Seq<(FileId, KnownFile)>,
-}
-
 ghost use Rattle.std.specs.Prelude.{◌≡◌, ℕ, Some, None, List, [], ◌∷◌};
 ghost use Rattle.xt_messages.specs.declared.status.Rule.TheVariants as rule;
 ghost use Rattle.time_line.specs.declared.entry.Entry.{Entry};
 ghost use Rattle.time_line.specs.declared.line.Line.{Line};
-ghost use Rattle.cluster_runs.specs.World.{World};
-ghost use Rattle.cluster_runs.specs.NodeSteps.{Room};
-ghost use Rattle.cluster_runs.specs.Runs.{IsPartOf, IsEnough, IsRun, IsRunInto, AreRunsSafe};
+ghost use Rattle.world_spec.specs.World.{World};
+ghost use Rattle.world_spec.specs.NodeSteps.{Room};
+ghost use Rattle.world_spec.specs.Runs.{IsPartOf, IsEnough, IsRun, IsRunInto, AreRunsSafe};
 ghost use Rattle.time_line.specs.Verdicts.{IsSafe, IsBroken, Break};
-ghost use Rattle.cluster_runs.specs.Examples.{missing_in, ample, trace_of, trace_in, rule_behind, room_for, eager, taught, taught_trace, full, full_trace, fuller_trace, alone, alone_trace, turns_edge, turns_edge_trace, silence, silence_trace, drifting, clock_set, repeats, repeats_trace, vanished, vanished_trace, found, found_trace, third_answers, third_answers_trace, none_answers, none_answers_trace, fed_again, fed_again_trace, held_in_turn, held_in_turn_trace};
+ghost use Rattle.world_spec.specs.Examples.{missing_in, ample, trace_of, trace_in, rule_behind, room_for, eager, taught, taught_trace, full, full_trace, fuller_trace, alone, alone_trace, turns_edge, turns_edge_trace, silence, silence_trace, drifting, clock_set, repeats, repeats_trace, vanished, vanished_trace, found, found_trace, third_answers, third_answers_trace, none_answers, none_answers_trace, node, made_again, made_again_trace, goes_again, striped, striped_trace, cut_short, cut_short_trace, fed_again, fed_again_trace, held_in_turn, held_in_turn_trace};
 
 /// The definitions are read.
 pub fn definitions()
@@ -117,4 +82,8 @@ pub fn examples()
     ensures there { trace_of found ≡ found_trace }
     ensures third { trace_of third_answers ≡ third_answers_trace }
     ensures retried { trace_of none_answers ≡ none_answers_trace }
+    ensures made_again { trace_of made_again ≡ made_again_trace }
+    ensures no_call { rule_behind made_again goes_again ≡ Some (rule.NoCall (node 10)) }
+    ensures striped { trace_of striped ≡ striped_trace }
+    ensures cut_short { trace_of cut_short ≡ cut_short_trace }
 {}

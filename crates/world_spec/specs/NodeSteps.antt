@@ -21,12 +21,12 @@ use Rattle.xt_protocol.specs.Forgetting.{keep_of, osd_without, rewritten}
 use Rattle.xt_protocol.specs.OsdSteps.{OsdState, OsdStep, Outside, step_of_osd}
 use Rattle.time_line.specs.declared.entry.Entry.{Entry}
 use Rattle.time_line.specs.declared.entry.Entry.TheVariants as entry
-use Rattle.cluster_runs.specs.declared.TheConstants.{MESSAGES, MESSAGE_BYTES}
-use Rattle.cluster_runs.specs.declared.Sent.{Sent}
-use Rattle.cluster_runs.specs.declared.ClientState.{ClientState}
-use Rattle.cluster_runs.specs.Steps.{Step}
-use Rattle.cluster_runs.specs.Clients.{step_of_client}
-use Rattle.cluster_runs.specs.World.{World, Node, Deed, puts, rewrites, Running, Core, osd, client, node_in, with_node}
+use Rattle.world_spec.specs.declared.TheConstants.{MESSAGES, MESSAGE_BYTES}
+use Rattle.world_spec.specs.declared.Sent.{Sent}
+use Rattle.client_rows.specs.Steps.{Step}
+use Rattle.client_rows.specs.Rows.{WholeClient, stepped}
+use Rattle.capabilities.specs.Tags.{is_sealed}
+use Rattle.world_spec.specs.World.{World, Node, Deed, puts, rewrites, Running, Core, osd, client, world_key, node_in, with_node}
 
 -- a record that has no room: how long its node's journal would have to be, and how long it may be, in bytes
 pub record Overflow : Type 0 where
@@ -46,19 +46,19 @@ pub data Cause : Type 0 where
 
 -- The events of a node.
 
--- nobody tests tags yet
+-- what is outside an OSD that keeps these records: the capabilities that are sealed under the world's key, and the bodies kept
 abbrev pub outside_of : List Record → Outside
-outside_of kept = record { sealed = λ capability. true; body = body_by kept }
+outside_of kept = record { sealed = is_sealed world_key; body = body_by kept }
 
 abbrev pub osd_steps : OsdStep → Step Core
 osd_steps step = record { state = osd step.osd; turned = step.turned }
 
-abbrev pub client_steps : Step ClientState → Step Core
+abbrev pub client_steps : Step WholeClient → Step Core
 client_steps step = record { state = client step.state; turned = step.turned }
 
 abbrev pub core_step : TimeSettings → Node → Core → ℕ → Event → Step Core
 core_step times node (osd state) clock happens = osd_steps (step_of_osd (outside_of node.kept) state clock happens)
-core_step times node (client state) clock happens = client_steps (step_of_client node.id times state clock happens)
+core_step times node (client state) clock happens = client_steps (stepped node.id times state clock happens)
 
 -- What comes of a step.
 

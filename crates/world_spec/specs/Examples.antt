@@ -4,6 +4,7 @@ use Rattle.xt_base.specs.declared.ids.NodeId.{NodeId}
 use Rattle.xt_base.specs.declared.ids.OpId.{OpId}
 use Rattle.xt_messages.specs.declared.file.Kind.TheVariants as kind
 use Rattle.xt_messages.specs.declared.file.Location.{Location}
+use Rattle.xt_messages.specs.declared.event.Call.{Call}
 use Rattle.xt_messages.specs.declared.event.Call.TheVariants as call
 use Rattle.xt_messages.specs.declared.event.Outcome.TheVariants as outcome
 use Rattle.xt_messages.specs.declared.message.Payload.{Payload}
@@ -31,12 +32,17 @@ use Rattle.time_line.specs.declared.line.Line.{Line}
 use Rattle.time_line.specs.declared.line.Line.TheVariants as line
 use Rattle.time_line.specs.declared.entry.Entry.{Entry}
 use Rattle.time_line.specs.declared.entry.Entry.TheVariants as entry
-use Rattle.cluster_runs.specs.Clients.{outcome_in, call_of_client, step_of_client}
-use Rattle.cluster_runs.specs.World.{World, Deed, puts, node_in, with_node, file_in}
-use Rattle.cluster_runs.specs.Rules.{refusal, first_stranger, least_where}
-use Rattle.cluster_runs.specs.NodeSteps.{Room, event_comes}
-use Rattle.cluster_runs.specs.Lines.{least_pending, first_step, next_step, steps, done}
-use Rattle.cluster_runs.specs.Runs.{after, run_of}
+use Rattle.xt_protocol.specs.StripedRows.{striped_refusal, striped_handled}
+use Rattle.xt_protocol.specs.PlainRows.{plain_step}
+use Rattle.client_rows.specs.Again.{again_of_client}
+use Rattle.client_rows.specs.Clients.{outcome_in, call_of_client, step_of_client}
+use Rattle.client_rows.specs.Rows.{called, called_again, stepped}
+use Rattle.world_spec.specs.Tagging.{tags}
+use Rattle.world_spec.specs.World.{World, Deed, puts, node_in, with_node, file_in}
+use Rattle.world_spec.specs.Rules.{refusal, first_stranger, least_where}
+use Rattle.world_spec.specs.NodeSteps.{Room, event_comes}
+use Rattle.world_spec.specs.Lines.{least_pending, first_step, next_step, steps, done}
+use Rattle.world_spec.specs.Runs.{after, run_of}
 
 -- there is always room, and nothing is forgotten
 abbrev pub ample : Room
@@ -60,7 +66,7 @@ room_for count = record {
 
 -- the world after these lines
 unfoldable pub world_in : Room → List Line → World
-unfolding run_of after refusal first_stranger least_where done steps next_step first_step least_pending event_comes node_in with_node file_in outcome_in call_of_client step_of_client step_of_osd step_of_file wake_of_file expired ask_handled refusal_of read_comes write_comes answer_comes serves_all epoch_drawn hears reads writes wakes peer_in with_peer fed chosen_of difference gathered fetched_from staged headed updated standing file_at with_file each_file body_kept fold_of logged_of row_in with_row with_held keep_of osd_without rewritten
+unfolding tags run_of after refusal first_stranger least_where done steps next_step first_step least_pending event_comes node_in with_node file_in outcome_in called called_again stepped again_of_client call_of_client step_of_client plain_step striped_refusal striped_handled step_of_osd step_of_file wake_of_file expired ask_handled refusal_of read_comes write_comes answer_comes serves_all epoch_drawn hears reads writes wakes peer_in with_peer fed chosen_of difference gathered fetched_from staged headed updated standing file_at with_file each_file body_kept fold_of logged_of row_in with_row with_held keep_of osd_without rewritten
 world_in room lines = run_of room lines
 
 -- the trace of these lines
@@ -309,6 +315,67 @@ none_answers_trace =
     (record { node = node 1; outcome = retry.Silent } ∷ record { node = node 2; outcome = retry.Silent }
     ∷ record { node = node 3; outcome = retry.Silent } ∷ []))
     ∷ []
+
+-- That call is made again, under its number and with no second begin, and then answered. A call that ended so can't be made again.
+abbrev pub made_again : List Line
+made_again = none_answers ++ line.Again (node 10) ∷ line.Settle 100 ∷ []
+
+abbrev pub made_again_trace : List Entry
+made_again_trace =
+    none_answers_trace ++ is_held 1 5100 ∷ is_active 1 0 0 0 ∷ is_answered 1 10 1 0 [] ∷ is_done 10 1 0 [] ∷ []
+
+abbrev pub goes_again : Line
+goes_again = line.Again (node 10)
+
+-- ---- striped files
+
+abbrev pub striped_on : ℕ → List ℕ → Location
+striped_on stripe ids = record { version = 1; kind = kind.Striped; stripe = stripe; members = map node ids }
+
+abbrev pub settled : Line
+settled = line.Settle 10
+
+abbrev pub calls_settled : Call → List Line
+calls_settled c = line.Call (node 10) c ∷ settled ∷ []
+
+-- Each object lies on its owner. A read is cut by all that the client learnt of the file's size: object 0 was never written, yet the
+-- file is longer.
+abbrev pub two_stripes : List Line
+two_stripes =
+    short_times ∷ osd_is 1 ∷ osd_is 2 ∷ client_at 10 0 ∷ start_at 1 0 ∷ start_at 2 0 ∷ line.File 1 (striped_on 1024 (1 ∷ 2 ∷ [])) ∷ line.Tick 1100 ∷ []
+
+abbrev pub striped : List Line
+striped =
+    two_stripes ++ calls_settled (call.Write 1 1 0 (97 ∷ [])) ++ calls_settled (call.Read 1 1 0 1) ++ calls_settled (call.Read 1 0 0 1)
+
+abbrev pub two_stripes_trace : List Entry
+two_stripes_trace =
+    entry.Times 1000 100 ∷ is_up 10 1 0 ∷ is_up 1 1 0 ∷ is_up 2 1 0 ∷ entry.File 1 (striped_on 1024 (1 ∷ 2 ∷ [])) ∷ entry.Tick 1100 ∷ []
+
+abbrev pub striped_trace : List Entry
+striped_trace =
+    two_stripes_trace
+    ++ entry.Begin (node 10) 1 (call.Write 1 1 0 (97 ∷ [])) ∷ is_done 10 1 1 []
+    ∷ entry.Begin (node 10) 2 (call.Read 1 1 0 1) ∷ is_done 10 2 1 (97 ∷ [])
+    ∷ entry.Begin (node 10) 3 (call.Read 1 0 0 1) ∷ is_done 10 3 0 (0 ∷ []) ∷ []
+
+-- A truncation goes through the members one by one, and ends with the last one's answer. Where one has stopped it ends as one that
+-- may be made again, and is then made once more from the first member on.
+abbrev pub cut_short : List Line
+cut_short =
+    two_stripes ++ calls_settled (call.Write 1 1 0 (97 ∷ []))
+    ++ line.Stop (node 2) ∷ line.Call (node 10) (call.Truncate 1 512 1) ∷ settled ∷ line.Tick 1000 ∷ line.Wake (node 10)
+    ∷ start_at 2 2100 ∷ line.Tick 1100 ∷ line.Again (node 10) ∷ settled ∷ calls_settled (call.Read 1 1 0 1) ++ calls_settled (call.Read 1 0 511 2)
+
+abbrev pub cut_short_trace : List Entry
+cut_short_trace =
+    two_stripes_trace
+    ++ entry.Begin (node 10) 1 (call.Write 1 1 0 (97 ∷ [])) ∷ is_done 10 1 1 []
+    ∷ entry.Down (node 2) 1100 halt.Idle ∷ entry.Begin (node 10) 2 (call.Truncate 1 512 1) ∷ entry.Tick 1000
+    ∷ entry.Done (node 10) 2 (outcome.Retry (record { node = node 2; outcome = retry.Silent } ∷ []))
+    ∷ is_up 2 2 2100 ∷ entry.Tick 1100 ∷ is_done 10 2 2 []
+    ∷ entry.Begin (node 10) 3 (call.Read 1 1 0 1) ∷ is_done 10 3 2 []
+    ∷ entry.Begin (node 10) 4 (call.Read 1 0 511 2) ∷ is_done 10 4 1 (0 ∷ []) ∷ []
 
 -- ---- with a room that forgets after each record
 
