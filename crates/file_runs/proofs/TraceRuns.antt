@@ -6,7 +6,7 @@ use Rattle.xt_messages.specs.declared.event.Mark.{Mark}
 use Rattle.xt_messages.specs.declared.event.Mark.TheVariants as mark
 use Rattle.xt_messages.specs.declared.file.Op.{Op}
 use Rattle.time_line.specs.declared.entry.Entry.{Entry}
-use Rattle.cluster_runs.specs.NodeSteps.{entry_of}
+use Rattle.world_spec.specs.NodeSteps.{entry_of}
 use Rattle.replica_safety.specs.Epochs.{name, Write}
 use Rattle.replica_runs.specs.HeadWorld.{TellsActive, TellsIssue, TellsCommit}
 use Rattle.replica_runs.specs.HeadWorld as heads

@@ -5,7 +5,7 @@ use Rattle.xt_messages.specs.declared.file.Op.{Op}
 use Rattle.time_line.specs.declared.entry.Entry.{Entry}
 use Rattle.time_line.specs.Clauses.{IsOneOrder}
 use Rattle.time_line.specs.Clauses as clauses
-use Rattle.cluster_runs.specs.NodeSteps.{entry_of}
+use Rattle.world_spec.specs.NodeSteps.{entry_of}
 use Rattle.replica_safety.specs.Lists.{AreDistinct}
 use Rattle.replica_safety.specs.Rules.{Start}
 use Rattle.replica_runs.specs.Made.{IsMade}

@@ -2,7 +2,7 @@
 //! what they keep. Who holds the file is given: at no moment two nodes do.
 //!
 //! It promises that after every such run, from every start that may begin, the marks of all nodes fit one order of writes, each read
-//! shows the content of that order as it was, and no write stands in it twice; and says so in the words of a trace (`cluster_runs`).
+//! shows the content of that order as it was, and no write stands in it twice; and says so in the words of a trace (`world_spec`).
 #![tactic(auto)]
 
 ghost use Rattle.file_runs.specs.FileRuns.{AlwaysOnOneOrder};

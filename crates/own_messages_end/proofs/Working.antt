@@ -39,20 +39,20 @@ use Rattle.xt_protocol.specs.OsdSteps.{Outside, OsdState, OsdStep, osd_from, ste
 use Rattle.osd_invariants.specs.Sound.{IsSound}
 use Rattle.lease_safety.specs.State.{Has}
 use Rattle.lease_runs.specs.OsdView.{site_of, wake_step}
-use Rattle.cluster_runs.specs.Lines.{OWN}
-use Rattle.cluster_runs.specs.NodeSteps.{to_itself}
+use Rattle.world_spec.specs.Lines.{OWN}
+use Rattle.world_spec.specs.NodeSteps.{to_itself}
 use Rattle.world_runs.specs.View.{awake_as}
 use Rattle.world_runs.specs.Worlds.{Rises, files_of, row_files}
 use Rattle.world_runs.proofs.Lists.{has_in, has_filter, has_map}
 use Rattle.world_runs.proofs.OsdIds.{new_is}
 use Rattle.world_runs.proofs.Rising.{with_file_rises, with_row_rises}
 use Rattle.world_runs.proofs.Woken.{mapped_files}
-use Rattle.cluster_fits.specs.Fits.{FitsKept}
-use Rattle.cluster_fits.specs.States.{RowIs, FileIs, KeptIs, PeerIs, PeerStateIs, ProgressIs, TenureIs, outside_by}
-use Rattle.cluster_fits.proofs.Kept.{kept_so}
-use Rattle.osd_keeping.specs.Keeping.{RunsOn, StepsOn}
-use Rattle.osd_keeping.proofs.Steps as keeping
-use Rattle.osd_keeping.proofs.Forgets.{forgot}
+use Rattle.world_limits.specs.Fits.{FitsKept}
+use Rattle.world_limits.specs.States.{RowIs, FileIs, KeptIs, PeerIs, PeerStateIs, ProgressIs, TenureIs, outside_by}
+use Rattle.world_limits.proofs.Kept.{kept_so}
+use Rattle.osd_limits.specs.Keeping.{RunsOn, StepsOn}
+use Rattle.osd_limits.proofs.Steps as keeping
+use Rattle.osd_limits.proofs.Forgets.{forgot}
 use Rattle.own_messages_wait.proofs.Standing.{HeadStands}
 use Rattle.own_messages_wait.proofs.Hearing.{IsApart}
 use Rattle.own_messages_wait.proofs.Files.{FileStands}

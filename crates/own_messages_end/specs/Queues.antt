@@ -13,9 +13,9 @@ use Rattle.xt_protocol.specs.Folds.{fold_of}
 use Rattle.xt_protocol.specs.Forgetting.{keep_of, osd_without, rewritten}
 use Rattle.xt_protocol.specs.LeaseRows.{Silent}
 use Rattle.xt_protocol.specs.OsdSteps.{OsdState, OsdStep, osd_from, step_of_osd}
-use Rattle.cluster_runs.specs.NodeSteps.{one_more, to_itself}
-use Rattle.cluster_fits.specs.Fits.{FitsKept}
-use Rattle.cluster_fits.specs.States.{outside_by}
+use Rattle.world_spec.specs.NodeSteps.{one_more, to_itself}
+use Rattle.world_limits.specs.Fits.{FitsKept}
+use Rattle.world_limits.specs.States.{outside_by}
 
 -- An OSD: its state, the records that it keeps, and its messages to itself that it hasn't handled, first in first out.
 pub record Working : Type 0 where

@@ -11,7 +11,7 @@ ghost use Rattle.xt_messages.specs.declared.event.Event.TheVariants as event;
 ghost use Rattle.xt_messages.specs.declared.file.Capability.{Capability};
 ghost use Rattle.xt_messages.specs.declared.message.Msg.{Msg};
 ghost use Rattle.xt_messages.specs.Limits.{FitsEvent};
-ghost use Rattle.cluster_runs.specs.Lines.{OWN};
+ghost use Rattle.world_spec.specs.Lines.{OWN};
 ghost use Rattle.own_messages_end.specs.Queues.{Working, AreEnough, IsOutside, Reaches, forgotten, handles};
 
 /// An OSD that has no message to itself left meets an event from outside: it has none left again once it has handled so many of them,

@@ -42,7 +42,7 @@ use Rattle.xt_protocol.specs.OsdSteps.{file_concerned}
 use Rattle.osd_invariants.specs.Sound.{AreOne, IsHeld, LedUnder, ListUnder, IsSound}
 use Rattle.osd_invariants.proofs.StripedAsks.{tells_client, striped_outcome}
 use Rattle.lease_runs.proofs.StripedUpdates.{next_stamp}
-use Rattle.cluster_runs.specs.NodeSteps.{to_itself}
+use Rattle.world_spec.specs.NodeSteps.{to_itself}
 use Rattle.xt_messages.specs.declared.file.FileHead.{FileHead}
 use Rattle.xt_messages.specs.declared.record.FileRow.{FileRow}
 use Rattle.xt_messages.specs.declared.record.Record.{Record}

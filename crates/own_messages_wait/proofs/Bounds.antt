@@ -21,7 +21,7 @@ use Rattle.xt_protocol.specs.Primaries.{peer_in}
 use Rattle.xt_protocol.specs.PrimaryRows.{target_in}
 use Rattle.xt_protocol.specs.FileStates.{FileState}
 use Rattle.xt_protocol.specs.Stamps.{is_earlier, is_epoch}
-use Rattle.cluster_runs.specs.Lines.{OWN}
+use Rattle.world_spec.specs.Lines.{OWN}
 use Rattle.own_messages_wait.proofs.Weights.{Stand, are_named, asks_left, bodies_left, bodies_to, epoch_left, is_lacked, is_wanted, rank, settles, stand_of, tenure_left, unless}
 use Rattle.own_messages_wait.proofs.Rows.{four_if, six_if, three_if}
 use Rattle.own_messages_wait.proofs.Leases.{IsLeaseOf}

@@ -15,7 +15,7 @@ use Rattle.xt_protocol.specs.OsdSteps.{Outside, OsdState, file_at, with_file, fi
 use Rattle.lease_runs.specs.LeaseView.{is_about}
 use Rattle.lease_runs.specs.OsdView.{site_of}
 use Rattle.lease_runs.proofs.OsdLeases.{at_file, step_keeps}
-use Rattle.cluster_runs.specs.NodeSteps.{to_itself}
+use Rattle.world_spec.specs.NodeSteps.{to_itself}
 use Rattle.world_runs.specs.View.{awake_as}
 use Rattle.world_runs.specs.Worlds.{Rises, files_of}
 use Rattle.own_messages_wait.proofs.Weights.{is_lease}

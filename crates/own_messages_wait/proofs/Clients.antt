@@ -1,124 +1,92 @@
--- a client asks one node at most, and keeps no record
-use Rattle.std.proofs.Common.{◌≡◌, ℕ, Bool, true, false, List, [], ◌∷◌, refl, Option, Some, None}
-use Rattle.std.specs.Prelude.{◌&&◌, ◌==◌, not, cond, nat_lt, nat_le, max, filter}
+-- a client sends one ask of a declared file at most, and keeps no record; an ask that comes to it does nothing
+use Rattle.std.proofs.Common.{◌≡◌, ℕ, ◌≤◌, true, List, [], ◌∷◌, refl, sym, subst, arith, Some, None}
+use Rattle.std.specs.Prelude.{length}
 use Rattle.xt_base.specs.TimeSettings.{TimeSettings}
 use Rattle.xt_base.specs.declared.ids.NodeId.{NodeId}
-use Rattle.xt_messages.specs.declared.file.Capability.{Capability}
-use Rattle.xt_messages.specs.declared.file.Op.{Op}
+use Rattle.xt_messages.specs.declared.file.Location.{Location}
 use Rattle.xt_messages.specs.declared.message.Msg.{Msg}
 use Rattle.xt_messages.specs.declared.message.Payload.{Payload}
 use Rattle.xt_messages.specs.declared.message.Payload.TheVariants as payload
-use Rattle.xt_messages.specs.declared.reply.Reply.{Reply}
-use Rattle.xt_messages.specs.declared.reply.Reply.TheVariants as reply
-use Rattle.xt_messages.specs.declared.reply.Retry.{Retry}
-use Rattle.xt_messages.specs.declared.reply.Retry.TheVariants as retry
 use Rattle.xt_messages.specs.declared.event.Call.{Call}
 use Rattle.xt_messages.specs.declared.event.Event.{Event}
 use Rattle.xt_messages.specs.declared.event.Event.TheVariants as event
-use Rattle.xt_base.specs.declared.TheConstants.{COUNTS}
 use Rattle.lease_runs.specs.LeaseView.{is_ask}
-use Rattle.xt_protocol.specs.Turns.{message}
-use Rattle.cluster_runs.specs.declared.ClientState.{ClientState}
-use Rattle.cluster_runs.specs.declared.RunningCall.{RunningCall}
-use Rattle.cluster_runs.specs.Steps.{Step, stays}
-use Rattle.cluster_runs.specs.Clients.{ClientSite, asks, begins_call, call_of_client, ends_call, was_tried, with_outcome, named, next_of, turned_away, turned_away_by, answered, reply_comes, message_comes, wakes, event_comes, step_of_client}
-use Rattle.xt_messages.specs.declared.event.Outcome.TheVariants as outcome
-use Rattle.cluster_runs.specs.Clients.{answers_in}
+use Rattle.client_rows.specs.declared.requests.Request.{Request}
+use Rattle.client_rows.specs.declared.requests.Request.TheVariants as request
+use Rattle.client_rows.specs.Called.{called_file}
+use Rattle.client_rows.specs.Requests.{payload_of}
+use Rattle.client_rows.specs.Rows.{WholeClient, passes, stepped, called, called_again}
+use Rattle.client_rows.specs.Steps.{Step}
+use Rattle.client_steps.specs.Asked.{Sends, sends_none, sends_one, CallStepIs, call_passes, call_begins}
+use Rattle.client_steps.proofs.Asks.{ask_rests}
+use Rattle.client_steps.proofs.Steps.{stepped_is, called_is, called_again_is}
+use Rattle.time_line.specs.Bounds.{IsOnContent}
+use Rattle.world_spec.specs.declared.DeclaredFile.{DeclaredFile}
+use Rattle.world_spec.specs.Lines.{ready_for}
+use Rattle.world_spec.specs.World.{file_in}
+use Rattle.world_runs.specs.Worlds.{RequestFits, ClientFits}
+use Rattle.world_runs.proofs.NodeEvents.{ready_fits, asked_fits}
 
--- nothing, or an ask
-pub data AsksOne (node : NodeId) : List Msg → Type 0 where
-  asks_none : AsksOne node []
-  asks_this : (to : NodeId) (content : Payload) → is_ask content ≡ true → AsksOne node (message node to content ∷ [])
+-- ---- what is asked
 
-pub record ClientGives (node : NodeId) (step : Step ClientState) : Type 0 where
-  pub outs : AsksOne node step.turned.outs
+-- what a client sends and keeps
+pub record ClientGives (files : List DeclaredFile) (node : NodeId) (step : Step WholeClient) : Type 0 where
+  pub sends : Sends (RequestFits files) node step.turned.outs
   pub rec : step.turned.rec ≡ None
-  -- what it asks is asked by a call that runs
-  pub running : (m : Msg) → step.turned.outs ≡ m ∷ [] → (call : RunningCall) × (step.state.running ≡ Some call)
 
-none_asked : {P : Type 0} (m : Msg) → [] ≡ m ∷ [] → P
-none_asked m e = absurd (cc)
+-- it is an ask
+pub asks_so : (files : List DeclaredFile) (number : ℕ) (asked : Request) → RequestFits files number asked → is_ask (payload_of number asked) ≡ true
+asks_so files number (request.Replicated capability asked) fits = refl
+asks_so files number (request.Striped capability asked) fits = refl
+asks_so files number (request.Meta user group asked) fits = absurd fits
+asks_so files number (request.Registry asked) fits = absurd fits
 
-module _ (site : ClientSite) where
-  still : (c : ClientState) → ClientGives site.node (stays ClientState c)
-  still c = record { outs = asks_none; rec = refl; running = λ m e. none_asked m e }
+-- where a file is declared there are some
+some_file : (files : List DeclaredFile) (number : ℕ) (location : Location) → file_in files number ≡ Some location → 1 ≤ length files
+unfolding file_in
+some_file [] number location is = absurd (cc is)
+some_file (f ∷ fs) number location is = omega arith
 
-  asking : (c : ClientState) (call : RunningCall) (target : NodeId) → ClientGives site.node (asks site c call target)
-  asking c call target = record { outs = asks_this target (payload.Ask call.number call.capability call.op) refl; rec = refl; running = λ m e. (_, refl) }
+pub some_declared : (files : List DeclaredFile) (number : ℕ) (asked : Request) → RequestFits files number asked → 1 ≤ length files
+some_declared files number (request.Replicated capability asked) fits = some_file files capability.file.number capability.location fits.0.1
+some_declared files number (request.Striped capability asked) fits = some_file files capability.file.number capability.location fits.0.1
+some_declared files number (request.Meta user group asked) fits = absurd fits
+some_declared files number (request.Registry asked) fits = absurd fits
 
-  away : (c : ClientState) (call : RunningCall) (how : Retry) → ClientGives site.node (turned_away site c call how)
-  away c call how = at (next_of (named how) (filter (λ (m : NodeId). not (was_tried (with_outcome call.tried call.target how) m)) call.capability.location.members))
-    where
-      at : (o : Option NodeId) → ClientGives site.node (elim o [
-        | Some target ↦ asks site c (record call { tried = with_outcome call.tried call.target how }) target
-        | None ↦ ends_call c call (outcome.Retry (answers_in (with_outcome call.tried call.target how) call.capability.location.members))
-      ])
-      at (Some target) = asking c (record call { tried = with_outcome call.tried call.target how }) target
-      at None = record { outs = asks_none; rec = refl; running = λ m e. none_asked m e }
+-- ---- events
 
-  away_by : (c : ClientState) (call : RunningCall) (from : NodeId) (how : Retry) → ClientGives site.node (turned_away_by site c call from how)
-  away_by c call from how = at (from.0 == call.target.0)
-    where
-      at : (b : Bool) → ClientGives site.node (cond b (turned_away site c call how) (stays ClientState c))
-      at true = away c call how
-      at false = still c
-
-  answering : (c : ClientState) (call : RunningCall) (from : NodeId) (content : Reply) → ClientGives site.node (answered site c call from content)
-  answering c call from (reply.NoLease end) = away_by c call from (retry.NoLease end)
-  answering c call from (reply.NoMajority have need) = away_by c call from (retry.NoMajority have need)
-  answering c call from (reply.Elsewhere node end) = away_by c call from (retry.Elsewhere node end)
-  answering c call from (reply.Ok count size bytes) = record { outs = asks_none; rec = refl; running = λ m e. none_asked m e }
-  answering c call from (reply.Denied why) = record { outs = asks_none; rec = refl; running = λ m e. none_asked m e }
-  answering c call from (reply.OldList version) = record { outs = asks_none; rec = refl; running = λ m e. none_asked m e }
-  answering c call from (reply.OldEpoch epoch) = record { outs = asks_none; rec = refl; running = λ m e. none_asked m e }
-  answering c call from (reply.TooFar object) = record { outs = asks_none; rec = refl; running = λ m e. none_asked m e }
-  answering c call from reply.ClientsFull = record { outs = asks_none; rec = refl; running = λ m e. none_asked m e }
-
-  replying : (c : ClientState) (o : Option RunningCall) (from : NodeId) (number : ℕ) (content : Reply) → ClientGives site.node (reply_comes site c o from number content)
-  replying c None from number content = still c
-  replying c (Some call) from number content = at (number == call.number && was_tried call.tried from)
-    where
-      at : (b : Bool) → ClientGives site.node (cond b (answered site c call from content) (stays ClientState c))
-      at true = answering c call from content
-      at false = still c
-
-  hearing : (c : ClientState) (from : NodeId) (content : Payload) → ClientGives site.node (message_comes site c from content)
-  hearing c from (payload.Reply number file content) = replying c c.running from number content
-  hearing c from _ = still c
-
-  -- an ask to itself does nothing
-  pub ask_rests : (c : ClientState) (from : NodeId) (content : Payload) → is_ask content ≡ true → message_comes site c from content ≡ stays ClientState c
-  ask_rests c from (payload.Ask number capability asked) is = refl
-  ask_rests c from (payload.Reply number file content) is = absurd (cc)
-  ask_rests c from _ is = absurd (cc)
-
-  waking : (c : ClientState) (o : Option RunningCall) → ClientGives site.node (wakes site c o)
-  waking c None = still c
-  waking c (Some call) = at (nat_le call.deadline site.now)
-    where
-      at : (b : Bool) → ClientGives site.node (cond b (turned_away site c call retry.Silent) (stays ClientState c))
-      at true = away c call retry.Silent
-      at false = still c
-
-  coming : (c : ClientState) (happens : Event) → ClientGives site.node (event_comes site c happens)
-  coming c (event.Deliver msg) = hearing c msg.from msg.payload
-  coming c event.Wake = waking c c.running
-  coming c (event.Call call) = still c
-
-pub client_gives : (node : NodeId) (times : TimeSettings) (c : ClientState) (reading : ℕ) (happens : Event) → ClientGives node (step_of_client node times c reading happens)
-unfolding step_of_client
-client_gives node times c reading happens = coming (record { node = node; times = times; now = max reading c.last }) (record c { last = max reading c.last }) happens
-
-pub call_gives : (node : NodeId) (times : TimeSettings) (c : ClientState) (reading : ℕ) (capability : Capability) (k : Call) (asked : Op) → ClientGives node (call_of_client node times c reading capability k asked)
-unfolding call_of_client
-call_gives node times c reading capability k asked = at (nat_lt c.next COUNTS)
+-- an ask does nothing
+pub rests : (node : NodeId) (times : TimeSettings) (c : WholeClient) (reading : ℕ) (m : Msg) → is_ask m.payload ≡ true → stepped node times c reading (event.Deliver m) ≡ passes c reading
+rests node times c reading m = at m.payload refl
   where
-    site : ClientSite
-    site = record { node = node; times = times; now = max reading c.last }
+    at : (content : Payload) → m.payload ≡ content → is_ask content ≡ true → stepped node times c reading (event.Deliver m) ≡ passes c reading
+    at (payload.Ask number capability asked) is asks = ask_rests node times c reading m number capability asked is
+    at _ is asks = absurd (cc)
 
-    d : ClientState
-    d = record c { last = max reading c.last }
+pub event_gives : (files : List DeclaredFile) (node : NodeId) (times : TimeSettings) (c : WholeClient) (reading : ℕ) (happens : Event) → ClientFits files c → ClientGives files node (stepped node times c reading happens)
+event_gives files node times c reading happens fits =
+    let p = stepped_is (RequestFits files) node times c reading happens fits.calls in
+    record { sends = p.sends; rec = p.rec }
 
-    at : (b : Bool) → ClientGives node (cond b (begins_call (record { node = node; times = times; now = max reading c.last }) (record c { last = max reading c.last }) capability k asked) (stays ClientState (record c { last = max reading c.last })))
-    at true = record { outs = asks_this _ _ refl; rec = refl; running = λ m e. (_, refl) }
-    at false = record { outs = asks_none; rec = refl; running = λ m e. none_asked m e }
+-- ---- calls
+
+pub call_gives : (files : List DeclaredFile) (node : NodeId) (times : TimeSettings) (c : WholeClient) (reading : ℕ) (k : Call) → ClientFits files c → IsOnContent k
+    → ClientGives files node (called node times (ready_for files c k (called_file k)) reading k)
+call_gives files node times c reading k fits on =
+    by (called_is (RequestFits files) node times ready reading k now.calls (λ asked is left. asked_fits files ready k ready.replicas.next asked on now is))
+  where
+    ready : WholeClient
+    ready = ready_for files c k (called_file k)
+
+    now : ClientFits files (ready_for files c k (called_file k))
+    now = ready_fits files c k (called_file k) fits
+
+    by : CallStepIs (RequestFits files) node (ready_for files c k (called_file k)) reading k (called node times (ready_for files c k (called_file k)) reading k)
+        → ClientGives files node (called node times (ready_for files c k (called_file k)) reading k)
+    by (call_passes is) = subst (ClientGives files node) (sym is) (record { sends = sends_none; rec = refl })
+    by (call_begins asked b) = record { sends = subst (Sends (RequestFits files) node) (sym b.outs) (sends_one b.to ready.replicas.next asked b.asked_so); rec = b.rec }
+
+pub again_gives : (files : List DeclaredFile) (node : NodeId) (times : TimeSettings) (c : WholeClient) (reading : ℕ) → ClientFits files c → ClientGives files node (called_again node times c reading)
+again_gives files node times c reading fits =
+    let p = called_again_is (RequestFits files) node times c reading fits.calls in
+    record { sends = p.sends; rec = p.rec }

@@ -24,7 +24,7 @@ use Rattle.xt_protocol.specs.FileStates.{FileState, Site, FileStep, nothing}
 use Rattle.xt_protocol.specs.Overdue.{is_due, issued_due, newly_due, no_lease_for_all, lease_lapses, deadlines_come, deadlines_under, lease_became, expired}
 use Rattle.osd_invariants.specs.Sound.{IsHeld, AreOne}
 use Rattle.xt_protocol.specs.declared.states.IssuedUpdate.{IssuedUpdate}
-use Rattle.cluster_runs.specs.NodeSteps.{to_itself}
+use Rattle.world_spec.specs.NodeSteps.{to_itself}
 use Rattle.world_runs.proofs.Lists.{has_filter}
 use Rattle.world_runs.proofs.FileIds.{FileIs, IssuedAskIs, expired_is}
 use Rattle.own_messages_wait.proofs.Weights.{asks_left, epoch_left, rank, settles, stand_of, tenure_left}

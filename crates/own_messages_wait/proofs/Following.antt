@@ -23,7 +23,7 @@ use Rattle.xt_protocol.specs.Asks.{Served, asks_behind, asks_follow, comes_back,
 use Rattle.xt_base.specs.declared.ids.FileId.{FileId}
 use Rattle.xt_protocol.specs.OsdSteps.{file_concerned}
 use Rattle.osd_invariants.specs.Sound.{AreOne}
-use Rattle.cluster_runs.specs.NodeSteps.{to_itself}
+use Rattle.world_spec.specs.NodeSteps.{to_itself}
 use Rattle.own_messages_wait.proofs.Weights.{asks_left, epoch_left, rank, settles, stand_of}
 use Rattle.own_messages_wait.proofs.Standing.{IfAbout, HeadStands, IfMessage, IfTenure}
 use Rattle.own_messages_wait.proofs.Tests.{false_true, not_both, not_below_self}

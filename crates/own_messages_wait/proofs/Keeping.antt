@@ -32,19 +32,21 @@ use Rattle.lease_runs.proofs.Tests.{same_node}
 use Rattle.lease_runs.specs.LeaseView.{is_ask}
 use Rattle.xt_protocol.specs.FileStates.{FileState, file_from, members_of}
 use Rattle.xt_protocol.specs.OsdSteps.{OsdState, file_at, step_of_osd}
-use Rattle.cluster_runs.specs.declared.ClientState.{ClientState}
-use Rattle.cluster_runs.specs.declared.DeclaredFile.{DeclaredFile}
-use Rattle.cluster_runs.specs.declared.Sent.{Sent}
-use Rattle.cluster_runs.specs.Clients.{step_of_client}
-use Rattle.cluster_runs.specs.World.{World, Node, Running, Core, osd, client, node_in, with_node, file_in, loads, puts}
-use Rattle.cluster_runs.specs.NodeSteps.{pending, numbered, to_itself, one_more, outside_of, rewritten_at}
-use Rattle.cluster_runs.specs.Lines.{ticked, osd_starting, next_boot, runs, first_boot}
+use Rattle.world_spec.specs.declared.DeclaredFile.{DeclaredFile}
+use Rattle.world_spec.specs.declared.Sent.{Sent}
+use Rattle.client_rows.specs.Rows.{WholeClient, stepped, called_again}
+use Rattle.client_steps.specs.Asked.{Sends, sends_none, sends_one}
+use Rattle.world_spec.specs.World.{World, Node, Running, Core, osd, client, node_in, with_node, file_in, loads, puts}
+use Rattle.world_spec.specs.NodeSteps.{pending, numbered, to_itself, one_more, outside_of, rewritten_at}
+use Rattle.world_spec.specs.Lines.{ticked, osd_starting, next_boot, runs, first_boot}
 use Rattle.world_runs.specs.View.{awake_as, messages}
-use Rattle.world_runs.specs.Worlds.{Agrees, AskFits, CoreFits, FileFits, Listed, OsdFits, Rises, RowsFit, UpFits, row_files}
+use Rattle.world_runs.specs.Worlds.{Agrees, AskFits, ClientFits, CoreFits, FileFits, Listed, OsdFits, Rises, RequestFits, RowsFit, UpFits, row_files}
 use Rattle.lease_runs.specs.OsdView.{site_of}
-use Rattle.cluster_runs.specs.declared.Role.TheVariants as role
-use Rattle.cluster_runs.specs.Clients.{new_client, knows, aimed}
-use Rattle.cluster_runs.specs.Lines.{declared_capability, declared_file, epoch_of, uses}
+use Rattle.world_spec.specs.declared.Role.TheVariants as role
+use Rattle.client_rows.specs.Clients.{knows, aimed}
+use Rattle.client_rows.specs.Requests.{payload_of}
+use Rattle.client_rows.specs.Steps.{Step}
+use Rattle.world_spec.specs.Lines.{whole_client, id_usable}
 use Rattle.world_runs.proofs.Files.{record_fits}
 use Rattle.world_runs.proofs.Fit.{IsFit, IsNext, replaced}
 use Rattle.world_runs.proofs.Frame.{next_node}
@@ -53,7 +55,7 @@ use Rattle.world_runs.proofs.Lists.{has_in, has_left, has_filter, filter_has, ha
 use Rattle.world_runs.proofs.NodeEvents.{step_next}
 use Rattle.world_runs.proofs.Rising.{before_itself}
 use Rattle.world_runs.proofs.Tables.{same, node_in-new, node_in-other, nobody, node_in-last, node_in-before, node_in-ticked, file_in-before}
-use Rattle.world_runs.proofs.Walk.{IsKept, NodeStep, of_osd, of_client, of_call, IsFirst, Reaches, same_messages, call_step, left_within}
+use Rattle.world_runs.proofs.Walk.{IsKept, NodeStep, of_osd, of_client, of_call, of_again, IsFirst, Reaches, same_messages, call_step, left_within}
 use Rattle.world_runs.proofs.OsdIds.{new_is}
 use Rattle.own_messages_wait.proofs.Standing.{HeadStands, Stands}
 use Rattle.own_messages_wait.proofs.Tests.{false_true}
@@ -63,7 +65,7 @@ use Rattle.own_messages_wait.proofs.Sizes.{IsSmall, ContentSmall, small_of}
 use Rattle.own_messages_wait.proofs.FileSizes.{FileSmall}
 use Rattle.own_messages_wait.proofs.Osds.{AskHolds, FileHolds, OwnFits, stands_more, at_stands}
 use Rattle.own_messages_wait.proofs.OsdEvents.{IsOwn, OsdAfter, Arrives, event_after}
-use Rattle.own_messages_wait.proofs.Clients.{AsksOne, asks_none, asks_this, client_gives, call_gives}
+use Rattle.own_messages_wait.proofs.Clients.{ClientGives, asks_so, event_gives, call_gives, again_gives}
 
 -- ---- what holds of a world
 
@@ -295,18 +297,21 @@ module _ (w : World) (was : List Msg) (node : Node) (r : Running) (found : node_
 
   -- ---- of a client
 
-  client_leaves : (c : ClientState) (next : ClientState) (turned : Turned) → r.core ≡ client c → AsksOne node.id turned.outs → turned.rec ≡ None → Leaves (client next) turned
-  client_leaves c next turned is_client asks none =
+  pub client_fits : (c : WholeClient) → r.core ≡ client c → ClientFits w.files c
+  client_fits c is_client = subst (CoreFits w.times w.files node.id node.kept r) is_client core_fits
+
+  client_leaves : (step : Step WholeClient) → ClientGives w.files node.id step → Leaves (client step.state) step.turned
+  client_leaves step gives =
       record {
-        rows = λ row h. (stood.mine.nodes_stand node.id.0 node found).rows row (subst (λ (x : Option Record). Has row (fold_of (one_more node.kept x)).files) none h);
+        rows = λ row h. (stood.mine.nodes_stand node.id.0 node found).rows row (subst (λ (x : Option Record). Has row (fold_of (one_more node.kept x)).files) gives.rec h);
         core = tt;
-        outs = λ m h. of_asks turned.outs m asks h;
-        old = λ m h s t a b own. absurd (no_osd next t b);
-        is_osd = λ t e. absurd (no_osd next t e);
-        new = λ m t e h. absurd (no_osd next t e);
+        outs = λ m h. of_asks step.turned.outs m gives.sends h;
+        old = λ m h s t a b own. absurd (no_osd step.state t b);
+        is_osd = λ t e. absurd (no_osd step.state t e);
+        new = λ m t e h. absurd (no_osd step.state t e);
       }
     where
-      no_osd : (c : ClientState) (t : OsdState) → client c ≡ osd t → ⊥
+      no_osd : (c : WholeClient) (t : OsdState) → client c ≡ osd t → ⊥
       no_osd c t e = cc e
 
       asks_small : (content : Payload) → is_ask content ≡ true → ContentSmall content
@@ -315,18 +320,20 @@ module _ (w : World) (was : List Msg) (node : Node) (r : Running) (found : node_
       asks_small (payload.Head file epoch head) is = absurd (false_true is)
       asks_small _ is = tt
 
-      of_asks : (outs : List Msg) (m : Msg) → AsksOne node.id outs → Has m outs → (m.from ≡ node.id) × ContentSmall m.payload
-      of_asks _ m asks_none h = absurd h
-      of_asks _ m (asks_this to content is) (inl e) = subst (λ (k : Msg). (k.from ≡ node.id) × ContentSmall k.payload) (sym e) (refl, asks_small content is)
-      of_asks _ m (asks_this to content is) (inr h) = absurd h
+      of_asks : (outs : List Msg) (m : Msg) → Sends (RequestFits w.files) node.id outs → Has m outs → (m.from ≡ node.id) × ContentSmall m.payload
+      of_asks _ m sends_none h = absurd h
+      of_asks _ m (sends_one to number asked is) (inl e) =
+          subst (λ (k : Msg). (k.from ≡ node.id) × ContentSmall k.payload) (sym e) (refl, asks_small (payload_of number asked) (asks_so w.files number asked is))
+      of_asks _ m (sends_one to number asked is) (inr h) = absurd h
 
   pub step_leaves : (next : Core) (turned : Turned) → NodeStep w was node r next turned → Leaves next turned
   step_leaves _ _ (of_osd s happens is_osd reaches) = osd_leaves s is_osd happens reaches
   step_leaves _ _ (of_client c happens is_client reaches) =
-      let g = client_gives node.id w.times c r.clock happens in client_leaves c (step_of_client node.id w.times c r.clock happens).state (step_of_client node.id w.times c r.clock happens).turned is_client g.outs g.rec
-  step_leaves _ _ (of_call c k number location asked is_client resting bound called declared does) =
-      let capability = declared_capability number location (epoch_of c (declared_file number) k) in
-      let g = call_gives node.id w.times (uses c capability) r.clock capability k asked in client_leaves c (call_step w node r c k number location asked).state (call_step w node r c k number location asked).turned is_client g.outs g.rec
+      client_leaves (stepped node.id w.times c r.clock happens) (event_gives w.files node.id w.times c r.clock happens (client_fits c is_client))
+  step_leaves _ _ (of_call c k is_client resting may found_file) =
+      client_leaves (call_step w node r c k) (call_gives w.files node.id w.times c r.clock k (client_fits c is_client) may.0)
+  step_leaves _ _ (of_again c is_client resting may) =
+      client_leaves (called_again node.id w.times c r.clock) (again_gives w.files node.id w.times c r.clock (client_fits c is_client))
 
 -- ---- what each thing leaves
 
@@ -518,7 +525,7 @@ stood_kept =
       };
       client_declared = λ w id clock bound free p. record {
         fit = fits_kept.client_declared w id clock bound free p.fit;
-        mine = add_node w.nodes w.files (messages w) (record { id = id; role = role.Client; kept = []; past = []; up = Some (runs first_boot clock (client (new_client clock))) }) free (record { rows = no_files; up = tt }) p.mine;
+        mine = add_node w.nodes w.files (messages w) (record { id = id; role = role.Client; kept = []; past = []; up = Some (runs first_boot clock (client (whole_client clock))) }) free (record { rows = no_files; up = tt }) p.mine;
       };
       file_declared = λ w number location bound free p. record {
         fit = fits_kept.file_declared w number location bound free p.fit;
@@ -552,7 +559,7 @@ stood_kept =
         fit = fits_kept.aimed_at w node r c number target found is_up is_client p.fit;
         mine =
             let old = p.mine.nodes_stand node.id.0 node found in
-            put_nodes w.nodes w.files (messages w) (record node { up = Some (record r { core = client (knows c (declared_file number) (aimed target)) }) }) node found (record { rows = old.rows; up = tt }) p.mine;
+            put_nodes w.nodes w.files (messages w) (record node { up = Some (record r { core = client (record c { replicas = knows c.replicas (id_usable w.files c.held number) (aimed target) }) }) }) node found (record { rows = old.rows; up = tt }) p.mine;
       };
       stopped = λ w own node r how found is_up p. record {
         fit = fits_kept.stopped w own node r how found is_up p.fit;

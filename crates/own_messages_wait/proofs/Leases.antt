@@ -16,7 +16,7 @@ use Rattle.xt_protocol.specs.Register.{Round, Seat, Took, ignored, counted, writ
 use Rattle.xt_protocol.specs.LeaseRows.{LeaseState, running_round, free, asking, writing, held, Held, Proposer, LeaseNews, LeaseStep, sends_write, holds, finds, ends, on_answer, asking_answered, asking_promised, asked_by, Asked, asked_still, asked_write, asked_found, step_of_asking, writing_answered, writing_accepted, Written, written_still, written_won, written_late, round_won, step_of_written, news_of_targets, on_renewal, renewal_under, renewal_answered, renewal_promised, renewal_accepted, renewal_won, renewal_outrun, Renewing, Renewal, no_news, renewal_write, renewed, news_of_renewal, round_starts, is_inside}
 use Rattle.xt_protocol.specs.LeaseRows as lease
 use Rattle.xt_protocol.specs.Turns.{message}
-use Rattle.cluster_runs.specs.NodeSteps.{to_itself}
+use Rattle.world_spec.specs.NodeSteps.{to_itself}
 use Rattle.osd_invariants.specs.Sound.{IsHeld}
 use Rattle.lease_runs.proofs.Tests.{same_node}
 use Rattle.own_messages_wait.proofs.Weights.{is_lease, lease_rank}

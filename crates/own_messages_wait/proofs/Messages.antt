@@ -31,7 +31,7 @@ use Rattle.xt_protocol.specs.FileStates.{FileState, Site, FileStep, nothing, ste
 use Rattle.xt_protocol.specs.FileLeases.{read_comes, write_comes, answer_comes, answer_to_read, answers_to_write, end_after_answer, lease_news, waiting_told, led_on}
 use Rattle.xt_protocol.specs.FileSteps.{replica_acts, primary_hears, message_comes}
 use Rattle.osd_invariants.specs.Sound.{AreOne, IsHeld, IsSound, PeersAre}
-use Rattle.cluster_runs.specs.NodeSteps.{to_itself}
+use Rattle.world_spec.specs.NodeSteps.{to_itself}
 use Rattle.world_runs.proofs.PrimaryIds.{TenureIs}
 use Rattle.own_messages_wait.proofs.Weights.{asks_left, epoch_left, is_lease, lease_rank, rank, stand_of, tenure_left}
 use Rattle.own_messages_wait.proofs.Standing.{IfAbout, HeadStands, IfMessage, IfTenure, BodyStays, Stands}

@@ -12,7 +12,7 @@ use Rattle.xt_protocol.specs.declared.states.PeerState.{PeerState}
 use Rattle.xt_protocol.specs.declared.states.PeerState.TheVariants as peer
 use Rattle.xt_protocol.specs.Turns.{message, to_each}
 use Rattle.xt_protocol.specs.Primaries.{if_any, peer_in, with_peer, nodes_of, unknown_peer}
-use Rattle.cluster_runs.specs.NodeSteps.{to_itself}
+use Rattle.world_spec.specs.NodeSteps.{to_itself}
 use Rattle.lease_runs.proofs.Tests.{same_node}
 use Rattle.std.proofs.Common.{arith, append-nil}
 use Rattle.std.proofs.lemmas.Bool.Decides.{nat_tests}

@@ -18,7 +18,7 @@ use Rattle.xt_protocol.specs.Overdue.{expired}
 use Rattle.xt_protocol.specs.OsdSteps.{Outside, OsdState, OsdStep, file_at, with_file, each_file, file_concerned, message_handled, asks_dir, woken, handled_awake}
 use Rattle.lease_runs.specs.OsdView.{site_of, wake_step}
 use Rattle.lease_runs.proofs.OsdLeases.{file_at-with_file, at_file, step_keeps, put_here}
-use Rattle.cluster_runs.specs.NodeSteps.{to_itself}
+use Rattle.world_spec.specs.NodeSteps.{to_itself}
 use Rattle.world_runs.specs.View.{awake_as}
 use Rattle.world_runs.specs.Worlds.{Rises, files_of}
 use Rattle.world_runs.proofs.Files.{file_after}

@@ -26,9 +26,9 @@ use Rattle.xt_protocol.specs.FileSteps.{step_of_file, wake_of_file}
 use Rattle.xt_protocol.specs.Overdue.{expired}
 use Rattle.xt_protocol.specs.OsdSteps.{file_at, file_concerned}
 use Rattle.osd_invariants.specs.Sound.{IsSound}
-use Rattle.osd_invariants.proofs.Kept.{expired_quiet, step_follows, wake_follows}
+use Rattle.osd_invariants.proofs.Kept.{step_follows}
 use Rattle.lease_runs.specs.OsdView.{wake_step}
-use Rattle.cluster_runs.specs.NodeSteps.{to_itself}
+use Rattle.world_spec.specs.NodeSteps.{to_itself}
 use Rattle.osd_invariants.proofs.SoundSteps.{start_so}
 use Rattle.world_runs.proofs.Lists.{has_in}
 use Rattle.world_runs.proofs.FileIds.{HasCome, step_is, expired_is, wake_is}

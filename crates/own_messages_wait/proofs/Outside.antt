@@ -1,59 +1,26 @@
 -- What an OSD sends itself after an event from outside waits in a chain.
-use Rattle.std.proofs.Common.{◌≡◌, ℕ, ◌≤◌, ◌+◌, inl, inr, Bool, true, false, List, [], ◌∷◌, ◌++◌, map, refl, sym, ap, ap₂, subst, ◌∙◌, arith, Option, Some, None, append-nil}
-use Rattle.std.specs.Prelude.{cond, ◌==◌, max, length}
-use Rattle.std.proofs.lemmas.Bool.{eqb-true}
+use Rattle.std.proofs.Common.{◌≡◌, ◌+◌, inl, false, [], ◌++◌, refl, sym, ap, subst, ◌∙◌, arith, Some, append-nil}
+use Rattle.std.specs.Prelude.{◌==◌, max, length}
 use Rattle.xt_base.specs.declared.ids.NodeId.{NodeId}
-use Rattle.xt_messages.specs.declared.file.Location.{Location}
 use Rattle.xt_messages.specs.declared.event.Event.{Event}
 use Rattle.xt_messages.specs.declared.event.Event.TheVariants as event
-use Rattle.xt_messages.specs.declared.message.Msg.{Msg}
-use Rattle.xt_messages.specs.declared.message.Payload.{Payload}
-use Rattle.xt_messages.specs.declared.record.Record.TheVariants as kept
-use Rattle.xt_protocol.specs.declared.turned.Turned.{Turned}
 use Rattle.xt_protocol.specs.LeaseRows.{is_silent}
 use Rattle.lease_safety.specs.State.{Has}
-use Rattle.lease_runs.proofs.Tests.{same_node}
-use Rattle.lease_runs.specs.LeaseView.{is_ask}
 use Rattle.xt_protocol.specs.FileStates.{FileState}
 use Rattle.xt_protocol.specs.OsdSteps.{OsdState, OsdStep, step_of_osd}
-use Rattle.cluster_runs.specs.declared.TheConstants.{NODES}
-use Rattle.cluster_runs.specs.declared.ClientState.{ClientState}
-use Rattle.cluster_runs.specs.declared.DeclaredFile.{DeclaredFile}
-use Rattle.cluster_runs.specs.declared.Sent.{Sent}
-use Rattle.cluster_runs.specs.Clients.{step_of_client}
-use Rattle.cluster_runs.specs.World.{World, Node, Running, Core, osd, client, node_in, file_in, loads}
-use Rattle.cluster_runs.specs.NodeSteps.{to_itself, after_turn, outside_of}
-use Rattle.cluster_runs.specs.Lines.{next_boot, no_longer_pending}
-use Rattle.cluster_runs.specs.Lines.{declared_capability, declared_file, epoch_of, uses}
+use Rattle.world_spec.specs.World.{World, Node, Running, osd, node_in}
+use Rattle.world_spec.specs.NodeSteps.{to_itself, after_turn, outside_of}
 use Rattle.world_runs.proofs.Frame.{next_node}
-use Rattle.world_runs.proofs.Lists.{has_filter}
-use Rattle.world_runs.proofs.Tables.{same, node_in-new, node_in-id}
-use Rattle.world_runs.proofs.Walk.{of_osd, of_client, Reaches, call_step}
+use Rattle.world_runs.proofs.Tables.{node_in-new}
+use Rattle.world_runs.proofs.Walk.{of_osd, Reaches}
 use Rattle.own_messages_wait.proofs.Files.{FileStands}
 use Rattle.own_messages_wait.proofs.FileSizes.{FileSmall}
-use Rattle.own_messages_wait.proofs.Clients.{AsksOne, asks_none, asks_this, client_gives, call_gives}
-use Rattle.std.proofs.Common.{◌*◌, length}
-use Rattle.std.specs.Prelude.{Result, Ok, Err, nat_lt, slice_get, slice_set, ◌-◌, zero, suc}
-use Rattle.xt_messages.specs.declared.file.Op.{Op}
-use Rattle.xt_messages.specs.declared.event.Call.{Call}
-use Rattle.xt_protocol.specs.Turns.{message}
-use Rattle.cluster_runs.specs.Lines.{OWN, no_longer_pending, delivers}
-use Rattle.cluster_runs.specs.NodeSteps.{Room, Cause, Overflow, came_to, has_no_room, Doing, end_of_step, event_at, event_comes, core_step, osd_steps, client_steps}
-use Rattle.xt_messages.specs.declared.status.Limited.TheVariants as limited
+use Rattle.std.proofs.Common.{◌*◌}
+use Rattle.world_spec.specs.Lines.{OWN}
 use Rattle.world_runs.specs.View.{awake_as}
-use Rattle.world_runs.specs.Worlds.{CallFits}
 use Rattle.own_messages_wait.proofs.Starts.{event_starts, room_of, IsOutside, busy_low, count_busy, loosen}
 use Rattle.own_messages_wait.proofs.Keeping.{Stood, stood_kept, fits, files_stand, node_is, arrives, holds_of}
-use Rattle.time_line.specs.declared.line.Line.{Line}
-use Rattle.time_line.specs.declared.line.Line.TheVariants as line
-use Rattle.cluster_runs.specs.Rules.{refusal, called_file}
-use Rattle.cluster_runs.specs.Lines.{Next, finished, opens, goes_on, ends, begins, went, settles, works_on, next_step, steps, first_step, enough, events_of, done, least_pending, starts, starts_as, declares, calls, client_calls, core_calls, location_of, operation_of, does, tells}
-use Rattle.cluster_runs.specs.Runs.{IsOver, IsEnough, run_of}
-use Rattle.time_line.specs.Bounds.{AreLines}
-use Rattle.world_runs.proofs.Walk.{NextIs, steps_kept, steps_into}
-use Rattle.own_messages_wait.proofs.Running.{InChain, no_own, of_a_client, Ran, HasRan, end_ran, awake_step, awake_is, silent_is, osd_chain, own_ran}
-use Rattle.xt_base.specs.declared.TheConstants.{COUNTS}
-use Rattle.time_line.specs.declared.entry.Entry.{Entry}
+use Rattle.own_messages_wait.proofs.Running.{InChain, awake_step, awake_is, osd_chain}
 
 -- an OSD that is awake, after an event from outside
 pub outside_chain : (w : World) (node : Node) (r : Running) (s : OsdState) (happens : Event) (found : node_in w.nodes node.id.0 ≡ Some node) (up : node.up ≡ Some r) (core : r.core ≡ osd s) → Stood w [] → Reaches w [] node.id happens

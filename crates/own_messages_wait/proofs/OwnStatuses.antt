@@ -1,10 +1,10 @@
 -- A status that waits first at an OSD, from itself, is of the head that it has.
-use Rattle.std.proofs.Common.{◌≡◌, ◌∷◌, ap, sym, ◌∙◌, subst, Some}
+use Rattle.std.proofs.Common.{◌≡◌, ap, sym, ◌∙◌, subst, Some}
 use Rattle.xt_base.specs.declared.ids.NodeId.{NodeId}
 use Rattle.xt_messages.specs.declared.message.Payload.TheVariants as payload
-use Rattle.cluster_runs.specs.Lines.{Next}
-use Rattle.cluster_runs.specs.NodeSteps.{Room}
-use Rattle.cluster_runs.specs.World.{node_in}
+use Rattle.world_spec.specs.Lines.{Next}
+use Rattle.world_spec.specs.NodeSteps.{Room}
+use Rattle.world_spec.specs.World.{node_in}
 use Rattle.lease_runs.proofs.Tests.{same_node}
 use Rattle.world_runs.proofs.Tables.{node_in-id}
 use Rattle.world_runs.proofs.Walk.{NextIs, steps_into}

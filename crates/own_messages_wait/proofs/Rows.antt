@@ -33,7 +33,7 @@ use Rattle.xt_protocol.specs.ReplicaRows.{kept_after}
 use Rattle.xt_protocol.specs.Choice.{chosen_of, difference}
 use Rattle.xt_protocol.specs.Primaries.{Ground, Led, issued_by, issued_in, is_ready, is_ready_in, nodes_of, peer_in, with_peer, fed, known_of_own, known_of_report, last_sent, last_to_each, majority_among, reports_of, statuses_counted, target_of, unknown_peer}
 use Rattle.xt_protocol.specs.PrimaryRows.{epoch_above, epoch_drawn, goes_on, unmoved, peer_fed, peers_fed, installs, fetches, head_chosen, chooses, status_counted, with_state, feeds, target_in, after_keeping}
-use Rattle.cluster_runs.specs.NodeSteps.{to_itself}
+use Rattle.world_spec.specs.NodeSteps.{to_itself}
 use Rattle.own_messages_wait.proofs.Weights.{stand_of, Stand, rank, epoch_left, bodies_left, bodies_to, are_named, unless}
 use Rattle.own_messages_wait.proofs.Standing.{IfAbout, HeadStands, IsPast, IsNext, IfTenure, TenureStands, ProgressStands, IsUnfed, Stands, IfMessage}
 use Rattle.own_messages_wait.proofs.Tests.{false_true, not_new, above_promised}

@@ -4,7 +4,6 @@ use Rattle.std.specs.Prelude.{cond, ◌==◌, max, length}
 use Rattle.std.proofs.lemmas.Bool.{eqb-true}
 use Rattle.std.proofs.lemmas.Bool.Decides.{nat_tests}
 use Rattle.xt_base.specs.declared.ids.NodeId.{NodeId}
-use Rattle.xt_base.specs.TimeSettings.{TimeSettings}
 use Rattle.xt_messages.specs.declared.event.Event.{Event}
 use Rattle.xt_messages.specs.declared.event.Event.TheVariants as event
 use Rattle.xt_messages.specs.declared.message.Msg.{Msg}
@@ -16,11 +15,10 @@ use Rattle.lease_runs.proofs.Tests.{same_node}
 use Rattle.lease_runs.specs.LeaseView.{is_ask}
 use Rattle.xt_messages.specs.declared.record.Record.{Record}
 use Rattle.xt_protocol.specs.OsdSteps.{OsdState, OsdStep, file_concerned, step_of_osd}
-use Rattle.cluster_runs.specs.declared.TheConstants.{MESSAGES, MESSAGE_BYTES}
-use Rattle.cluster_runs.specs.declared.ClientState.{ClientState}
-use Rattle.cluster_runs.specs.Clients.{step_of_client}
-use Rattle.cluster_runs.specs.World.{World, Node, Running, Core, osd, client, node_in, with_node, puts}
-use Rattle.cluster_runs.specs.NodeSteps.{to_itself, after_turn, outside_of, halted}
+use Rattle.world_spec.specs.declared.TheConstants.{MESSAGES, MESSAGE_BYTES}
+use Rattle.client_rows.specs.Rows.{WholeClient, passes}
+use Rattle.world_spec.specs.World.{World, Node, Running, Core, osd, client, node_in, with_node, puts}
+use Rattle.world_spec.specs.NodeSteps.{to_itself, after_turn, outside_of, halted}
 use Rattle.world_runs.specs.View.{awake_as}
 use Rattle.lease_runs.specs.OsdView.{site_of}
 use Rattle.world_runs.proofs.Frame.{next_node}
@@ -30,15 +28,15 @@ use Rattle.std.proofs.Common.{length}
 use Rattle.std.specs.Prelude.{Result, Ok, Err, nat_lt}
 use Rattle.xt_protocol.specs.OsdSteps.{Outside, event_handled, handled_awake}
 use Rattle.lease_runs.specs.OsdView.{site_of}
-use Rattle.cluster_runs.specs.Steps.{Step, stays}
-use Rattle.cluster_runs.specs.NodeSteps.{Room, Cause, Overflow, came_to, has_no_room, Doing, appends, within_limits, forgets_if, forgets_in, forgets_at, rewritten_at, overflow_of, end_of_step, event_at, event_comes, core_step, osd_steps, client_steps, loses_own, cut_in_sending, frame_bytes}
+use Rattle.client_rows.specs.Steps.{Step}
+use Rattle.world_spec.specs.NodeSteps.{Room, Cause, Overflow, came_to, has_no_room, Doing, appends, within_limits, forgets_if, forgets_in, forgets_at, rewritten_at, overflow_of, end_of_step, event_at, event_comes, core_step, osd_steps, client_steps, loses_own, cut_in_sending, frame_bytes}
 use Rattle.xt_messages.specs.declared.status.Limited.TheVariants as limited
 use Rattle.world_runs.proofs.Frame.{however}
 use Rattle.own_messages_wait.proofs.Chains.{Chain}
 use Rattle.own_messages_wait.proofs.Forgets.{chain_then}
 use Rattle.xt_protocol.specs.Forgetting.{keep_of, osd_without}
 use Rattle.own_messages_wait.proofs.ChainSteps.{handled_falls}
-use Rattle.own_messages_wait.proofs.Clients.{ask_rests}
+use Rattle.own_messages_wait.proofs.Clients.{rests}
 use Rattle.own_messages_wait.proofs.Keeping.{Stood, fits, files_stand, node_is, holds_of}
 
 -- ---- what is left to handle
@@ -57,7 +55,7 @@ pub record OsdChain (w : World) (own : List Msg) (k : ℕ) : Type 0 where
 pub record ClientChain (w : World) (own : List Msg) (k : ℕ) : Type 0 where
   pub node : Node
   pub running : Running
-  pub state : ClientState
+  pub state : WholeClient
   pub found : node_in w.nodes node.id.0 ≡ Some node
   pub up : node.up ≡ Some running
   pub core : running.core ≡ client state
@@ -250,10 +248,6 @@ osd_chain d node r s happens j found mine awake to chain =
       chain = subst (λ (id : NodeId). Chain (awake_as s.started) s.started.node (awake_step (outside_of node.kept) s r.clock happens).osd.files (d.own ++ to_itself id (awake_step (outside_of node.kept) s r.clock happens).turned.outs) j) mine chain;
     })
 
-client_rests : (node : NodeId) (times : TimeSettings) (c : ClientState) (reading : ℕ) (m : Msg) → is_ask m.payload ≡ true → step_of_client node times c reading (event.Deliver m) ≡ stays ClientState (record c { last = max reading c.last })
-unfolding step_of_client
-client_rests node times c reading m is = ask_rests (record { node = node; times = times; now = max reading c.last }) (record c { last = max reading c.last }) m.from m.payload is
-
 -- ---- the next message of a node to itself
 
 -- what waits behind an OSD's step on its first one
@@ -282,12 +276,13 @@ own_ran room d m rest k stood (of_an_osd c) =
 own_ran room d m rest k stood (of_a_client c) =
     let here : m.to ≡ c.node.id = c.to m (inl refl) in
     let less : length rest + 1 ≤ k = let low = c.low in omega (arith, low) in
-    let ran = end_ran room (record d { own = rest }) 1 k (length rest) c.node c.running (client_steps (stays ClientState (record c.state { last = max c.running.clock c.state.last }))) less
+    let then = passes c.state c.running.clock in
+    let ran = end_ran room (record d { own = rest }) 1 k (length rest) c.node c.running (client_steps (passes c.state c.running.clock)) less
     (of_a_client (record {
-      node = next_node c.node c.running (client (record c.state { last = max c.running.clock c.state.last })) (stays ClientState c.state).turned;
-      running = record c.running { core = client (record c.state { last = max c.running.clock c.state.last }) };
-      state = record c.state { last = max c.running.clock c.state.last };
-      found = node_in-new d.world.nodes (next_node c.node c.running (client (record c.state { last = max c.running.clock c.state.last })) (stays ClientState c.state).turned) c.node c.found;
+      node = next_node c.node c.running (client then.state) then.turned;
+      running = record c.running { core = client then.state };
+      state = then.state;
+      found = node_in-new d.world.nodes (next_node c.node c.running (client then.state) then.turned) c.node c.found;
       up = refl;
       core = refl;
       to = λ x h. c.to x (inr (subst (Has x) (append-nil rest) h));
@@ -297,4 +292,4 @@ own_ran room d m rest k stood (of_a_client c) =
     subst (HasRan (record d { own = rest }) 1 k)
     (sym (comes_at room (record d { own = rest }) m.to (event.Deliver m) c.node c.running (ap (λ (n : NodeId). node_in d.world.nodes n.0) here ∙ c.found) c.up
     ∙ ap (λ (core : Core). end_of_step room (record d { own = rest }) c.node c.running (core_step d.world.times c.node core c.running.clock (event.Deliver m))) c.core
-    ∙ ap (λ (step : Step ClientState). end_of_step room (record d { own = rest }) c.node c.running (client_steps step)) (client_rests c.node.id d.world.times c.state c.running.clock m (c.asks m (inl refl))))) ran
+    ∙ ap (λ (step : Step WholeClient). end_of_step room (record d { own = rest }) c.node c.running (client_steps step)) (rests c.node.id d.world.times c.state c.running.clock m (c.asks m (inl refl))))) ran

@@ -34,7 +34,7 @@ use Rattle.xt_protocol.specs.Writes.{Standing, repeated, older, turned_away, fre
 use Rattle.xt_protocol.specs.Primaries.{Ground, Led, is_current, issued_by, issued_in, nodes_of}
 use Rattle.xt_protocol.specs.Serving.{current_others, issues, next_update_of, reads, write_stands, writes_in, writes_under, writes}
 use Rattle.xt_protocol.specs.Asks.{Served, is_read, newly_issued, no_asks, read_answer, serves, serves_all, serves_waiting, stays, write_done}
-use Rattle.cluster_runs.specs.NodeSteps.{to_itself}
+use Rattle.world_spec.specs.NodeSteps.{to_itself}
 use Rattle.own_messages_wait.proofs.Weights.{asks_left}
 use Rattle.own_messages_wait.proofs.Standing.{IsPast, IsNext, TenureStands, ProgressStands}
 use Rattle.own_messages_wait.proofs.Tests.{false_true}

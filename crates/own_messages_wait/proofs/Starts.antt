@@ -18,9 +18,9 @@ use Rattle.xt_protocol.specs.FileSteps.{step_of_file}
 use Rattle.xt_protocol.specs.OsdSteps.{Outside, OsdState, FilesStep, file_at, with_file, file_concerned, message_handled, event_handled}
 use Rattle.lease_runs.specs.OsdView.{site_of}
 use Rattle.lease_runs.proofs.OsdLeases.{file_at-with_file, at_file}
-use Rattle.cluster_runs.specs.declared.DeclaredFile.{DeclaredFile}
-use Rattle.cluster_runs.specs.World.{file_in}
-use Rattle.cluster_runs.specs.NodeSteps.{to_itself}
+use Rattle.world_spec.specs.declared.DeclaredFile.{DeclaredFile}
+use Rattle.world_spec.specs.World.{file_in}
+use Rattle.world_spec.specs.NodeSteps.{to_itself}
 use Rattle.world_runs.specs.View.{awake_as}
 use Rattle.world_runs.specs.Worlds.{AreBehind, FileFits, Rises, files_of}
 use Rattle.own_messages_wait.proofs.Osds.{FileHolds}
@@ -45,7 +45,7 @@ use Rattle.lease_runs.specs.OsdView.{wake_step}
 use Rattle.xt_protocol.specs.FileSteps.{wake_of_file}
 use Rattle.xt_protocol.specs.Overdue.{expired}
 use Rattle.xt_protocol.specs.OsdSteps.{asks_dir, each_file, woken}
-use Rattle.cluster_runs.specs.Lines.{OWN, declared_file}
+use Rattle.world_spec.specs.Lines.{OWN, declared_file}
 use Rattle.world_runs.specs.Worlds.{Listed}
 use Rattle.own_messages_wait.proofs.Rows.{one_if}
 use Rattle.own_messages_wait.proofs.Leases.{IsFree}

@@ -19,16 +19,15 @@ use Rattle.xt_protocol.specs.OsdSteps.{OsdState, OsdStep, file_at, file_concerne
 use Rattle.lease_safety.specs.State.{Has}
 use Rattle.lease_runs.specs.LeaseView.{is_about}
 use Rattle.lease_runs.proofs.Tests.{same_node}
-use Rattle.cluster_runs.specs.declared.ClientState.{ClientState}
-use Rattle.cluster_runs.specs.Clients.{step_of_client}
-use Rattle.cluster_runs.specs.Lines.{OWN, no_longer_pending}
-use Rattle.cluster_runs.specs.World.{World, Node, Running, Core, osd, client, node_in, with_node}
-use Rattle.cluster_runs.specs.NodeSteps.{to_itself, after_turn, outside_of, rewritten_at}
+use Rattle.client_rows.specs.Rows.{WholeClient, stepped, called_again}
+use Rattle.world_spec.specs.Lines.{OWN, no_longer_pending}
+use Rattle.world_spec.specs.World.{World, Node, Running, Core, osd, client, node_in, with_node}
+use Rattle.world_spec.specs.NodeSteps.{to_itself, after_turn, outside_of, rewritten_at}
 use Rattle.world_runs.specs.View.{awake_as, messages}
 use Rattle.world_runs.proofs.Frame.{next_node}
 use Rattle.world_runs.proofs.Lists.{has_in, has_left, has_right, has_filter}
 use Rattle.world_runs.proofs.Tables.{same, node_in-new, node_in-other}
-use Rattle.world_runs.proofs.Walk.{IsKept, NodeStep, of_osd, of_client, of_call, Reaches, AreLeft, left_within, call_step}
+use Rattle.world_runs.proofs.Walk.{IsKept, NodeStep, of_osd, of_client, of_call, of_again, Reaches, AreLeft, left_within, call_step}
 use Rattle.own_messages_wait.proofs.Mine.{mine-append}
 use Rattle.own_messages_wait.proofs.Standing.{IfWaits}
 use Rattle.own_messages_wait.proofs.Chains.{Chain, about-append, list_of, own_sum, primary_about, total}
@@ -114,7 +113,7 @@ middle_few xs ys zs o is = elim (rest_few xs (ys ++ zs) o is) [
 pub record AtClient (w : World) (own : List Msg) : Type 0 where
   pub node : Node
   pub running : Running
-  pub state : ClientState
+  pub state : WholeClient
   pub found : node_in w.nodes node.id.0 ≡ Some node
   pub up : node.up ≡ Some running
   pub core : running.core ≡ client state
@@ -178,7 +177,7 @@ some_running a b e = cc e
 same_state : (a b : OsdState) → osd a ≡ osd b → a ≡ b
 same_state a b e = cc e
 
-other_core : (c : ClientState) (s : OsdState) → client c ≡ osd s → ⊥
+other_core : (c : WholeClient) (s : OsdState) → client c ≡ osd s → ⊥
 other_core c s e = cc e
 
 not_empty : (m : Msg) (rest : List Msg) → m ∷ rest ≡ [] → ⊥
@@ -289,7 +288,7 @@ module _ (w : World) (node : Node) (r : Running) (s : OsdState) (found : node_in
 
 -- ---- a step of a client
 
-client_waits : (w : World) (was own : List Msg) (node : Node) (r : Running) (c next : ClientState) (turned : Turned) (outs : List Msg) → AreLeft own was → node_in w.nodes node.id.0 ≡ Some node → node.up ≡ Some r → r.core ≡ client c
+client_waits : (w : World) (was own : List Msg) (node : Node) (r : Running) (c next : WholeClient) (turned : Turned) (outs : List Msg) → AreLeft own was → node_in w.nodes node.id.0 ≡ Some node → node.up ≡ Some r → r.core ≡ client c
     → ((m : Msg) (rest : List Msg) → was ≡ m ∷ rest → m.to ≡ node.id) → IsWaiting w was
     → IsWaiting (after_turn w node (record r { core = client next }) (record turned { outs = outs })) (own ++ to_itself node.id outs)
 client_waits w was own node r c next turned outs left found is_up is_client first waiting =
@@ -318,11 +317,15 @@ client_waits w was own node r c next turned outs left found is_up is_client firs
         let is_running = some_running d.running r (sym d.up ∙ ap (λ (n : Node). n.up) is_node ∙ is_up) in
         absurd (not_osd d.state (sym d.core ∙ ap (λ (q : Running). q.core) is_running ∙ is_client))
 
+-- with no message left there is no first one
+none_first : (was : List Msg) → was ≡ [] → (node : NodeId) (m : Msg) (rest : List Msg) → was ≡ m ∷ rest → m.to ≡ node
+none_first was none node m rest is = absurd (not_empty m rest (sym is ∙ none))
+
 -- its first message comes to it
 first_to : (w : World) (was : List Msg) (node : NodeId) (happens : Event) → Reaches w was node happens → (m : Msg) (rest : List Msg) → was ≡ m ∷ rest → m.to ≡ node
-first_to w was node event.Wake none m rest is = absurd (not_empty m rest (sym is ∙ none))
-first_to w was node (event.Call call) none m rest is = absurd (not_empty m rest (sym is ∙ none))
-first_to w was node (event.Deliver x) reaches m rest is = elim reaches.2 [
+first_to w was node event.Wake none = none_first was none node
+first_to w was node (event.Call call) none = none_first was none node
+first_to w was node (event.Deliver x) reaches = λ m rest is. elim reaches.2 [
   | inl none ↦ absurd (not_empty m rest (sym is ∙ none))
   | inr first ↦ (let same : x ≡ m = same_head (sym first.1 ∙ is) in subst (λ (k : Msg). k.to ≡ node) same reaches.0)
 ]
@@ -334,10 +337,14 @@ step_waits : (w : World) (was own : List Msg) (node : Node) (r : Running) (next 
     → NodeStep w was node r next turned → turned.outs ≡ outs ++ rest → Waiting w was → IsWaiting (after_turn w node (record r { core = next }) (record turned { outs = outs })) (own ++ to_itself node.id outs)
 step_waits w was own node r _ _ outs rest left found is_up (of_osd s happens is_osd reaches) split p = osd_waits w node r s found is_up is_osd was own outs rest happens left reaches split p
 step_waits w was own node r _ _ outs rest left found is_up (of_client c happens is_client reaches) split p =
-    client_waits w was own node r c (step_of_client node.id w.times c r.clock happens).state (step_of_client node.id w.times c r.clock happens).turned outs left found is_up is_client (first_to w was node.id happens reaches) p.waits
-step_waits w was own node r _ _ outs rest left found is_up (of_call c k number location asked is_client resting bound called declared does) split p =
-    client_waits w was own node r c (call_step w node r c k number location asked).state (call_step w node r c k number location asked).turned outs left found is_up is_client
-    (λ m others is. absurd (not_empty m others (sym is ∙ resting.1))) p.waits
+    let step = stepped node.id w.times c r.clock happens in
+    client_waits w was own node r c step.state step.turned outs left found is_up is_client (first_to w was node.id happens reaches) p.waits
+step_waits w was own node r _ _ outs rest left found is_up (of_call c k is_client resting may called) split p =
+    let step = call_step w node r c k in
+    client_waits w was own node r c step.state step.turned outs left found is_up is_client (none_first was resting.1 node.id) p.waits
+step_waits w was own node r _ _ outs rest left found is_up (of_again c is_client resting may) split p =
+    let step = called_again node.id w.times c r.clock in
+    client_waits w was own node r c step.state step.turned outs left found is_up is_client (none_first was resting.1 node.id) p.waits
 
 -- ---- an OSD forgets
 

@@ -28,7 +28,7 @@ use Rattle.xt_protocol.specs.AskRows.{reads_of}
 use Rattle.xt_protocol.specs.FileSteps.{renews, wakes_under_lease, wake_of_file}
 use Rattle.osd_invariants.specs.Sound.{IsHeld, IsSound, PeersAre}
 use Rattle.osd_invariants.proofs.Kept.{wake_keeps}
-use Rattle.cluster_runs.specs.NodeSteps.{to_itself}
+use Rattle.world_spec.specs.NodeSteps.{to_itself}
 use Rattle.own_messages_wait.proofs.Weights.{asks_left}
 use Rattle.own_messages_wait.proofs.Standing.{IfAbout, HeadStands, IfMessage, IfTenure, ProgressStands, TenureStands}
 use Rattle.own_messages_wait.proofs.Moves.{moves_none}

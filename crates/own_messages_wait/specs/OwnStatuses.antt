@@ -8,11 +8,11 @@ use Rattle.xt_messages.specs.declared.message.Payload.TheVariants as payload
 use Rattle.xt_protocol.specs.OsdSteps.{OsdState, file_at}
 use Rattle.time_line.specs.declared.line.Line.{Line}
 use Rattle.time_line.specs.Bounds.{AreLines}
-use Rattle.cluster_runs.specs.Lines.{begins, goes_on, steps}
-use Rattle.cluster_runs.specs.NodeSteps.{Doing, Room}
-use Rattle.cluster_runs.specs.Rules.{refusal}
-use Rattle.cluster_runs.specs.Runs.{run_of}
-use Rattle.cluster_runs.specs.World.{Node, Running, node_in, osd}
+use Rattle.world_spec.specs.Lines.{begins, goes_on, steps}
+use Rattle.world_spec.specs.NodeSteps.{Doing, Room}
+use Rattle.world_spec.specs.Rules.{refusal}
+use Rattle.world_spec.specs.Runs.{run_of}
+use Rattle.world_spec.specs.World.{Node, Running, node_in, osd}
 use Rattle.world_runs.specs.View.{awake_as}
 
 -- At any step of a line after a run, a message waits first, and its node is an OSD.

@@ -1,4 +1,4 @@
-//! How a node's messages to itself wait, in every run of `cluster_runs`: in a chain.
+//! How a node's messages to itself wait, in every run of `world_spec`: in a chain.
 //!
 //! For each file of an OSD there is at most one between its primary and its own replica, and while it waits the file's row stays as
 //! it is. What may still come of those that wait is weighed for each file: by its lease's messages, by that one message, by its
@@ -6,7 +6,7 @@
 //! bodies between two of them changes neither. Definitions and theorems alone; nothing runs here.
 #![tactic(auto)]
 
-ghost use Rattle.cluster_runs.specs.NodeSteps.{Room};
+ghost use Rattle.world_spec.specs.NodeSteps.{Room};
 ghost use Rattle.own_messages_wait.specs.OwnStatuses.{OwnStatusesStand};
 
 /// A status that an OSD told itself is of the head that it still has when the message comes: in every run of lines within their

@@ -23,7 +23,7 @@ use Rattle.server_rows.specs.Requests as meta
 use Rattle.server_rows.specs.Directory.{DirState, DirStep, step_of_dir, told_by, by_standing, fresh, nothing, answered, recorded, reply_to}
 use Rattle.server_rows.specs.Metadata.{MrcState, MrcStep, step_of_mrc}
 use Rattle.server_rows.specs.Metadata as mrc
-use Rattle.cluster_runs.specs.NodeSteps.{to_itself}
+use Rattle.world_spec.specs.NodeSteps.{to_itself}
 use Rattle.servers_end.specs.Servers.{dir_node, mrc_node, EndsAtDir, EndsAtMrc}
 
 -- at most one of these, and each ends

@@ -5,7 +5,7 @@
 ghost use Rattle.std.specs.Prelude.{◌≤◌, ℕ, List, length};
 ghost use Rattle.std.specs.List.{AllByRecursion};
 ghost use Rattle.xt_messages.specs.declared.event.Event.{Event};
-ghost use Rattle.cluster_runs.specs.NodeSteps.{to_itself};
+ghost use Rattle.world_spec.specs.NodeSteps.{to_itself};
 ghost use Rattle.server_rows.specs.Directory.{DirState, step_of_dir};
 ghost use Rattle.server_rows.specs.Metadata.{MrcState, step_of_mrc};
 ghost use Rattle.servers_end.specs.Servers.{dir_node, mrc_node, EndsAtDir, EndsAtMrc};

@@ -1,9 +1,6 @@
 -- What a client asks has begun, and its calls end well only as they were answered.
-use Rattle.std.proofs.Common.{◌≡◌, ℕ, ◌⊎◌, inl, inr, List, [], ◌∷◌, refl, subst, sym, arith, Option, Some, None, Bool, true, false}
-use Rattle.std.specs.Prelude.{cond, max, not, filter, nat_le, ◌==◌, ◌&&◌, if◌then◌else◌}
-use Rattle.std.proofs.lemmas.Bool.Decides.{nat_tests}
+use Rattle.std.proofs.Common.{◌≡◌, ℕ, ◌⊎◌, inl, inr, List, [], ◌∷◌, refl, sym, subst, Option, Some, None}
 use Rattle.xt_messages.specs.Limits.{FitsOp}
-use Rattle.xt_base.specs.TimeSettings.{TimeSettings}
 use Rattle.xt_base.specs.declared.ids.NodeId.{NodeId}
 use Rattle.xt_base.specs.declared.ids.OpId.{OpId}
 use Rattle.xt_messages.specs.declared.file.Capability.{Capability}
@@ -12,8 +9,6 @@ use Rattle.xt_messages.specs.declared.file.Location.{Location}
 use Rattle.xt_messages.specs.declared.file.Op.{Op}
 use Rattle.xt_messages.specs.declared.reply.Reply.{Reply}
 use Rattle.xt_messages.specs.declared.reply.Reply.TheVariants as reply
-use Rattle.xt_messages.specs.declared.reply.Retry.{Retry}
-use Rattle.xt_messages.specs.declared.reply.Retry.TheVariants as retry
 use Rattle.xt_messages.specs.declared.message.Msg.{Msg}
 use Rattle.xt_messages.specs.declared.message.Payload.{Payload}
 use Rattle.xt_messages.specs.declared.message.Payload.TheVariants as payload
@@ -23,14 +18,13 @@ use Rattle.xt_messages.specs.declared.event.Mark.{Mark}
 use Rattle.xt_messages.specs.declared.event.Mark.TheVariants as mark
 use Rattle.xt_messages.specs.declared.event.Outcome.{Outcome}
 use Rattle.xt_messages.specs.declared.event.Outcome.TheVariants as outcome
-use Rattle.xt_messages.specs.declared.status.AskRefusal.TheVariants as refusal
 use Rattle.lease_safety.specs.State.{Has}
 use Rattle.time_line.specs.declared.entry.Entry.{Entry}
-use Rattle.cluster_runs.specs.declared.RunningCall.{RunningCall}
-use Rattle.cluster_runs.specs.declared.ClientState.{ClientState}
-use Rattle.cluster_runs.specs.Steps.{Step, stays}
-use Rattle.cluster_runs.specs.Clients.{ClientSite, step_of_client}
-use Rattle.cluster_runs.specs.Clients as clients
+use Rattle.client_rows.specs.declared.requests.Request.{Request}
+use Rattle.client_rows.specs.declared.requests.Request.TheVariants as request
+use Rattle.client_rows.specs.declared.requests.MadeCall.{MadeCall}
+use Rattle.client_rows.specs.Requests.{payload_of}
+use Rattle.client_steps.specs.Asked.{IsOnFile, MadeIs, EndsSo, HearsOk, Sends, sends_none, sends_one, Tells, tells_none, tells_end}
 use Rattle.time_line.specs.TimeLine.{id_of, location_in, operation_begun}
 use Rattle.time_line.specs.Clauses.{HasBegunOn}
 use Rattle.world_runs.proofs.Entries.{HasAnswer}
@@ -63,10 +57,16 @@ ContentIs es from to (payload.Ask number capability asked) = AskIs es (id_of fro
 ContentIs es from to (payload.Reply number file answer) = ReplyIs es to number answer
 ContentIs es from to _ = Unit {0}
 
--- the running call of a client is such a one
-abbrev pub CallIs : List Entry → NodeId → Option RunningCall → Type 0
-CallIs es node None = Unit {0}
-CallIs es node (Some call) = AskIs es (id_of node call.number) call.capability call.op
+-- What a client asks under a number is of a call of its own that has begun, by a request of the file's kind.
+abbrev pub RequestIs : List Entry → NodeId → ℕ → Request → Type 0
+RequestIs es node number (request.Replicated capability asked) = AskIs es (id_of node number) capability asked × (capability.location.kind ≡ kind.Replicated)
+RequestIs es node number (request.Striped capability asked) = AskIs es (id_of node number) capability asked × (capability.location.kind ≡ kind.Striped)
+RequestIs es node number (request.Meta user group asked) = ⊥
+RequestIs es node number (request.Registry asked) = ⊥
+
+-- a capability that a client holds of the file of this number is of that file, and the file is told to be there
+abbrev pub HeldIs : List Entry → ℕ → Capability → Type 0
+HeldIs es number capability = (capability.file.number ≡ number) × (location_in number es ≡ Some capability.location)
 
 -- an outcome: a call ends well only as it was answered, unless it is on a striped file
 abbrev pub OutcomeIs : List Entry → OpId → Outcome → Type 0
@@ -78,95 +78,56 @@ pub data Ending (es : List Entry) (node : NodeId) (marks : List Mark) : Type 0 w
   silent : marks ≡ [] → Ending es node marks
   ended : (number : ℕ) (how : Outcome) → marks ≡ mark.Done number how ∷ [] → OutcomeIs es (id_of node number) how → Ending es node marks
 
--- what a client's step on an event owes
-pub record ClientStepIs (es : List Entry) (node : NodeId) (next : ℕ) (step : Step ClientState) : Type 0 where
-  pub call : CallIs es node step.state.running
-  pub number : step.state.next ≡ next
-  pub sent : (m : Msg) → Has m step.turned.outs → ContentIs es m.from m.to m.payload
-  pub marks : Ending es node step.turned.marks
+-- an event that comes to a client: what it is told was answered
+abbrev pub EventIs : List Entry → NodeId → Event → Type 0
+EventIs es node (event.Deliver msg) = ContentIs es msg.from node msg.payload
+EventIs es node event.Wake = Unit {0}
+EventIs es node (event.Call call) = Unit {0}
 
-module _ (es : List Entry) (node : NodeId) (next : ℕ) where
-  abbrev Is : Step ClientState → Type 0
-  Is step = ClientStepIs es node next step
+module _ (es : List Entry) (node : NodeId) where
+  -- what is sent
+  asked_is : (to : NodeId) (number : ℕ) (asked : Request) → RequestIs es node number asked → ContentIs es node to (payload_of number asked)
+  asked_is to number (request.Replicated capability asked) is = is.0
+  asked_is to number (request.Striped capability asked) is = is.0
+  asked_is to number (request.Meta user group asked) is = absurd is
+  asked_is to number (request.Registry asked) is = absurd is
 
-  -- the running call has begun, and its client's next number is this one
-  abbrev Fits : ClientState → Type 0
-  Fits c = CallIs es node c.running × (c.next ≡ next)
+  pub sent_is : (outs : List Msg) → Sends (RequestIs es node) node outs → (m : Msg) → Has m outs → ContentIs es m.from m.to m.payload
+  sent_is _ sends_none m h = absurd h
+  sent_is _ (sends_one to number asked is) m (inl e) = subst (λ (k : Msg). ContentIs es k.from k.to k.payload) (sym e) (asked_is to number asked is)
+  sent_is _ (sends_one to number asked is) m (inr h) = absurd h
 
-  either : (b : Bool) (x y : Step ClientState) → Is x → Is y → Is (cond b x y)
-  either true x y p q = p
-  either false x y p q = q
+  -- how a call ends
+  striped_is : (number : ℕ) (capability : Capability) (asked : Op) → RequestIs es node number (request.Striped capability asked) → IsOnStriped es (id_of node number)
+  striped_is number capability asked is =
+      record { file = capability.file.number; has_begun = (asked, is.0.0); location = capability.location; placed = is.0.2; striped = is.1 }
 
-  stays_is : (c : ClientState) → Fits c → Is (stays ClientState c)
-  stays_is c fits = record { call = fits.0; number = fits.1; sent = λ m h. absurd h; marks = silent refl }
+  heard_is : (happens : Event) (number count : ℕ) (bytes : List ℕ) → EventIs es node happens → HearsOk happens number count bytes → IsAnswered es (id_of node number) count bytes ⊎ IsOnStriped es (id_of node number)
+  heard_is (event.Deliver msg) number count bytes is heard = subst (ContentIs es msg.from node) heard.2 is
+  heard_is event.Wake number count bytes is heard = absurd heard
+  heard_is (event.Call call) number count bytes is heard = absurd heard
 
-  module _ (site : ClientSite) (here : site.node ≡ node) where
-    asks_is : (c : ClientState) (call : RunningCall) (target : NodeId) → Fits c → CallIs es node (Some call) → Is (clients.asks site c call target)
-    asks_is c call target fits begun = record { call = begun; number = fits.1; sent = sent; marks = silent refl }
-      where
-        sent : (m : Msg) → Has m (clients.asks site c call target).turned.outs → ContentIs es m.from m.to m.payload
-        sent m (inl e) = subst (λ (k : Msg). ContentIs es k.from k.to k.payload) (sym e) (subst (λ (n : NodeId). operation_begun call.capability.file.number es (id_of n call.number) ≡ Some call.op) (sym here) begun.0, begun.1, begun.2)
-        sent m (inr h) = absurd h
+  outcome_is : (happens : Event) (number : ℕ) (asked : Request) (how : Outcome) → EventIs es node happens → RequestIs es node number asked → EndsSo happens number asked how → OutcomeIs es (id_of node number) how
+  outcome_is happens number (request.Replicated capability asked) (outcome.Ok count bytes) came is so = heard_is happens number count bytes came so
+  outcome_is happens number (request.Striped capability asked) (outcome.Ok count bytes) came is so = inr (striped_is number capability asked is)
+  outcome_is happens number (request.Meta user group asked) (outcome.Ok count bytes) came is so = absurd is
+  outcome_is happens number (request.Registry asked) (outcome.Ok count bytes) came is so = absurd is
+  outcome_is happens number asked (outcome.Retry answers) came is so = tt
+  outcome_is happens number asked (outcome.Refused why) came is so = tt
+  outcome_is happens number asked (outcome.Meta answer) came is so = tt
+  outcome_is happens number asked (outcome.Registry answer) came is so = tt
 
-    ends_is : (c : ClientState) (call : RunningCall) (how : Outcome) → c.next ≡ next → OutcomeIs es (id_of node call.number) how → Is (clients.ends_call c call how)
-    ends_is c call how same is = record { call = tt; number = same; sent = λ m h. absurd h; marks = ended call.number how refl is }
+  pub ending_is : (happens : Event) (marks : List Mark) → EventIs es node happens → Tells (RequestIs es node) happens marks → Ending es node marks
+  ending_is happens _ came tells_none = silent refl
+  ending_is happens _ came (tells_end number asked how is so) = ended number how refl (outcome_is happens number asked how came is so)
 
-    turned_is : (c : ClientState) (call : RunningCall) (how : Retry) → Fits c → CallIs es node (Some call) → Is (clients.turned_away site c call how)
-    turned_is c call how fits begun =
-        at (clients.next_of (clients.named how) (filter (λ m. not (clients.was_tried (clients.with_outcome call.tried call.target how) m)) call.capability.location.members))
-      where
-        at : (o : Option NodeId) → Is (elim o [
-          | Some target ↦ clients.asks site c (record call { tried = clients.with_outcome call.tried call.target how }) target
-          | None ↦ clients.ends_call c call (outcome.Retry (clients.answers_in (clients.with_outcome call.tried call.target how) call.capability.location.members))
-        ])
-        at (Some target) = asks_is c (record call { tried = clients.with_outcome call.tried call.target how }) target fits begun
-        at None = ends_is c call _ fits.1 tt
+  -- it asks nothing of servers
+  on_file : (number : ℕ) (asked : Request) → RequestIs es node number asked → IsOnFile asked
+  on_file number (request.Replicated capability asked) is = tt
+  on_file number (request.Striped capability asked) is = tt
+  on_file number (request.Meta user group asked) is = absurd is
+  on_file number (request.Registry asked) is = absurd is
 
-    turned_by_is : (c : ClientState) (call : RunningCall) (from : NodeId) (how : Retry) → Fits c → CallIs es node (Some call) → Is (clients.turned_away_by site c call from how)
-    turned_by_is c call from how fits begun = either (from.0 == call.target.0) _ _ (turned_is c call how fits begun) (stays_is c fits)
-
-    answered_is : (c : ClientState) (call : RunningCall) (from : NodeId) (content : Reply) → Fits c → CallIs es node (Some call) → ReplyIs es node call.number content → Is (clients.answered site c call from content)
-    answered_is c call from (reply.Ok count size bytes) fits begun said = ends_is (clients.knows c call.capability.file (clients.aimed from)) call (outcome.Ok count bytes) fits.1 said
-    answered_is c call from (reply.NoLease end) fits begun said = turned_by_is c call from (retry.NoLease end) fits begun
-    answered_is c call from (reply.NoMajority have need) fits begun said = turned_by_is c call from (retry.NoMajority have need) fits begun
-    answered_is c call from (reply.Elsewhere other end) fits begun said = turned_by_is c call from (retry.Elsewhere other end) fits begun
-    answered_is c call from (reply.Denied why) fits begun said = ends_is c call (outcome.Refused (refusal.Denied why)) fits.1 tt
-    answered_is c call from (reply.OldList version) fits begun said = ends_is c call (outcome.Refused (refusal.OldList version)) fits.1 tt
-    answered_is c call from (reply.OldEpoch epoch) fits begun said = ends_is (clients.knows c call.capability.file (clients.raised epoch)) call (outcome.Refused (refusal.OldEpoch epoch)) fits.1 tt
-    answered_is c call from (reply.TooFar object) fits begun said = ends_is c call (outcome.Refused (refusal.TooFar object)) fits.1 tt
-    answered_is c call from reply.ClientsFull fits begun said = ends_is c call (outcome.Refused refusal.ClientsFull) fits.1 tt
-
-    same_number : (a b : ℕ) (t : Bool) → (a == b && t) ≡ true → a ≡ b
-    same_number a b t h = grind (arith, nat_tests)
-
-    reply_is : (c : ClientState) (running : Option RunningCall) (from : NodeId) (number : ℕ) (content : Reply) → Fits c → CallIs es node running → ReplyIs es node number content
-        → Is (clients.reply_comes site c running from number content)
-    reply_is c None from number content fits begun said = stays_is c fits
-    reply_is c (Some call) from number content fits begun said = at (number == call.number && clients.was_tried call.tried from) refl
-      where
-        at : (b : Bool) → (number == call.number && clients.was_tried call.tried from) ≡ b → Is (if b then clients.answered site c call from content else stays ClientState c)
-        at true test = answered_is c call from content fits begun (subst (λ (n : ℕ). ReplyIs es node n content) (same_number number call.number (clients.was_tried call.tried from) test) said)
-        at false test = stays_is c fits
-
-    message_is : (c : ClientState) (from : NodeId) (content : Payload) → Fits c → ContentIs es from node content → Is (clients.message_comes site c from content)
-    message_is c from (payload.Reply number file content) fits said = reply_is c c.running from number content fits fits.0 said
-    message_is c from _ fits said = stays_is c fits
-
-    wakes_is : (c : ClientState) (o : Option RunningCall) → Fits c → CallIs es node o → Is (clients.wakes site c o)
-    wakes_is c None fits begun = stays_is c fits
-    wakes_is c (Some call) fits begun = either (nat_le call.deadline site.now) _ _ (turned_is c call retry.Silent fits begun) (stays_is c fits)
-
-  -- an event that comes to the client
-  abbrev pub EventIs : Event → Type 0
-  EventIs (event.Deliver msg) = ContentIs es msg.from node msg.payload
-  EventIs event.Wake = Unit {0}
-  EventIs (event.Call call) = Unit {0}
-
-  pub client_step_is : (times : TimeSettings) (c : ClientState) (reading : ℕ) (happens : Event) → Fits c → EventIs happens → Is (step_of_client node times c reading happens)
-  unfolding step_of_client
-  client_step_is times c reading happens fits is = at happens is
-    where
-      at : (e : Event) → EventIs e → Is (clients.event_comes (record { node = node; times = times; now = max reading c.last }) (record c { last = max reading c.last }) e)
-      at (event.Deliver msg) is = message_is (record { node = node; times = times; now = max reading c.last }) refl (record c { last = max reading c.last }) msg.from msg.payload fits is
-      at event.Wake is = wakes_is (record { node = node; times = times; now = max reading c.last }) refl (record c { last = max reading c.last }) c.running fits fits.0
-      at (event.Call k) is = stays_is (record c { last = max reading c.last }) fits
+  pub made_on_file : (made : Option MadeCall) → MadeIs (RequestIs es node) made → MadeIs (λ n asked. IsOnFile asked) made
+  made_on_file None is = tt
+  made_on_file (Some made) is = on_file made.number made.request is

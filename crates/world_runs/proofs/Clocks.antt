@@ -24,12 +24,12 @@ use Rattle.lease_runs.proofs.Worlds.{clocks_close}
 use Rattle.xt_protocol.specs.FileStates.{file_from}
 use Rattle.xt_protocol.specs.OsdSteps.{OsdState, file_at}
 use Rattle.lease_runs.specs.LeaseView.{lease_row_of}
-use Rattle.cluster_runs.specs.declared.DeclaredFile.{DeclaredFile}
+use Rattle.world_spec.specs.declared.DeclaredFile.{DeclaredFile}
 use Rattle.time_line.specs.declared.entry.Entry.TheVariants as entry
 use Rattle.time_line.specs.TimeLine.{Standing, standing, standing_after, reads, advances}
-use Rattle.cluster_runs.specs.World.{World, Node, Running, Core, osd, client, node_in, with_node, up_of, loads, puts}
-use Rattle.cluster_runs.specs.Rules.{Reading, lesser, reading_where, least_where, are_apart, drift_named, drifts, end_named, clock_ends}
-use Rattle.cluster_runs.specs.Lines.{runs, next_boot, osd_starting, starts_as, ticked, tells}
+use Rattle.world_spec.specs.World.{World, Node, Running, Core, osd, client, node_in, with_node, up_of, loads, puts}
+use Rattle.world_spec.specs.Rules.{Reading, lesser, reading_where, least_where, are_apart, drift_named, drifts, end_named, clock_ends}
+use Rattle.world_spec.specs.Lines.{runs, next_boot, osd_starting, starts_as, ticked, tells}
 use Rattle.world_runs.specs.View.{file_setting, node_id, end_in, told, awake_as, unseen, core_seen, up_seen, node_seen, lease_view}
 use Rattle.world_runs.proofs.Tables.{same, node_in-new, node_in-other, node_in-id, node_in-ticked}
 use Rattle.world_runs.proofs.Standings.{standing-push, own_up, other_up, own_clock, other_clock}

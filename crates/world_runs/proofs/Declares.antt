@@ -3,20 +3,26 @@ use Rattle.std.proofs.Common.{◌≡◌, ◌≢◌, ℕ, inl, inr, List, [], ◌
 use Rattle.std.proofs.lemmas.List.{append-nil}
 use Rattle.xt_base.specs.TimeSettings.{TimeSettings}
 use Rattle.xt_base.specs.declared.ids.NodeId.{NodeId}
+use Rattle.xt_messages.specs.declared.file.Capability.{Capability}
 use Rattle.xt_messages.specs.declared.file.Location.{Location}
 use Rattle.xt_messages.specs.declared.record.Record.{Record}
 use Rattle.lease_runs.specs.LeaseWorld.{LeaseSetting, IsSeenAs, starts, start_lease_world}
 use Rattle.lease_runs.proofs.Seen as seen_steps
-use Rattle.cluster_runs.specs.declared.DeclaredFile.{DeclaredFile}
+use Rattle.world_spec.specs.declared.DeclaredFile.{DeclaredFile}
 use Rattle.time_line.specs.declared.line.Line.{Line}
 use Rattle.time_line.specs.declared.entry.Entry.{Entry}
 use Rattle.time_line.specs.declared.entry.Entry.TheVariants as entry
-use Rattle.cluster_runs.specs.declared.Role.TheVariants as role
-use Rattle.cluster_runs.specs.declared.RunningCall.{RunningCall}
+use Rattle.world_spec.specs.declared.Role.TheVariants as role
+use Rattle.client_rows.specs.declared.RunningCall.{RunningCall}
+use Rattle.client_rows.specs.declared.requests.MadeCall.{MadeCall}
+use Rattle.client_rows.specs.declared.requests.Request.{Request}
+use Rattle.client_rows.specs.declared.requests.Request.TheVariants as request
+use Rattle.client_rows.specs.Holding.{Held}
+use Rattle.client_rows.specs.Rows.{WholeClient}
+use Rattle.client_steps.specs.Asked.{AllHeld, RunningIs, MadeIs, ClientIs}
 use Rattle.time_line.specs.TimeLine.{Standing, standing, times_of}
-use Rattle.cluster_runs.specs.Clients.{new_client}
-use Rattle.cluster_runs.specs.World.{World, start_world, Node, Running, Core, osd, client, node_in, file_in, up_of}
-use Rattle.cluster_runs.specs.Lines.{runs, first_boot, tells}
+use Rattle.world_spec.specs.World.{World, start_world, Node, Running, Core, osd, client, node_in, file_in, up_of}
+use Rattle.world_spec.specs.Lines.{runs, first_boot, whole_client, tells}
 use Rattle.world_runs.specs.View.{file_setting, node_id, end_in, told, unseen, node_seen, lease_view}
 use Rattle.world_runs.proofs.Tables.{same, nobody, node_in-last, node_in-before, file_in-stays}
 use Rattle.world_runs.proofs.Standings.{standing-push, standing-none, own_up, other_up}
@@ -24,7 +30,7 @@ use Rattle.world_runs.proofs.Files.{no_rows, listed_more, fits_more, ask_more}
 use Rattle.world_runs.proofs.Moments.{IsSafe, safe-nothing, safe-push, times-push, times_nothing, times_first}
 use Rattle.world_runs.proofs.Frame.{Good}
 use Rattle.world_runs.proofs.Fit.{IsShaped, IsFit, apart_now}
-use Rattle.world_runs.specs.Worlds.{CallFits, CoreFits, UpFits, NodeFits, Stands}
+use Rattle.world_runs.specs.Worlds.{IsOfDeclared, RequestFits, HeldFits, ClientFits, CoreFits, UpFits, NodeFits, Stands}
 
 -- ---- at first
 
@@ -110,18 +116,22 @@ osd_fits w id free fit =
     new : Node
     new = record { id = id; role = role.Osd; kept = []; past = []; up = None }
 
+-- a client that starts asks and holds nothing
+nothing_asked : (files : List DeclaredFile) (clock : ℕ) → ClientFits files (whole_client clock)
+nothing_asked files clock = record { calls = record { running = tt; made = tt }; held = tt }
+
 pub client_fits : (w : World) (id : NodeId) (clock : ℕ) → node_in w.nodes id.0 ≡ None → IsFit w []
-    → IsFit (tells (record w { nodes = w.nodes ++ record { id = id; role = role.Client; kept = []; past = []; up = Some (runs first_boot clock (client (new_client clock))) } ∷ [] }) (entry.Up id first_boot clock ∷ [])) []
+    → IsFit (tells (record w { nodes = w.nodes ++ record { id = id; role = role.Client; kept = []; past = []; up = Some (runs first_boot clock (client (whole_client clock))) } ∷ [] }) (entry.Up id first_boot clock ∷ [])) []
 client_fits w id clock free fit =
     let next = tells (record w { nodes = w.nodes ++ new ∷ [] }) (entry.Up id first_boot clock ∷ []) in
     let shape : IsShaped next [] =
     record {
       good = declared_good w new (w.entries ++ entry.Up id first_boot clock ∷ []) free (λ g n end. refl)
           (λ n number ne. ap end_in (standing-push (node_id n) number w.entries (entry.Up id first_boot clock) ∙ other_up (node_id n) id number first_boot clock _ (λ e. ne (sym e)))) fit.shape.good;
-      nodes = λ n x is. declared_nodes (NodeFits w.times w.files) w.nodes new n x free (record { rows = no_rows w.files; up = tt }) (λ y was. fit.shape.nodes n y was) is;
+      nodes = λ n x is. declared_nodes (NodeFits w.times w.files) w.nodes new n x free (record { rows = no_rows w.files; up = nothing_asked w.files clock }) (λ y was. fit.shape.nodes n y was) is;
       stands = λ n number. elim (same n id.0) [
         | inl e ↦ subst (λ (f : Option Node). Stands (standing (node_id n) number next.entries) (up_of f)) (sym (ap (node_in (w.nodes ++ new ∷ [])) e ∙ node_in-last w.nodes new free))
-            (subst (λ (o : Option Standing). Stands o (Some (runs first_boot clock (client (new_client clock))))) (sym (standing-push (node_id n) number w.entries (entry.Up id first_boot clock) ∙ own_up (node_id n) id number first_boot clock _ (sym e))) (refl, refl))
+            (subst (λ (o : Option Standing). Stands o (Some (runs first_boot clock (client (whole_client clock))))) (sym (standing-push (node_id n) number w.entries (entry.Up id first_boot clock) ∙ own_up (node_id n) id number first_boot clock _ (sym e))) (refl, refl))
         | inr ne ↦ subst (λ (f : Option Node). Stands (standing (node_id n) number next.entries) (up_of f)) (sym (node_in-before w.nodes new n ne))
             (subst (λ (o : Option Standing). Stands o (up_of (node_in w.nodes n))) (sym (standing-push (node_id n) number w.entries (entry.Up id first_boot clock) ∙ other_up (node_id n) id number first_boot clock _ (λ e. ne (sym e)))) (fit.shape.stands n number))
       ];
@@ -131,19 +141,42 @@ client_fits w id clock free fit =
     record { shape = shape; safe = safe-push w.entries (entry.Up id first_boot clock) fit.safe (apart_now next [] shape) (λ number by acting. absurd (cc)) }
   where
     new : Node
-    new = record { id = id; role = role.Client; kept = []; past = []; up = Some (runs first_boot clock (client (new_client clock))) }
+    new = record { id = id; role = role.Client; kept = []; past = []; up = Some (runs first_boot clock (client (whole_client clock))) }
 
 -- ---- files
+
+-- what a client asks is of a wider kind too
+pub client_more : (Is Wider : ℕ → Request → Type 0) (c : WholeClient) → ((number : ℕ) (asked : Request) → Is number asked → Wider number asked) → ClientIs Is c → ClientIs Wider c
+client_more Is Wider c widens is = record { running = running_so c.replicas.running is.running; made = made_so c.made is.made }
+  where
+    running_so : (o : Option RunningCall) → RunningIs Is o → RunningIs Wider o
+    running_so None is = tt
+    running_so (Some call) is = widens call.number (request.Replicated call.capability call.op) is
+
+    made_so : (o : Option MadeCall) → MadeIs Is o → MadeIs Wider o
+    made_so None is = tt
+    made_so (Some made) is = widens made.number made.request is
+
+module _ (files more : List DeclaredFile) (same : (number : ℕ) (location : Location) → file_in files number ≡ Some location → file_in more number ≡ Some location) where
+  of_declared_more : (capability : Capability) → IsOfDeclared files capability → IsOfDeclared more capability
+  of_declared_more capability is = (is.0, same capability.file.number capability.location is.1)
+
+  pub request_more : (number : ℕ) (asked : Request) → RequestFits files number asked → RequestFits more number asked
+  request_more number (request.Replicated capability asked) is = (of_declared_more capability is.0, is.1)
+  request_more number (request.Striped capability asked) is = (of_declared_more capability is.0, is.1)
+  request_more number (request.Meta user group asked) is = is
+  request_more number (request.Registry asked) is = is
+
+  pub held_more : (held : Held) → AllHeld (HeldFits files) held → AllHeld (HeldFits more) held
+  held_more [] are = tt
+  held_more (e ∷ es) are = ((are.0.0, same e.0 e.1.capability.location are.0.1), held_more es are.1)
 
 core_more : (times : TimeSettings) (files more : List DeclaredFile) (node : NodeId) (kept : List Record) (r : Running) (core : Core) → ((number : ℕ) (location : Location) → file_in files number ≡ Some location → file_in more number ≡ Some location)
     → CoreFits times files node kept r core → CoreFits times more node kept r core
 core_more times files more node kept r (osd s) same fits =
     (record { started = fits.0.started; last = fits.0.last; fits = λ f h. fits_more files more f same (fits.0.fits f h); rises = fits.0.rises }, fits.1, fits.2)
-core_more times files more node kept r (client c) same fits = at c.running fits
-  where
-    at : (o : Option RunningCall) → CallFits files o → CallFits more o
-    at None fits = tt
-    at (Some call) fits = (fits.0, same call.capability.file.number call.capability.location fits.1)
+core_more times files more node kept r (client c) same fits =
+    record { calls = client_more (RequestFits files) (RequestFits more) c (request_more files more same) fits.calls; held = held_more files more same c.held fits.held }
 
 node_more : (times : TimeSettings) (files more : List DeclaredFile) (node : Node) → ((number : ℕ) (location : Location) → file_in files number ≡ Some location → file_in more number ≡ Some location)
     → NodeFits times files node → NodeFits times more node

@@ -19,31 +19,32 @@ use Rattle.xt_protocol.specs.FileStates.{FileState, file_from}
 use Rattle.time_line.specs.declared.entry.Entry.{Entry}
 use Rattle.time_line.specs.declared.entry.Entry.TheVariants as entry
 use Rattle.time_line.specs.declared.line.Line.{Line}
-use Rattle.cluster_runs.specs.declared.Role.TheVariants as role
+use Rattle.world_spec.specs.declared.Role.TheVariants as role
 use Rattle.time_line.specs.Bounds.{AreLines}
-use Rattle.cluster_runs.specs.Rules.{refusal}
-use Rattle.cluster_runs.specs.Clients.{new_client, knows, aimed, step_of_client}
+use Rattle.world_spec.specs.Rules.{refusal}
+use Rattle.client_rows.specs.Called.{called_file}
+use Rattle.client_rows.specs.Clients.{knows, aimed}
 use Rattle.time_line.specs.TimeLine.{is_replicated}
 use Rattle.time_line.specs.Clauses.{HasBegunOn, EndsAreAnswered}
 use Rattle.xt_messages.specs.declared.record.KeepBody.{KeepBody}
 use Rattle.xt_protocol.specs.OsdSteps.{OsdState}
 use Rattle.xt_protocol.specs.Forgetting.{keep_of, file_without, osd_without}
-use Rattle.cluster_runs.specs.World.{World, Node, Running, Core, osd, client, node_in, with_node, loads, puts}
-use Rattle.cluster_runs.specs.NodeSteps.{Room, halted, rewritten_at}
-use Rattle.cluster_runs.specs.Lines.{Next, finished, opens, goes_on, ends, begins, steps, so_far, runs, first_boot, next_boot, osd_starting, ticked, declared_file, epoch_of, declared_capability, uses, no_longer_pending}
-use Rattle.cluster_runs.specs.Runs.{run_of, IsRunInto}
+use Rattle.world_spec.specs.World.{World, Node, Running, Core, osd, client, node_in, with_node, loads, puts}
+use Rattle.world_spec.specs.NodeSteps.{Room, halted, rewritten_at}
+use Rattle.world_spec.specs.Lines.{Next, ready_for, finished, opens, goes_on, ends, begins, steps, so_far, runs, first_boot, next_boot, osd_starting, ticked, whole_client, id_usable, no_longer_pending}
+use Rattle.world_spec.specs.Runs.{run_of, IsRunInto}
 use Rattle.world_runs.specs.View.{node_id, messages}
 use Rattle.world_runs.proofs.Lists.{has_in, has_left, has_right, has_map}
 use Rattle.world_runs.proofs.Tables.{nobody}
-use Rattle.world_runs.proofs.Walk.{IsKept, NodeStep, of_osd, of_client, of_call, Reaches, same_messages, run_kept, NextIs, steps_into, so_far_kept, left_within}
+use Rattle.world_runs.proofs.Walk.{IsKept, NodeStep, of_osd, of_client, of_call, of_again, Reaches, same_messages, run_kept, NextIs, steps_into, so_far_kept, left_within}
 use Rattle.world_runs.specs.Acts.{ActsHaveBegun}
 use Rattle.world_runs.specs.Asks.{HasBegunSo, AsksHaveBegun, NextHasBegun}
 use Rattle.world_runs.proofs.FileIds.{FileIs}
 use Rattle.world_runs.proofs.OsdIds.{FilesAre, HasBegun, EventHasBegun, new_is}
-use Rattle.world_runs.proofs.Calls.{ContentIs, EventIs, client_step_is}
+use Rattle.world_runs.proofs.Calls.{ContentIs, EventIs}
 use Rattle.world_runs.proofs.Growth.{UpIs, CoreIs, EndsFit, entries-push, entries-none, fresh-grown, fresh-none, quiet-one, up-grown, content-grown, ends_answered, acts_begun}
 use Rattle.world_runs.proofs.Places.{none_told, told_file}
-use Rattle.world_runs.proofs.Steps.{Fits, Owes, told_fit, changed_fit, same_nodes, put_fit, add_fit, tick_fit, stepped_fits, osd_owes, client_owes, fits_so, call_owes}
+use Rattle.world_runs.proofs.Steps.{Fits, Owes, told_fit, changed_fit, same_nodes, put_fit, add_fit, tick_fit, stepped_fits, osd_owes, event_owes, again_owes, call_owes, ready_is}
 
 -- ---- any step of a node
 
@@ -56,10 +57,10 @@ event_begun w was node (event.Deliver msg) fit reaches = content_begun w.entries
 event_begun w was node event.Wake fit reaches = tt
 event_begun w was node (event.Call call) fit reaches = tt
 
-event_is : (w : World) (was : List Msg) (node : NodeId) (next : ℕ) (happens : Event) → Fits w was → Reaches w was node happens → EventIs w.entries node next happens
-event_is w was node next (event.Deliver msg) fit reaches = subst (λ (to : NodeId). ContentIs w.entries msg.from to msg.payload) reaches.0 (fit.messages msg reaches.1)
-event_is w was node next event.Wake fit reaches = tt
-event_is w was node next (event.Call call) fit reaches = tt
+event_is : (w : World) (was : List Msg) (node : NodeId) (happens : Event) → Fits w was → Reaches w was node happens → EventIs w.entries node happens
+event_is w was node (event.Deliver msg) fit reaches = subst (λ (to : NodeId). ContentIs w.entries msg.from to msg.payload) reaches.0 (fit.messages msg reaches.1)
+event_is w was node event.Wake fit reaches = tt
+event_is w was node (event.Call call) fit reaches = tt
 
 core_of : (w : World) (was : List Msg) (node : Node) (r : Running) → node_in w.nodes node.id.0 ≡ Some node → node.up ≡ Some r → Fits w was → CoreIs w.entries node.id r.core
 core_of w was node r found is_up fit = subst (UpIs w.entries node.id) is_up (fit.nodes_are node.id.0 node found)
@@ -70,12 +71,13 @@ node_owes w was node r _ _ found is_up fit (of_osd s happens is_osd reaches) =
     osd_owes w.entries node s r.clock happens fit.ends (subst (CoreIs w.entries node.id) is_osd (core_of w was node r found is_up fit)) (event_begun w was node.id happens fit reaches)
 node_owes w was node r _ _ found is_up fit (of_client c happens is_client reaches) =
     let core = subst (CoreIs w.entries node.id) is_client (core_of w was node r found is_up fit) in
-    client_owes w.entries node.id c (step_of_client node.id w.times c r.clock happens) fit.ends core.1
-    (client_step_is w.entries node.id c.next w.times c r.clock happens (core.0, refl) (event_is w was node.id c.next happens fit reaches))
-node_owes w was node r _ _ found is_up fit (of_call c k number location asked is_client resting bound called declared does) =
+    event_owes w.entries node.id w.times c r.clock happens fit.ends core (event_is w was node.id happens fit reaches)
+node_owes w was node r _ _ found is_up fit (of_call c k is_client resting bound usable) =
     let core = subst (CoreIs w.entries node.id) is_client (core_of w was node r found is_up fit) in
-    let capability = declared_capability number location (epoch_of c (declared_file number) k) in
-    call_owes w.entries node.id w.times (uses c capability) r.clock capability k asked fit.ends core called does (fits_so k asked bound does) (fit.places number ∙ declared)
+    call_owes w.entries node.id w.times (ready_for w.files c k (called_file k)) r.clock k fit.ends (ready_is w.entries node.id w.files c k (called_file k) fit.places core) bound
+node_owes w was node r _ _ found is_up fit (of_again c is_client resting may) =
+    let core = subst (CoreIs w.entries node.id) is_client (core_of w was node r found is_up fit) in
+    again_owes w.entries node.id w.times c r.clock fit.ends core
 
 -- ---- what else may happen
 
@@ -150,9 +152,9 @@ ends_kept =
           subst (λ (es : List Entry). EndsFit w.files (w.nodes ++ new ∷ []) es (messages w)) (sym (append-nil w.entries))
           (changed_fit w.files w.nodes (w.nodes ++ new ∷ []) w.entries (messages w) (add_fit w.files w.nodes w.entries (messages w) new free tt fit) fit);
       client_declared = λ w id clock bound free fit.
-          let new : Node = record { id = id; role = role.Client; kept = []; past = []; up = Some (runs first_boot clock (client (new_client clock))) } in
+          let new : Node = record { id = id; role = role.Client; kept = []; past = []; up = Some (runs first_boot clock (client (whole_client clock))) } in
           told_fit w.files w.nodes (w.nodes ++ new ∷ []) w.entries (messages w) (entry.Up id first_boot clock) (record { begins = λ id. refl; ends = λ es. tt; places = λ number. refl })
-          (add_fit w.files w.nodes w.entries (messages w) new free (tt, λ k above. fit.strangers id.0 free k (omega arith)) fit) fit;
+          (add_fit w.files w.nodes w.entries (messages w) new free (record { calls = record { running = tt; made = tt }; held = tt; fresh = λ k above. fit.strangers id.0 free k (omega arith) }) fit) fit;
       file_declared = λ w number location bound free fit.
           record {
             nodes_are = λ n x is. up-grown w.entries (entry.File number location ∷ []) x.id x.up (quiet-one (entry.File number location) x.id (λ k. refl)) (fit.nodes_are n x is);
@@ -170,9 +172,10 @@ ends_kept =
           changed_fit w.files w.nodes (with_node w.nodes there) w.entries (messages w)
           (put_fit w.files w.nodes w.entries (messages w) there node found (subst (CoreIs w.entries node.id) (sym core) (core_of w [] node r found is_up fit)) fit) fit;
       aimed_at = λ w node r c number target found is_up is_client fit.
-          let there : Node = record node { up = Some (record r { core = client (knows c (declared_file number) (aimed target)) }) } in
+          let there : Node = record node { up = Some (record r { core = client (record c { replicas = knows c.replicas (id_usable w.files c.held number) (aimed target) }) }) } in
+          let core = subst (CoreIs w.entries node.id) is_client (core_of w [] node r found is_up fit) in
           changed_fit w.files w.nodes (with_node w.nodes there) w.entries (messages w)
-          (put_fit w.files w.nodes w.entries (messages w) there node found (subst (CoreIs w.entries node.id) is_client (core_of w [] node r found is_up fit)) fit) fit;
+          (put_fit w.files w.nodes w.entries (messages w) there node found (record { calls = record { running = core.calls.running; made = core.calls.made }; held = core.held; fresh = core.fresh }) fit) fit;
       stopped = λ w own node r how found is_up fit. halts w own node node r how found fit;
       clock_set = λ w node r clock bound found is_up rises close fit.
           let there : Node = record node { up = Some (record r { clock = clock }) } in

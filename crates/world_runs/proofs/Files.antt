@@ -32,11 +32,11 @@ use Rattle.lease_runs.specs.ActsView.{IsBusy, RecordIs}
 use Rattle.lease_runs.proofs.LeaseSteps as lease_steps
 use Rattle.lease_runs.proofs.OsdLeases.{each_wakes}
 use Rattle.lease_runs.proofs.ActSteps.{step_rec, wake_step_kept}
-use Rattle.cluster_runs.specs.declared.DeclaredFile.{DeclaredFile}
-use Rattle.cluster_runs.specs.World.{file_in}
-use Rattle.cluster_runs.specs.Lines.{declared_file}
+use Rattle.world_spec.specs.declared.DeclaredFile.{DeclaredFile}
+use Rattle.world_spec.specs.World.{file_in}
+use Rattle.world_spec.specs.Lines.{declared_file}
 use Rattle.xt_protocol.specs.OsdSteps.{with_file}
-use Rattle.cluster_runs.specs.NodeSteps.{one_more}
+use Rattle.world_spec.specs.NodeSteps.{one_more}
 use Rattle.world_runs.specs.View.{awake_as}
 use Rattle.lease_runs.proofs.OsdLeases.{file_at-with_file, at_file}
 use Rattle.world_runs.proofs.Rising.{with_row_has, with_row_rises}

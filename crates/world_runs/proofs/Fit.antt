@@ -15,12 +15,12 @@ use Rattle.lease_runs.specs.LeaseWorld.{LeaseSetting, LeaseNode, RowStep, row_st
 use Rattle.lease_runs.proofs.Worlds.{one_holds}
 use Rattle.lease_runs.proofs.Tests.{same_node}
 use Rattle.xt_protocol.specs.FileStates.{members_of}
-use Rattle.cluster_runs.specs.declared.DeclaredFile.{DeclaredFile}
+use Rattle.world_spec.specs.declared.DeclaredFile.{DeclaredFile}
 use Rattle.time_line.specs.declared.entry.Entry.TheVariants as entry
-use Rattle.cluster_runs.specs.declared.Sent.{Sent}
+use Rattle.world_spec.specs.declared.Sent.{Sent}
 use Rattle.time_line.specs.TimeLine.{Standing, standing, holds, holds_as, times_of, is_before_end}
-use Rattle.cluster_runs.specs.World.{World, Node, Running, Core, osd, client, node_in, with_node, file_in, up_of}
-use Rattle.cluster_runs.specs.NodeSteps.{entry_of, pending, numbered, to_itself, one_more, after_turn, halted}
+use Rattle.world_spec.specs.World.{World, Node, Running, Core, osd, client, node_in, with_node, file_in, up_of}
+use Rattle.world_spec.specs.NodeSteps.{entry_of, pending, numbered, to_itself, one_more, after_turn, halted}
 use Rattle.world_runs.specs.View.{file_setting, node_id, end_in, told, core_seen, up_seen, node_seen, messages, lease_view}
 use Rattle.world_runs.proofs.Lists.{has_in, has_left, has_right, has_filter, map_same}
 use Rattle.world_runs.proofs.Tables.{same, node_in-new, node_in-other}

@@ -17,8 +17,8 @@ use Rattle.xt_protocol.specs.OsdSteps.{OsdState, file_at}
 use Rattle.osd_invariants.specs.Sound.{IsSound}
 use Rattle.lease_runs.specs.LeaseView.{lease_row_of}
 use Rattle.lease_runs.specs.LeaseWorld.{LeaseSetting}
-use Rattle.cluster_runs.specs.declared.DeclaredFile.{DeclaredFile}
-use Rattle.cluster_runs.specs.World.{Running, osd}
+use Rattle.world_spec.specs.declared.DeclaredFile.{DeclaredFile}
+use Rattle.world_spec.specs.World.{Running, osd}
 use Rattle.world_runs.specs.View.{awake_as, core_seen}
 use Rattle.world_runs.specs.Worlds.{Rises, row_files, Listed, FileFits, RowsFit, Agrees, CoreFits}
 use Rattle.world_runs.proofs.Lists.{has_map}

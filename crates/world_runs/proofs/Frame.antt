@@ -12,11 +12,11 @@ use Rattle.xt_protocol.specs.declared.turned.Turned.{Turned}
 use Rattle.xt_protocol.specs.Folds.{fold_of}
 use Rattle.time_line.specs.declared.entry.Halt.{Halt}
 use Rattle.time_line.specs.declared.entry.Halt.TheVariants as halt
-use Rattle.cluster_runs.specs.declared.DeclaredFile.{DeclaredFile}
+use Rattle.world_spec.specs.declared.DeclaredFile.{DeclaredFile}
 use Rattle.time_line.specs.declared.entry.Entry.TheVariants as entry
-use Rattle.cluster_runs.specs.declared.Sent.{Sent}
-use Rattle.cluster_runs.specs.World.{World, Node, Running, Core, node_in, file_in, puts}
-use Rattle.cluster_runs.specs.NodeSteps.{entry_of, pending, numbered, to_itself, one_more, after_turn, halted, keeps_record, cut_in_sending, Doing, loses_own, sends, appends, one_put}
+use Rattle.world_spec.specs.declared.Sent.{Sent}
+use Rattle.world_spec.specs.World.{World, Node, Running, Core, node_in, file_in, puts}
+use Rattle.world_spec.specs.NodeSteps.{entry_of, pending, numbered, to_itself, one_more, after_turn, halted, keeps_record, cut_in_sending, Doing, loses_own, sends, appends, one_put}
 use Rattle.lease_safety.specs.State.{Has}
 use Rattle.lease_runs.specs.LeaseWorld.{LeaseSetting, LeaseNode, RowStep, node_stepped, row_stepped, IsReached}
 use Rattle.lease_runs.proofs.Tests.{when}

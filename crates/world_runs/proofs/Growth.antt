@@ -27,13 +27,18 @@ use Rattle.xt_protocol.specs.declared.states.Tenure.{Tenure}
 use Rattle.xt_protocol.specs.FileStates.{FileState}
 use Rattle.time_line.specs.declared.entry.Entry.{Entry}
 use Rattle.time_line.specs.declared.entry.Entry.TheVariants as entry
-use Rattle.cluster_runs.specs.declared.ClientState.{ClientState}
-use Rattle.cluster_runs.specs.declared.DeclaredFile.{DeclaredFile}
-use Rattle.cluster_runs.specs.declared.RunningCall.{RunningCall}
+use Rattle.client_rows.specs.declared.RunningCall.{RunningCall}
+use Rattle.client_rows.specs.declared.requests.Request.{Request}
+use Rattle.client_rows.specs.declared.requests.Request.TheVariants as request
+use Rattle.client_rows.specs.declared.requests.MadeCall.{MadeCall}
+use Rattle.client_rows.specs.Holding.{Held}
+use Rattle.client_rows.specs.Rows.{WholeClient}
+use Rattle.client_steps.specs.Asked.{RunningIs, MadeIs, ClientIs, AllHeld}
+use Rattle.world_spec.specs.declared.DeclaredFile.{DeclaredFile}
 use Rattle.time_line.specs.TimeLine.{id_of, location_in, is_replicated_at, is_replicated, begun, call_begun}
 use Rattle.time_line.specs.Clauses.{IsBefore, ok_entry, HasBegunOn, EndsAreAnswered}
-use Rattle.cluster_runs.specs.World.{Node, Running, Core, osd, client, node_in}
-use Rattle.cluster_runs.specs.NodeSteps.{entry_of}
+use Rattle.world_spec.specs.World.{Node, Running, Core, osd, client, node_in}
+use Rattle.world_spec.specs.NodeSteps.{entry_of}
 use Rattle.world_runs.specs.View.{node_id}
 use Rattle.world_runs.specs.Acts.{acted_for, ActsHaveBegun}
 use Rattle.world_runs.proofs.Entries.{HasAnswer, begun-append, begun_on-grown, operation-grown, answer-grown, one_file}
@@ -41,7 +46,7 @@ use Rattle.world_runs.proofs.Said.{IsMarked, AreMarked, Said, ReplySaid}
 use Rattle.world_runs.proofs.PrimaryIds.{IssuedIs, ProgressIs, TenureIs}
 use Rattle.world_runs.proofs.FileIds.{IssuedAskIs, FileIs}
 use Rattle.world_runs.proofs.OsdIds.{FilesAre, EndsNone, NoneEnds, IsTold}
-use Rattle.world_runs.proofs.Calls.{IsAnswered, IsOnStriped, ReplyIs, AskIs, ContentIs, CallIs, OutcomeIs}
+use Rattle.world_runs.proofs.Calls.{IsAnswered, IsOnStriped, ReplyIs, AskIs, ContentIs, RequestIs, HeldIs, OutcomeIs}
 use Rattle.world_runs.proofs.Places.{AreTold, location-grown}
 
 -- ---- the trace
@@ -200,9 +205,26 @@ striped-grown es more id is =
       striped = is.striped;
     }
 
-pub call-grown : (es more : List Entry) (node : NodeId) (o : Option RunningCall) → CallIs es node o → CallIs (es ++ more) node o
-call-grown es more node None is = tt
-call-grown es more node (Some call) is = ask-grown es more (id_of node call.number) call.capability call.op is
+request-grown : (es more : List Entry) (node : NodeId) (number : ℕ) (asked : Request) → RequestIs es node number asked → RequestIs (es ++ more) node number asked
+request-grown es more node number (request.Replicated capability asked) is = (ask-grown es more (id_of node number) capability asked is.0, is.1)
+request-grown es more node number (request.Striped capability asked) is = (ask-grown es more (id_of node number) capability asked is.0, is.1)
+request-grown es more node number (request.Meta user group asked) is = absurd is
+request-grown es more node number (request.Registry asked) is = absurd is
+
+running-grown : (es more : List Entry) (node : NodeId) (running : Option RunningCall) → RunningIs (RequestIs es node) running → RunningIs (RequestIs (es ++ more) node) running
+running-grown es more node None is = tt
+running-grown es more node (Some call) is = request-grown es more node call.number (request.Replicated call.capability call.op) is
+
+made-grown : (es more : List Entry) (node : NodeId) (made : Option MadeCall) → MadeIs (RequestIs es node) made → MadeIs (RequestIs (es ++ more) node) made
+made-grown es more node None is = tt
+made-grown es more node (Some made) is = request-grown es more node made.number made.request is
+
+pub calls-grown : (es more : List Entry) (node : NodeId) (c : WholeClient) → ClientIs (RequestIs es node) c → ClientIs (RequestIs (es ++ more) node) c
+calls-grown es more node c is = record { running = running-grown es more node c.replicas.running is.running; made = made-grown es more node c.made is.made }
+
+pub held-grown : (es more : List Entry) (held : Held) → AllHeld (HeldIs es) held → AllHeld (HeldIs (es ++ more)) held
+held-grown es more [] is = tt
+held-grown es more (h ∷ hs) is = ((is.0.0, location-grown h.0 es more h.1.capability.location is.0.1), held-grown es more hs is.1)
 
 reply-grown : (es more : List Entry) (to : NodeId) (number : ℕ) (answer : Reply) → ReplyIs es to number answer → ReplyIs (es ++ more) to number answer
 reply-grown es more to number (reply.Ok count size bytes) (inl is) = inl (is.0, answer-grown is.0 es more (id_of to number) count bytes is.1)
@@ -281,18 +303,21 @@ told_is es node marks m (inr striped) =
 
 -- ---- worlds
 
-abbrev pub ClientIs : List Entry → NodeId → ClientState → Type 0
-ClientIs es node c = CallIs es node c.running × FreshFrom es node c.next
+-- A client's calls have begun, what it holds is of files that are told, and no call has begun from its next number on.
+pub record CallerIs (es : List Entry) (node : NodeId) (c : WholeClient) : Type 0 where
+  pub calls : ClientIs (RequestIs es node) c
+  pub held : AllHeld (HeldIs es) c.held
+  pub fresh : FreshFrom es node c.replicas.next
 
 abbrev pub CoreIs : List Entry → NodeId → Core → Type 0
 CoreIs es node (osd s) = FilesAre es s.files
-CoreIs es node (client c) = ClientIs es node c
+CoreIs es node (client c) = CallerIs es node c
 
 abbrev pub UpIs : List Entry → NodeId → Option Running → Type 0
 UpIs es node None = Unit {0}
 UpIs es node (Some r) = CoreIs es node r.core
 
--- What holds at every moment: asks and running calls have begun, who isn't declared has begun nothing, what was told or ended
+-- What holds at every moment: asks and the calls of clients have begun, who isn't declared has begun nothing, what was told or ended
 -- well was answered, and the trace tells where each file is.
 pub record EndsFit (files : List DeclaredFile) (nodes : List Node) (es : List Entry) (sent : List Msg) : Type 0 where
   pub nodes_are : (n : ℕ) (node : Node) → node_in nodes n ≡ Some node → UpIs es node.id node.up
@@ -303,7 +328,8 @@ pub record EndsFit (files : List DeclaredFile) (nodes : List Node) (es : List En
 
 pub core-grown : (es more : List Entry) (node : NodeId) (core : Core) → Quiet more node → CoreIs es node core → CoreIs (es ++ more) node core
 core-grown es more node (osd s) quiet is = files-grown es more s.files is
-core-grown es more node (client c) quiet is = (call-grown es more node c.running is.0, fresh-grown es more node c.next quiet is.1)
+core-grown es more node (client c) quiet is =
+    record { calls = calls-grown es more node c is.calls; held = held-grown es more c.held is.held; fresh = fresh-grown es more node c.replicas.next quiet is.fresh }
 
 pub up-grown : (es more : List Entry) (node : NodeId) (up : Option Running) → Quiet more node → UpIs es node up → UpIs (es ++ more) node up
 up-grown es more node None quiet is = tt

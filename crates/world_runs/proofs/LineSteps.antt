@@ -14,22 +14,22 @@ use Rattle.xt_messages.specs.declared.record.KeepBody.{KeepBody}
 use Rattle.xt_protocol.specs.Forgetting.{keep_of, osd_without, rewritten}
 use Rattle.xt_protocol.specs.OsdSteps.{OsdState}
 use Rattle.world_runs.proofs.Forgotten.{core_then, rows_fit_then, seen_then}
-use Rattle.cluster_runs.specs.declared.DeclaredFile.{DeclaredFile}
+use Rattle.world_spec.specs.declared.DeclaredFile.{DeclaredFile}
 use Rattle.time_line.specs.declared.line.Line.{Line}
-use Rattle.cluster_runs.specs.declared.ClientState.{ClientState}
 use Rattle.time_line.specs.TimeLine.{Standing, standing}
-use Rattle.cluster_runs.specs.Clients.{knows, aimed}
-use Rattle.cluster_runs.specs.NodeSteps.{rewritten_at}
-use Rattle.cluster_runs.specs.World.{World, Node, Running, Core, osd, client, node_in, with_node, up_of, puts}
-use Rattle.cluster_runs.specs.Lines.{declared_file, no_longer_pending}
+use Rattle.client_rows.specs.Clients.{knows, aimed}
+use Rattle.client_rows.specs.Rows.{WholeClient}
+use Rattle.world_spec.specs.NodeSteps.{rewritten_at}
+use Rattle.world_spec.specs.World.{World, Node, Running, Core, osd, client, node_in, with_node, up_of, puts}
+use Rattle.world_spec.specs.Lines.{id_usable, no_longer_pending}
 use Rattle.world_runs.specs.View.{file_setting, node_id, told, core_seen, up_seen, node_seen, messages, is_of, lease_view}
 use Rattle.world_runs.proofs.Lists.{has_in, has_left, has_right, has_filter, filter_has}
 use Rattle.world_runs.proofs.Tables.{same, node_in-new, node_in-other}
 use Rattle.world_runs.proofs.Fit.{IsFit, replaced, halt_fits, fewer_fits, after_fits, fewer_next}
 use Rattle.world_runs.proofs.Files.{record_fits}
-use Rattle.world_runs.proofs.NodeEvents.{step_next}
+use Rattle.world_runs.proofs.NodeEvents.{known_fits, step_next}
 use Rattle.world_runs.proofs.Walk.{IsKept, same_messages, left_within}
-use Rattle.cluster_runs.specs.Runs.{with_line}
+use Rattle.world_spec.specs.Runs.{with_line}
 use Rattle.world_runs.proofs.Declares as declares
 use Rattle.world_runs.proofs.Clocks as clocks
 use Rattle.world_runs.specs.Worlds.{OsdFits, CoreFits, UpFits, NodeFits, EndFits, Stands}
@@ -141,7 +141,7 @@ same_stands : (r q : Running) (o : Option Standing) → q.clock ≡ r.clock → 
 same_stands r q None clock core stands = absurd stands
 same_stands r q (Some st) clock core stands = (stands.0 ∙ sym clock, subst (EndFits st.end) (sym core) stands.1)
 
-aimed_stands : (r : Running) (c d : ClientState) (o : Option Standing) → r.core ≡ client c → Stands o (Some r) → Stands o (Some (record r { core = client d }))
+aimed_stands : (r : Running) (c d : WholeClient) (o : Option Standing) → r.core ≡ client c → Stands o (Some r) → Stands o (Some (record r { core = client d }))
 aimed_stands r c d None core stands = absurd stands
 aimed_stands r c d (Some st) core stands = (stands.0, subst (EndFits st.end) core stands.1)
 
@@ -162,9 +162,11 @@ fits_kept =
           (subst (CoreFits w.times w.files node.id node.kept q) (sym core) (same_core w.times w.files node.id node.kept r q r.core (sym boot.0) (sym clock) (core_of w [] node r found is_up fit)))
           (λ o stands. same_stands r q o clock core stands) fit;
       aimed_at = λ w node r c number target found is_up is_client fit.
-          let d = knows c (declared_file number) (aimed target) in
+          let file = id_usable w.files c.held number in
+          let d = record c { replicas = knows c.replicas file (aimed target) } in
           changed_fits w [] node r (record r { core = client d }) found is_up (λ g n end. ap (core_seen g n end node.kept r) (sym is_client))
-          (subst (CoreFits w.times w.files node.id node.kept r) is_client (core_of w [] node r found is_up fit)) (λ o stands. aimed_stands r c d o is_client stands) fit;
+          (known_fits w.files c file (aimed target) (subst (CoreFits w.times w.files node.id node.kept r) is_client (core_of w [] node r found is_up fit)))
+          (λ o stands. aimed_stands r c d o is_client stands) fit;
       stopped = λ w own node r how found is_up fit. halt_fits w own node node r how found (fit.shape.nodes node.id.0 node found).rows (omega arith) fit;
       clock_set = λ w node r clock bound found is_up rises close fit. clocks.clock_fits w node r clock found is_up rises close fit;
       all_ticked = λ w count bound fit. clocks.tick_fits w count fit;

@@ -15,7 +15,7 @@ use Rattle.lease_runs.specs.ActsView.{AreActs, IsBusy, MarksAre, no_marks, won, 
 use Rattle.time_line.specs.declared.entry.Entry.{Entry}
 use Rattle.time_line.specs.declared.entry.Entry.TheVariants as entry
 use Rattle.time_line.specs.TimeLine.{Standing, standing, standing_after, held_until, holds, holds_as, times_of, is_before_end}
-use Rattle.cluster_runs.specs.NodeSteps.{entry_of}
+use Rattle.world_spec.specs.NodeSteps.{entry_of}
 use Rattle.world_runs.specs.View.{node_id, end_in, told}
 use Rattle.world_runs.proofs.Tables.{same}
 use Rattle.world_runs.proofs.Standings.{standing-push, own_held, other_held, StandStill, AreInert, inert_still, acts_still, still_standing}

@@ -12,7 +12,7 @@ use Rattle.time_line.specs.declared.entry.Entry.{Entry}
 use Rattle.time_line.specs.declared.entry.Entry.TheVariants as entry
 use Rattle.time_line.specs.TimeLine.{Standing, standing, standing_after, holds, holds_as, times_of, times_told, first_times, or_defaults}
 use Rattle.time_line.specs.Clauses.{IsBefore, IsMoment, AreApart, HoldersAct, acts_on}
-use Rattle.cluster_runs.specs.NodeSteps.{entry_of}
+use Rattle.world_spec.specs.NodeSteps.{entry_of}
 use Rattle.std.proofs.lemmas.Bool.Decides.{nat_tests}
 use Rattle.std.proofs.lemmas.Bool.{cases_eq}
 use Rattle.world_runs.proofs.Standings.{standing-push, standing-none, IsInert, AreInert, inert_still, acts_still}

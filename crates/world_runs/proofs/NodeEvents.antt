@@ -1,51 +1,58 @@
 -- an event at a node leaves a world that fits: an OSD's, and a client's
-use Rattle.std.proofs.Common.{◌≡◌, ℕ, ◌+◌, inl, inr, List, ◌++◌, map, refl, arith, ap, sym, ◌∙◌, subst, Option, Some, None, Bool, true, false}
-use Rattle.std.specs.Prelude.{◌==◌, ◌&&◌, cond, max, nat_lt, nat_le, not, filter}
+use Rattle.std.proofs.Common.{◌≡◌, ℕ, inl, inr, List, [], ◌∷◌, ◌++◌, map, refl, arith, ap, sym, ◌∙◌, subst, Option, Some, None, true, false}
 use Rattle.xt_base.specs.TimeSettings.{TimeSettings}
 use Rattle.xt_base.specs.declared.ids.NodeId.{NodeId}
 use Rattle.xt_base.specs.declared.ids.Boot.{Boot}
-use Rattle.xt_messages.specs.declared.file.Capability.{Capability}
 use Rattle.xt_messages.specs.declared.file.Op.{Op}
 use Rattle.xt_messages.specs.declared.message.Msg.{Msg}
 use Rattle.xt_messages.specs.declared.message.Payload.{Payload}
-use Rattle.xt_messages.specs.declared.message.Payload.TheVariants as payload
-use Rattle.xt_messages.specs.declared.reply.Reply.{Reply}
-use Rattle.xt_messages.specs.declared.reply.Reply.TheVariants as reply
-use Rattle.xt_messages.specs.declared.reply.Retry.{Retry}
-use Rattle.xt_messages.specs.declared.reply.Retry.TheVariants as retry
 use Rattle.xt_messages.specs.declared.record.Record.{Record}
 use Rattle.xt_messages.specs.declared.event.Call.{Call}
 use Rattle.xt_messages.specs.declared.event.Event.{Event}
 use Rattle.xt_messages.specs.declared.event.Event.TheVariants as event
-use Rattle.xt_messages.specs.declared.event.Outcome.{Outcome}
-use Rattle.xt_messages.specs.declared.event.Outcome.TheVariants as outcome
-use Rattle.xt_messages.specs.declared.status.AskRefusal.TheVariants as refusal
-use Rattle.xt_base.specs.declared.TheConstants.{COUNTS}
 use Rattle.xt_protocol.specs.LeaseRows.{Silent}
 use Rattle.lease_safety.specs.State.{Has}
 use Rattle.lease_runs.specs.LeaseWorld.{LeaseRow, LeaseNode, RowStep, node_stepped, row_stepped, IsReached, lease_file}
 use Rattle.lease_runs.proofs.Seen as seen_steps
 use Rattle.xt_protocol.specs.OsdSteps.{OsdState, step_of_osd, file_at}
 use Rattle.lease_runs.specs.LeaseView.{lease_row_of, is_about, is_ask}
-use Rattle.cluster_runs.specs.declared.DeclaredFile.{DeclaredFile}
-use Rattle.cluster_runs.specs.declared.RunningCall.{RunningCall}
-use Rattle.cluster_runs.specs.declared.ClientState.{ClientState}
+use Rattle.world_spec.specs.declared.DeclaredFile.{DeclaredFile}
 use Rattle.time_line.specs.TimeLine.{Standing, standing}
-use Rattle.cluster_runs.specs.Steps.{Step, stays}
-use Rattle.cluster_runs.specs.Clients as clients
-use Rattle.cluster_runs.specs.Clients.{ClientSite, step_of_client, call_of_client}
-use Rattle.cluster_runs.specs.World.{World, Node, Running, Core, osd, client, node_in, up_of}
-use Rattle.cluster_runs.specs.NodeSteps.{entry_of, one_more, outside_of}
+use Rattle.world_spec.specs.NodeSteps.{entry_of, one_more, outside_of}
 use Rattle.world_runs.specs.View.{file_setting, told, awake_as, unseen, core_seen, lease_view}
 use Rattle.world_runs.proofs.Standings.{AreInert, inert_still, still_standing}
 use Rattle.world_runs.proofs.Marks.{inert, told_elsewhere, clock_stays}
 use Rattle.world_runs.proofs.Frame.{AreMembers, IsStep, seen_running}
 use Rattle.world_runs.proofs.OsdEvents as osd_events
 use Rattle.world_runs.proofs.Fit.{IsShaped, members_by, are_members, IsNext, kept_boot}
-use Rattle.world_runs.specs.Worlds.{AskFits, CallFits, CoreFits, UpFits, EndFits, Stands}
-use Rattle.cluster_runs.specs.Lines.{declared_file, declared_capability, epoch_of, uses}
 use Rattle.xt_protocol.specs.declared.turned.Turned.{Turned}
-use Rattle.world_runs.proofs.Walk.{Reaches, NodeStep, of_osd, of_client, of_call, call_step}
+use Rattle.xt_base.specs.declared.ids.FileId.{FileId}
+use Rattle.xt_messages.specs.declared.file.Kind.{Kind}
+use Rattle.xt_messages.specs.declared.file.Kind.TheVariants as kind
+use Rattle.xt_messages.specs.declared.file.Location.{Location}
+use Rattle.xt_messages.specs.declared.file.Op.TheVariants as op
+use Rattle.xt_messages.specs.declared.event.Call.TheVariants as call
+use Rattle.xt_messages.specs.declared.event.Mark.{Mark}
+use Rattle.xt_protocol.specs.Turns.{message}
+use Rattle.client_rows.specs.declared.KnownFile.{KnownFile}
+use Rattle.client_rows.specs.declared.holding.HeldFile.{HeldFile}
+use Rattle.client_rows.specs.declared.requests.MadeCall.{MadeCall}
+use Rattle.client_rows.specs.declared.requests.Request.{Request}
+use Rattle.client_rows.specs.declared.requests.Request.TheVariants as request
+use Rattle.client_rows.specs.Called.{called_file}
+use Rattle.client_rows.specs.Clients.{knows}
+use Rattle.client_rows.specs.Holding.{held_of}
+use Rattle.client_rows.specs.Requests.{payload_of, on_file, under_held, request_of}
+use Rattle.client_rows.specs.Rows.{WholeClient, stepped, called, called_again}
+use Rattle.client_rows.specs.Steps.{Step}
+use Rattle.client_steps.specs.Asked.{IsOnFile, AllHeld, MadeIs, Sends, sends_none, sends_one, Tells, tells_none, tells_end, CallStepIs, call_passes, call_begins}
+use Rattle.client_steps.proofs.Held.{held_found, holds_held, held_stays}
+use Rattle.client_steps.proofs.Steps.{stepped_is, called_is, called_again_is}
+use Rattle.time_line.specs.Bounds.{IsOnContent}
+use Rattle.world_spec.specs.World.{World, Node, Running, Core, osd, client, node_in, file_in, up_of}
+use Rattle.world_runs.specs.Worlds.{IsOfDeclared, AskFits, RequestFits, HeldFits, ClientFits, CoreFits, UpFits, EndFits, Stands}
+use Rattle.world_spec.specs.Lines.{declared_file, declared_capability, epoch_of, about_to_use, ready_for}
+use Rattle.world_runs.proofs.Walk.{Reaches, NodeStep, of_osd, of_client, of_call, of_again, call_step}
 
 -- ---- OSDs
 
@@ -112,105 +119,153 @@ osd_next w was node r s happens shape found is_up is_osd comes =
 
 -- ---- clients
 
--- what a client's step owes: its call is on a declared file, and it sends asks of that call alone
-pub record ClientFits (files : List DeclaredFile) (step : Step ClientState) : Type 0 where
-  pub call : CallFits files step.state.running
-  pub asks : (m : Msg) → Has m step.turned.outs → AskFits files m.payload × (lease_file m.payload ≡ None) × (is_ask m.payload ≡ true)
+-- an ask on a declared file, which is no message of a lease
+abbrev pub IsAskOfDeclared : List DeclaredFile → Payload → Type 0
+IsAskOfDeclared files content = AskFits files content × (lease_file content ≡ None) × (is_ask content ≡ true)
+
+-- what a client's step owes: it asks and holds nothing but what is of declared files, and it sends asks alone
+pub record ClientStepFits (files : List DeclaredFile) (step : Step WholeClient) : Type 0 where
+  pub client : ClientFits files step.state
+  pub asks : (m : Msg) → Has m step.turned.outs → IsAskOfDeclared files m.payload
   pub marks : AreInert step.turned.marks
   pub rec : step.turned.rec ≡ None
 
-either : (files : List DeclaredFile) (b : Bool) (x y : Step ClientState) → ClientFits files x → ClientFits files y → ClientFits files (cond b x y)
-either files true x y p q = p
-either files false x y p q = q
+module _ (files : List DeclaredFile) where
+  -- what is sent for a request
+  request_asks : (number : ℕ) (asked : Request) → RequestFits files number asked → IsAskOfDeclared files (payload_of number asked)
+  request_asks number (request.Replicated capability asked) is = (is.0, refl, refl)
+  request_asks number (request.Striped capability asked) is = (is.0, refl, refl)
+  request_asks number (request.Meta user group asked) is = absurd is
+  request_asks number (request.Registry asked) is = absurd is
 
-stays_fits : (files : List DeclaredFile) (c : ClientState) → CallFits files c.running → ClientFits files (stays ClientState c)
-stays_fits files c fits = record { call = fits; asks = λ m h. absurd h; marks = tt; rec = refl }
+  -- a client sends nothing but asks, and marks what changes how no node stands
+  one_asks : (node to : NodeId) (number : ℕ) (asked : Request) → RequestFits files number asked → (m : Msg) → Has m (message node to (payload_of number asked) ∷ []) → IsAskOfDeclared files m.payload
+  one_asks node to number asked is m (inl e) = subst (λ (k : Msg). IsAskOfDeclared files k.payload) (sym e) (request_asks number asked is)
+  one_asks node to number asked is m (inr h) = absurd h
 
-asks_fits : (files : List DeclaredFile) (site : ClientSite) (c : ClientState) (call : RunningCall) (target : NodeId) → CallFits files (Some call) → ClientFits files (clients.asks site c call target)
-asks_fits files site c call target fits = record { call = fits; asks = sent; marks = tt; rec = refl }
-  where
-    sent : (m : Msg) → Has m (clients.asks site c call target).turned.outs → AskFits files m.payload × (lease_file m.payload ≡ None) × (is_ask m.payload ≡ true)
-    sent m (inl e) = subst (λ (k : Msg). AskFits files k.payload × (lease_file k.payload ≡ None) × (is_ask k.payload ≡ true)) (sym e) (fits, refl, refl)
-    sent m (inr h) = absurd h
+  sends_asks : (node : NodeId) (outs : List Msg) → Sends (RequestFits files) node outs → (m : Msg) → Has m outs → IsAskOfDeclared files m.payload
+  sends_asks node _ sends_none m h = absurd h
+  sends_asks node _ (sends_one to number asked is) m h = one_asks node to number asked is m h
 
-ends_fits : (files : List DeclaredFile) (c : ClientState) (call : RunningCall) (how : Outcome) → ClientFits files (clients.ends_call c call how)
-ends_fits files c call how = record { call = tt; asks = λ m h. absurd h; marks = (tt, tt); rec = refl }
+  tells_inert : (happens : Event) (marks : List Mark) → Tells (RequestFits files) happens marks → AreInert marks
+  tells_inert happens _ tells_none = tt
+  tells_inert happens _ (tells_end number asked how is so) = (tt, tt)
 
-begins_fits : (files : List DeclaredFile) (site : ClientSite) (c : ClientState) (capability : Capability) (k : Call) (asked : Op) → AskFits files (payload.Ask 0 capability asked) → ClientFits files (clients.begins_call site c capability k asked)
-begins_fits files site c capability k asked fits =
-    let known = clients.known_in c.files capability.file in
-    let p = asks_fits files site (record c { next = c.next + 1 }) (clients.new_call c capability asked) (clients.first_target capability.location.members known.target) fits in
-    record { call = p.call; asks = p.asks; marks = (tt, tt); rec = refl }
+  -- a call that was made is on the content of a file
+  made_on_file : (o : Option MadeCall) → MadeIs (RequestFits files) o → MadeIs (λ number asked. IsOnFile asked) o
+  made_on_file None is = tt
+  made_on_file (Some made) is = at made.request is
+    where
+      at : (asked : Request) → RequestFits files made.number asked → IsOnFile asked
+      at (request.Replicated capability asked) is = tt
+      at (request.Striped capability asked) is = tt
+      at (request.Meta user group asked) is = is
+      at (request.Registry asked) is = is
 
-pub call_fits : (files : List DeclaredFile) (node : NodeId) (times : TimeSettings) (c : ClientState) (reading : ℕ) (capability : Capability) (k : Call) (asked : Op) → CallFits files c.running → AskFits files (payload.Ask 0 capability asked)
-    → ClientFits files (call_of_client node times c reading capability k asked)
-unfolding call_of_client
-call_fits files node times c reading capability k asked running fits =
-    let now = max reading c.last in
-    let site : ClientSite = record { node = node; times = times; now = now } in
-    either files (nat_lt c.next COUNTS) _ _ (begins_fits files site (record c { last = now }) capability k asked fits) (stays_fits files (record c { last = now }) running)
+  -- a step on an event
+  pub event_fits : (node : NodeId) (times : TimeSettings) (c : WholeClient) (reading : ℕ) (happens : Event) → ClientFits files c → ClientStepFits files (stepped node times c reading happens)
+  event_fits node times c reading happens fits =
+      let is = stepped_is (RequestFits files) node times c reading happens fits.calls in
+      record {
+        client =
+            record {
+              calls = is.client;
+              held = held_stays (HeldFits files) node times c reading happens (made_on_file c.made fits.calls.made) fits.held;
+            };
+        asks = sends_asks node (stepped node times c reading happens).turned.outs is.sends;
+        marks = tells_inert happens (stepped node times c reading happens).turned.marks is.tells;
+        rec = is.rec;
+      }
 
-turned_fits : (files : List DeclaredFile) (site : ClientSite) (c : ClientState) (call : RunningCall) (how : Retry) → CallFits files (Some call) → ClientFits files (clients.turned_away site c call how)
-turned_fits files site c call how fits =
-    at (clients.next_of (clients.named how) (filter (λ m. not (clients.was_tried (clients.with_outcome call.tried call.target how) m)) call.capability.location.members))
-  where
-    at : (o : Option NodeId) → ClientFits files (elim o [
-      | Some target ↦ clients.asks site c (record call { tried = clients.with_outcome call.tried call.target how }) target
-      | None ↦ clients.ends_call c call (outcome.Retry (clients.answers_in (clients.with_outcome call.tried call.target how) call.capability.location.members))
-    ])
-    at (Some target) = asks_fits files site c (record call { tried = clients.with_outcome call.tried call.target how }) target fits
-    at None = ends_fits files c call _
+  -- ---- a client's calls
 
-turned_by_fits : (files : List DeclaredFile) (site : ClientSite) (c : ClientState) (call : RunningCall) (from : NodeId) (how : Retry) → CallFits files (Some call) → CallFits files c.running → ClientFits files (clients.turned_away_by site c call from how)
-turned_by_fits files site c call from how fits running = either files (from.0 == call.target.0) _ _ (turned_fits files site c call how fits) (stays_fits files c running)
+  -- the first target for a file, and its truncate epoch, are nothing that it asks or holds
+  pub known_fits : (c : WholeClient) (file : FileId) (learns : KnownFile → KnownFile) → ClientFits files c → ClientFits files (record c { replicas = knows c.replicas file learns })
+  known_fits c file learns fits = record { calls = record { running = fits.calls.running; made = fits.calls.made }; held = fits.held }
 
-answered_fits : (files : List DeclaredFile) (site : ClientSite) (c : ClientState) (call : RunningCall) (from : NodeId) (content : Reply) → CallFits files (Some call) → CallFits files c.running → ClientFits files (clients.answered site c call from content)
-answered_fits files site c call from (reply.Ok count size bytes) fits running = ends_fits files (clients.knows c call.capability.file (clients.aimed from)) call (outcome.Ok count bytes)
-answered_fits files site c call from (reply.NoLease end) fits running = turned_by_fits files site c call from (retry.NoLease end) fits running
-answered_fits files site c call from (reply.NoMajority have need) fits running = turned_by_fits files site c call from (retry.NoMajority have need) fits running
-answered_fits files site c call from (reply.Elsewhere node end) fits running = turned_by_fits files site c call from (retry.Elsewhere node end) fits running
-answered_fits files site c call from (reply.Denied why) fits running = ends_fits files c call _
-answered_fits files site c call from (reply.OldList version) fits running = ends_fits files c call _
-answered_fits files site c call from (reply.OldEpoch epoch) fits running = ends_fits files (clients.knows c call.capability.file (clients.raised epoch)) call (outcome.Refused (refusal.OldEpoch epoch))
-answered_fits files site c call from (reply.TooFar object) fits running = ends_fits files c call _
-answered_fits files site c call from reply.ClientsFull fits running = ends_fits files c call _
+  -- a client that is about to use a file
+  pub ready_fits : (c : WholeClient) (k : Call) (o : Option ℕ) → ClientFits files c → ClientFits files (ready_for files c k o)
+  ready_fits c k None fits = fits
+  ready_fits c k (Some number) fits = at (file_in files number) refl
+    where
+      at : (o : Option Location) → file_in files number ≡ o → ClientFits files (about_to_use c k number o)
+      at None is = fits
+      at (Some location) is =
+          let epoch = epoch_of c (declared_file number) k in
+          record {
+            calls = record { running = fits.calls.running; made = fits.calls.made };
+            held =
+                holds_held (HeldFits files) c.held (declared_capability number location epoch) (record { epoch = 0; size = 0 })
+                (refl, is) fits.held;
+          }
 
-reply_fits : (files : List DeclaredFile) (site : ClientSite) (c : ClientState) (running : Option RunningCall) (from : NodeId) (number : ℕ) (content : Reply) → CallFits files running → CallFits files c.running → ClientFits files (clients.reply_comes site c running from number content)
-reply_fits files site c None from number content call running = stays_fits files c running
-reply_fits files site c (Some k) from number content call running =
-    either files (number == k.number && clients.was_tried k.tried from) _ _ (answered_fits files site c k from content call running) (stays_fits files c running)
+  -- what is asked under a capability that is held
+  under_fits : (number n : ℕ) (asked : Op) (o : Option HeldFile) (wanted : Request) → ((h : HeldFile) → o ≡ Some h → HeldFits files n h.capability) → under_held asked o ≡ Some wanted → RequestFits files number wanted
+  under_fits number n asked None wanted held is = absurd (cc)
+  under_fits number n asked (Some h) wanted held is =
+      let request_is : on_file h.capability.location.kind h.capability asked ≡ wanted = cc in
+      subst (RequestFits files number) request_is (by_kind h.capability.location.kind refl)
+    where
+      of_declared : IsOfDeclared files h.capability
+      of_declared =
+          let here = held h refl in
+          let same : h.capability.file.number ≡ n = ap (λ (f : FileId). f.number) here.0 in
+          (here.0 ∙ ap declared_file (sym same), ap (file_in files) same ∙ here.1)
 
-message_fits : (files : List DeclaredFile) (site : ClientSite) (c : ClientState) (from : NodeId) (content : Payload) → CallFits files c.running → ClientFits files (clients.message_comes site c from content)
-message_fits files site c from (payload.Reply number file content) running = reply_fits files site c c.running from number content running running
-message_fits files site c from _ running = stays_fits files c running
+      by_kind : (k : Kind) → h.capability.location.kind ≡ k → RequestFits files number (on_file k h.capability asked)
+      by_kind kind.Replicated is = (of_declared, is)
+      by_kind kind.Striped is = (of_declared, is)
 
-wakes_fits : (files : List DeclaredFile) (site : ClientSite) (c : ClientState) (o : Option RunningCall) → CallFits files o → CallFits files c.running → ClientFits files (clients.wakes site c o)
-wakes_fits files site c None call running = stays_fits files c running
-wakes_fits files site c (Some k) call running = either files (nat_le k.deadline site.now) _ _ (turned_fits files site c k retry.Silent call) (stays_fits files c running)
+  -- a call on the content of a file asks so
+  pub asked_fits : (c : WholeClient) (k : Call) (number : ℕ) (wanted : Request) → IsOnContent k → ClientFits files c → request_of c.held k ≡ Some wanted → RequestFits files number wanted
+  asked_fits c (call.Read file object at len) number wanted may fits is = under_fits number file (op.Read object at len) (held_of c.held file) wanted (λ h found. held_found (HeldFits files) c.held file h found fits.held) is
+  asked_fits c (call.Write file object at bytes) number wanted may fits is = under_fits number file (op.Write object at bytes) (held_of c.held file) wanted (λ h found. held_found (HeldFits files) c.held file h found fits.held) is
+  asked_fits c (call.Truncate file size epoch) number wanted may fits is = under_fits number file (op.Truncate size) (held_of c.held file) wanted (λ h found. held_found (HeldFits files) c.held file h found fits.held) is
+  asked_fits c (call.Meta user group asked) number wanted may fits is = absurd may
+  asked_fits c (call.Report user group file) number wanted may fits is = absurd may
+  asked_fits c (call.Registry asked) number wanted may fits is = absurd may
 
-pub client_step_fits : (files : List DeclaredFile) (node : NodeId) (times : TimeSettings) (c : ClientState) (reading : ℕ) (happens : Event) → CallFits files c.running → ClientFits files (step_of_client node times c reading happens)
-unfolding step_of_client
-client_step_fits files node times c reading happens running = at happens
-  where
-    site : ClientSite
-    site = record { node = node; times = times; now = max reading c.last }
+  -- a call that begins, or of which nothing comes
+  called_fits : (node : NodeId) (c : WholeClient) (reading : ℕ) (k : Call) (step : Step WholeClient) → ClientFits files c → CallStepIs (RequestFits files) node c reading k step → ClientStepFits files step
+  called_fits node c reading k step fits (call_passes is) =
+      subst (ClientStepFits files) (sym is)
+      (record { client = record { calls = record { running = fits.calls.running; made = fits.calls.made }; held = fits.held }; asks = λ m h. absurd h; marks = tt; rec = refl })
+  called_fits node c reading k step fits (call_begins asked begun) =
+      record {
+        client = record { calls = begun.client; held = subst (AllHeld (HeldFits files)) (sym begun.held) fits.held };
+        asks = λ m h. one_asks node begun.to c.replicas.next asked begun.asked_so m (subst (Has m) begun.outs h);
+        marks = subst AreInert (sym begun.marks) (tt, tt);
+        rec = begun.rec;
+      }
 
-    later : ClientState
-    later = record c { last = max reading c.last }
+  -- a client that is given what it uses of a declared file, and is called
+  pub call_fits : (node : NodeId) (times : TimeSettings) (c : WholeClient) (reading : ℕ) (k : Call) → IsOnContent k → ClientFits files c
+      → ClientStepFits files (called node times (ready_for files c k (called_file k)) reading k)
+  call_fits node times c reading k may fits =
+      let ready = ready_for files c k (called_file k) in
+      let ready_is = ready_fits c k (called_file k) fits in
+      called_fits node ready reading k (called node times ready reading k) ready_is
+      (called_is (RequestFits files) node times ready reading k ready_is.calls (λ asked is less. asked_fits ready k ready.replicas.next asked may ready_is is))
 
-    at : (e : Event) → ClientFits files (clients.event_comes (record { node = node; times = times; now = max reading c.last }) (record c { last = max reading c.last }) e)
-    at (event.Deliver msg) = message_fits files site later msg.from msg.payload running
-    at event.Wake = wakes_fits files site later c.running running running
-    at (event.Call k) = stays_fits files later running
+  -- its last call once more
+  pub again_fits : (node : NodeId) (times : TimeSettings) (c : WholeClient) (reading : ℕ) → ClientFits files c → ClientStepFits files (called_again node times c reading)
+  again_fits node times c reading fits =
+      let is = called_again_is (RequestFits files) node times c reading fits.calls in
+      record {
+        client = record { calls = is.client; held = subst (AllHeld (HeldFits files)) (sym is.held) fits.held };
+        asks = sends_asks node (called_again node times c reading).turned.outs is.sends;
+        marks = subst AreInert (sym is.marks) tt;
+        rec = is.rec;
+      }
 
 -- ---- a client's step in the world
 
-pub client_next : (w : World) (was : List Msg) (node : Node) (r : Running) (c : ClientState) (step : Step ClientState) → IsShaped w was → node_in w.nodes node.id.0 ≡ Some node → node.up ≡ Some r → r.core ≡ client c
-    → ClientFits w.files step → IsNext w was node r (client step.state) step.turned
+pub client_next : (w : World) (was : List Msg) (node : Node) (r : Running) (c : WholeClient) (step : Step WholeClient) → IsShaped w was → node_in w.nodes node.id.0 ≡ Some node → node.up ≡ Some r → r.core ≡ client c
+    → ClientStepFits w.files step → IsNext w was node r (client step.state) step.turned
 client_next w was node r c step shape found is_up is_client fits =
     record {
       shows = shown;
-      core = fits.call;
+      core = fits.client;
       rec = λ rec is. absurd (let none : None ≡ Some rec = sym fits.rec ∙ is in cc);
       asks = λ m h. (fits.asks m h).0;
       marks = inert fits.marks;
@@ -247,14 +302,20 @@ comes_by w was node (event.Deliver msg) shape reaches = (reaches.0, reaches.1, s
 comes_by w was node event.Wake shape reaches = tt
 comes_by w was node (event.Call call) shape reaches = tt
 
+-- what a running client asks and holds
+running_fits : (w : World) (was : List Msg) (node : Node) (r : Running) (c : WholeClient) → IsShaped w was → node_in w.nodes node.id.0 ≡ Some node → node.up ≡ Some r → r.core ≡ client c → ClientFits w.files c
+running_fits w was node r c shape found is_up is_client =
+    subst (CoreFits w.times w.files node.id node.kept r) is_client (subst (UpFits w.times w.files node.id node.kept) is_up (shape.nodes node.id.0 node found).up)
+
 pub step_next : (w : World) (was : List Msg) (node : Node) (r : Running) (next : Core) (turned : Turned) → IsShaped w was → node_in w.nodes node.id.0 ≡ Some node → node.up ≡ Some r
     → NodeStep w was node r next turned → IsNext w was node r next turned
 step_next w was node r _ _ shape found is_up (of_osd s happens is_osd reaches) = osd_next w was node r s happens shape found is_up is_osd (comes_by w was node.id happens shape reaches)
 step_next w was node r _ _ shape found is_up (of_client c happens is_client reaches) =
-    let running = subst (CoreFits w.times w.files node.id node.kept r) is_client (subst (UpFits w.times w.files node.id node.kept) is_up (shape.nodes node.id.0 node found).up) in
-    client_next w was node r c (step_of_client node.id w.times c r.clock happens) shape found is_up is_client (client_step_fits w.files node.id w.times c r.clock happens running)
-step_next w was node r _ _ shape found is_up (of_call c k number location asked is_client resting bound called declared asks_so) =
-    let capability = declared_capability number location (epoch_of c (declared_file number) k) in
-    let running = subst (CoreFits w.times w.files node.id node.kept r) is_client (subst (UpFits w.times w.files node.id node.kept) is_up (shape.nodes node.id.0 node found).up) in
-    client_next w was node r c (call_step w node r c k number location asked) shape found is_up is_client
-    (call_fits w.files node.id w.times (uses c capability) r.clock capability k asked running (refl, declared))
+    client_next w was node r c (stepped node.id w.times c r.clock happens) shape found is_up is_client
+    (event_fits w.files node.id w.times c r.clock happens (running_fits w was node r c shape found is_up is_client))
+step_next w was node r _ _ shape found is_up (of_call c k is_client resting bound may) =
+    client_next w was node r c (call_step w node r c k) shape found is_up is_client
+    (call_fits w.files node.id w.times c r.clock k bound.0 (running_fits w was node r c shape found is_up is_client))
+step_next w was node r _ _ shape found is_up (of_again c is_client resting may) =
+    client_next w was node r c (called_again node.id w.times c r.clock) shape found is_up is_client
+    (again_fits w.files node.id w.times c r.clock (running_fits w was node r c shape found is_up is_client))

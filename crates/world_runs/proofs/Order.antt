@@ -1,8 +1,8 @@
 -- the worlds of a run are in order
 use Rattle.std.proofs.Common.{◌≡◌, ℕ, List, [], ap, ◌∙◌, subst, Option, Some, None, true}
 use Rattle.xt_messages.specs.declared.message.Msg.{Msg}
-use Rattle.cluster_runs.specs.World.{World, node_in}
-use Rattle.cluster_runs.specs.Lines.{Next, finished, opens, goes_on, ends}
+use Rattle.world_spec.specs.World.{World, node_in}
+use Rattle.world_spec.specs.Lines.{Next, finished, opens, goes_on, ends}
 use Rattle.world_runs.specs.Worlds.{CoreFits, UpFits, LeasesHold, Leads, OneLeads, IsInOrder, IsNextInOrder}
 use Rattle.world_runs.proofs.Tables.{node_in-id}
 use Rattle.world_runs.proofs.OsdEvents as osd_events
@@ -22,7 +22,7 @@ use Rattle.osd_invariants.proofs.SoundSteps
 use Rattle.xt_protocol.specs.OsdSteps.{file_at}
 use Rattle.lease_runs.specs.OsdView.{site_of}
 use Rattle.lease_runs.proofs.LeaseSteps.{expired_shows}
-use Rattle.cluster_runs.specs.NodeSteps.{outside_of}
+use Rattle.world_spec.specs.NodeSteps.{outside_of}
 use Rattle.time_line.specs.TimeLine.{holds}
 use Rattle.world_runs.specs.View.{node_id, awake_as}
 use Rattle.world_runs.proofs.Files.{at_fits}

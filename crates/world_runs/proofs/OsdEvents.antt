@@ -36,11 +36,11 @@ use Rattle.lease_runs.specs.ActsView.{RecordIs, IsBusy, MarksAre, no_marks, won,
 use Rattle.lease_runs.proofs.LeaseSteps as lease_steps
 use Rattle.lease_runs.proofs.OsdLeases as osd_leases
 use Rattle.lease_runs.proofs.ActSteps as act_steps
-use Rattle.cluster_runs.specs.declared.DeclaredFile.{DeclaredFile}
+use Rattle.world_spec.specs.declared.DeclaredFile.{DeclaredFile}
 use Rattle.time_line.specs.TimeLine.{Standing, standing, holds, times_of}
-use Rattle.cluster_runs.specs.World.{World, Node, Running, osd, node_in}
-use Rattle.cluster_runs.specs.Lines.{declared_file}
-use Rattle.cluster_runs.specs.NodeSteps.{entry_of, one_more, outside_of}
+use Rattle.world_spec.specs.World.{World, Node, Running, osd, node_in}
+use Rattle.world_spec.specs.Lines.{declared_file}
+use Rattle.world_spec.specs.NodeSteps.{entry_of, one_more, outside_of}
 use Rattle.world_runs.specs.View.{file_setting, told, awake_as, core_seen, messages, is_of, lease_view}
 use Rattle.world_runs.proofs.Lists.{filter_has, has_map}
 use Rattle.world_runs.proofs.Frame.{AreMembers, Good, seen_running}

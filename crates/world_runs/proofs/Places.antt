@@ -1,13 +1,13 @@
 -- the trace tells where each file is declared
-use Rattle.std.proofs.Common.{◌≡◌, ℕ, List, [], ◌∷◌, ◌++◌, map, refl, ap, sym, ◌∙◌, Option, Some, None, Bool, true, false}
+use Rattle.std.proofs.Common.{◌≡◌, ℕ, List, [], ◌∷◌, ◌++◌, refl, ap, sym, ◌∙◌, Option, Some, None, Bool, true, false}
 use Rattle.std.specs.Prelude.{◌==◌, cond, if◌then◌else◌}
 use Rattle.std.specs.Option.{option_or}
 use Rattle.xt_messages.specs.declared.file.Location.{Location}
-use Rattle.cluster_runs.specs.declared.DeclaredFile.{DeclaredFile}
+use Rattle.world_spec.specs.declared.DeclaredFile.{DeclaredFile}
 use Rattle.time_line.specs.declared.entry.Entry.{Entry}
 use Rattle.time_line.specs.declared.entry.Entry.TheVariants as entry
 use Rattle.time_line.specs.TimeLine.{location_told, location_in}
-use Rattle.cluster_runs.specs.World.{file_in}
+use Rattle.world_spec.specs.World.{file_in}
 use Rattle.world_runs.proofs.Entries.{or_assoc}
 
 -- each file is told where it is declared

@@ -2,13 +2,13 @@
 use Rattle.std.proofs.Common.{◌≡◌, ℕ, List, [], ◌∷◌, ◌++◌, subst, None}
 use Rattle.time_line.specs.declared.line.Line.{Line}
 use Rattle.time_line.specs.declared.entry.Entry.{Entry}
-use Rattle.cluster_runs.specs.World.{World}
-use Rattle.cluster_runs.specs.Rules.{refusal}
-use Rattle.cluster_runs.specs.NodeSteps.{Room}
-use Rattle.cluster_runs.specs.Lines.{begins, steps, so_far}
+use Rattle.world_spec.specs.World.{World}
+use Rattle.world_spec.specs.Rules.{refusal}
+use Rattle.world_spec.specs.NodeSteps.{Room}
+use Rattle.world_spec.specs.Lines.{begins, steps, so_far}
 use Rattle.time_line.specs.Bounds.{AreLines}
 use Rattle.time_line.specs.Clauses.{AreApart, HoldersAct}
-use Rattle.cluster_runs.specs.Runs.{run_of, IsRunInto}
+use Rattle.world_spec.specs.Runs.{run_of, IsRunInto}
 use Rattle.world_runs.specs.Worlds.{IsInOrder, IsNextInOrder}
 use Rattle.world_runs.proofs.Order.{in_order, next_in_order}
 use Rattle.world_runs.proofs.Fit.{IsFit}

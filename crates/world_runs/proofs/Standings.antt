@@ -12,7 +12,7 @@ use Rattle.time_line.specs.declared.entry.Halt.{Halt}
 use Rattle.time_line.specs.declared.entry.Entry.{Entry}
 use Rattle.time_line.specs.declared.entry.Entry.TheVariants as entry
 use Rattle.time_line.specs.TimeLine.{Standing, standing, standing_after, held_until, reads}
-use Rattle.cluster_runs.specs.NodeSteps.{entry_of}
+use Rattle.world_spec.specs.NodeSteps.{entry_of}
 use Rattle.lease_runs.specs.ActsView.{AreActs}
 
 pub standing-push : (id : NodeId) (number : ℕ) (es : List Entry) (e : Entry) → standing id number (es ++ e ∷ []) ≡ standing_after id number (standing id number es) e

@@ -1,6 +1,6 @@
 -- Each thing that may happen in a line leaves the world as it should be.
-use Rattle.std.proofs.Common.{◌≡◌, ℕ, ◌≤◌, ◌+◌, ◌⊎◌, inl, inr, List, [], ◌∷◌, ◌++◌, map, refl, ap, subst, sym, ◌∙◌, arith, Option, Some, None, Bool, true, false}
-use Rattle.std.specs.Prelude.{filter, not, is_some, nat_lt, max, ◌==◌, ◌&&◌, if◌then◌else◌}
+use Rattle.std.proofs.Common.{◌≡◌, ℕ, ◌≤◌, ◌+◌, ◌⊎◌, inl, inr, List, [], ◌∷◌, ◌++◌, map, refl, ap, subst, sym, ◌∙◌, arith, Option, Some, None}
+use Rattle.std.specs.Prelude.{filter, not, is_some, ◌==◌, ◌&&◌}
 use Rattle.std.specs.Option.{option_or, option_map}
 use Rattle.std.proofs.lemmas.Bool.Decides.{nat_tests}
 use Rattle.std.proofs.lemmas.List.{append-nil, map-append}
@@ -9,6 +9,9 @@ use Rattle.xt_messages.specs.Limits.{FitsOp}
 use Rattle.xt_base.specs.declared.ids.NodeId.{NodeId}
 use Rattle.xt_base.specs.declared.ids.OpId.{OpId}
 use Rattle.xt_messages.specs.declared.file.Capability.{Capability}
+use Rattle.xt_messages.specs.declared.file.Kind.{Kind}
+use Rattle.xt_messages.specs.declared.file.Kind.TheVariants as kind
+use Rattle.xt_messages.specs.declared.file.Location.{Location}
 use Rattle.xt_messages.specs.declared.file.Op.{Op}
 use Rattle.xt_messages.specs.declared.file.Op.TheVariants as op
 use Rattle.xt_messages.specs.declared.message.Msg.{Msg}
@@ -17,32 +20,36 @@ use Rattle.xt_messages.specs.declared.event.Call.TheVariants as call
 use Rattle.xt_messages.specs.declared.event.Event.{Event}
 use Rattle.xt_messages.specs.declared.event.Mark.{Mark}
 use Rattle.xt_messages.specs.declared.event.Mark.TheVariants as mark
-use Rattle.xt_base.specs.declared.TheConstants.{COUNTS}
 use Rattle.xt_protocol.specs.declared.turned.Turned.{Turned}
 use Rattle.lease_safety.specs.State.{Has}
 use Rattle.xt_protocol.specs.OsdSteps.{OsdState, step_of_osd}
 use Rattle.time_line.specs.declared.entry.Entry.{Entry}
 use Rattle.time_line.specs.declared.entry.Entry.TheVariants as entry
-use Rattle.cluster_runs.specs.declared.DeclaredFile.{DeclaredFile}
-use Rattle.cluster_runs.specs.declared.Sent.{Sent}
-use Rattle.cluster_runs.specs.declared.ClientState.{ClientState}
-use Rattle.cluster_runs.specs.Steps.{Step, stays}
-use Rattle.cluster_runs.specs.Clients.{call_of_client, begins_call}
-use Rattle.time_line.specs.Bounds.{FitsCall}
-use Rattle.cluster_runs.specs.Rules.{called_file}
+use Rattle.world_spec.specs.declared.DeclaredFile.{DeclaredFile}
+use Rattle.world_spec.specs.declared.Sent.{Sent}
+use Rattle.client_rows.specs.declared.holding.HeldFile.{HeldFile}
+use Rattle.client_rows.specs.declared.requests.Request.{Request}
+use Rattle.client_rows.specs.Holding.{held_of}
+use Rattle.client_rows.specs.Requests.{on_file, under_held, request_of}
+use Rattle.client_rows.specs.Rows.{WholeClient, passes, stepped, called, called_again}
+use Rattle.client_rows.specs.Steps.{Step}
+use Rattle.client_steps.specs.Asked.{AllHeld, Sends, sends_one, BeginsCall, CallStepIs, call_passes, call_begins}
+use Rattle.client_steps.proofs.Held.{held_found, holds_held, held_stays}
+use Rattle.client_steps.proofs.Steps.{stepped_is, called_is, called_again_is}
+use Rattle.time_line.specs.Bounds.{IsOnContent, FitsCall}
 use Rattle.time_line.specs.TimeLine.{location_told, location_in, id_of, begun, call_begun, operation_on, operation_begun}
-use Rattle.cluster_runs.specs.World.{World, Node, Running, Core, osd, client, node_in, with_node}
-use Rattle.cluster_runs.specs.NodeSteps.{entry_of, pending, numbered, to_itself, after_turn, outside_of}
-use Rattle.cluster_runs.specs.Lines.{ticked, operation_of}
+use Rattle.world_spec.specs.World.{World, Node, Running, Core, osd, client, node_in, with_node, file_in}
+use Rattle.world_spec.specs.NodeSteps.{entry_of, pending, numbered, to_itself, after_turn, outside_of}
+use Rattle.world_spec.specs.Lines.{ticked, declared_file, declared_capability, epoch_of, about_to_use, ready_for}
 use Rattle.world_runs.specs.View.{node_id, messages}
 use Rattle.world_runs.proofs.Lists.{has_in, has_left, has_right, has_filter, map_same}
 use Rattle.world_runs.proofs.Tables.{same, node_in-id, node_in-new, node_in-other, node_in-last, node_in-before, node_in-ticked}
 use Rattle.world_runs.proofs.Frame.{next_node}
 use Rattle.world_runs.proofs.Entries.{begun-append}
-use Rattle.world_runs.proofs.Places.{NoPlaces, location-grown, no_places, next_places, one_place, told_more}
+use Rattle.world_runs.proofs.Places.{AreTold, NoPlaces, location-grown, no_places, next_places, one_place, told_more}
 use Rattle.world_runs.proofs.OsdIds.{FilesAre, NoneEnds, EventHasBegun, osd_step_is}
-use Rattle.world_runs.proofs.Calls.{ContentIs, CallIs, Ending, silent, ended, ClientStepIs}
-use Rattle.world_runs.proofs.Growth.{EntriesAre, EntryIs, FreshFrom, Quiet, UpIs, CoreIs, ClientIs, EndsFit, entries-push, entries-marks, fresh-grown, quiet-none, quiet-one, quiet-marks, files-grown, call-grown, content-grown, up-grown, told_is}
+use Rattle.world_runs.proofs.Calls.{AskIs, ContentIs, RequestIs, HeldIs, EventIs, Ending, silent, ended, sent_is, ending_is, made_on_file}
+use Rattle.world_runs.proofs.Growth.{EntriesAre, EntryIs, FreshFrom, Quiet, UpIs, CoreIs, CallerIs, EndsFit, entries-push, entries-marks, fresh-grown, quiet-none, quiet-one, quiet-marks, files-grown, calls-grown, held-grown, content-grown, core-grown, up-grown, told_is}
 
 abbrev pub Fits : World → List Msg → Type 0
 Fits w own = EndsFit w.files w.nodes w.entries (own ++ messages w)
@@ -232,34 +239,42 @@ ending_answered es node marks are (silent none) = subst (λ (ms : List Mark). En
 ending_answered es node marks are (ended number how is answered) =
     subst (λ (ms : List Mark). EntriesAre (es ++ map (entry_of node) ms)) (sym is) (entries-push es (entry.Done node number how) are answered)
 
-pub client_owes : (es : List Entry) (node : NodeId) (c : ClientState) (step : Step ClientState) → EntriesAre es → FreshFrom es node c.next → ClientStepIs es node c.next step → Owes es node (client step.state) step.turned
-client_owes es node c step answered fresh is =
-    let more = map (entry_of node) step.turned.marks in
-    let quiet = ending_quiet es node step.turned.marks is.marks in
+-- a client's step that begins no call
+pub client_owes : (es : List Entry) (node : NodeId) (step : Step WholeClient) → EntriesAre es → CallerIs es node step.state → Ending es node step.turned.marks
+    → ((m : Msg) → Has m step.turned.outs → ContentIs es m.from m.to m.payload) → Owes es node (client step.state) step.turned
+client_owes es node step answered caller ending sent =
     record {
-      core_is = (call-grown es (map (entry_of node) step.turned.marks) node step.state.running is.call, fresh-grown es (map (entry_of node) step.turned.marks) node step.state.next quiet (subst (FreshFrom es node) (sym is.number) fresh));
-      sent = λ m h. content-grown es (map (entry_of node) step.turned.marks) m.from m.to m.payload (is.sent m h);
-      ends = ending_answered es node step.turned.marks answered is.marks;
-      places = ending_places es node step.turned.marks is.marks;
+      core_is = core-grown es (map (entry_of node) step.turned.marks) node (client step.state) (ending_quiet es node step.turned.marks ending) caller;
+      sent = λ m h. content-grown es (map (entry_of node) step.turned.marks) m.from m.to m.payload (sent m h);
+      ends = ending_answered es node step.turned.marks answered ending;
+      places = ending_places es node step.turned.marks ending;
     }
 
--- a call of a declared file does something to it
-does_so : (k : Call) (number : ℕ) (asked : Op) → called_file k ≡ Some number → operation_of k ≡ Some asked → operation_on number (Some k) ≡ Some asked
-does_so (call.Read file object at len) number asked of_file is = (let here : file ≡ number = cc in let same_op : op.Read object at len ≡ asked = cc in grind (arith, nat_tests))
-does_so (call.Write file object at bytes) number asked of_file is = (let here : file ≡ number = cc in let same_op : op.Write object at bytes ≡ asked = cc in grind (arith, nat_tests))
-does_so (call.Truncate file size epoch) number asked of_file is = (let here : file ≡ number = cc in let same_op : op.Truncate size ≡ asked = cc in grind (arith, nat_tests))
-does_so (call.Report user group file) number asked of_file is = absurd cc
-does_so (call.Meta user group request) number asked of_file is = absurd cc
-does_so (call.Registry request) number asked of_file is = absurd cc
+-- its step on an event
+pub event_owes : (es : List Entry) (node : NodeId) (times : TimeSettings) (c : WholeClient) (reading : ℕ) (happens : Event) → EntriesAre es → CallerIs es node c → EventIs es node happens
+    → (let step = stepped node times c reading happens in Owes es node (client step.state) step.turned)
+event_owes es node times c reading happens answered is came =
+    let step = stepped node times c reading happens in
+    let does = stepped_is (RequestIs es node) node times c reading happens is.calls in
+    client_owes es node (stepped node times c reading happens) answered
+    (record {
+      calls = does.client;
+      held = held_stays (HeldIs es) node times c reading happens (made_on_file es node c.made is.calls.made) is.held;
+      fresh = subst (FreshFrom es node) (sym does.number) is.fresh;
+    })
+    (ending_is es node happens step.turned.marks came does.tells) (sent_is es node step.turned.outs does.sends)
 
--- a call within its limits does what is within its own
-pub fits_so : (k : Call) (asked : Op) → FitsCall k → operation_of k ≡ Some asked → FitsOp asked
-fits_so (call.Read file object at len) asked fits is = (let same_op : op.Read object at len ≡ asked = cc in subst FitsOp same_op (fits.1, fits.2, fits.3, fits.4))
-fits_so (call.Write file object at bytes) asked fits is = (let same_op : op.Write object at bytes ≡ asked = cc in subst FitsOp same_op (fits.1, fits.2, fits.3, fits.4))
-fits_so (call.Truncate file size epoch) asked fits is = (let same_op : op.Truncate size ≡ asked = cc in subst FitsOp same_op fits.1)
-fits_so (call.Report user group file) asked fits is = absurd cc
-fits_so (call.Meta user group request) asked fits is = absurd cc
-fits_so (call.Registry request) asked fits is = absurd cc
+-- its last call once more
+pub again_owes : (es : List Entry) (node : NodeId) (times : TimeSettings) (c : WholeClient) (reading : ℕ) → EntriesAre es → CallerIs es node c
+    → (let step = called_again node times c reading in Owes es node (client step.state) step.turned)
+again_owes es node times c reading answered is =
+    let step = called_again node times c reading in
+    let does = called_again_is (RequestIs es node) node times c reading is.calls in
+    client_owes es node (called_again node times c reading) answered
+    (record { calls = does.client; held = subst (AllHeld (HeldIs es)) (sym does.held) is.held; fresh = subst (FreshFrom es node) (sym does.number) is.fresh })
+    (silent does.marks) (sent_is es node step.turned.outs does.sends)
+
+-- ---- a call
 
 own_begins : (node : NodeId) (k : ℕ) (c : Call) → call_begun (id_of node k) (entry.Begin node k c) ≡ Some c
 own_begins node k c = grind (arith, nat_tests)
@@ -285,42 +300,106 @@ none_begun id es e none is = begun-append id es (e ∷ []) ∙ at (begun id es) 
     at None (Some x) none is = absurd cc
     at (Some y) p none is = absurd cc
 
-pub call_owes : (es : List Entry) (node : NodeId) (times : TimeSettings) (c : ClientState) (reading : ℕ) (capability : Capability) (k : Call) (asked : Op) → EntriesAre es → ClientIs es node c
-    → called_file k ≡ Some capability.file.number → operation_of k ≡ Some asked → FitsOp asked → location_in capability.file.number es ≡ Some capability.location
-    → (let step = call_of_client node times c reading capability k asked in Owes es node (client step.state) step.turned)
-unfolding call_of_client
-call_owes es node times c reading capability k asked answered is of_file does fits placed = at (nat_lt c.next COUNTS)
+-- the entries once this call of a client has begun
+abbrev pub with_begin : List Entry → NodeId → WholeClient → Call → List Entry
+with_begin es node c k = es ++ entry.Begin node c.replicas.next k ∷ []
+
+module _ (es : List Entry) (node : NodeId) (c : WholeClient) (k : Call) (is : CallerIs es node c) where
+  -- it is the call of this number, and no call has begun from the next number on
+  has_begun : begun (id_of node c.replicas.next) (with_begin es node c k) ≡ Some k
+  has_begun = first_begun (id_of node c.replicas.next) es (entry.Begin node c.replicas.next k) k (is.fresh c.replicas.next (omega arith)) (own_begins node c.replicas.next k)
+
+  begun_fresh : FreshFrom (with_begin es node c k) node (c.replicas.next + 1)
+  begun_fresh j above = none_begun (id_of node j) es (entry.Begin node c.replicas.next k) (is.fresh j (omega arith)) (other_number node j c.replicas.next k above)
+
+  -- it is asked by a request of the file's kind
+  of_kind : (what : Kind) (capability : Capability) (operation : Op) → capability.location.kind ≡ what → AskIs (with_begin es node c k) (id_of node c.replicas.next) capability operation
+      → RequestIs (with_begin es node c k) node c.replicas.next (on_file what capability operation)
+  of_kind kind.Replicated capability operation of ask = (ask, of)
+  of_kind kind.Striped capability operation of ask = (ask, of)
+
+  under_is : (number : ℕ) (operation : Op) (asked : Request) (o : Option HeldFile) → held_of c.held number ≡ o → operation_on number (Some k) ≡ Some operation → FitsOp operation → under_held operation o ≡ Some asked
+      → RequestIs (with_begin es node c k) node c.replicas.next asked
+  under_is number operation asked None found does fits wants = absurd (cc wants)
+  under_is number operation asked (Some h) found does fits wants =
+      let its = held_found (HeldIs es) c.held number h found is.held in
+      let same : on_file h.capability.location.kind h.capability operation ≡ asked = cc wants in
+      let what : operation_begun number (with_begin es node c k) (id_of node c.replicas.next) ≡ Some operation = ap (operation_on number) has_begun ∙ does in
+      let there : location_in number (with_begin es node c k) ≡ Some h.capability.location = location-grown number es (entry.Begin node c.replicas.next k ∷ []) h.capability.location its.1 in
+      subst (RequestIs (with_begin es node c k) node c.replicas.next) same
+      (of_kind h.capability.location.kind h.capability operation refl
+      (subst (λ (f : ℕ). (operation_begun f (with_begin es node c k) (id_of node c.replicas.next) ≡ Some operation) × FitsOp operation × (location_in f (with_begin es node c k) ≡ Some h.capability.location)) (sym its.0) (what, fits, there)))
+
+-- a call does on its own file what it does
+reads_itself : (file object at len : ℕ) → operation_on file (Some (call.Read file object at len)) ≡ Some (op.Read object at len)
+reads_itself file object at len = grind (arith, nat_tests)
+
+writes_itself : (file object at : ℕ) (bytes : List ℕ) → operation_on file (Some (call.Write file object at bytes)) ≡ Some (op.Write object at bytes)
+writes_itself file object at bytes = grind (arith, nat_tests)
+
+truncates_itself : (file size epoch : ℕ) → operation_on file (Some (call.Truncate file size epoch)) ≡ Some (op.Truncate size)
+truncates_itself file size epoch = grind (arith, nat_tests)
+
+-- what a call on the content of a file asks is of that call, once it has begun
+asked_begins : (es : List Entry) (node : NodeId) (c : WholeClient) (k : Call) → CallerIs es node c → IsOnContent k × FitsCall k → (asked : Request) → request_of c.held k ≡ Some asked
+    → RequestIs (with_begin es node c k) node c.replicas.next asked
+asked_begins es node c (call.Read file object at len) is fits asked wants =
+    under_is es node c (call.Read file object at len) is file (op.Read object at len) asked (held_of c.held file) refl (reads_itself file object at len) (fits.1.1, fits.1.2, fits.1.3, fits.1.4) wants
+asked_begins es node c (call.Write file object at bytes) is fits asked wants =
+    under_is es node c (call.Write file object at bytes) is file (op.Write object at bytes) asked (held_of c.held file) refl (writes_itself file object at bytes) (fits.1.1, fits.1.2, fits.1.3, fits.1.4) wants
+asked_begins es node c (call.Truncate file size epoch) is fits asked wants =
+    under_is es node c (call.Truncate file size epoch) is file (op.Truncate size) asked (held_of c.held file) refl (truncates_itself file size epoch) fits.1.1 wants
+asked_begins es node c (call.Report user group file) is fits asked wants = absurd fits.0
+asked_begins es node c (call.Meta user group request) is fits asked wants = absurd fits.0
+asked_begins es node c (call.Registry request) is fits asked wants = absurd fits.0
+
+-- a client is called
+pub call_owes : (es : List Entry) (node : NodeId) (times : TimeSettings) (c : WholeClient) (reading : ℕ) (k : Call) → EntriesAre es → CallerIs es node c → IsOnContent k × FitsCall k
+    → (let step = called node times c reading k in Owes es node (client step.state) step.turned)
+call_owes es node times c reading k answered is fits =
+    so (called node times c reading k)
+    (called_is (RequestIs (with_begin es node c k) node) node times c reading k (calls-grown es (entry.Begin node c.replicas.next k ∷ []) node c is.calls) (λ asked wants room. asked_begins es node c k is fits asked wants))
   where
-    begin : Entry
-    begin = entry.Begin node c.next k
+    -- nothing comes of it
+    nothing : Owes es node (client (passes c reading).state) (passes c reading).turned
+    nothing = client_owes es node (passes c reading) answered (record { calls = record { running = is.calls.running; made = is.calls.made }; held = is.held; fresh = is.fresh }) (silent refl) (λ m h. absurd h)
 
-    has_begun : operation_begun capability.file.number (es ++ entry.Begin node c.next k ∷ []) (id_of node c.next) ≡ Some asked
-    has_begun =
-        ap (operation_on capability.file.number) (first_begun (id_of node c.next) es (entry.Begin node c.next k) k (is.1 c.next (omega arith)) (own_begins node c.next k)) ∙ does_so k capability.file.number asked of_file does
-
-    there : location_in capability.file.number (es ++ entry.Begin node c.next k ∷ []) ≡ Some capability.location
-    there = location-grown capability.file.number es (entry.Begin node c.next k ∷ []) capability.location placed
-
-    fresh : FreshFrom (es ++ entry.Begin node c.next k ∷ []) node (c.next + 1)
-    fresh j above = none_begun (id_of node j) es (entry.Begin node c.next k) (is.1 j (omega arith)) (other_number node j c.next k above)
-
-    at : (b : Bool) → (let step = (if b then begins_call (record { node = node; times = times; now = max reading c.last }) (record c { last = max reading c.last }) capability k asked else stays ClientState (record c { last = max reading c.last })) in
-        Owes es node (client step.state) step.turned)
-    at true =
+    begins : (asked : Request) (step : Step WholeClient) → BeginsCall (RequestIs (with_begin es node c k) node) node c k asked step → Owes es node (client step.state) step.turned
+    begins asked step does =
+        let told : entry.Begin node c.replicas.next k ∷ [] ≡ map (entry_of node) step.turned.marks = sym (ap (map (entry_of node)) does.marks) in
         record {
-          core_is = ((has_begun, fits, there), fresh);
-          sent = sent;
-          ends = entries-push es (entry.Begin node c.next k) answered tt;
-          places = one_place (entry.Begin node c.next k) (λ number. refl);
+          core_is =
+              subst (λ (more : List Entry). CallerIs (es ++ more) node step.state) told
+              (record {
+                calls = does.client;
+                held = subst (AllHeld (HeldIs (with_begin es node c k))) (sym does.held) (held-grown es (entry.Begin node c.replicas.next k ∷ []) c.held is.held);
+                fresh = subst (FreshFrom (with_begin es node c k) node) (sym does.number) (begun_fresh es node c k is);
+              });
+          sent = λ m h.
+              subst (λ (more : List Entry). ContentIs (es ++ more) m.from m.to m.payload) told
+              (sent_is (with_begin es node c k) node step.turned.outs
+              (subst (Sends (RequestIs (with_begin es node c k) node) node) (sym does.outs) (sends_one does.to c.replicas.next asked does.asked_so)) m h);
+          ends = subst (λ (more : List Entry). EntriesAre (es ++ more)) told (entries-push es (entry.Begin node c.replicas.next k) answered tt);
+          places = subst NoPlaces told (one_place (entry.Begin node c.replicas.next k) (λ number. refl));
         }
-      where
-        sent : (m : Msg) → Has m (begins_call (record { node = node; times = times; now = max reading c.last }) (record c { last = max reading c.last }) capability k asked).turned.outs → ContentIs (es ++ entry.Begin node c.next k ∷ []) m.from m.to m.payload
-        sent m (inl e) = subst (λ (x : Msg). ContentIs (es ++ entry.Begin node c.next k ∷ []) x.from x.to x.payload) (sym e) (has_begun, fits, there)
-        sent m (inr h) = absurd h
-    at false =
+
+    so : (step : Step WholeClient) → CallStepIs (RequestIs (with_begin es node c k) node) node c reading k step → Owes es node (client step.state) step.turned
+    so step (call_passes same) = subst (λ (step : Step WholeClient). Owes es node (client step.state) step.turned) (sym same) nothing
+    so step (call_begins asked does) = begins asked step does
+
+-- ---- a client that is about to use a file
+
+-- what it holds is of files that are told, and it has begun no more calls
+pub ready_is : (es : List Entry) (node : NodeId) (files : List DeclaredFile) (c : WholeClient) (k : Call) (file : Option ℕ) → AreTold files es → CallerIs es node c → CallerIs es node (ready_for files c k file)
+ready_is es node files c k None told is = is
+ready_is es node files c k (Some number) told is = at (file_in files number) refl
+  where
+    at : (o : Option Location) → file_in files number ≡ o → CallerIs es node (about_to_use c k number o)
+    at None found = is
+    at (Some location) found =
+        let epoch = epoch_of c (declared_file number) k in
         record {
-          core_is = (subst (λ (xs : List Entry). CallIs xs node c.running) (sym (append-nil es)) is.0, subst (λ (xs : List Entry). FreshFrom xs node c.next) (sym (append-nil es)) is.1);
-          sent = λ m h. absurd h;
-          ends = subst EntriesAre (sym (append-nil es)) answered;
-          places = no_places;
+          calls = record { running = is.calls.running; made = is.calls.made };
+          held = holds_held (HeldIs es) c.held (declared_capability number location epoch) (record { epoch = 0; size = 0 }) (refl, told number ∙ found) is.held;
+          fresh = is.fresh;
         }

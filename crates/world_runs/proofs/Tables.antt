@@ -5,9 +5,9 @@ use Rattle.std.specs.Option.{option_map}
 use Rattle.std.proofs.lemmas.Bool.Decides.{nat_tests}
 use Rattle.std.proofs.lemmas.Bool.{cases_eq}
 use Rattle.xt_messages.specs.declared.file.Location.{Location}
-use Rattle.cluster_runs.specs.declared.DeclaredFile.{DeclaredFile}
-use Rattle.cluster_runs.specs.World.{Node, node_in, with_node, file_in}
-use Rattle.cluster_runs.specs.Lines.{ticked}
+use Rattle.world_spec.specs.declared.DeclaredFile.{DeclaredFile}
+use Rattle.world_spec.specs.World.{Node, node_in, with_node, file_in}
+use Rattle.world_spec.specs.Lines.{ticked}
 
 pub same : (a b : ℕ) → (a ≡ b) ⊎ (a ≢ b)
 same a b = grind arith

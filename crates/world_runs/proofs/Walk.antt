@@ -6,7 +6,6 @@ use Rattle.std.specs.Option.{option_or}
 use Rattle.std.proofs.lemmas.Bool.Decides.{nat_tests}
 use Rattle.xt_base.specs.declared.ids.NodeId.{NodeId}
 use Rattle.xt_messages.specs.declared.file.Location.{Location}
-use Rattle.xt_messages.specs.declared.file.Op.{Op}
 use Rattle.xt_messages.specs.declared.message.Msg.{Msg}
 use Rattle.xt_messages.specs.declared.record.Record.{Record}
 use Rattle.xt_messages.specs.declared.record.Record.TheVariants as kept
@@ -20,17 +19,18 @@ use Rattle.lease_safety.specs.State.{Has}
 use Rattle.lease_runs.proofs.Tests.{same_node}
 use Rattle.time_line.specs.declared.line.Line.{Line}
 use Rattle.time_line.specs.declared.line.Line.TheVariants as line
-use Rattle.cluster_runs.specs.declared.TheConstants.{MESSAGES, MESSAGE_BYTES, NODES}
-use Rattle.cluster_runs.specs.declared.Sent.{Sent}
+use Rattle.world_spec.specs.declared.TheConstants.{MESSAGES, MESSAGE_BYTES, NODES}
+use Rattle.world_spec.specs.declared.Sent.{Sent}
 use Rattle.time_line.specs.declared.entry.Entry.{Entry}
 use Rattle.time_line.specs.declared.entry.Entry.TheVariants as entry
-use Rattle.cluster_runs.specs.declared.Role.TheVariants as role
-use Rattle.cluster_runs.specs.declared.ClientState.{ClientState}
-use Rattle.cluster_runs.specs.Clients.{new_client, knows, aimed, call_of_client}
-use Rattle.cluster_runs.specs.World.{World, start_world, Node, Running, Core, osd, client, node_in, with_node, file_in, up_of, puts, loads}
-use Rattle.cluster_runs.specs.Rules.{refusal, if_so, no_osd, no_node, node_twice, runs_already, runs_not, drifts, drifts_inside, goes_back, clock_ends, called_file}
-use Rattle.cluster_runs.specs.NodeSteps.{Room, Cause, came_to, has_no_room, Overflow, Doing, halted, client_steps, event_comes, forgets_at, forgets_in, forgets_if, rewritten_at}
-use Rattle.cluster_runs.specs.Lines.{does, tells, declares, runs, first_boot, next_boot, starts_as, starts, changed, stops, crashes, cuts, reads_clock, declared_file, declared_capability, operation_of, epoch_of, uses, client_calls, core_calls, location_of, calls, aims_at, aims, no_longer_pending, delivers, least_pending, first_step, Next, finished, opens, goes_on, ends, begins, went, settles, works_on, next_step, steps, so_far}
+use Rattle.world_spec.specs.declared.Role.TheVariants as role
+use Rattle.client_rows.specs.Clients.{knows, aimed}
+use Rattle.client_rows.specs.Rows.{WholeClient, is_busy, may_repeat, called, called_again, stepped}
+use Rattle.world_spec.specs.World.{World, start_world, Node, Running, Core, osd, client, node_in, with_node, file_in, up_of, puts, loads}
+use Rattle.world_spec.specs.Rules.{refusal, if_so, no_osd, no_node, node_twice, runs_already, runs_not, drifts, drifts_inside, goes_back, clock_ends}
+use Rattle.client_rows.specs.Called.{called_file}
+use Rattle.world_spec.specs.NodeSteps.{Room, Cause, came_to, has_no_room, Overflow, Doing, halted, client_steps, event_comes, forgets_at, forgets_in, forgets_if, rewritten_at}
+use Rattle.world_spec.specs.Lines.{does, tells, declares, runs, first_boot, next_boot, starts_as, starts, changed, stops, crashes, cuts, reads_clock, whole_client, ready_for, core_calls, calls, core_calls_again, calls_again, id_usable, aims_at, aims, no_longer_pending, delivers, least_pending, first_step, Next, finished, opens, goes_on, ends, begins, went, settles, works_on, next_step, steps, so_far}
 use Rattle.world_runs.specs.View.{messages}
 use Rattle.world_runs.proofs.Lists.{set_same}
 use Rattle.world_runs.proofs.Tables.{node_in-new, node_in-id}
@@ -43,19 +43,18 @@ use Rattle.time_line.specs.declared.entry.Halt.{Halt}
 use Rattle.lease_safety.specs.Legal.{IsClose}
 use Rattle.xt_protocol.specs.Forgetting.{keep_of}
 use Rattle.xt_protocol.specs.OsdSteps.{OsdState, step_of_osd}
-use Rattle.cluster_runs.specs.Steps.{Step}
-use Rattle.cluster_runs.specs.Clients.{step_of_client}
-use Rattle.cluster_runs.specs.NodeSteps.{to_itself, after_turn, appends, within_limits, frame_bytes, end_of_step, overflow_of, core_step, osd_steps, outside_of, event_at}
-use Rattle.cluster_runs.specs.Lines.{ticked}
-use Rattle.cluster_runs.specs.Rules.{first_stranger, file_twice}
-use Rattle.cluster_runs.specs.Runs.{with_line, after, after_refusal, run_of}
+use Rattle.client_rows.specs.Steps.{Step}
+use Rattle.world_spec.specs.NodeSteps.{to_itself, after_turn, appends, within_limits, frame_bytes, end_of_step, overflow_of, core_step, osd_steps, outside_of, event_at}
+use Rattle.world_spec.specs.Lines.{ticked}
+use Rattle.world_spec.specs.Rules.{first_stranger, file_twice}
+use Rattle.world_spec.specs.Runs.{with_line, after, after_refusal, run_of}
 use Rattle.std.specs.Prelude.{◌<◌, ◌^◌}
 use Rattle.xt_base.specs.TimeSettings.{AreTimes}
 use Rattle.xt_messages.specs.Limits.{FitsNode, FitsLocation}
-use Rattle.time_line.specs.Bounds.{AreLines, FitsLine, FitsCall, FitsLater}
-use Rattle.cluster_runs.specs.Rules.{has_call, busy, no_client, no_called_file}
+use Rattle.time_line.specs.Bounds.{AreLines, FitsLine, FitsCall, IsOnContent, FitsLater}
+use Rattle.world_spec.specs.Rules.{has_call, busy, may_go_again, can_repeat, no_call, no_client, no_called_file}
 use Rattle.std.specs.List.{fold, AllByRecursion}
-use Rattle.cluster_runs.specs.Lines.{done, enough}
+use Rattle.world_spec.specs.Lines.{done, enough}
 use Rattle.world_runs.proofs.Frame.{however, next_node}
 
 -- ---- rules
@@ -119,20 +118,20 @@ pub left_within : (own was : List Msg) → AreLeft own was → (m : Msg) → Has
 left_within own was (inl none) m h = absurd (subst (Has m) none h)
 left_within own was (inr some) m h = subst (Has m) (sym some.1) (inr h)
 
--- a client's call on a declared file
-abbrev pub call_step : World → Node → Running → ClientState → Call → ℕ → Location → Op → Step ClientState
-call_step w node r c k number location asked =
-    let capability = declared_capability number location (epoch_of c (declared_file number) k) in
-    call_of_client node.id w.times (uses c capability) r.clock capability k asked
+-- a client's call: it is given the capability of a declared file first
+abbrev pub call_step : World → Node → Running → WholeClient → Call → Step WholeClient
+call_step w node r c k = called node.id w.times (ready_for w.files c k (called_file k)) r.clock k
 
--- a step of a running node: of an OSD or a client on an event, or a client's call on a declared file
+-- a step of a running node: of an OSD or a client on an event, a client's call, or its last call once more
 pub data NodeStep (w : World) (was : List Msg) (node : Node) (r : Running) : Core → Turned → Type 0 where
   of_osd : (s : OsdState) (happens : Event) → r.core ≡ osd s → Reaches w was node.id happens
       → NodeStep w was node r (osd (step_of_osd (outside_of node.kept) s r.clock happens).osd) (step_of_osd (outside_of node.kept) s r.clock happens).turned
-  of_client : (c : ClientState) (happens : Event) → r.core ≡ client c → Reaches w was node.id happens
-      → NodeStep w was node r (client (step_of_client node.id w.times c r.clock happens).state) (step_of_client node.id w.times c r.clock happens).turned
-  of_call : (c : ClientState) (k : Call) (number : ℕ) (location : Location) (asked : Op) → r.core ≡ client c → (c.running ≡ None) × (was ≡ []) → FitsCall k → called_file k ≡ Some number → file_in w.files number ≡ Some location → operation_of k ≡ Some asked
-      → NodeStep w was node r (client (call_step w node r c k number location asked).state) (call_step w node r c k number location asked).turned
+  of_client : (c : WholeClient) (happens : Event) → r.core ≡ client c → Reaches w was node.id happens
+      → NodeStep w was node r (client (stepped node.id w.times c r.clock happens).state) (stepped node.id w.times c r.clock happens).turned
+  of_call : (c : WholeClient) (k : Call) → r.core ≡ client c → (is_busy c.made ≡ false) × (was ≡ []) → IsOnContent k × FitsCall k → no_called_file w node.id (called_file k) ≡ None
+      → NodeStep w was node r (client (call_step w node r c k).state) (call_step w node r c k).turned
+  of_again : (c : WholeClient) → r.core ≡ client c → (is_busy c.made ≡ false) × (was ≡ []) → may_repeat c.made ≡ true
+      → NodeStep w was node r (client (called_again node.id w.times c r.clock).state) (called_again node.id w.times c r.clock).turned
 
 -- a new clock is close to those of the other running nodes
 abbrev pub IsCloseToOthers : World → NodeId → ℕ → Type 0
@@ -151,15 +150,15 @@ pub record IsKept (P : World → List Msg → Type 0) : Type 0 where
   pub osd_declared : (w : World) (id : NodeId) → FitsNode id → node_in w.nodes id.0 ≡ None → P w []
       → P (tells (record w { nodes = w.nodes ++ record { id = id; role = role.Osd; kept = []; past = []; up = None } ∷ [] }) []) []
   pub client_declared : (w : World) (id : NodeId) (clock : ℕ) → FitsNode id × (clock < 2 ^ 62) → node_in w.nodes id.0 ≡ None → P w []
-      → P (tells (record w { nodes = w.nodes ++ record { id = id; role = role.Client; kept = []; past = []; up = Some (runs first_boot clock (client (new_client clock))) } ∷ [] }) (entry.Up id first_boot clock ∷ [])) []
+      → P (tells (record w { nodes = w.nodes ++ record { id = id; role = role.Client; kept = []; past = []; up = Some (runs first_boot clock (client (whole_client clock))) } ∷ [] }) (entry.Up id first_boot clock ∷ [])) []
   pub file_declared : (w : World) (number : ℕ) (location : Location) → (number < 1000000) × FitsLocation location → file_in w.files number ≡ None → P w []
       → P (tells (record w { files = w.files ++ record { number = number; location = location } ∷ [] }) (entry.File number location ∷ [])) []
   -- a node starts; it is changed in what no step of it reads; a client's first target is set; a node stops
   pub started : (w : World) (node : Node) (clock : ℕ) → (clock < 2 ^ 62) × (nat_lt (next_boot node.kept).0 COUNTS ≡ true) → node_in w.nodes node.id.0 ≡ Some node → node.up ≡ None → IsCloseToOthers w node.id clock → P w [] → P (starts_as w node (next_boot node.kept) clock) []
   pub planned : (w : World) (node : Node) (r q : Running) → node_in w.nodes node.id.0 ≡ Some node → node.up ≡ Some r → (q.boot ≡ r.boot) × StopsAs r.crash q.crash → q.clock ≡ r.clock → q.core ≡ r.core → P w []
       → P (record w { nodes = with_node w.nodes (record node { up = Some q }) }) []
-  pub aimed_at : (w : World) (node : Node) (r : Running) (c : ClientState) (number : ℕ) (target : NodeId) → node_in w.nodes node.id.0 ≡ Some node → node.up ≡ Some r → r.core ≡ client c → P w []
-      → P (record w { nodes = with_node w.nodes (record node { up = Some (record r { core = client (knows c (declared_file number) (aimed target)) }) }) }) []
+  pub aimed_at : (w : World) (node : Node) (r : Running) (c : WholeClient) (number : ℕ) (target : NodeId) → node_in w.nodes node.id.0 ≡ Some node → node.up ≡ Some r → r.core ≡ client c → P w []
+      → P (record w { nodes = with_node w.nodes (record node { up = Some (record r { core = client (record c { replicas = knows c.replicas (id_usable w.files c.held number) (aimed target) }) }) }) }) []
   pub stopped : (w : World) (own : List Msg) (node : Node) (r : Running) (how : Halt) → node_in w.nodes node.id.0 ≡ Some node → node.up ≡ Some r → P w own → P (halted w node r how) []
   -- clocks
   pub clock_set : (w : World) (node : Node) (r : Running) (clock : ℕ) → clock < 2 ^ 62 → node_in w.nodes node.id.0 ≡ Some node → node.up ≡ Some r → r.clock ≤ clock → IsCloseToOthers w node.id clock → P w []
@@ -202,6 +201,7 @@ later_first w (line.Clock node clock) is = tt
 later_first w (line.Tick count) is = tt
 later_first w (line.Wake node) is = tt
 later_first w (line.Call id k) is = tt
+later_first w (line.Again id) is = tt
 later_first w (line.Aim id file node) is = tt
 later_first w (line.Deliver number) is = tt
 later_first w (line.Drop number) is = tt
@@ -220,6 +220,7 @@ starting_first (line.Clock node clock) = tt
 starting_first (line.Tick count) = tt
 starting_first (line.Wake node) = tt
 starting_first (line.Call id k) = tt
+starting_first (line.Again id) = tt
 starting_first (line.Aim id file node) = tt
 starting_first (line.Deliver number) = tt
 starting_first (line.Drop number) = tt
@@ -311,7 +312,7 @@ module _ (P : World → List Msg → Type 0) (keeps : IsKept P) where
       by_core node r (osd s) found mine is_up is_core =
           end_kept room d was node r (osd_steps (step_of_osd (outside_of node.kept) s r.clock happens)) left found is_up (of_osd s happens is_core (subst (λ (n : NodeId). Reaches d.world was n happens) (sym mine) comes)) p
       by_core node r (client c) found mine is_up is_core =
-          end_kept room d was node r (client_steps (step_of_client node.id d.world.times c r.clock happens)) left found is_up (of_client c happens is_core (subst (λ (n : NodeId). Reaches d.world was n happens) (sym mine) comes)) p
+          end_kept room d was node r (client_steps (stepped node.id d.world.times c r.clock happens)) left found is_up (of_client c happens is_core (subst (λ (n : NodeId). Reaches d.world was n happens) (sym mine) comes)) p
 
       by_up : (node : Node) (up : Option Running) → node_in d.world.nodes node.id.0 ≡ Some node → node.id ≡ id → node.up ≡ up
           → ResultIs (elim up [
@@ -340,19 +341,19 @@ module _ (P : World → List Msg → Type 0) (keeps : IsKept P) where
       at (Some node) is = by_up node (ap (node_in w.nodes) (node_in-id w.nodes id.0 node is) ∙ is) node.up refl
 
   -- a client's first target
-  aims_kept : (w : World) (id : NodeId) (number : ℕ) (target : NodeId) → P w [] → P (changed w (node_in w.nodes id.0) (aims number target)) []
+  aims_kept : (w : World) (id : NodeId) (number : ℕ) (target : NodeId) → P w [] → P (changed w (node_in w.nodes id.0) (aims w.files number target)) []
   aims_kept w id number target p = at (node_in w.nodes id.0) refl
     where
-      by_core : (node : Node) (r : Running) (core : Core) → node_in w.nodes node.id.0 ≡ Some node → node.up ≡ Some r → r.core ≡ core → P (record w { nodes = with_node w.nodes (record node { up = Some (record r { core = aims_at number target core }) }) }) []
+      by_core : (node : Node) (r : Running) (core : Core) → node_in w.nodes node.id.0 ≡ Some node → node.up ≡ Some r → r.core ≡ core → P (record w { nodes = with_node w.nodes (record node { up = Some (record r { core = aims_at w.files number target core }) }) }) []
       by_core node r (osd s) found is_up is_core = keeps.planned w node r (record r { core = osd s }) found is_up (refl, inl refl) refl (sym is_core) p
       by_core node r (client c) found is_up is_core = keeps.aimed_at w node r c number target found is_up is_core p
 
       by_up : (node : Node) → node_in w.nodes node.id.0 ≡ Some node → (up : Option Running) → node.up ≡ up
-          → P (elim up [ None ↦ w | Some running ↦ record w { nodes = with_node w.nodes (record node { up = Some (aims number target running) }) } ]) []
+          → P (elim up [ None ↦ w | Some running ↦ record w { nodes = with_node w.nodes (record node { up = Some (aims w.files number target running) }) } ]) []
       by_up node found None is_up = p
       by_up node found (Some r) is_up = by_core node r r.core found is_up refl
 
-      at : (found : Option Node) → node_in w.nodes id.0 ≡ found → P (changed w found (aims number target)) []
+      at : (found : Option Node) → node_in w.nodes id.0 ≡ found → P (changed w found (aims w.files number target)) []
       at None is = p
       at (Some node) is = by_up node (ap (node_in w.nodes) (node_in-id w.nodes id.0 node is) ∙ is) node.up refl
 
@@ -390,43 +391,63 @@ module _ (P : World → List Msg → Type 0) (keeps : IsKept P) where
 
   -- ---- a client's call
 
-  call_number_kept : (room : Room) (d : Doing) (node : Node) (r : Running) (c : ClientState) (k : Call) (number : ℕ) (location : Location) (asked : Op) → d.own ≡ [] → node_in d.world.nodes node.id.0 ≡ Some node → node.up ≡ Some r → r.core ≡ client c → c.running ≡ None → FitsCall k
-      → called_file k ≡ Some number → file_in d.world.files number ≡ Some location → operation_of k ≡ Some asked → P d.world [] → ResultIs (client_calls room d node r c k number location asked)
-  call_number_kept room d node r c k number location asked idle found is_up is_core resting bound called declared asks_so fit =
-      let capability = declared_capability number location (epoch_of c (declared_file number) k) in
-      let step = call_of_client node.id d.world.times (uses c capability) r.clock capability k asked in
-      end_kept room d [] node r (client_steps step) (inl idle) found is_up (of_call c k number location asked is_core (resting, refl) bound called declared asks_so) fit
-
-  calls_kept : (room : Room) (d : Doing) (id : NodeId) (k : Call) → FitsCall k → busy d.world.nodes id ≡ None → d.own ≡ [] → P d.world [] → ResultIs (calls room d (node_in d.world.nodes id.0) k)
-  calls_kept room d id k bound free idle fit = at (node_in d.world.nodes id.0) refl
+  calls_kept : (room : Room) (d : Doing) (id : NodeId) (k : Call) → IsOnContent k × FitsCall k → no_called_file d.world id (called_file k) ≡ None → busy d.world.nodes id ≡ None → d.own ≡ [] → P d.world [] → ResultIs (calls room d (node_in d.world.nodes id.0) k)
+  calls_kept room d id k bound may free idle fit = at (node_in d.world.nodes id.0) refl
     where
       idle_fit : P d.world d.own
       idle_fit = subst (P d.world) (sym idle) fit
 
-      -- no call of the client runs
       calm : has_call (up_of (node_in d.world.nodes id.0)) ≡ false
       calm = not_so _ _ free
 
-      by_core : (node : Node) (r : Running) (core : Core) (number : Option ℕ) (location : Option Location) (asked : Option Op) → has_call (Some r) ≡ false → node_in d.world.nodes node.id.0 ≡ Some node → node.up ≡ Some r → r.core ≡ core → called_file k ≡ number → location_of d.world number ≡ location → operation_of k ≡ asked
-          → ResultIs (core_calls room d node r core k number location asked)
-      by_core node r (osd s) number location asked still found is_up is_core called there asks_so = idle_fit
-      by_core node r (client c) None location asked still found is_up is_core called there asks_so = idle_fit
-      by_core node r (client c) (Some number) None asked still found is_up is_core called there asks_so = idle_fit
-      by_core node r (client c) (Some number) (Some location) None still found is_up is_core called there asks_so = idle_fit
-      by_core node r (client c) (Some number) (Some location) (Some asked) still found is_up is_core called there asks_so = call_number_kept room d node r c k number location asked idle found is_up is_core
-          (none_there c.running (sym (ap (λ (core : Core). has_call (Some (record r { core = core }))) is_core) ∙ still)) bound called there asks_so fit
+      by_core : (node : Node) (r : Running) (core : Core) → has_call (Some r) ≡ false → node_in d.world.nodes node.id.0 ≡ Some node → node.id ≡ id → node.up ≡ Some r → r.core ≡ core → ResultIs (core_calls room d node r core k)
+      by_core node r (client c) still found mine is_up is_core =
+          end_kept room d [] node r (client_steps (call_step d.world node r c k)) (inl idle) found is_up
+          (of_call c k is_core (sym (ap (λ (core : Core). has_call (Some (record r { core = core }))) is_core) ∙ still, refl) bound (subst (λ (n : NodeId). no_called_file d.world n (called_file k) ≡ None) (sym mine) may)) fit
+      by_core node r (osd s) still found mine is_up is_core = idle_fit
 
-      by_up : (node : Node) → has_call node.up ≡ false → node_in d.world.nodes node.id.0 ≡ Some node → (up : Option Running) → node.up ≡ up
-          → ResultIs (elim up [
-            | None ↦ Ok d
-            | Some running ↦ core_calls room d node running running.core k (called_file k) (location_of d.world (called_file k)) (operation_of k)
-          ])
-      by_up node still found None is_up = idle_fit
-      by_up node still found (Some r) is_up = by_core node r r.core (called_file k) (location_of d.world (called_file k)) (operation_of k) (sym (ap has_call is_up) ∙ still) found is_up refl refl refl refl
+      by_up : (node : Node) → has_call node.up ≡ false → node_in d.world.nodes node.id.0 ≡ Some node → node.id ≡ id → (up : Option Running) → node.up ≡ up
+          → ResultIs (elim up [ None ↦ Ok d | Some running ↦ core_calls room d node running running.core k ])
+      by_up node still found mine None is_up = idle_fit
+      by_up node still found mine (Some r) is_up = by_core node r r.core (sym (ap has_call is_up) ∙ still) found mine is_up refl
 
       at : (found : Option Node) → node_in d.world.nodes id.0 ≡ found → ResultIs (calls room d found k)
       at None is = idle_fit
-      at (Some node) is = by_up node (sym (ap (λ (f : Option Node). has_call (up_of f)) is) ∙ calm) (ap (node_in d.world.nodes) (node_in-id d.world.nodes id.0 node is) ∙ is) node.up refl
+      at (Some node) is = by_up node (sym (ap (λ (f : Option Node). has_call (up_of f)) is) ∙ calm) (ap (node_in d.world.nodes) (node_in-id d.world.nodes id.0 node is) ∙ is) (same_node node.id id (node_in-id d.world.nodes id.0 node is)) node.up refl
+
+  -- the last call again
+  again_kept : (room : Room) (d : Doing) (id : NodeId) → busy d.world.nodes id ≡ None → no_call d.world.nodes id ≡ None → d.own ≡ [] → P d.world [] → ResultIs (calls_again room d (node_in d.world.nodes id.0))
+  again_kept room d id free may idle fit = at (node_in d.world.nodes id.0) refl
+    where
+      idle_fit : P d.world d.own
+      idle_fit = subst (P d.world) (sym idle) fit
+
+      calm : has_call (up_of (node_in d.world.nodes id.0)) ≡ false
+      calm = not_so _ _ free
+
+      allowed : not (may_go_again (up_of (node_in d.world.nodes id.0))) ≡ false
+      allowed = not_so _ _ may
+
+      not_not : (b : Bool) → not b ≡ false → b ≡ true
+      not_not true is = refl
+      not_not false is = absurd (cc)
+
+      by_core : (node : Node) (r : Running) (core : Core) → has_call (Some r) ≡ false → not (may_go_again (Some r)) ≡ false → node_in d.world.nodes node.id.0 ≡ Some node → node.up ≡ Some r → r.core ≡ core → ResultIs (core_calls_again room d node r core)
+      by_core node r (client c) still may_be found is_up is_core =
+          end_kept room d [] node r (client_steps (called_again node.id d.world.times c r.clock)) (inl idle) found is_up
+          (of_again c is_core (sym (ap (λ (core : Core). has_call (Some (record r { core = core }))) is_core) ∙ still, refl) (not_not (may_repeat c.made) (sym (ap (λ (core : Core). not (can_repeat core)) is_core) ∙ may_be))) fit
+      by_core node r (osd s) still may_be found is_up is_core = idle_fit
+
+      by_up : (node : Node) → has_call node.up ≡ false → not (may_go_again node.up) ≡ false → node_in d.world.nodes node.id.0 ≡ Some node → (up : Option Running) → node.up ≡ up
+          → ResultIs (elim up [ None ↦ Ok d | Some running ↦ core_calls_again room d node running running.core ])
+      by_up node still may_be found None is_up = idle_fit
+      by_up node still may_be found (Some r) is_up = by_core node r r.core (sym (ap has_call is_up) ∙ still) (sym (ap (λ (u : Option Running). not (may_go_again u)) is_up) ∙ may_be) found is_up refl
+
+      at : (found : Option Node) → node_in d.world.nodes id.0 ≡ found → ResultIs (calls_again room d found)
+      at None is = idle_fit
+      at (Some node) is =
+          by_up node (sym (ap (λ (f : Option Node). has_call (up_of f)) is) ∙ calm) (sym (ap (λ (f : Option Node). not (may_go_again (up_of f))) is) ∙ allowed)
+          (ap (node_in d.world.nodes) (node_in-id d.world.nodes id.0 node is) ∙ is) node.up refl
 
   -- ---- starts and declarations
 
@@ -498,7 +519,7 @@ module _ (P : World → List Msg → Type 0) (keeps : IsKept P) where
   first_kept room w (line.Osd node) allowed first fit = declares_kept _ (record { id = node; role = role.Osd; kept = []; past = []; up = None }) [] refl (keeps.osd_declared w node first.0 (none_there _ (not_so _ _ allowed)) fit)
   first_kept room w (line.Client node clock) allowed first fit =
       let free = (either_none (node_twice w.nodes node) (drifts_inside w node clock) allowed).0 in
-      declares_kept _ (record { id = node; role = role.Client; kept = []; past = []; up = Some (runs first_boot clock (client (new_client clock))) }) (entry.Up node first_boot clock ∷ []) refl (keeps.client_declared w node clock first.0 (none_there _ (not_so _ _ free)) fit)
+      declares_kept _ (record { id = node; role = role.Client; kept = []; past = []; up = Some (runs first_boot clock (client (whole_client clock))) }) (entry.Up node first_boot clock ∷ []) refl (keeps.client_declared w node clock first.0 (none_there _ (not_so _ _ free)) fit)
   first_kept room w (line.File number location) allowed first fit = keeps.file_declared w number location first.0 (none_there _ (not_so _ _ (either_none (file_twice w.files number) (first_stranger w.nodes location.members) allowed).0)) fit
   first_kept room w (line.Start node clock) allowed first fit =
       let later = (either_none (no_osd w.nodes node) (option_or (runs_already w.nodes node) (drifts w node clock)) allowed).1 in
@@ -514,7 +535,12 @@ module _ (P : World → List Msg → Type 0) (keeps : IsKept P) where
       clock_line w node clock first.0.1 one.0 two.0 two.1 fit
   first_kept room w (line.Tick count) allowed first fit = keeps.all_ticked w count (first.0, allowed) fit
   first_kept room w (line.Wake node) allowed first fit = event_kept room (record { world = w; own = []; left = 0 }) [] node event.Wake (inl refl) refl fit
-  first_kept room w (line.Call id k) allowed first fit = calls_kept room (record { world = w; own = []; left = 0 }) id k first.0.1 (either_none (no_called_file w.files (called_file k)) (busy w.nodes id) (either_none (no_client w.nodes id) (option_or (no_called_file w.files (called_file k)) (busy w.nodes id)) allowed).1).1 refl fit
+  first_kept room w (line.Call id k) allowed first fit =
+      let later = either_none (no_called_file w id (called_file k)) (busy w.nodes id) (either_none (no_client w.nodes id) (option_or (no_called_file w id (called_file k)) (busy w.nodes id)) allowed).1 in
+      calls_kept room (record { world = w; own = []; left = 0 }) id k (first.0.1, first.0.2) later.0 later.1 refl fit
+  first_kept room w (line.Again id) allowed first fit =
+      let later = either_none (busy w.nodes id) (no_call w.nodes id) (either_none (no_client w.nodes id) (option_or (busy w.nodes id) (no_call w.nodes id)) allowed).1 in
+      again_kept room (record { world = w; own = []; left = 0 }) id later.0 later.1 refl fit
   first_kept room w (line.Aim id file node) allowed first fit = aims_kept w id file node fit
   first_kept room w (line.Deliver number) allowed first fit = delivers_kept room (record { world = w; own = []; left = 0 }) number refl fit
   first_kept room w (line.Drop number) allowed first fit = keeps.less_pending w [] number fit
@@ -589,6 +615,7 @@ module _ (P : World → List Msg → Type 0) (keeps : IsKept P) where
   begins_kept w (line.Tick count) allowed first fit = (fit, allowed, first)
   begins_kept w (line.Wake node) allowed first fit = (fit, allowed, first)
   begins_kept w (line.Call id k) allowed first fit = (fit, allowed, first)
+  begins_kept w (line.Again id) allowed first fit = (fit, allowed, first)
   begins_kept w (line.Aim id file node) allowed first fit = (fit, allowed, first)
   begins_kept w (line.Deliver number) allowed first fit = (fit, allowed, first)
   begins_kept w (line.Drop number) allowed first fit = (fit, allowed, first)

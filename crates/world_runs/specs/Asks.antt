@@ -8,8 +8,8 @@ use Rattle.xt_messages.specs.declared.message.Payload.TheVariants as payload
 use Rattle.lease_safety.specs.State.{Has}
 use Rattle.time_line.specs.declared.entry.Entry.{Entry}
 use Rattle.time_line.specs.TimeLine.{id_of, operation_begun}
-use Rattle.cluster_runs.specs.World.{World}
-use Rattle.cluster_runs.specs.Lines.{Next, finished, opens, goes_on, ends}
+use Rattle.world_spec.specs.World.{World}
+use Rattle.world_spec.specs.Lines.{Next, finished, opens, goes_on, ends}
 use Rattle.world_runs.specs.View.{messages}
 
 -- an ask is of a call that has begun on its file: it asks what the call does, within its limits

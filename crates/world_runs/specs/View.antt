@@ -9,10 +9,10 @@ use Rattle.xt_protocol.specs.Folds.{fold_of}
 use Rattle.xt_protocol.specs.LeaseRows.{Silent, Awake}
 use Rattle.xt_protocol.specs.OsdSteps.{file_at}
 use Rattle.time_line.specs.declared.entry.Entry.{Entry}
-use Rattle.cluster_runs.specs.declared.Sent.{Sent}
+use Rattle.world_spec.specs.declared.Sent.{Sent}
 use Rattle.time_line.specs.TimeLine.{Standing, standing}
-use Rattle.cluster_runs.specs.World.{World, Node, Running, Core, osd, client, node_in}
-use Rattle.cluster_runs.specs.Lines.{declared_file}
+use Rattle.world_spec.specs.World.{World, Node, Running, Core, osd, client, node_in}
+use Rattle.world_spec.specs.Lines.{declared_file}
 use Rattle.lease_runs.specs.LeaseWorld.{LeaseSetting, fresh_row, LeaseNode, LeaseWorld, lease_file}
 use Rattle.lease_runs.specs.LeaseView.{lease_row_of, is_about}
 

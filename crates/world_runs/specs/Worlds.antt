@@ -21,12 +21,17 @@ use Rattle.xt_protocol.specs.OsdSteps.{OsdState, file_at}
 use Rattle.osd_invariants.specs.Sound.{IsHeld, IsStored, IsSound}
 use Rattle.lease_runs.specs.OsdView.{site_of}
 use Rattle.lease_runs.specs.ActsView.{IsBusy}
-use Rattle.cluster_runs.specs.declared.DeclaredFile.{DeclaredFile}
-use Rattle.cluster_runs.specs.declared.RunningCall.{RunningCall}
+use Rattle.world_spec.specs.declared.DeclaredFile.{DeclaredFile}
+use Rattle.xt_messages.specs.declared.file.Capability.{Capability}
+use Rattle.xt_messages.specs.declared.file.Kind.TheVariants as kind
+use Rattle.client_rows.specs.declared.requests.Request.{Request}
+use Rattle.client_rows.specs.declared.requests.Request.TheVariants as request
+use Rattle.client_rows.specs.Rows.{WholeClient}
+use Rattle.client_steps.specs.Asked.{ClientIs, AllHeld}
 use Rattle.time_line.specs.TimeLine.{Standing, standing, holds, times_of}
-use Rattle.cluster_runs.specs.World.{World, Node, Running, Core, osd, client, node_in, file_in, up_of}
-use Rattle.cluster_runs.specs.NodeSteps.{outside_of}
-use Rattle.cluster_runs.specs.Lines.{Next, finished, opens, goes_on, ends, declared_file}
+use Rattle.world_spec.specs.World.{World, Node, Running, Core, osd, client, node_in, file_in, up_of}
+use Rattle.world_spec.specs.NodeSteps.{outside_of}
+use Rattle.world_spec.specs.Lines.{Next, finished, opens, goes_on, ends, declared_file}
 use Rattle.world_runs.specs.View.{node_id, awake_as, messages}
 
 -- ---- files that rise
@@ -53,9 +58,14 @@ abbrev pub Listed : List DeclaredFile → FileId → Option Location → Type 0
 Listed files file None = Unit {0}
 Listed files file (Some location) = file_in files file.number ≡ Some location
 
+-- a capability is of a declared file, with its list
+abbrev pub IsOfDeclared : List DeclaredFile → Capability → Type 0
+IsOfDeclared files capability =
+    (capability.file ≡ declared_file capability.file.number) × (file_in files capability.file.number ≡ Some capability.location)
+
 -- an ask is on a declared file, with its list
 abbrev pub AskFits : List DeclaredFile → Payload → Type 0
-AskFits files (payload.Ask number capability asked) = (capability.file ≡ declared_file capability.file.number) × (file_in files capability.file.number ≡ Some capability.location)
+AskFits files (payload.Ask number capability asked) = IsOfDeclared files capability
 AskFits files _ = Unit {0}
 
 -- the state of a file: it is sound, its list is the declared one, and where there is a round or a lease its file is declared
@@ -83,16 +93,26 @@ pub record OsdFits (times : TimeSettings) (files : List DeclaredFile) (node : No
   pub fits : (f : FileState) → Has f s.files → FileFits files f
   pub rises : Rises (files_of s.files)
 
--- the capability of a running call is of a declared file
-abbrev pub CallFits : List DeclaredFile → Option RunningCall → Type 0
-CallFits files None = Unit {0}
-CallFits files (Some call) =
-    (call.capability.file ≡ declared_file call.capability.file.number) × (file_in files call.capability.file.number ≡ Some call.capability.location)
+-- What a client asks is on the content of a declared file, by a request of the file's kind.
+abbrev pub RequestFits : List DeclaredFile → ℕ → Request → Type 0
+RequestFits files number (request.Replicated capability asked) = IsOfDeclared files capability × (capability.location.kind ≡ kind.Replicated)
+RequestFits files number (request.Striped capability asked) = IsOfDeclared files capability × (capability.location.kind ≡ kind.Striped)
+RequestFits files number (request.Meta user group asked) = ⊥
+RequestFits files number (request.Registry asked) = ⊥
+
+-- a capability that a client holds of the file of this number is of that declared file
+abbrev pub HeldFits : List DeclaredFile → ℕ → Capability → Type 0
+HeldFits files number capability = (capability.file ≡ declared_file number) × (file_in files number ≡ Some capability.location)
+
+-- a client asks and holds nothing but what is of declared files
+pub record ClientFits (files : List DeclaredFile) (c : WholeClient) : Type 0 where
+  pub calls : ClientIs (RequestFits files) c
+  pub held : AllHeld (HeldFits files) c.held
 
 -- a running node: an OSD's boot isn't above those of its records
 abbrev pub CoreFits : TimeSettings → List DeclaredFile → NodeId → List Record → Running → Core → Type 0
 CoreFits times files node kept r (osd s) = OsdFits times files node r.boot r.clock s × (r.boot.0 ≤ (fold_of kept).boot.0) × Agrees kept s
-CoreFits times files node kept r (client c) = CallFits files c.running
+CoreFits times files node kept r (client c) = ClientFits files c
 
 abbrev pub UpFits : TimeSettings → List DeclaredFile → NodeId → List Record → Option Running → Type 0
 UpFits times files node kept None = Unit {0}

@@ -9,15 +9,15 @@
 ghost use Rattle.std.specs.Prelude.{◌≡◌, ℕ, true, None, List, [], ◌∷◌, ◌++◌, take};
 ghost use Rattle.time_line.specs.declared.entry.Entry.{Entry};
 ghost use Rattle.time_line.specs.declared.line.Line.{Line};
-ghost use Rattle.cluster_runs.specs.NodeSteps.{Room};
-ghost use Rattle.cluster_runs.specs.Rules.{refusal};
-ghost use Rattle.cluster_runs.specs.Lines.{begins, steps};
+ghost use Rattle.world_spec.specs.NodeSteps.{Room};
+ghost use Rattle.world_spec.specs.Rules.{refusal};
+ghost use Rattle.world_spec.specs.Lines.{begins, steps};
 ghost use Rattle.time_line.specs.Bounds.{AreLines};
 ghost use Rattle.world_runs.specs.Worlds.{IsInOrder, IsNextInOrder};
-ghost use Rattle.cluster_runs.specs.Runs.{run_of, IsRunInto};
+ghost use Rattle.world_spec.specs.Runs.{run_of, IsRunInto};
 ghost use Rattle.time_line.specs.Clauses.{AreApart, HoldersAct, AreOnce, AnswersShow, EndsAreAnswered, AreFresh};
 ghost use Rattle.time_line.specs.TimeLine.{is_replicated, holds};
-ghost use Rattle.cluster_runs.specs.Examples.{node, trace_of, vanished};
+ghost use Rattle.world_spec.specs.Examples.{node, trace_of, vanished};
 ghost use Rattle.world_runs.specs.Acts.{ActsHaveBegun};
 ghost use Rattle.world_runs.specs.Asks.{AsksHaveBegun, NextHasBegun};
 
@@ -40,8 +40,8 @@ pub fn holders_act()
 {}
 
 /// What holds of the world at every moment of a run, also in the midst of a line: what an OSD has of a file is what its records
-/// say, and is sound; lists and asks are those that are declared; nodes stand in the trace as they run; who has a lease holds
-/// its file by the trace; and no two nodes lead a file.
+/// say, and is sound; lists, asks and what clients hold are those that are declared; nodes stand in the trace as they run; who has
+/// a lease holds its file by the trace; and no two nodes lead a file.
 pub fn worlds_are_in_order()
     ensures whole { (room : Room) (lines : List Line) → AreLines lines →
         IsInOrder (run_of room lines) [] }

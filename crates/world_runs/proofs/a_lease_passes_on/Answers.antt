@@ -6,7 +6,7 @@ use Rattle.time_line.specs.TimeLine.{standing, first_times}
 use Rattle.time_line.specs.declared.line.Line.{Line}
 use Rattle.time_line.specs.declared.line.Line.TheVariants as line
 use Rattle.time_line.specs.Bounds.{FitsLater}
-use Rattle.cluster_runs.specs.Examples.{node, trio, osd_is, client_at, start_at, file_on, write_at, read_byte, aims_at, trace_of}
+use Rattle.world_spec.specs.Examples.{node, trio, osd_is, client_at, start_at, file_on, write_at, read_byte, aims_at, trace_of}
 use Rattle.world_runs.proofs.a_lease_passes_on.Goals as goal
 
 one_byte : (b : ℕ) → b < 256 → FitsBytes (b ∷ [])
@@ -17,10 +17,10 @@ one_byte b is = record { all = λ i. at i; few = omega (arith) }
     at (suc i) = omega (arith)
 
 writes : (b : ℕ) → b < 256 → FitsLater (write_at 10 0 (b ∷ []))
-writes b is = ((omega arith, (omega arith, omega arith, omega arith, one_byte b is, omega arith)), refl)
+writes b is = ((omega arith, tt, (omega arith, omega arith, omega arith, one_byte b is, omega arith)), refl)
 
 reads : FitsLater (read_byte 11)
-reads = ((omega arith, (omega arith, omega arith, omega arith, omega arith, omega arith)), refl)
+reads = ((omega arith, tt, (omega arith, omega arith, omega arith, omega arith, omega arith)), refl)
 
 the_file : FitsLater (file_on trio)
 the_file = (

@@ -1,5 +1,0 @@
-use Rattle.cluster_safety.proofs.Events.{starts_show}
-use Rattle.cluster_safety.proofs.files.starts_read_the_records.Goals as goal
-
-pub returns : goal.returns
-returns c = starts_show

@@ -1,5 +1,0 @@
-use Rattle.cluster_safety.proofs.Events.{stops_show}
-use Rattle.cluster_safety.proofs.files.stops_lose_the_state.Goals as goal
-
-pub returns : goal.returns
-returns c = stops_show

@@ -1,9 +1,0 @@
--- Clause by clause.
-use Rattle.cluster_safety.proofs.Whole.{runs_safe, parts_safe}
-use Rattle.cluster_safety.proofs.runs_are_safe.Goals as goal
-
-pub returns-clause-whole : goal.returns-clause-whole
-returns-clause-whole c = runs_safe
-
-pub returns-clause-part : goal.returns-clause-part
-returns-clause-part c = parts_safe

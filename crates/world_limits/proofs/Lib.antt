@@ -1,0 +1,16 @@
+pub mod Coming
+pub mod Lists
+pub mod Lease
+pub mod Bytes
+pub mod Replica
+pub mod Updates
+pub mod Primary
+pub mod Serving
+pub mod Asks
+pub mod Files
+pub mod Kept
+pub mod Osd
+pub mod Keeping
+pub mod Rewritten
+pub mod Clients
+pub mod Worlds
