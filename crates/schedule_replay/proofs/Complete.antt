@@ -15,11 +15,11 @@ use Rattle.schedule_text.specs.EntryText.{trace_text}
 use Rattle.schedule_text.specs.StatusText.{last_line}
 use Rattle.schedule_text.proofs.LineAgain.{one_line}
 use Rattle.schedule_text.proofs.InLine.{same_line}
-use Rattle.cluster_runs.specs.World.{World, start_world}
-use Rattle.cluster_runs.specs.Rules.{refusal}
-use Rattle.cluster_runs.specs.NodeSteps.{Room, Cause, came_to, has_no_room}
-use Rattle.cluster_runs.specs.Lines.{finished, ends, done}
-use Rattle.cluster_runs.specs.Runs.{after, after_refusal, run_of}
+use Rattle.world_spec.specs.World.{World, start_world}
+use Rattle.world_spec.specs.Rules.{refusal}
+use Rattle.world_spec.specs.NodeSteps.{Room, Cause, came_to, has_no_room}
+use Rattle.world_spec.specs.Lines.{finished, ends, done}
+use Rattle.world_spec.specs.Runs.{after, after_refusal, run_of}
 use Rattle.time_line.specs.declared.TheConstants.{LINES, LINE_BYTES}
 use Rattle.schedule_lines.specs.RawLine.{line_feed, IsInLine}
 use Rattle.schedule_lines.specs.NextLine.{ended, IsNoLine, StopsReading}

@@ -8,12 +8,12 @@ use Rattle.time_line.specs.declared.entry.Entry.{Entry}
 use Rattle.schedule_text.specs.LineText.{line_text, IsLine}
 use Rattle.schedule_text.specs.EntryText.{trace_text}
 use Rattle.schedule_text.specs.StatusText.{last_line}
-use Rattle.cluster_runs.specs.World.{World}
-use Rattle.cluster_runs.specs.NodeSteps.{Room, Cause}
-use Rattle.cluster_runs.specs.Lines.{Next, so_far}
+use Rattle.world_spec.specs.World.{World}
+use Rattle.world_spec.specs.NodeSteps.{Room, Cause}
+use Rattle.world_spec.specs.Lines.{Next, so_far}
 use Rattle.world_hull.specs.declared.errors.WorldErr.{WorldErr}
 use Rattle.world_hull.specs.declared.errors.WorldErr.TheVariants as error
-use Rattle.cluster_core.specs.Standing.{Standing, IsDone, IsRefused, IsLeft, CameTo, IsApplied}
+use Rattle.world_core.specs.Standing.{Standing, IsDone, IsRefused, IsLeft, CameTo, IsApplied}
 use Rattle.time_line.specs.declared.TheConstants.{LINES}
 use Rattle.schedule_lines.specs.Fronts.{IsFrontOf}
 use Rattle.schedule_lines.specs.NextLine.{ended, StopsReading}

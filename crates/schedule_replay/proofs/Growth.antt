@@ -1,8 +1,6 @@
 -- The steps of a line add entries behind those that are there, and leave the lines so far as they are.
 use Rattle.std.proofs.Common.{◌≡◌, ◌∙◌, ℕ, zero, suc, Bool, true, false, if◌then◌else◌, ◌-◌, arith, nat_lt, take, length, slice_get, Option, Some, None, Result, Ok, Err, List, [], ◌∷◌, ◌++◌, refl, sym, ap, subst, append_assoc, append-nil}
 use Rattle.xt_base.specs.declared.ids.NodeId.{NodeId}
-use Rattle.xt_messages.specs.declared.file.Location.{Location}
-use Rattle.xt_messages.specs.declared.file.Op.{Op}
 use Rattle.xt_messages.specs.declared.event.Call.{Call}
 use Rattle.xt_messages.specs.declared.event.Event.{Event}
 use Rattle.xt_messages.specs.declared.event.Event.TheVariants as event
@@ -19,15 +17,14 @@ use Rattle.time_line.specs.declared.entry.Entry.{Entry}
 use Rattle.time_line.specs.declared.entry.Entry.TheVariants as entry
 use Rattle.time_line.specs.declared.entry.Halt.{Halt}
 use Rattle.time_line.specs.declared.entry.Halt.TheVariants as halt
-use Rattle.cluster_runs.specs.declared.TheConstants.{MESSAGES, MESSAGE_BYTES, NODES}
-use Rattle.cluster_runs.specs.declared.Sent.{Sent}
-use Rattle.cluster_runs.specs.Steps.{Step}
-use Rattle.cluster_runs.specs.World.{World, Node, puts, loads, Running, Core, osd, client, node_in, with_node}
-use Rattle.cluster_runs.specs.Rules.{called_file}
-use Rattle.cluster_runs.specs.NodeSteps.{Room, Overflow, Cause, came_to, has_no_room, Doing, frame_bytes, core_step, after_turn, halted, keeps_record, one_more, one_put, forgets_if, cut_in_sending, sends, appends, within_limits, overflow_of, end_of_step, event_at, event_comes}
-use Rattle.cluster_runs.specs.Lines.{Next, finished, opens, goes_on, ends, begins, does, declares, next_boot, starts, starts_as, changed, stops, crashes, cuts, reads_clock, core_calls, calls, location_of, operation_of, aims, no_longer_pending, delivers, least_pending, first_step, went, settles, works_on, next_step, steps, so_far, enough, done}
-use Rattle.cluster_runs.specs.Runs.{IsPartOf}
-use Rattle.step_endings.proofs.Forgetting.{only_nodes}
+use Rattle.world_spec.specs.declared.TheConstants.{MESSAGES, MESSAGE_BYTES, NODES}
+use Rattle.world_spec.specs.declared.Sent.{Sent}
+use Rattle.client_rows.specs.Steps.{Step}
+use Rattle.world_spec.specs.World.{World, Node, puts, loads, Running, Core, osd, client, node_in, with_node}
+use Rattle.world_spec.specs.NodeSteps.{Room, Overflow, Cause, came_to, has_no_room, Doing, frame_bytes, core_step, after_turn, halted, keeps_record, one_more, one_put, forgets_if, cut_in_sending, sends, appends, within_limits, overflow_of, end_of_step, event_at, event_comes}
+use Rattle.world_spec.specs.Lines.{Next, finished, opens, goes_on, ends, begins, does, declares, next_boot, starts, starts_as, changed, stops, crashes, cuts, reads_clock, core_calls, calls, core_calls_again, calls_again, aims, no_longer_pending, delivers, least_pending, first_step, went, settles, works_on, next_step, steps, so_far, enough, done}
+use Rattle.world_spec.specs.Runs.{IsPartOf}
+use Rattle.world_step.proofs.Forgetting.{only_nodes}
 
 -- the later world has the lines of the earlier one, and its entries with more behind them
 pub record Grows (old new : World) : Type 0 where
@@ -179,22 +176,29 @@ changed_grows w node change =
     let before = changed_as_before w node change in
     record { same = before.0; more = []; entries = before.1 ∙ sym (append-nil w.entries) }
 
-core_grows : (room : Room) (d : Doing) (node : Node) (running : Running) (core : Core) (c : Call) (file : Option ℕ) (location : Option Location) (asked : Option Op)
-    → GoesOn d.world (core_calls room d node running core c file location asked)
-core_grows room d node running (client state) c (Some number) (Some location) (Some asked) = step_grows room d node running _
-core_grows room d node running (client state) c (Some number) (Some location) None = stays d.world
-core_grows room d node running (client state) c (Some number) None asked = stays d.world
-core_grows room d node running (client state) c None location asked = stays d.world
-core_grows room d node running (osd state) c file location asked = stays d.world
+core_grows : (room : Room) (d : Doing) (node : Node) (running : Running) (core : Core) (c : Call) → GoesOn d.world (core_calls room d node running core c)
+core_grows room d node running (client state) c = step_grows room d node running _
+core_grows room d node running (osd state) c = stays d.world
 
 calls_grow : (room : Room) (d : Doing) (node : Option Node) (c : Call) → GoesOn d.world (calls room d node c)
 calls_grow room d None c = stays d.world
 calls_grow room d (Some node) c = up node.up
   where
-    up : (o : Option Running)
-        → GoesOn d.world (elim o [ None ↦ Ok d | Some running ↦ core_calls room d node running running.core c (called_file c) (location_of d.world (called_file c)) (operation_of c) ])
+    up : (o : Option Running) → GoesOn d.world (elim o [ None ↦ Ok d | Some running ↦ core_calls room d node running running.core c ])
     up None = stays d.world
-    up (Some running) = core_grows room d node running running.core c (called_file c) (location_of d.world (called_file c)) (operation_of c)
+    up (Some running) = core_grows room d node running running.core c
+
+core_grows_again : (room : Room) (d : Doing) (node : Node) (running : Running) (core : Core) → GoesOn d.world (core_calls_again room d node running core)
+core_grows_again room d node running (client state) = step_grows room d node running _
+core_grows_again room d node running (osd state) = stays d.world
+
+calls_again_grow : (room : Room) (d : Doing) (node : Option Node) → GoesOn d.world (calls_again room d node)
+calls_again_grow room d None = stays d.world
+calls_again_grow room d (Some node) = up node.up
+  where
+    up : (o : Option Running) → GoesOn d.world (elim o [ None ↦ Ok d | Some running ↦ core_calls_again room d node running running.core ])
+    up None = stays d.world
+    up (Some running) = core_grows_again room d node running running.core
 
 first_grows : (room : Room) (d : Doing) (l : Line) → GoesOn d.world (first_step room d l)
 unfolding first_step
@@ -212,7 +216,8 @@ first_grows room d (line.Clock node clock) =
 first_grows room d (line.Tick count) = record { same = refl; more = _; entries = refl }
 first_grows room d (line.Wake node) = event_grows room d node event.Wake
 first_grows room d (line.Call id c) = calls_grow room d (node_in d.world.nodes id.0) c
-first_grows room d (line.Aim id file node) = changed_grows d.world (node_in d.world.nodes id.0) (aims file node)
+first_grows room d (line.Again id) = calls_again_grow room d (node_in d.world.nodes id.0)
+first_grows room d (line.Aim id file node) = changed_grows d.world (node_in d.world.nodes id.0) (aims d.world.files file node)
 first_grows room d (line.Deliver number) = delivers_grows room d number
 first_grows room d (line.Drop number) = record { same = refl; more = []; entries = sym (append-nil d.world.entries) }
 first_grows room d (line.Settle count) = stays d.world

@@ -8,8 +8,8 @@ use Rattle.time_line.specs.declared.entry.Entry.{Entry}
 use Rattle.schedule_text.specs.LineText.{line_text, IsLine}
 use Rattle.schedule_text.specs.EntryText.{trace_text}
 use Rattle.world_hull.specs.declared.errors.WorldErr.{WorldErr}
-use Rattle.cluster_runs.specs.NodeSteps.{Room}
-use Rattle.cluster_core.specs.Standing.{Standing, IsDone, IsRefused, IsApplied}
+use Rattle.world_spec.specs.NodeSteps.{Room}
+use Rattle.world_core.specs.Standing.{Standing, IsDone, IsRefused, IsApplied}
 use Rattle.time_line.specs.declared.TheConstants.{LINES}
 use Rattle.time_line.specs.Verdicts.{IsSafe}
 use Rattle.schedule_lines.specs.NextLine.{ended, StopsReading}

@@ -8,15 +8,15 @@ use Rattle.time_line.specs.declared.entry.Entry.{Entry}
 use Rattle.time_line.specs.Bounds.{sets_times, FitsLater, AreLines}
 use Rattle.time_line.specs.Verdicts.{IsSafe}
 use Rattle.schedule_text.specs.LineText.{IsForm, IsLine}
-use Rattle.cluster_runs.specs.World.{World}
-use Rattle.cluster_runs.specs.Rules.{refusal}
-use Rattle.cluster_runs.specs.NodeSteps.{Room, Cause}
-use Rattle.cluster_runs.specs.Lines.{so_far}
-use Rattle.cluster_runs.specs.Runs.{run_of, IsPartOf}
-use Rattle.cluster_safety.proofs.Whole.{runs_safe, parts_safe}
+use Rattle.world_spec.specs.World.{World}
+use Rattle.world_spec.specs.Rules.{refusal}
+use Rattle.world_spec.specs.NodeSteps.{Room, Cause}
+use Rattle.world_spec.specs.Lines.{so_far}
+use Rattle.world_spec.specs.Runs.{run_of, IsPartOf}
+use Rattle.world_safety.proofs.Whole.{runs_safe, parts_safe}
 use Rattle.world_hull.specs.declared.errors.WorldErr.{WorldErr}
 use Rattle.world_hull.specs.declared.errors.WorldErr.TheVariants as error
-use Rattle.cluster_core.specs.Standing.{Standing, IsDone, IsLeft, CameTo, IsApplied}
+use Rattle.world_core.specs.Standing.{Standing, IsDone, IsLeft, CameTo, IsApplied}
 use Rattle.schedule_replay.specs.Replay.{AreOfSchedule}
 use Rattle.schedule_replay.specs.Steps.{IsScheduleRun}
 use Rattle.schedule_replay.proofs.Growth.{done_part}

@@ -11,11 +11,11 @@ use Rattle.time_line.specs.declared.entry.Entry.{Entry}
 use Rattle.schedule_text.specs.LineText.{line_text, schedule_text}
 use Rattle.schedule_text.specs.EntryText.{trace_text}
 use Rattle.schedule_text.specs.StatusText.{last_line}
-use Rattle.cluster_runs.specs.World.{World, start_world}
-use Rattle.cluster_runs.specs.NodeSteps.{Room}
-use Rattle.cluster_runs.specs.Lines.{Next, so_far}
-use Rattle.cluster_runs.specs.Runs.{with_line, after_refusal, after, run_of}
-use Rattle.cluster_core.specs.Standing.{Standing, IsDone}
+use Rattle.world_spec.specs.World.{World, start_world}
+use Rattle.world_spec.specs.NodeSteps.{Room}
+use Rattle.world_spec.specs.Lines.{Next, so_far}
+use Rattle.world_spec.specs.Runs.{with_line, after_refusal, after, run_of}
+use Rattle.world_core.specs.Standing.{Standing, IsDone}
 use Rattle.time_line.specs.declared.TheConstants.{LINES}
 use Rattle.schedule_lines.specs.NextLine.{ended}
 use Rattle.schedule_replay.specs.Replay.{IsDoneFrom, AreDoneFrom, AreRun, EndsAt, IsReplay}

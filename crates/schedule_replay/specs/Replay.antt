@@ -11,12 +11,12 @@ use Rattle.time_line.specs.Verdicts.{IsSafe}
 use Rattle.schedule_text.specs.LineText.{line_text, schedule_text, IsLine}
 use Rattle.schedule_text.specs.EntryText.{trace_text}
 use Rattle.schedule_text.specs.StatusText.{last_line}
-use Rattle.cluster_runs.specs.World.{World, start_world}
-use Rattle.cluster_runs.specs.Rules.{refusal}
-use Rattle.cluster_runs.specs.NodeSteps.{Room, Cause, came_to, has_no_room}
-use Rattle.cluster_runs.specs.Lines.{finished, ends, done}
-use Rattle.cluster_runs.specs.Runs.{after, run_of, IsPartOf}
-use Rattle.step_endings.specs.Steps.{limit_of}
+use Rattle.world_spec.specs.World.{World, start_world}
+use Rattle.world_spec.specs.Rules.{refusal}
+use Rattle.world_spec.specs.NodeSteps.{Room, Cause, came_to, has_no_room}
+use Rattle.world_spec.specs.Lines.{finished, ends, done}
+use Rattle.world_spec.specs.Runs.{after, run_of, IsPartOf}
+use Rattle.world_step.specs.Steps.{limit_of}
 use Rattle.schedule_lines.specs.Fronts.{IsFrontOf}
 use Rattle.schedule_lines.specs.NextLine.{ended, StopsReading}
 

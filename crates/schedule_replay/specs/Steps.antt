@@ -8,12 +8,12 @@ use Rattle.time_line.specs.declared.entry.Entry.{Entry}
 use Rattle.time_line.specs.Verdicts.{IsSafe}
 use Rattle.schedule_text.specs.LineText.{line_text, IsLine}
 use Rattle.schedule_text.specs.EntryText.{trace_text}
-use Rattle.cluster_runs.specs.World.{World}
-use Rattle.cluster_runs.specs.NodeSteps.{Room}
-use Rattle.cluster_runs.specs.Runs.{run_of}
+use Rattle.world_spec.specs.World.{World}
+use Rattle.world_spec.specs.NodeSteps.{Room}
+use Rattle.world_spec.specs.Runs.{run_of}
 use Rattle.world_hull.specs.declared.errors.WorldErr.{WorldErr}
 use Rattle.world_hull.specs.declared.errors.WorldErr.TheVariants as error
-use Rattle.cluster_core.specs.Standing.{Standing, IsDone}
+use Rattle.world_core.specs.Standing.{Standing, IsDone}
 use Rattle.schedule_lines.specs.NextLine.{ended}
 use Rattle.schedule_lines.specs.Causes.{HasCause}
 use Rattle.schedule_replay.specs.Replay.{AreOfSchedule, EndsAt}

@@ -1,19 +1,19 @@
 ghost use Rattle.std.specs.Prelude.{◌≡◌, false, length};
 ghost use Rattle.xt_base.specs.Faults.{Rose};
-ghost use Rattle.cluster_runs.specs.World.{start_world};
-ghost use Rattle.cluster_runs.specs.NodeSteps.{Room};
-ghost use Rattle.cluster_core.specs.Standing.{Standing};
+ghost use Rattle.world_spec.specs.World.{start_world};
+ghost use Rattle.world_spec.specs.NodeSteps.{Room};
+ghost use Rattle.world_core.specs.Standing.{Standing};
 ghost use Rattle.schedule_lines.specs.Causes.{HasCause};
 ghost use Rattle.schedule_replay.specs.Replay.{IsReplay, Completes};
 ghost use Rattle.schedule_replay.specs.Steps.{IsEnd};
 
 use crate::step::replay_line;
-use cluster_core::World;
-use node_hosts::NodeCore;
 use node_links::{Sink, Source};
 use schedule_lines::{finish, take_byte};
 use std::alloc::Global;
 use time_line::LINES;
+use world_core::World;
+use world_host::NodeCore;
 use world_hull::Hull;
 use xt_base::Failed;
 use xt_messages::{Limited, Status};

@@ -1,15 +1,15 @@
 ghost use Rattle.std.specs.Prelude.{◌≡◌, ◌<◌, ◌==◌, false, length};
 ghost use Rattle.time_line.specs.Verdicts.{IsSafe};
 ghost use Rattle.schedule_text.specs.LineText.{IsLine};
-ghost use Rattle.cluster_core.specs.Standing.{IsApplied};
+ghost use Rattle.world_core.specs.Standing.{IsApplied};
 ghost use Rattle.schedule_replay.specs.Steps.{IsScheduleRun, IsStep, CausesStep, Grown, status_for};
 
-use cluster_core::World;
-use node_hosts::NodeCore;
 use node_links::{Sink, Source};
 use schedule_lines::{NextLine, finish, next_line, put_entries};
 use std::alloc::Global;
 use time_line::{LINES, Line};
+use world_core::World;
+use world_host::NodeCore;
 use world_hull::{Hull, WorldErr};
 use xt_messages::Status;
 

@@ -2,7 +2,7 @@
 use Rattle.std.specs.Prelude.{ℕ, ◌≡◌, List, Option, Some, None, Result, Ok, Err}
 use Rattle.object_versions.specs.declared.errors.BodyErr.{BodyErr}
 use Rattle.object_versions.specs.declared.errors.BodyErr.TheVariants as body
-use Rattle.cluster_runs.specs.NodeSteps.{Overflow}
+use Rattle.world_spec.specs.NodeSteps.{Overflow}
 use Rattle.world_hull.specs.declared.errors.WorldErr.{WorldErr}
 use Rattle.world_hull.specs.declared.errors.WorldErr.TheVariants as error
 

@@ -3,8 +3,8 @@ use Rattle.std.specs.Prelude.{ℕ, ◌≡◌, ◌==◌, ◌≤◌, false, List, 
 use Rattle.disk_model.specs.declared.plan.Stop.{Stop}
 use Rattle.xt_base.specs.declared.ids.NodeId.{NodeId}
 use Rattle.xt_messages.specs.declared.record.Record.{Record}
-use Rattle.cluster_runs.specs.NodeSteps.{keeps_record}
-use Rattle.cluster_runs.specs.World.{Deed, puts}
+use Rattle.world_spec.specs.NodeSteps.{keeps_record}
+use Rattle.world_spec.specs.World.{Deed, puts}
 use Rattle.world_hull.specs.declared.hull.Kept.{Kept}
 use Rattle.world_hull.specs.declared.hull.Kept.TheVariants.{Done, StoppedKept, StoppedLost}
 

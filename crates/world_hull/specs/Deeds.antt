@@ -1,5 +1,5 @@
 -- what is done to the records of a node
-use Rattle.cluster_runs.specs.World.{Deed, puts, loads, rewrites}
+use Rattle.world_spec.specs.World.{Deed, puts, loads, rewrites}
 use Rattle.world_hull.specs.declared.past.Done.{Done}
 use Rattle.world_hull.specs.declared.past.Done.TheVariants as done
 

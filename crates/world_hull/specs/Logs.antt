@@ -5,7 +5,7 @@ use Rattle.std.specs.Ordering.{nat_cmp}
 use Rattle.std.specs.BTreeMap.{get}
 use Rattle.xt_messages.specs.declared.record.Record.{Record}
 use Rattle.replica_records.specs.Logs.{records_in}
-use Rattle.cluster_runs.specs.World.{Deed}
+use Rattle.world_spec.specs.World.{Deed}
 use Rattle.world_hull.specs.declared.list_hull.ListHull.{ListHull}
 
 -- what the node's log has, nothing where it has none

@@ -3,7 +3,7 @@ use Rattle.std.specs.Prelude.{◌≡◌, List}
 use Rattle.xt_base.specs.declared.ids.NodeId.{NodeId}
 use Rattle.xt_messages.specs.declared.record.Record.{Record}
 use Rattle.xt_protocol.specs.Folds.{fold_of, logged_of}
-use Rattle.cluster_runs.specs.World.{loads}
+use Rattle.world_spec.specs.World.{loads}
 use Rattle.world_hull.specs.Appends.{Logs, with_deed}
 
 -- These records say what the node's records say, with its requests in their order. They were loaded, and each node keeps what it kept.

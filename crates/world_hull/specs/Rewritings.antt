@@ -7,8 +7,8 @@ use Rattle.xt_messages.specs.declared.record.KeepBody.{KeepBody}
 use Rattle.xt_messages.specs.declared.record.Record.{Record}
 use Rattle.xt_protocol.specs.Folds.{nothing_kept, AreInPlace}
 use Rattle.xt_protocol.specs.Forgetting.{rewritten}
-use Rattle.cluster_runs.specs.NodeSteps.{Room}
-use Rattle.cluster_runs.specs.World.{Deed, rewrites}
+use Rattle.world_spec.specs.NodeSteps.{Room}
+use Rattle.world_spec.specs.World.{Deed, rewrites}
 use Rattle.world_hull.specs.Appends.{Logs, with_deed}
 
 -- Records may be rewritten with these bodies: each record that they become is within its limits, and in its place after those

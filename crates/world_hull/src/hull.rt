@@ -2,8 +2,8 @@ ghost use Rattle.std.specs.Prelude.{◌≡◌, ℕ, List, false, IfOk, IfErr, On
 ghost use Rattle.xt_messages.specs.declared.record.Record.{Record};
 ghost use Rattle.xt_messages.specs.Limits.{FitsMessage, FitsRecord};
 ghost use Rattle.xt_protocol.specs.Folds.{IsInPlace, fold_of, body_kept};
-ghost use Rattle.cluster_runs.specs.NodeSteps.{Room};
-ghost use Rattle.cluster_runs.specs.World.{Deed};
+ghost use Rattle.world_spec.specs.NodeSteps.{Room};
+ghost use Rattle.world_spec.specs.World.{Deed};
 ghost use Rattle.world_hull.specs.Answers.{IsFullOrMemory, IsFullExactly, GivesBody};
 ghost use Rattle.world_hull.specs.Appends.{IsInAppend, IsAppended, AreAllSame, AreOthersSame, kept_by};
 ghost use Rattle.world_hull.specs.Revivals.{IsRevived};

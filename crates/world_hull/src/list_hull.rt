@@ -1,6 +1,6 @@
 //! A hull that keeps the records in memory.
 ghost use Rattle.std.specs.Prelude.{◌≡◌, ◌++◌, ◌∷◌, [], None, false, IfOk, OnOk, OnErr};
-ghost use Rattle.cluster_runs.specs.World.{puts, loads};
+ghost use Rattle.world_spec.specs.World.{puts, loads};
 ghost use Rattle.replica_records.specs.Logs.{records_in};
 ghost use Rattle.world_hull.specs.Appends.{with_record, with_deed};
 ghost use Rattle.world_hull.specs.Logs.{records_of, past_of};

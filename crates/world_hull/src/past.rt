@@ -1,7 +1,7 @@
 //! What was done to the records of a node: only proofs read it. It takes no memory, and its methods do nothing at run time.
 ghost use Rattle.std.specs.Prelude.{◌≡◌, List, [], ◌∷◌, ◌++◌};
 ghost use Rattle.std.specs.Borrow.{ftrue};
-ghost use Rattle.cluster_runs.specs.World.{Deed};
+ghost use Rattle.world_spec.specs.World.{Deed};
 
 use std::marker::Model;
 use xt_messages::{Keep, Record};

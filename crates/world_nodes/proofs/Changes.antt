@@ -13,9 +13,6 @@ use Rattle.std.proofs.Math.ListN.{set}
 use Rattle.std.proofs.lemmas.List.{length-map, set-get_or, get_or_default}
 use Rattle.xt_base.specs.TimeSettings.{TimeSettings}
 use Rattle.xt_base.specs.declared.ids.NodeId.{NodeId}
-use Rattle.xt_messages.specs.declared.file.Location.{Location}
-use Rattle.xt_messages.specs.declared.file.Op.{Op}
-use Rattle.xt_messages.specs.declared.event.Call.{Call}
 use Rattle.xt_messages.specs.declared.event.Event.{Event}
 use Rattle.xt_messages.specs.declared.record.KeepBody.{KeepBody}
 use Rattle.xt_messages.specs.declared.record.Record.{Record}
@@ -25,14 +22,15 @@ use Rattle.xt_protocol.specs.declared.turned.Turned.{Turned}
 use Rattle.xt_protocol.specs.Folds.{fold_of}
 use Rattle.xt_protocol.specs.Forgetting.{rewritten}
 use Rattle.xt_protocol.specs.OsdSteps.{osd_from}
-use Rattle.cluster_runs.specs.Lines.{runs, osd_starting}
-use Rattle.cluster_runs.specs.Steps.{Step}
-use Rattle.cluster_runs.specs.World.{Node, Deed, puts, loads, rewrites, Running, Core, osd, client, node_in, with_node}
-use Rattle.cluster_runs.specs.NodeSteps.{Room, core_step}
-use Rattle.node_hosts.specs.Hosts.{HostView, Stored, nothing_stored, node_of, node_with}
-use Rattle.node_hosts.specs.Turns.{Took, Handles, Calls, call_step}
-use Rattle.node_clocks.specs.Hosts.{nodes_of}
-use Rattle.world_nodes.specs.Nodes.{NodesView, has_host, AreHosts, IsAt, IsPlace, Changes, NodeTook, NodeHandles, NodeCalls, after_append, after_load}
+use Rattle.world_spec.specs.Lines.{runs, osd_starting}
+use Rattle.client_rows.specs.Steps.{Step}
+use Rattle.client_rows.specs.Rows.{WholeClient}
+use Rattle.world_spec.specs.World.{Node, Deed, puts, loads, rewrites, Running, Core, osd, client, node_in, with_node}
+use Rattle.world_spec.specs.NodeSteps.{Room, core_step}
+use Rattle.world_host.specs.Hosts.{HostView, Stored, nothing_stored, node_of, node_with}
+use Rattle.world_host.specs.Turns.{Took, Handles, ClientTook}
+use Rattle.world_clocks.specs.Hosts.{nodes_of}
+use Rattle.world_nodes.specs.Nodes.{NodesView, has_host, AreHosts, IsAt, IsPlace, Changes, host_at, NodeTook, NodeHandles, NodeClientTook, after_append, after_load}
 use Rattle.world_nodes.proofs.Hosts.{AreOthers, same_stored, at_place, changed, still, times_at, pushed, declared_is}
 
 -- ---- results
@@ -72,9 +70,9 @@ pub handled_same : (kept : List Record) (happens : Event) (old new : HostView) (
 handled_same kept happens old new None is = same_but_up old new old.up is.1
 handled_same kept happens old new (Some turned) is = took_same old new is.0 (core_step old.times (node_with kept old) is.0.core is.0.clock happens) turned is.1
 
-pub called_same : (c : Call) (number : ℕ) (location : Location) (asked : Op) (old new : HostView) (turned : Option Turned) → Calls c number location asked old new turned → IsSameHost old new
-called_same c number location asked old new None is = same_but_up old new old.up is.1
-called_same c number location asked old new (Some turned) is = took_same old new is.0 (call_step old is.0.clock is.1 c number location asked) turned is.3
+pub called_same : (step : HostView → Running → WholeClient → Step Core) (old new : HostView) (turned : Option Turned) → ClientTook step old new turned → IsSameHost old new
+called_same step old new None is = same_but_up old new old.up is.1
+called_same step old new (Some turned) is = took_same old new is.0 (step old is.0 is.1) turned is.3
 
 -- a step doesn't see what was done to the records
 past_unseen : (times : TimeSettings) (stored : Stored) (host : HostView) (core : Core) (clock : ℕ) (happens : Event)
@@ -178,19 +176,17 @@ module _ (stored : ℕ → Stored) (times : TimeSettings) (hosts : List HostView
         (subst (λ (step : Step Core). Took old is.0 step new turned) (past_unseen old.times (stored old.id.0) old is.0.core is.0.clock happens) is.1))),
   )
 
-  -- it made a call
-  pub node_called : (c : Call) (number : ℕ) (location : Location) (asked : Op) (turned : Option Turned) → Calls c number location asked old new turned → (node : Node) → IsAt self.nodes place node
-      → NodeCalls c number location asked self node (record { times = times; nodes = nodes_of stored (set hosts place new) }) turned
-  node_called c number location asked None is node at =
-      (λ running up. is.0 running (sym (ap (λ (n : Node). n.up) (this_node node at)) ∙ up), unchanged is.1)
-  node_called c number location asked (Some turned) is node at = (
+  -- its client took a step
+  pub node_called : (step : HostView → Running → WholeClient → Step Core) (turned : Option Turned) → ClientTook step old new turned → (node : Node) → IsAt self.nodes place node
+      → NodeClientTook step self node (record { times = times; nodes = nodes_of stored (set hosts place new) }) turned
+  node_called step None is node at = (λ running up. is.0 running (sym (ap (λ (n : Node). n.up) (this_node node at)) ∙ up), unchanged is.1)
+  node_called step (Some turned) is node at = (
     is.0,
     is.1,
     is.2,
-    subst (λ (h : HostView). NodeTook self node is.0 (call_step h is.0.clock is.1 c number location asked) (record { times = times; nodes = nodes_of stored (set hosts place new) }) turned)
-        (ap (λ (t : TimeSettings). record old { times = t }) (its_times ∙ self_times)
-        ∙ ap (λ (n : Node). record { id = n.id; role = n.role; times = self.times; up = n.up }) (sym (this_node node at)))
-        (took node is.0 (call_step old is.0.clock is.1 c number location asked) turned at is.3),
+    subst (λ (h : HostView). NodeTook self node is.0 (step h is.0 is.1) (record { times = times; nodes = nodes_of stored (set hosts place new) }) turned)
+        (ap (λ (t : TimeSettings). record old { times = t }) (its_times ∙ self_times) ∙ ap (host_at self.times) (sym (this_node node at)))
+        (took node is.0 (step old is.0 is.1) turned at is.3),
   )
 
 -- ---- what the hull does

@@ -10,12 +10,12 @@ use Rattle.std.specs.Option.{option_map}
 use Rattle.xt_messages.specs.declared.record.KeepBody.{KeepBody}
 use Rattle.xt_protocol.specs.Forgetting.{keep_of, osd_without, rewritten}
 use Rattle.xt_protocol.specs.OsdSteps.{OsdState}
-use Rattle.cluster_runs.specs.World.{World, Node, Deed, rewrites, Running, Core, osd, client, with_node}
-use Rattle.cluster_runs.specs.NodeSteps.{Room, rewritten_at, forgets_at}
-use Rattle.node_hosts.specs.Forgetting.{needed_at, forgets, needed_by, running_without}
-use Rattle.node_hosts.specs.Hosts.{HostView, Stored, node_of}
-use Rattle.node_clocks.specs.Hosts.{nodes_of}
-use Rattle.cluster_fits.specs.Fits.{FitsKept}
+use Rattle.world_spec.specs.World.{World, Node, Deed, rewrites, Running, Core, osd, client, with_node}
+use Rattle.world_spec.specs.NodeSteps.{Room, rewritten_at, forgets_at}
+use Rattle.world_host.specs.Forgetting.{needed_at, forgets, needed_by, running_without}
+use Rattle.world_host.specs.Hosts.{HostView, Stored, node_of}
+use Rattle.world_clocks.specs.Hosts.{nodes_of}
+use Rattle.world_limits.specs.Fits.{FitsKept}
 use Rattle.world_hull.specs.Rewritings.{MayBecome}
 use Rattle.world_nodes.specs.Nodes.{NodesView, bare, AreHosts, IsAt, Forgets, forgotten_in}
 use Rattle.world_nodes.proofs.Hosts.{AreOthers}

@@ -8,9 +8,9 @@ use Rattle.std.proofs.lemmas.List.{length-map, map-append, get_or_default, take_
 use Rattle.lease_runs.proofs.Tests.{same_node}
 use Rattle.xt_base.specs.TimeSettings.{TimeSettings}
 use Rattle.xt_base.specs.declared.ids.NodeId.{NodeId}
-use Rattle.cluster_runs.specs.World.{Node, node_in, with_node}
-use Rattle.node_hosts.specs.Hosts.{HostView, Stored, nothing_stored, node_of}
-use Rattle.node_clocks.specs.Hosts.{nodes_of}
+use Rattle.world_spec.specs.World.{Node, node_in, with_node}
+use Rattle.world_host.specs.Hosts.{HostView, Stored, nothing_stored, node_of}
+use Rattle.world_clocks.specs.Hosts.{nodes_of}
 use Rattle.world_nodes.specs.Nodes.{has_host, AreDistinct, AreHosts, IsAt, IsPlace, IsHostPlace}
 
 -- ---- which ids are there

@@ -8,11 +8,11 @@ use Rattle.std.proofs.lemmas.List.{take_at}
 use Rattle.xt_base.specs.TimeSettings.{TimeSettings}
 use Rattle.xt_base.specs.declared.ids.NodeId.{NodeId}
 use Rattle.xt_base.specs.declared.TheConstants.{COUNTS}
-use Rattle.cluster_runs.specs.World.{Node, Running}
-use Rattle.cluster_runs.specs.Rules.{Reading, lesser, reading_where, least_where, end_named, clock_ends}
-use Rattle.cluster_runs.specs.Lines.{ticked}
-use Rattle.node_hosts.specs.Hosts.{HostView, Stored, node_of, host_ticked}
-use Rattle.node_clocks.specs.Hosts.{nodes_of, MayTick}
+use Rattle.world_spec.specs.World.{Node, Running}
+use Rattle.world_spec.specs.Rules.{Reading, lesser, reading_where, least_where, end_named, clock_ends}
+use Rattle.world_spec.specs.Lines.{ticked}
+use Rattle.world_host.specs.Hosts.{HostView, Stored, node_of, host_ticked}
+use Rattle.world_clocks.specs.Hosts.{nodes_of, MayTick}
 use Rattle.world_nodes.specs.Nodes.{NodesView, has_host, AreDistinct, AreHosts}
 
 no_reading : (found : Option Reading) → end_named found ≡ None → found ≡ None

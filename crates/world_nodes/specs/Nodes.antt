@@ -5,19 +5,18 @@ use Rattle.std.specs.List.{AllByRecursion}
 use Rattle.xt_base.specs.TimeSettings.{TimeSettings}
 use Rattle.xt_base.specs.declared.ids.NodeId.{NodeId}
 use Rattle.xt_messages.specs.declared.file.Location.{Location}
-use Rattle.xt_messages.specs.declared.file.Op.{Op}
 use Rattle.xt_messages.specs.declared.event.Call.{Call}
 use Rattle.xt_messages.specs.declared.event.Event.{Event}
 use Rattle.xt_messages.specs.declared.record.Record.{Record}
 use Rattle.xt_protocol.specs.declared.turned.Turned.{Turned}
-use Rattle.cluster_runs.specs.Steps.{Step}
-use Rattle.cluster_runs.specs.declared.ClientState.{ClientState}
-use Rattle.cluster_runs.specs.World.{World, Node, Deed, puts, loads, Running, Core, client, node_in, with_node}
-use Rattle.cluster_runs.specs.NodeSteps.{Room, core_step, one_more, one_put, forgets_in}
+use Rattle.client_rows.specs.Steps.{Step}
+use Rattle.client_rows.specs.Rows.{WholeClient}
+use Rattle.world_spec.specs.World.{World, Node, Deed, puts, loads, Running, Core, client, node_in, with_node}
+use Rattle.world_spec.specs.NodeSteps.{Room, core_step, one_more, one_put, forgets_in}
 use Rattle.world_hull.specs.declared.hull.Kept.{Kept}
 use Rattle.world_hull.specs.declared.hull.Kept.TheVariants as ending
-use Rattle.node_hosts.specs.Hosts.{HostView, Stored, nothing_stored}
-use Rattle.node_hosts.specs.Turns.{IsOsd, call_step}
+use Rattle.world_host.specs.Hosts.{HostView, Stored, nothing_stored}
+use Rattle.world_host.specs.Turns.{IsOsd, call_step, again_step}
 
 -- the times of a world, and its nodes with what the hull has stored for them
 pub record NodesView : Type 0 where
@@ -80,13 +79,25 @@ NodeHandles happens old node new None = (node.up ≡ None) × (new ≡ old)
 NodeHandles happens old node new (Some turned) =
     (running : Running) × NodeTook old node running (core_step old.times node running.core running.clock happens) new turned
 
--- a client made a call on a declared file; an OSD, and a node that doesn't run, made none
-abbrev pub NodeCalls : Call → ℕ → Location → Op → NodesView → Node → NodesView → Option Turned → Type 0
-NodeCalls c number location asked old node new None = ((running : Running) → node.up ≡ Some running → IsOsd running.core) × (new ≡ old)
-NodeCalls c number location asked old node new (Some turned) =
-    (running : Running) × (state : ClientState) × (running.core ≡ client state)
-    × NodeTook old node running
-    (call_step (record { id = node.id; role = node.role; times = old.times; up = node.up }) running.clock state c number location asked) new turned
+-- the node as its steps see it, by these times
+abbrev pub host_at : TimeSettings → Node → HostView
+host_at times node = record { id = node.id; role = node.role; times = times; up = node.up }
+
+-- the client there took this step from its state; an OSD, and a node that doesn't run, took none
+abbrev pub NodeClientTook : (HostView → Running → WholeClient → Step Core) → NodesView → Node → NodesView → Option Turned → Type 0
+NodeClientTook step old node new None = ((running : Running) → node.up ≡ Some running → IsOsd running.core) × (new ≡ old)
+NodeClientTook step old node new (Some turned) =
+    (running : Running) × (state : WholeClient) × (running.core ≡ client state)
+    × NodeTook old node running (step (host_at old.times node) running state) new turned
+
+-- a client made a call
+abbrev pub NodeCalls : Call → Option Location → NodesView → Node → NodesView → Option Turned → Type 0
+NodeCalls c declared old node new turned =
+    NodeClientTook (λ host running state. call_step host running.clock state c declared) old node new turned
+
+-- a client made its last call again
+abbrev pub NodeCallsAgain : NodesView → Node → NodesView → Option Turned → Type 0
+NodeCallsAgain old node new turned = NodeClientTook (λ host running state. again_step host running.clock state) old node new turned
 
 -- ---- records
 

@@ -1,16 +1,16 @@
 ghost use Rattle.std.specs.Prelude.{◌≡◌, ◌<◌, [], Some, None, is_some, length};
 ghost use Rattle.std.specs.Option.{option_map};
-ghost use Rattle.cluster_runs.specs.World.{Node, node_in};
-ghost use Rattle.node_hosts.specs.Turns.{moment_of};
+ghost use Rattle.world_spec.specs.World.{Node, node_in};
+ghost use Rattle.world_host.specs.Turns.{moment_of};
 ghost use Rattle.world_nodes.specs.Nodes.{NodesView, IsAt, IsPlace, IsHostPlace};
 
 mod changes;
 mod records;
 mod rules;
 
-use node_hosts::{Host, Moment, NodeCore};
 use std::alloc::Global;
 use std::marker::Model;
+use world_host::{Host, Moment, NodeCore};
 use world_hull::Hull;
 use xt_base::{NodeId, Times};
 
@@ -23,8 +23,8 @@ pub struct Nodes<C: NodeCore, H: Hull> {
 }
 
 impl<C: NodeCore, H: Hull> Model for Nodes<C, H> {
-    ghost use Rattle.node_hosts.specs.Hosts.{stored_in};
-    ghost use Rattle.node_clocks.specs.Hosts.{nodes_of};
+    ghost use Rattle.world_host.specs.Hosts.{stored_in};
+    ghost use Rattle.world_clocks.specs.Hosts.{nodes_of};
     ghost use Rattle.world_nodes.specs.Nodes.{NodesView, AreHosts};
 
     ghost Value = { NodesView };

@@ -2,8 +2,8 @@
 use Rattle.std.proofs.Common.{◌≡◌, Bool, true, false, cond, Some, None, Ok, Err, refl}
 use Rattle.std.specs.Prelude.{nat_lt, length}
 use Rattle.xt_messages.specs.declared.status.Limited.TheVariants as limited
-use Rattle.cluster_runs.specs.declared.TheConstants.{MESSAGES, MESSAGE_BYTES}
-use Rattle.cluster_runs.specs.NodeSteps.{Doing, frame_bytes, came_to, within_limits}
+use Rattle.world_spec.specs.declared.TheConstants.{MESSAGES, MESSAGE_BYTES}
+use Rattle.world_spec.specs.NodeSteps.{Doing, frame_bytes, came_to, within_limits}
 use Rattle.world_tables.specs.Limits.{limit_passed, within}
 
 either_limit : (d : Doing) (many long : Bool)

@@ -9,9 +9,9 @@ use Rattle.std.specs.Prelude.{min, sum_by, slice_get}
 use Rattle.xt_messages.specs.FrameLength.{frame_length}
 use Rattle.xt_messages.specs.declared.message.Msg.{Msg}
 use Rattle.world_tables.specs.Within64.{within_64}
-use Rattle.cluster_runs.specs.declared.Sent.{Sent}
-use Rattle.cluster_runs.specs.NodeSteps.{pending}
-use Rattle.cluster_runs.specs.Lines.{least_pending, no_longer_pending}
+use Rattle.world_spec.specs.declared.Sent.{Sent}
+use Rattle.world_spec.specs.NodeSteps.{pending}
+use Rattle.world_spec.specs.Lines.{least_pending, no_longer_pending}
 use Rattle.world_tables.specs.Counts.{AreCounts, IsFirstPending}
 
 -- Sending.

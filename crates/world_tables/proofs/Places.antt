@@ -5,8 +5,8 @@ use Rattle.std.specs.Ordering.{nat_cmp}
 use Rattle.std.specs.BTreeMap.{is_at}
 use Rattle.std.proofs.lemmas.Grind.{common_steps}
 use Rattle.std.specs.Prelude.{if◌then◌else◌}
-use Rattle.cluster_runs.specs.declared.DeclaredFile.{DeclaredFile}
-use Rattle.cluster_runs.specs.World.{file_in}
+use Rattle.world_spec.specs.declared.DeclaredFile.{DeclaredFile}
+use Rattle.world_spec.specs.World.{file_in}
 
 pub file_in_push : (files : List DeclaredFile) (f : DeclaredFile) (number : ℕ) → file_in files f.number ≡ None
     → file_in (files ++ f ∷ []) number ≡ (if f.number == number then Some f.location else file_in files number)

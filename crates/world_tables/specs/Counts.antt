@@ -1,8 +1,8 @@
 -- what is kept beside the messages
 use Rattle.std.specs.Prelude.{ℕ, ◌≡◌, ◌<◌, ◌≤◌, true, false, List, length, slice_index_or}
 use Rattle.world_tables.specs.Within64.{within_64}
-use Rattle.cluster_runs.specs.declared.Sent.{Sent}
-use Rattle.cluster_runs.specs.NodeSteps.{frame_bytes}
+use Rattle.world_spec.specs.declared.Sent.{Sent}
+use Rattle.world_spec.specs.NodeSteps.{frame_bytes}
 
 -- the first pending message stands there, or nothing is pending behind the end; the bytes are those of all frames
 pub record AreCounts (sent : List Sent) (first bytes : ℕ) : Type 0 where

@@ -3,9 +3,9 @@ use Rattle.std.specs.Prelude.{ℕ, Bool, ◌≡◌, ◌-◌, nat_lt, if◌then�
 use Rattle.xt_messages.specs.declared.message.Msg.{Msg}
 use Rattle.xt_messages.specs.declared.status.Limited.{Limited}
 use Rattle.xt_messages.specs.declared.status.Limited.TheVariants as limited
-use Rattle.cluster_runs.specs.declared.TheConstants.{MESSAGES, MESSAGE_BYTES}
-use Rattle.cluster_runs.specs.declared.Sent.{Sent}
-use Rattle.cluster_runs.specs.NodeSteps.{Cause, came_to, Doing, frame_bytes}
+use Rattle.world_spec.specs.declared.TheConstants.{MESSAGES, MESSAGE_BYTES}
+use Rattle.world_spec.specs.declared.Sent.{Sent}
+use Rattle.world_spec.specs.NodeSteps.{Cause, came_to, Doing, frame_bytes}
 
 -- this message was sent under this number
 abbrev pub IsSentAs : List Sent → ℕ → Msg → Type 0

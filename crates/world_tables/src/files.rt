@@ -1,11 +1,11 @@
 //! The declared files, found by their numbers.
 ghost use Rattle.std.specs.Prelude.{◌≡◌, ◌++◌, ◌∷◌, [], None, OnOk, OnErr, length};
-ghost use Rattle.cluster_runs.specs.World.{file_in};
+ghost use Rattle.world_spec.specs.World.{file_in};
 
-use cluster_runs::DeclaredFile;
 use std::alloc::{AllocError, Global};
 use std::collections::BTreeMap;
 use std::marker::Model;
+use world_spec::DeclaredFile;
 use xt_base::OutOfMemory;
 use xt_messages::Location;
 
@@ -18,7 +18,7 @@ pub struct DeclaredFiles {
 
 impl Model for DeclaredFiles {
     ghost use Rattle.std.specs.Prelude.{List};
-    ghost use Rattle.cluster_runs.specs.declared.DeclaredFile.{DeclaredFile};
+    ghost use Rattle.world_spec.specs.declared.DeclaredFile.{DeclaredFile};
 
     ghost Value = { List DeclaredFile };
 

@@ -2,15 +2,15 @@
 ghost use Rattle.std.specs.Prelude.{◌≡◌, ◌++◌, ◌∷◌, [], ◌+◌, ◌-◌, ◌<◌, ◌≤◌, length, map, sum_by, slice_get, None, OnOk, OnErr, IfOk, IfSome, MatchOption};
 ghost use Rattle.xt_messages.specs.FrameLength.{frame_length};
 ghost use Rattle.world_tables.specs.Within64.{within_64};
-ghost use Rattle.cluster_runs.specs.NodeSteps.{pending, frame_bytes};
-ghost use Rattle.cluster_runs.specs.Lines.{least_pending, no_longer_pending};
+ghost use Rattle.world_spec.specs.NodeSteps.{pending, frame_bytes};
+ghost use Rattle.world_spec.specs.Lines.{least_pending, no_longer_pending};
 ghost use Rattle.world_tables.specs.Limits.{IsSentAs, limit_passed};
 ghost use Rattle.world_tables.specs.Counts.{IsFirstPending};
 
 use crate::lengths::frame_length;
-use cluster_runs::{MESSAGE_BYTES, MESSAGES, Sent};
 use std::alloc::Global;
 use std::marker::Model;
+use world_spec::{MESSAGE_BYTES, MESSAGES, Sent};
 use xt_base::OutOfMemory;
 use xt_messages::{Limited, Msg, Msgs};
 
@@ -27,7 +27,7 @@ pub struct SentMessages {
 
 impl Model for SentMessages {
     ghost use Rattle.std.specs.Prelude.{List};
-    ghost use Rattle.cluster_runs.specs.declared.Sent.{Sent};
+    ghost use Rattle.world_spec.specs.declared.Sent.{Sent};
 
     ghost Value = { List Sent };
 

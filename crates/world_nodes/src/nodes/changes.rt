@@ -1,22 +1,22 @@
 //! What changes the declared nodes.
-ghost use Rattle.std.specs.Prelude.{◌≡◌, ◌<◌, ◌^◌, ◌++◌, ◌∷◌, [], Some, None, IfOk, IfSome, OnOk, OnErr, length, map};
-ghost use Rattle.cluster_runs.specs.World.{Node, client, osd, node_in};
-ghost use Rattle.cluster_runs.specs.declared.Role.TheVariants as role;
-ghost use Rattle.cluster_runs.specs.Clients.{new_client};
-ghost use Rattle.cluster_runs.specs.Rules.{clock_ends};
-ghost use Rattle.cluster_runs.specs.Lines.{runs, first_boot, crashes, cuts, reads_clock, aims, ticked};
-ghost use Rattle.node_hosts.specs.Turns.{Handles};
+ghost use Rattle.std.specs.Prelude.{◌≡◌, ◌<◌, ◌^◌, ◌++◌, ◌∷◌, [], true, false, Some, None, IfOk, IfSome, OnOk, OnErr, length, map};
+ghost use Rattle.world_spec.specs.World.{Node, client, osd, node_in};
+ghost use Rattle.world_spec.specs.declared.Role.TheVariants as role;
+ghost use Rattle.world_spec.specs.Rules.{clock_ends, has_call, may_go_again};
+ghost use Rattle.world_spec.specs.Lines.{runs, first_boot, crashes, cuts, reads_clock, ticked, whole_client};
+ghost use Rattle.world_host.specs.Calls.{IsUsable, targets};
+ghost use Rattle.world_host.specs.Turns.{Handles};
 ghost use Rattle.xt_messages.specs.Limits.{FitsEvent};
-ghost use Rattle.world_nodes.specs.Nodes.{IsAt, Changes, ChangesUp, NodeHandles, NodeCalls};
+ghost use Rattle.world_nodes.specs.Nodes.{IsAt, Changes, ChangesUp, NodeHandles, NodeCalls, NodeCallsAgain};
 
 use crate::nodes::Nodes;
 use disk_model::Stop;
-use node_clocks::{set_clock, tick};
-use node_hosts::{Host, HullBodies, NodeCore};
 use std::alloc::Global;
+use world_clocks::{set_clock, tick};
+use world_host::{Host, HullBodies, NodeCore};
 use world_hull::Hull;
 use xt_base::{NodeId, OutOfMemory};
-use xt_messages::{Call, Event, Location, Op};
+use xt_messages::{Call, Event, Location};
 use xt_protocol::Turned;
 
 impl<C: NodeCore, H: Hull> Nodes<C, H> {
@@ -50,7 +50,7 @@ impl<C: NodeCore, H: Hull> Nodes<C, H> {
                     role = role.Client;
                     kept = [];
                     past = [];
-                    up = Some (runs first_boot clock (client (new_client clock)));
+                    up = Some (runs first_boot clock (client (whole_client clock)));
                   } ∷ [];
             }) }
     {
@@ -90,12 +90,18 @@ impl<C: NodeCore, H: Hull> Nodes<C, H> {
         set_clock(&mut self.hosts, place, clock);
     }
 
-    /// The first target of the client at a place for a declared file is this member.
-    pub fn aim(&mut self, place: usize, number: u64, node: NodeId) -> Result<(), OutOfMemory>
+    /// The first target of the client at a place for a file, which is declared or else held, is this member.
+    pub fn aim(
+        &mut self,
+        place: usize,
+        number: u64,
+        is_declared: bool,
+        node: NodeId,
+    ) -> Result<(), OutOfMemory>
         requires { place < length self.old.nodes }
-        ensures { OnOk result (ChangesUp self.old place (aims number node) self.new) }
+        ensures { OnOk result (ChangesUp self.old place (targets is_declared number node) self.new) }
     {
-        self.hosts[place].aim(number, node)
+        self.hosts[place].aim(number, is_declared, node)
     }
 
     /// Every running clock advances.
@@ -118,22 +124,40 @@ impl<C: NodeCore, H: Hull> Nodes<C, H> {
         handle(&mut self.hosts[place], &self.hull, ev)
     }
 
-    /// The client at a place makes a call on a declared file. None where no client runs.
+    /// The client at a place makes a call. None where no client runs. `declared` is where the file of the call is, if a schedule declares
+    /// it. What the call uses is declared or held, and no call runs.
     pub fn call(
         &mut self,
         place: usize,
         call: &Call,
-        number: u64,
-        location: &Location,
-        op: Op,
+        declared: Option<Location>,
     ) -> Result<Option<Turned>, OutOfMemory>
         requires inside { place < length self.old.nodes }
         requires running { (node : Node) → IsAt self.old.nodes place node →
             IfSome node.up (λ running. running.clock < 2 ^ 62) }
+        requires free { (node : Node) → IsAt self.old.nodes place node →
+            has_call node.up ≡ false }
+        requires held { (node : Node) → IsAt self.old.nodes place node →
+            IfSome node.up (λ running. IsUsable declared call.now running.core) }
         ensures { IfOk result (λ turned. (node : Node) → IsAt self.old.nodes place node →
-            NodeCalls call.now number location.now op self.old node self.new turned) }
+            NodeCalls call.now declared self.old node self.new turned) }
     {
-        self.hosts[place].call(call, number, location, op)
+        self.hosts[place].call(call, declared)
+    }
+
+    /// The client at a place makes its last call again, which ended as one that may be. None where no client runs.
+    pub fn again(&mut self, place: usize) -> Result<Option<Turned>, OutOfMemory>
+        requires inside { place < length self.old.nodes }
+        requires running { (node : Node) → IsAt self.old.nodes place node →
+            IfSome node.up (λ running. running.clock < 2 ^ 62) }
+        requires free { (node : Node) → IsAt self.old.nodes place node →
+            has_call node.up ≡ false }
+        requires may { (node : Node) → IsAt self.old.nodes place node →
+            may_go_again node.up ≡ true }
+        ensures { IfOk result (λ turned. (node : Node) → IsAt self.old.nodes place node →
+            NodeCallsAgain self.old node self.new turned) }
+    {
+        self.hosts[place].again()
     }
 }
 

@@ -3,21 +3,21 @@ ghost use Rattle.std.specs.Prelude.{◌≡◌, ◌<◌, ◌^◌, Some, None, IfO
 ghost use Rattle.xt_messages.specs.Limits.{FitsMessage, FitsRecord};
 ghost use Rattle.xt_protocol.specs.Folds.{fold_of, IsInPlace};
 ghost use Rattle.xt_protocol.specs.Forgetting.{rewritten};
-ghost use Rattle.node_hosts.specs.Cores.{IsSaid};
-ghost use Rattle.node_hosts.specs.Forgetting.{needed_by};
-ghost use Rattle.cluster_runs.specs.World.{Node, osd, with_node};
-ghost use Rattle.cluster_runs.specs.NodeSteps.{overflow_of};
-ghost use Rattle.cluster_runs.specs.Lines.{runs, osd_starting};
+ghost use Rattle.world_host.specs.Cores.{IsSaid};
+ghost use Rattle.world_host.specs.Forgetting.{needed_by};
+ghost use Rattle.world_spec.specs.World.{Node, osd, with_node};
+ghost use Rattle.world_spec.specs.NodeSteps.{overflow_of};
+ghost use Rattle.world_spec.specs.Lines.{runs, osd_starting};
 ghost use Rattle.world_hull.specs.Answers.{IsFullOrMemory, IsFullExactly};
 ghost use Rattle.world_hull.specs.Appends.{IsInAppend, kept_by};
-ghost use Rattle.cluster_fits.specs.Fits.{FitsKept, FitsNext, MayForget};
+ghost use Rattle.world_limits.specs.Fits.{FitsKept, FitsNext, MayForget};
 ghost use Rattle.world_nodes.specs.Nodes.{IsAt, Changes, Forgets, after_append, after_load, after_put};
 
 use crate::nodes::Nodes;
 use disk_model::Stop;
-use node_hosts::NodeCore;
 use replica_records::fold;
 use std::alloc::{AllocError, Global};
+use world_host::NodeCore;
 use world_hull::{Hull, Kept, WorldErr};
 use xt_base::{Boot, OptionalBox, OutOfMemory};
 use xt_messages::{Folded, Keep, Msg, Record};

@@ -1,16 +1,17 @@
 //! The rules about the declared nodes that a line may break.
 ghost use Rattle.std.specs.Prelude.{◌≡◌, ◌<◌, Some, None};
 ghost use Rattle.std.specs.Option.{option_map};
-ghost use Rattle.cluster_runs.specs.World.{client, node_in, up_of};
-ghost use Rattle.cluster_runs.specs.Rules.{no_osd, no_client, no_node, node_twice, runs_already, runs_not, first_stranger, goes_back, clock_ends, busy, drifts};
+ghost use Rattle.world_spec.specs.World.{client, node_in, up_of};
+ghost use Rattle.world_spec.specs.Rules.{no_osd, no_client, no_node, node_twice, runs_already, runs_not, first_stranger, goes_back, clock_ends, busy, no_call, drifts, held_in, location_held};
+ghost use Rattle.client_rows.specs.Holding.{held_of};
 ghost use Rattle.world_nodes.specs.Nodes.{bare};
 
 use crate::nodes::Nodes;
-use node_clocks::{ClockTest, least_where};
-use node_hosts::NodeCore;
+use world_clocks::{ClockTest, least_where};
+use world_host::NodeCore;
 use world_hull::Hull;
 use xt_base::NodeId;
-use xt_messages::Rule;
+use xt_messages::{Location, Rule};
 
 impl<C: NodeCore, H: Hull> Nodes<C, H> {
     /// There is no such OSD.
@@ -104,8 +105,28 @@ impl<C: NodeCore, H: Hull> Nodes<C, H> {
         }
     }
 
+    /// The client's last call didn't end as one that may be made again.
+    pub fn no_call(&self, id: NodeId) -> Option<Rule>
+        ensures { result ≡ no_call self.now.nodes id }
+    {
+        match self.find(id) {
+            Some(place) if self.hosts[place].may_repeat() => None,
+            _ => Some(Rule::NoCall { client: id }),
+        }
+    }
+
+    /// Where the file of this number is, if the client of this id runs and holds a capability of it.
+    pub fn held(&self, id: NodeId, number: u64) -> Option<Location>
+        ensures { result ≡
+            location_held
+            (held_of (held_in (up_of (node_in self.now.nodes id.0))) number) }
+    {
+        let place = self.find(id)?;
+        self.hosts[place].held(number)
+    }
+
     /// The first of the members that isn't a declared OSD.
-    #[tactic(auto, unfolding(cluster_runs::specs::Rules::first_stranger))]
+    #[tactic(auto, unfolding(world_spec::specs::Rules::first_stranger))]
     pub fn first_stranger(&self, members: &[NodeId]) -> Option<Rule>
         ensures { result ≡ first_stranger self.now.nodes members.now }
     {

@@ -1,6 +1,6 @@
 use Rattle.std.proofs.Common.{◌≡◌, ◌∙◌, ◌∷◌, [], length, length-append, ap, sym, subst, refl, arith}
 use Rattle.time_line.specs.declared.TheConstants.{LINES}
-use Rattle.cluster_runs.specs.World.{World}
+use Rattle.world_spec.specs.World.{World}
 use Rattle.schedule_replay.proofs.Whole.{begun, goes_on, ends_so, lines_after, still_going}
 use Rattle.schedule_replay.proofs.Causes.{moved_cause}
 use Rattle.schedule_replay.proofs.Complete.{complete}

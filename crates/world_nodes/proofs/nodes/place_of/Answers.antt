@@ -1,7 +1,7 @@
 use Rattle.std.proofs.Common.{ap, sym, ◌∙◌, List}
 use Rattle.std.proofs.lemmas.List.{take_all}
 use Rattle.xt_base.specs.declared.ids.NodeId.{NodeId}
-use Rattle.node_hosts.specs.Hosts.{HostView}
+use Rattle.world_host.specs.Hosts.{HostView}
 use Rattle.world_nodes.specs.Nodes.{has_host}
 use Rattle.world_nodes.proofs.Hosts.{host_here, none_so_far}
 use Rattle.world_nodes.proofs.nodes.place_of.Goals as goal

@@ -1,5 +1,5 @@
 use Rattle.std.proofs.Common.{◌≡◌, map}
-use Rattle.cluster_runs.specs.NodeSteps.{pending}
+use Rattle.world_spec.specs.NodeSteps.{pending}
 use Rattle.world_tables.proofs.sent.all_pending.Given as goal
 
 abbrev pub invariant-loop-message : goal.invariant-loop-message

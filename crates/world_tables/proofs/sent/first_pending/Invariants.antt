@@ -1,5 +1,5 @@
 use Rattle.std.proofs.Common.{◌≡◌, ℕ, ◌<◌, ◌≤◌, false, get_or}
-use Rattle.cluster_runs.specs.declared.Sent.{Sent}
+use Rattle.world_spec.specs.declared.Sent.{Sent}
 use Rattle.world_tables.proofs.sent.first_pending.Given as goal
 
 abbrev pub invariant-loop-place : goal.invariant-loop-place

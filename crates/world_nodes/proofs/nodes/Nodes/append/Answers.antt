@@ -1,11 +1,11 @@
 use Rattle.std.proofs.Common.{List, Ok, ap, sym, subst}
 use Rattle.xt_base.specs.declared.ids.NodeId.{NodeId}
 use Rattle.xt_protocol.specs.Folds.{fold_of, IsInPlace}
-use Rattle.cluster_runs.specs.World.{Node, Deed}
+use Rattle.world_spec.specs.World.{Node, Deed}
 use Rattle.world_hull.specs.Answers.{IsFullExactly}
 use Rattle.world_hull.specs.Appends.{Logs, IsAppended}
 use Rattle.world_hull.specs.declared.hull.Kept.{Kept}
-use Rattle.node_hosts.specs.Hosts.{stored_in}
+use Rattle.world_host.specs.Hosts.{stored_in}
 use Rattle.world_nodes.specs.Nodes.{after_append}
 use Rattle.world_nodes.proofs.Changes.{stands, map_if, append_others, append_own, again_stored, stored_changes, its_stored}
 use Rattle.world_nodes.proofs.nodes.Nodes.append.Goals as goal

@@ -1,7 +1,7 @@
 use Rattle.std.proofs.Common.{[], None, ap, sym, ◌∙◌}
-use Rattle.cluster_runs.specs.declared.Role.TheVariants as role
-use Rattle.cluster_runs.specs.World.{node_in}
-use Rattle.node_hosts.specs.Hosts.{HostView, node_of, stored_in, nothing_stored}
+use Rattle.world_spec.specs.declared.Role.TheVariants as role
+use Rattle.world_spec.specs.World.{node_in}
+use Rattle.world_host.specs.Hosts.{HostView, node_of, stored_in, nothing_stored}
 use Rattle.world_nodes.proofs.Changes.{declared_last}
 use Rattle.world_nodes.proofs.nodes.Nodes.declare_osd.Goals as goal
 

@@ -1,5 +1,5 @@
 use Rattle.std.proofs.Common.{List, subst}
-use Rattle.node_hosts.specs.Hosts.{HostView, stored_in}
+use Rattle.world_host.specs.Hosts.{HostView, stored_in}
 use Rattle.world_nodes.specs.Nodes.{NodesView, IsPlace, IsHostPlace}
 use Rattle.world_nodes.proofs.Hosts.{is_place}
 use Rattle.world_nodes.proofs.nodes.Nodes.find.Goals as goal

@@ -1,5 +1,5 @@
-use Rattle.node_hosts.specs.Turns.{Handles}
-use Rattle.node_hosts.specs.Hosts.{stored_in}
+use Rattle.world_host.specs.Turns.{Handles}
+use Rattle.world_host.specs.Hosts.{stored_in}
 use Rattle.world_nodes.proofs.Hosts.{same_stored}
 use Rattle.world_nodes.proofs.Changes.{again, stands, node_handled, handled_same, same_but_up, if_or_err, map_if}
 use Rattle.world_nodes.proofs.nodes.Nodes.handle.Goals as goal

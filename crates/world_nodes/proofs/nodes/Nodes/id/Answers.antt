@@ -1,4 +1,4 @@
-use Rattle.node_hosts.specs.Hosts.{node_of, stored_in}
+use Rattle.world_host.specs.Hosts.{node_of, stored_in}
 use Rattle.world_nodes.proofs.Changes.{stands}
 use Rattle.world_nodes.proofs.nodes.Nodes.id.Goals as goal
 

@@ -1,7 +1,7 @@
 use Rattle.std.proofs.Common.{◌≡◌, ◌∙◌, Option, Bor, ap, sym, subst}
 use Rattle.std.specs.Option.{option_map}
 use Rattle.xt_messages.specs.declared.record.Record.{Record}
-use Rattle.cluster_runs.specs.World.{with_node}
+use Rattle.world_spec.specs.World.{with_node}
 use Rattle.world_nodes.specs.Nodes.{after_put}
 use Rattle.world_nodes.proofs.Changes.{same_there}
 use Rattle.world_nodes.proofs.nodes.Nodes.keep.Goals as goal

@@ -1,8 +1,8 @@
 use Rattle.std.proofs.Common.{Bool, not, Option, ap, sym, ◌∙◌}
 use Rattle.xt_messages.specs.declared.status.Rule.TheVariants as rule
-use Rattle.cluster_runs.specs.World.{Node, is_osd}
-use Rattle.cluster_runs.specs.Rules.{if_so}
-use Rattle.node_hosts.specs.Hosts.{stored_in}
+use Rattle.world_spec.specs.World.{Node, is_osd}
+use Rattle.world_spec.specs.Rules.{if_so}
+use Rattle.world_host.specs.Hosts.{stored_in}
 use Rattle.world_nodes.proofs.Changes.{said_of}
 use Rattle.world_nodes.proofs.nodes.Nodes.no_osd.Goals as goal
 

@@ -1,8 +1,8 @@
 use Rattle.std.proofs.Common.{ap}
 use Rattle.std.specs.Option.{option_map}
-use Rattle.cluster_runs.specs.Lines.{crashes}
-use Rattle.node_hosts.specs.Hosts.{node_of, stored_in}
-use Rattle.cluster_runs.specs.World.{Node}
+use Rattle.world_spec.specs.Lines.{crashes}
+use Rattle.world_host.specs.Hosts.{node_of, stored_in}
+use Rattle.world_spec.specs.World.{Node}
 use Rattle.world_nodes.proofs.Hosts.{same_stored}
 use Rattle.world_nodes.proofs.Changes.{again, changes, same_but_up}
 use Rattle.world_nodes.proofs.nodes.Nodes.plan_crash.Goals as goal

@@ -3,8 +3,8 @@ use Rattle.xt_base.specs.declared.ids.NodeId.{NodeId}
 use Rattle.world_hull.specs.Appends.{Logs}
 use Rattle.world_hull.specs.Rewritings.{MayBecome, IsCompacted}
 use Rattle.std.specs.Option.{option_map}
-use Rattle.node_hosts.specs.Hosts.{HostView, stored_in}
-use Rattle.node_hosts.specs.Forgetting.{running_without}
+use Rattle.world_host.specs.Hosts.{HostView, stored_in}
+use Rattle.world_host.specs.Forgetting.{running_without}
 use Rattle.world_nodes.proofs.Hosts.{AreOthers}
 use Rattle.world_nodes.proofs.Changes.{stands, again, again_stored, same_old, same_but_up, compact_others, compact_own, compact_past, compact_not}
 use Rattle.world_nodes.proofs.Forgetting.{forgot_told, kept_told, may_become}

@@ -1,8 +1,8 @@
 use Rattle.std.proofs.Common.{ap, ◌∙◌, ◌≡◌}
 use Rattle.xt_messages.specs.declared.record.Folded.{Folded}
 use Rattle.xt_protocol.specs.Folds.{fold_of}
-use Rattle.cluster_runs.specs.World.{Node}
-use Rattle.node_hosts.specs.Hosts.{stored_in}
+use Rattle.world_spec.specs.World.{Node}
+use Rattle.world_host.specs.Hosts.{stored_in}
 use Rattle.world_nodes.specs.Nodes.{after_load}
 use Rattle.world_nodes.proofs.Changes.{map_if, on_ok, none_other, load_others, load_own, again_stored, stored_changes, its_stored}
 use Rattle.world_nodes.proofs.nodes.Nodes.said.Goals as goal

@@ -1,9 +1,9 @@
 use Rattle.std.proofs.Common.{List, sym, subst, refl}
 use Rattle.std.specs.Option.{option_map}
-use Rattle.cluster_runs.specs.Lines.{reads_clock}
-use Rattle.cluster_runs.specs.World.{Node}
-use Rattle.node_hosts.specs.Hosts.{HostView, stored_in}
-use Rattle.node_clocks.specs.Hosts.{nodes_of, clock_set}
+use Rattle.world_spec.specs.Lines.{reads_clock}
+use Rattle.world_spec.specs.World.{Node}
+use Rattle.world_host.specs.Hosts.{HostView, stored_in}
+use Rattle.world_clocks.specs.Hosts.{nodes_of, clock_set}
 use Rattle.world_nodes.specs.Nodes.{AreHosts, Changes}
 use Rattle.world_nodes.proofs.Hosts.{same_stored}
 use Rattle.world_nodes.proofs.Changes.{again, changes, same_but_up}

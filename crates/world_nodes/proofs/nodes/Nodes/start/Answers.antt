@@ -1,4 +1,4 @@
-use Rattle.node_hosts.specs.Hosts.{stored_in}
+use Rattle.world_host.specs.Hosts.{stored_in}
 use Rattle.world_nodes.proofs.Hosts.{same_stored}
 use Rattle.world_nodes.proofs.Changes.{again, node_started, same_but_up, either_way, map_ok}
 use Rattle.world_nodes.proofs.nodes.Nodes.start.Goals as goal

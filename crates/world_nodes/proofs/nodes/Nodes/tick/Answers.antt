@@ -1,8 +1,8 @@
 use Rattle.std.proofs.Common.{List, ◌++◌, take, drop, length, map, ap, sym, ◌∙◌, subst}
 use Rattle.std.specs.List.{AllByRecursion}
 use Rattle.std.proofs.lemmas.List.{length-map}
-use Rattle.node_hosts.specs.Hosts.{HostView, host_ticked, stored_in}
-use Rattle.node_clocks.specs.Hosts.{MayTick}
+use Rattle.world_host.specs.Hosts.{HostView, host_ticked, stored_in}
+use Rattle.world_clocks.specs.Hosts.{MayTick}
 use Rattle.world_nodes.proofs.Ticks.{may_tick, ticked_hosts, all_new}
 use Rattle.world_nodes.proofs.nodes.Nodes.tick.Goals as goal
 

@@ -1,8 +1,8 @@
 use Rattle.std.proofs.Common.{◌≡◌, List, Option, Some, None, cond, nat_cmp, ap, sym, ◌∙◌}
 use Rattle.std.specs.BTreeMap.{is_at}
 use Rattle.xt_messages.specs.declared.file.Location.{Location}
-use Rattle.cluster_runs.specs.declared.DeclaredFile.{DeclaredFile}
-use Rattle.cluster_runs.specs.World.{file_in}
+use Rattle.world_spec.specs.declared.DeclaredFile.{DeclaredFile}
+use Rattle.world_spec.specs.World.{file_in}
 use Rattle.world_tables.proofs.Places.{key_is, file_in_push}
 use Rattle.world_tables.proofs.files.DeclaredFiles.declare.Goals as goal
 

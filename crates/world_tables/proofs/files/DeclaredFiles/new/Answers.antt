@@ -1,5 +1,5 @@
 use Rattle.std.proofs.Common.{refl}
-use Rattle.cluster_runs.specs.World.{file_in}
+use Rattle.world_spec.specs.World.{file_in}
 use Rattle.world_tables.proofs.files.DeclaredFiles.new.Goals as goal
 
 pub invariant_of-result : goal.invariant_of-result

@@ -1,5 +1,5 @@
 use Rattle.std.proofs.Common.{ap, sym, ◌∙◌, arith, length, ◌<◌, ◌≤◌}
-use Rattle.cluster_runs.specs.Lines.{least_pending}
+use Rattle.world_spec.specs.Lines.{least_pending}
 use Rattle.world_tables.proofs.MessageCounts.{least_is, least_is_none}
 use Rattle.world_tables.proofs.sent.SentMessages.least_pending.Goals as goal
 

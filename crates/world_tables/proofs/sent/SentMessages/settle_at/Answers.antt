@@ -1,5 +1,5 @@
 use Rattle.std.proofs.Common.{ap, sym, ◌∙◌, ◌+◌}
-use Rattle.cluster_runs.specs.Lines.{no_longer_pending}
+use Rattle.world_spec.specs.Lines.{no_longer_pending}
 use Rattle.world_tables.proofs.MessageCounts.{counts_settled, settled_is}
 use Rattle.world_tables.proofs.sent.SentMessages.settle_at.Goals as goal
 

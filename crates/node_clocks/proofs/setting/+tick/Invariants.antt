@@ -1,5 +1,0 @@
-use Rattle.std.proofs.Common.{length}
-use Rattle.node_clocks.proofs.setting.+tick.Given as goal
-
-abbrev pub decreases-tick : goal.decreases-tick
-decreases-tick g l = length l.hosts.now

@@ -1,6 +1,0 @@
-use Rattle.std.proofs.Common.{◌≡◌, take}
-use Rattle.node_disks.proofs.node_store.NodeStore.copies.Given as goal
-
--- the records so far are made
-abbrev pub invariant-loop-rec : goal.invariant-loop-rec
-invariant-loop-rec l = l.made.items ≡ take l.rec-index l.rec-items

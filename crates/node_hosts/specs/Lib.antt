@@ -1,4 +1,0 @@
-pub mod Hosts
-pub mod Cores
-pub mod Turns
-pub mod Forgetting

@@ -1,0 +1,27 @@
+use Rattle.std.proofs.Common.{List, ◌∙◌, ap, subst, sym}
+use Rattle.disk_model.specs.Changes.{Memory, memory_kept}
+use Rattle.xt_journal.specs.Access as journal
+use Rattle.xt_journal.specs.declared.placed.Placed.{Placed}
+use Rattle.xt_journal.specs.Reading.{payloads_of}
+use Rattle.object_store.specs.Access.{records_of}
+use Rattle.object_store.specs.Texts.{IsFirstBad}
+use Rattle.world_disk.specs.Ends.{IsLoadedWith}
+use Rattle.world_disk.proofs.StoredRecords.{are_on, none_bad, short_payloads}
+use Rattle.world_disk.proofs.node_store.store_on.Goals as goal
+
+pub returns-in-Ok-clause-reads : goal.returns-in-Ok-clause-reads
+returns-in-Ok-clause-reads c =
+    are_on (memory_kept c.args.disk).read (payloads_of c.in_ok-journal.payloads.items) (records_of c.in-Ok.store) c.in_ok-journal.ensures.reads
+    (c.in-Ok.ensures.1 ∙ ap payloads_of c.as_slice.ensures.value) c.in-Ok.store.sound
+    (short_payloads (memory_kept c.args.disk).read (payloads_of c.in_ok-journal.payloads.items) c.requires.stands c.in_ok-journal.ensures.reads)
+
+pub returns-in-Ok-clause-loaded : goal.returns-in-Ok-clause-loaded
+returns-in-Ok-clause-loaded c =
+    subst (λ (disk : Memory). IsLoadedWith c.args.disk.first disk) (sym (ap journal.disk_of c.in-Ok.ensures.0)) c.in_ok-journal.ensures.loaded
+
+pub unreachable-requires : goal.unreachable-requires
+unreachable-requires c =
+    let told = rw c.in-Err-BadRecord.field-0-is at c.in-Err-BadRecord.ensures in
+    none_bad (memory_kept c.args.disk).read (payloads_of c.in_ok-journal.payloads.items) c.in-Err-BadRecord.field-0-0 c.requires.stands
+    c.in_ok-journal.ensures.reads
+    (subst (λ (ps : List Placed). IsFirstBad (payloads_of ps) c.in-Err-BadRecord.field-0-0) c.as_slice.ensures.value told.1)

@@ -1,0 +1,236 @@
+//! The records of one node, on a disk in memory.
+ghost use Rattle.std.specs.Prelude.{◌≡◌, ◌++◌, ◌∷◌, ◌≤◌, [], List, Some, IfOk, IfErr};
+ghost use Rattle.disk_model.specs.Changes.{memory_kept};
+ghost use Rattle.disk_model.specs.Disk.{IsImage};
+ghost use Rattle.disk_model.specs.Plan.{planned};
+ghost use Rattle.xt_messages.specs.Limits.{FitsRecord};
+ghost use Rattle.xt_messages.specs.declared.record.Record.{Record};
+ghost use Rattle.xt_protocol.specs.Folds.{fold_of, IsInPlace, body_kept};
+ghost use Rattle.xt_journal.specs.Access as journal;
+ghost use Rattle.xt_journal.specs.Format.{StandsFor, KeepsJournal, end_of};
+ghost use Rattle.xt_journal.specs.Loaded.{FailedCall, MadeCalls, IsReady};
+ghost use Rattle.xt_journal.specs.Reading.{payloads_of};
+ghost use Rattle.object_store.specs.Access.{records_of, disk_of, journal_of};
+ghost use Rattle.object_store.specs.Texts.{texts_of};
+ghost use Rattle.world_hull.specs.Answers.{IsFullOrMemory, IsFullExactly, GivesBody};
+ghost use Rattle.world_hull.specs.Appends.{kept_by};
+ghost use Rattle.world_disk.specs.Disks.{AreOn, HasRecords, IsToStop};
+ghost use Rattle.world_disk.specs.Ends.{own_after, IsLoadedWith, IsStartedFrom, IsReadAgain, IsLeftBy, IsReadAfter};
+ghost use Rattle.world_disk.specs.Room.{journal_overflow};
+ghost use Rattle.world_disk.specs.Stored.{none_stored};
+
+use crate::JOURNAL;
+use disk_model::{MemoryDisk, Stop};
+use object_store::{AppendErr, Store, StoreErr};
+use std::alloc::{AllocError, Global};
+use std::marker::Model;
+use world_hull::{BodyErr, WorldErr};
+use xt_base::{CallList, Copies, FileId, Octets, OutOfMemory, Stamp};
+use xt_journal::{Journal, LoadErr, Placed};
+use xt_messages::Record;
+
+/// The records of a node on a disk that doesn't fail. Contracts see their list, and the disk.
+pub struct NodeStore {
+    store: Store<MemoryDisk>,
+}
+
+// A derived drop is part of the code of each function that may drop a value. This one is proved once.
+impl Drop for NodeStore {
+    fn drop(self) {
+        let NodeStore { store: _ } = self;
+    }
+}
+
+impl Model for NodeStore {
+    ghost use Rattle.xt_journal.specs.Access.{limit_of};
+    ghost use Rattle.object_store.specs.Access.{records_of, disk_of, journal_of};
+    ghost use Rattle.world_disk.specs.Disks.{IsCalm};
+    ghost use Rattle.world_disk.specs.Stored.{Stored};
+
+    ghost Value = { Stored };
+
+    ghost view = { λ node. record { records = records_of node.store; disk = disk_of node.store } };
+
+    ghost invariant = { λ node.
+        IsCalm (disk_of node.store) (records_of node.store) (limit_of (journal_of node.store)) };
+}
+
+/// The journal on a new disk on which records stand, and its payloads. The disk doesn't fail while it is loaded.
+fn journal_on(
+    alloc: Global,
+    disk: MemoryDisk,
+) -> Result<(Journal<MemoryDisk>, Vec<Placed>), OutOfMemory>
+    requires made { disk.changes ≡ [] }
+    requires stands { HasRecords (memory_kept disk).read }
+    requires passes { FailedCall (planned disk.plan) (memory_kept disk).read → ⊥ }
+    ensures reads { IfOk result (λ found.
+        StandsFor (memory_kept disk).read (payloads_of found.1.items)) }
+    ensures keeps { IfOk result (λ found.
+        KeepsJournal (memory_kept (journal.disk_of found.0)) (payloads_of found.1.items)) }
+    ensures ready { IfOk result (λ found. IsReady (memory_kept (journal.disk_of found.0)).read) }
+    ensures loaded { IfOk result (λ found. IsLoadedWith disk.first (journal.disk_of found.0)) }
+    ensures plan { IfOk result (λ found.
+        MadeCalls (planned disk.plan) (planned (journal.disk_of found.0).plan)
+        (memory_kept disk).read) }
+    ensures limit { IfOk result (λ found. journal.limit_of found.0 ≡ JOURNAL) }
+{
+    match Journal::load(alloc, disk, JOURNAL) {
+        Ok(found) => Ok(found),
+        Err(LoadErr::OutOfMemory { .. }) => Err(AllocError),
+        Err(LoadErr::DiskFault { .. }) => unreachable!(),
+        Err(LoadErr::NotOurs { .. }) => unreachable!(),
+        Err(LoadErr::Layout { .. }) => unreachable!(),
+        Err(LoadErr::Damaged { .. }) => unreachable!(),
+    }
+}
+
+/// The store on a new disk on which records stand. The disk doesn't fail while it is loaded.
+fn store_on(alloc: Global, disk: MemoryDisk) -> Result<Store<MemoryDisk>, OutOfMemory>
+    requires made { disk.changes ≡ [] }
+    requires stands { HasRecords (memory_kept disk).read }
+    requires passes { FailedCall (planned disk.plan) (memory_kept disk).read → ⊥ }
+    ensures reads { IfOk result (λ store. ∥ AreOn (memory_kept disk).read (records_of store) ∥₁) }
+    ensures ready { IfOk result (λ store. IsReady (memory_kept (disk_of store)).read) }
+    ensures loaded { IfOk result (λ store. IsLoadedWith disk.first (disk_of store)) }
+    ensures plan { IfOk result (λ store.
+        MadeCalls (planned disk.plan) (planned (disk_of store).plan) (memory_kept disk).read) }
+    ensures limit { IfOk result (λ store. journal.limit_of (journal_of store) ≡ JOURNAL) }
+{
+    let (journal, payloads) = journal_on(alloc, disk)?;
+    match Store::load(alloc, journal, payloads.as_slice()) {
+        Ok(store) => Ok(store),
+        Err(StoreErr::OutOfMemory { .. }) => Err(AllocError),
+        Err(StoreErr::BadRecord { .. }) => unreachable!(),
+    }
+}
+
+/// The records that stand in these bytes, on a new disk that never fails.
+fn restarted(alloc: Global, bytes: Octets) -> Result<NodeStore, OutOfMemory>
+    requires { HasRecords bytes }
+    ensures { IfOk result (λ node. IsStartedFrom bytes node.disk node.records) }
+{
+    let disk = MemoryDisk::new(alloc, bytes, CallList::new(alloc), None);
+    Ok(NodeStore {
+        store: store_on(alloc, disk)?,
+    })
+}
+
+/// Puts a record that its store can't take whole: its disk stops in this one of the four calls. Gives what a crash
+/// leaves of that disk.
+fn left_by_stop(
+    alloc: Global,
+    store: Store<MemoryDisk>,
+    rec: &Record,
+    stop: Stop,
+) -> Result<Octets, WorldErr>
+    requires fits { FitsRecord rec.now }
+    requires place { IsInPlace (fold_of (records_of store)) rec.now }
+    requires low { 1 ≤ stop.call }
+    requires high { stop.call ≤ 4 }
+    requires stops { IsToStop stop.call (planned (disk_of store).plan) }
+    requires short { end_of (texts_of (records_of store)) ≤ JOURNAL }
+    requires limit { journal.limit_of (journal_of store) ≡ JOURNAL }
+    ensures left { IfOk result (λ bytes. IsLeftBy stop (records_of store) rec.now bytes) }
+    ensures stands { IfOk result (λ bytes.
+        ∥ AreOn bytes (own_after (records_of store) rec.now (kept_by (Some stop))) ∥₁) }
+    ensures room { IsFullExactly (journal_overflow (records_of store) rec.now) result }
+    ensures error { IfErr result IsFullOrMemory }
+{
+    match store.put(alloc, rec) {
+        Err(AppendErr::Broken { disk, .. }) => Ok(disk.filled(stop.fill)?),
+        Err(AppendErr::Full { need, limit, .. }) => Err(WorldErr::Full { need, limit }),
+        Err(AppendErr::OutOfMemory { .. }) => Err(WorldErr::OutOfMemory),
+        Ok(_) => unreachable!(),
+    }
+}
+
+impl NodeStore {
+    /// No record, on a new disk: as after a start from a disk without a byte.
+    pub fn new(alloc: Global) -> Result<NodeStore, OutOfMemory>
+        ensures none { IfOk result (λ node. node.records ≡ []) }
+        ensures read { IfOk result (λ node. IsReadAgain none_stored.disk node.disk []) }
+    {
+        restarted(alloc, Octets::new(alloc))
+    }
+
+    /// What a crash leaves of the disk. It stands for the records.
+    pub fn bytes(&self) -> Result<Octets, OutOfMemory>
+        ensures left { IfOk result (IsImage (memory_kept self.now.disk)) }
+        ensures same { IfOk result (λ bytes. ∥ AreOn bytes self.now.records ∥₁) }
+        ensures ready { IfOk result IsReady }
+    {
+        self.store.disk().image()
+    }
+
+    /// What the node has that starts again: the same records, read from what a crash leaves of its disk.
+    pub fn reloaded(&self, alloc: Global) -> Result<NodeStore, OutOfMemory>
+        ensures same { IfOk result (λ node. node.records ≡ self.now.records) }
+        ensures read { IfOk result (λ node. IsReadAgain self.now.disk node.disk node.records) }
+    {
+        restarted(alloc, self.bytes()?)
+    }
+
+    /// Puts a record behind the others.
+    pub fn put(self, alloc: Global, rec: &Record) -> Result<NodeStore, WorldErr>
+        requires fits { FitsRecord rec.now }
+        requires place { IsInPlace (fold_of self.records) rec.now }
+        ensures done { IfOk result (λ node. node.records ≡ self.records ++ rec.now ∷ []) }
+        ensures room { IsFullExactly (journal_overflow self.records rec.now) result }
+        ensures error { IfErr result IsFullOrMemory }
+    {
+        let NodeStore { store } = self;
+        match store.put(alloc, rec) {
+            Ok(store) => Ok(NodeStore { store }),
+            Err(AppendErr::Full { need, limit, .. }) => Err(WorldErr::Full { need, limit }),
+            Err(AppendErr::OutOfMemory { .. }) => Err(WorldErr::OutOfMemory),
+            Err(AppendErr::Broken { .. }) => unreachable!(),
+        }
+    }
+
+    /// What the node has that stopped in one of the four calls of an append: what a disk leaves that stops there.
+    pub fn stopped(&self, alloc: Global, rec: &Record, stop: Stop) -> Result<NodeStore, WorldErr>
+        requires fits { FitsRecord rec.now }
+        requires place { IsInPlace (fold_of self.now.records) rec.now }
+        requires low { 1 ≤ stop.call }
+        requires high { stop.call ≤ 4 }
+        ensures own { IfOk result (λ node. node.records ≡
+            own_after self.now.records rec.now (kept_by (Some stop))) }
+        ensures left { IfOk result (λ node. IsReadAfter stop self.now.records rec.now node.disk) }
+        ensures room { IsFullExactly (journal_overflow self.now.records rec.now) result }
+        ensures error { IfErr result IsFullOrMemory }
+    {
+        // Loading a journal that stands makes one sync before the append's calls.
+        let counted = Stop {
+            call: stop.call + 1,
+            fill: stop.fill,
+        };
+        let disk = MemoryDisk::new(alloc, self.bytes()?, CallList::new(alloc), Some(counted));
+        let store = store_on(alloc, disk)?;
+        let left = left_by_stop(alloc, store, rec, stop)?;
+        Ok(restarted(alloc, left)?)
+    }
+
+    /// The records in order.
+    pub fn copies(&self, alloc: Global) -> Result<Vec<Record>, OutOfMemory>
+        ensures { IfOk result (λ made. made.items ≡ self.now.records) }
+    {
+        let mut made = Vec::new(alloc);
+        for rec in self.store.records() {
+            made.push(rec.copy(alloc)?)?;
+        }
+        Ok(made)
+    }
+
+    /// The body that was put last as this version of this object of the file.
+    pub fn body(
+        &self,
+        alloc: Global,
+        file: &FileId,
+        object: u64,
+        version: &Stamp,
+    ) -> Result<Octets, BodyErr>
+        ensures { GivesBody (body_kept self.now.records file.now object version.now) result }
+    {
+        self.store.find(alloc, file, object, version)
+    }
+}

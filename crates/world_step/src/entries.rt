@@ -1,0 +1,94 @@
+//! The lines of a trace that the marks of a step give.
+ghost use Rattle.std.specs.Prelude.{◌≡◌, ◌++◌, ◌∷◌, [], map, IfOk, OnOk, OnErr};
+ghost use Rattle.world_spec.specs.NodeSteps.{entry_of};
+
+use std::alloc::Global;
+use time_line::{Entry, Halt};
+use xt_base::{NodeId, OutOfMemory};
+use xt_messages::{Mark, Marks};
+
+/// The line of the trace for a mark of a node.
+fn entry_of(node: NodeId, mark: Mark) -> Entry
+    ensures { result ≡ entry_of node mark }
+{
+    match mark {
+        Mark::File { file, location } => Entry::File {
+            number: file,
+            location,
+        },
+        Mark::Begin { number, call } => Entry::Begin {
+            client: node,
+            number,
+            call,
+        },
+        Mark::Held { file, end } => Entry::Held { node, file, end },
+        Mark::Active { file, count, id } => Entry::Active {
+            node,
+            file,
+            count,
+            id,
+        },
+        Mark::Issue { file, count, id } => Entry::Issue {
+            node,
+            file,
+            count,
+            id,
+        },
+        Mark::Commit { file, count, id } => Entry::Commit {
+            node,
+            file,
+            count,
+            id,
+        },
+        Mark::Answer {
+            file,
+            id,
+            count,
+            bytes,
+        } => Entry::Answer {
+            node,
+            file,
+            id,
+            count,
+            bytes,
+        },
+        Mark::Done { number, outcome } => Entry::Done {
+            client: node,
+            number,
+            outcome,
+        },
+    }
+}
+
+/// A line of the trace is told. It is a call, so that the line is no part of the way out.
+pub fn tell(entries: &mut Vec<Entry>, entry: Entry) -> Result<(), OutOfMemory>
+    ensures items { OnOk result (entries.new.items ≡ entries.old.items ++ entry ∷ []) }
+    ensures err { OnErr result (entries.new.items ≡ entries.old.items) }
+{
+    entries.push(entry)?;
+    Ok(())
+}
+
+/// The lines of the trace for the marks of a node.
+pub fn entries_of(alloc: Global, node: NodeId, marks: Marks) -> Result<Vec<Entry>, OutOfMemory>
+    ensures { IfOk result (λ entries. entries.items ≡ map (entry_of node) marks) }
+{
+    let marks = marks.items.into_iter();
+    marks.map(|mark| entry_of(node, mark)).collect(alloc)
+}
+
+/// The lines of the trace for the marks of a node whose sending is cut at this reading of its clock.
+pub fn entries_to_cut(
+    alloc: Global,
+    node: NodeId,
+    clock: u64,
+    marks: Marks,
+) -> Result<Vec<Entry>, OutOfMemory>
+    ensures { IfOk result (λ entries. entries.items ≡
+        map (entry_of node) marks ++ Entry.Down node clock Halt.Cut ∷ []) }
+{
+    let how = Halt::Cut;
+    let mut entries = entries_of(alloc, node, marks)?;
+    tell(&mut entries, Entry::Down { node, clock, how })?;
+    Ok(entries)
+}
