@@ -74,8 +74,8 @@ call_formed c turn is =
     let object = is.object in
     let at = is.at in
     either (λ made. IsLine false (line.Call (node c.client) made)) c.is_read (call.Read c.file c.object c.at 16) (call.Write c.file c.object c.at (to_be_bytes w64 turn))
-    (tt, (omega arith, (omega arith, omega arith, omega arith, omega arith, omega arith)))
-    (tt, (omega arith, (omega arith, omega arith, omega arith, eight_bytes turn, omega arith)))
+    (tt, (omega arith, tt, (omega arith, omega arith, omega arith, omega arith, omega arith)))
+    (tt, (omega arith, tt, (omega arith, omega arith, omega arith, eight_bytes turn, omega arith)))
 
 -- ---- turns
 
@@ -113,7 +113,7 @@ three_fit = record {
 }
 
 file_formed : (number : ℕ) → number < 5 → IsLine false (line.File number on_three)
-file_formed number few = (record { version = refl; kind = refl }, (omega arith, three_fit))
+file_formed number few = (refl, (omega arith, three_fit))
 
 client_formed : (n : ℕ) → n < 14 → IsLine false (line.Client (node n) 0)
 client_formed n few = (tt, (omega arith, omega arith))

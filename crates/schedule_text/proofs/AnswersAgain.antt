@@ -14,13 +14,12 @@ use Rattle.xt_messages.specs.declared.reply.Answered.{Answered}
 use Rattle.xt_messages.specs.declared.reply.Retry.{Retry}
 use Rattle.xt_messages.specs.declared.reply.Retry.TheVariants as retry
 use Rattle.time_line.specs.Bounds.{FitsRetry, FitsAnswered}
-use Rattle.schedule_text.specs.Words.{spaced}
+use Rattle.server_text.specs.Words.{spaced}
 use Rattle.schedule_text.specs.OutcomeText.{retry_text, answer_word, answer_words}
-use Rattle.schedule_text.specs.Reading.{number_of}
-use Rattle.schedule_text.specs.LineReading.{node_of}
+use Rattle.server_text.specs.Reading.{number_of, node_of}
 use Rattle.schedule_text.specs.EntryReading.{front, back, retry_of, retry_in, answered_in, answers_in}
-use Rattle.schedule_text.proofs.WordsAgain.{IsWord, IsWord-tested, IsWord-append, decimal-IsWord, number_again}
-use Rattle.schedule_text.proofs.ManyAgain.{IsReadAgain, each_again, spaced_long}
+use Rattle.server_text.proofs.WordsAgain.{IsWord, IsWord-tested, IsWord-append, above, decimal-IsWord, number_again}
+use Rattle.server_text.proofs.ManyAgain.{IsReadAgain, all_again}
 
 -- no such byte stands in it
 abbrev Lacks : ℕ → List ℕ → Type 0
@@ -96,11 +95,11 @@ retry-IsWord (retry.NoLease end) fits =
 retry-IsWord (retry.NoMajority have need) (p, q) =
     IsWord-append (codes "=nomajority:" ++ decimal have) (47 ∷ decimal need)
     (IsWord-append (codes "=nomajority:") (decimal have) (IsWord-tested (codes "=nomajority:") refl) (decimal-IsWord have (omega arith)))
-    (omega arith, decimal-IsWord need (omega arith))
+    (above 47 (omega arith), decimal-IsWord need (omega arith))
 retry-IsWord (retry.Elsewhere node end) (p, q) =
     IsWord-append (codes "=elsewhere:" ++ decimal node.0) (58 ∷ decimal end)
     (IsWord-append (codes "=elsewhere:") (decimal node.0) (IsWord-tested (codes "=elsewhere:") refl) (decimal-IsWord node.0 (omega arith)))
-    (omega arith, decimal-IsWord end (omega arith))
+    (above 58 (omega arith), decimal-IsWord end (omega arith))
 retry-IsWord retry.Silent fits = IsWord-tested (codes "=silent") refl
 
 pub answered_again : (given : Answered) → FitsAnswered given → IsReadAgain answered_in answer_word given
@@ -132,9 +131,7 @@ answered_all (one ∷ given) fits = (answered_again one fits.0, answered_all giv
 
 pub answers_again : (given : List Answered) → AllByRecursion FitsAnswered given → answers_in (spaced (answer_words given)) ≡ given
 unfolding answers_in
-answers_again given fits =
-    let all = answered_all given fits in
-    each_again answered_in answer_word (length (spaced (answer_words given))) given (spaced_long answered_in answer_word given all) all
+answers_again given fits = all_again answered_in answer_word given (answered_all given fits)
 
 -- each answer is a word
 pub answers-AreWords : (given : List Answered) → AllByRecursion FitsAnswered given → AllByRecursion IsWord (answer_words given)

@@ -1,5 +1,5 @@
 -- An entry that was written is read, so no two are spelled alike.
-use Rattle.std.proofs.Common.{◌≡◌, ℕ, ◌*◌, ◌^◌, ◌<◌, ◌≤◌, List, [], ◌∷◌, Some, refl, sym, ap, subst, ◌∙◌, arith}
+use Rattle.std.proofs.Common.{◌≡◌, ℕ, ◌*◌, ◌^◌, ◌<◌, List, [], ◌∷◌, Some, refl, sym, ap, ◌∙◌, arith}
 use Rattle.std.specs.Prelude.{codes}
 use Rattle.std.specs.List.{AllByRecursion}
 use Rattle.std.specs.Fmt.{decimal}
@@ -9,31 +9,36 @@ use Rattle.xt_base.specs.declared.ids.Boot.{Boot}
 use Rattle.xt_messages.specs.declared.file.Location.{Location}
 use Rattle.xt_messages.specs.declared.event.Call.{Call}
 use Rattle.xt_messages.specs.declared.event.Call.TheVariants as call
+use Rattle.xt_messages.specs.declared.event.MetaOutcome.{MetaOutcome}
+use Rattle.xt_messages.specs.declared.event.RegistryOutcome.{RegistryOutcome}
 use Rattle.xt_messages.specs.declared.event.Outcome.{Outcome}
 use Rattle.xt_messages.specs.declared.event.Outcome.TheVariants as outcome
 use Rattle.xt_messages.specs.declared.status.AskRefusal.{AskRefusal}
 use Rattle.xt_messages.specs.declared.status.AskRefusal.TheVariants as refusal
-use Rattle.xt_messages.specs.declared.reply.Denial.{Denial}
-use Rattle.xt_messages.specs.declared.reply.Denial.TheVariants as denial
 use Rattle.xt_messages.specs.declared.reply.Answered.{Answered}
 use Rattle.xt_base.specs.FieldLimits.{AreBytes}
-use Rattle.xt_messages.specs.Limits.{FitsLocation, FitsMembers}
+use Rattle.xt_messages.specs.Limits.{FitsLocation}
 use Rattle.time_line.specs.declared.entry.Entry.{Entry}
 use Rattle.time_line.specs.declared.entry.Entry.TheVariants as entry
 use Rattle.time_line.specs.declared.entry.Halt.{Halt}
 use Rattle.time_line.specs.declared.entry.Halt.TheVariants as halt
-use Rattle.time_line.specs.Bounds.{FitsCall, FitsAnswered, FitsOutcome, FitsRefusal}
-use Rattle.schedule_text.specs.Words.{spaced, hex_of, hex_or_dash}
-use Rattle.schedule_text.specs.LineText.{IsPlace, IsCall}
-use Rattle.schedule_text.specs.CallText.{call_name, call_words, node_words, file_words}
-use Rattle.schedule_text.specs.OutcomeText.{denial_number, ask_refusal_words, answer_words, outcome_words}
-use Rattle.schedule_text.specs.EntryText.{update_words, halt_word, entry_words, entry_text, IsFileEnd, IsEntry}
-use Rattle.schedule_text.specs.Reading.{first_word, other_words, number_of, bytes_of}
-use Rattle.schedule_text.specs.EntryReading.{kept_on, times_in, file_in, clock_in, tick_in, up_in, halt_of, down_in, call_of, call_on, call_in, begin_in, held_in, id_of, update_in, answer_in, denial_of, refusal_of, refusal_in, outcome_in, done_in, node_entry, update_entry, entry_of, entry_at}
+use Rattle.time_line.specs.Bounds.{FitsCall, FitsAnswered, FitsMetaOutcome, FitsRegistryOutcome, FitsOutcome, FitsRefusal}
+use Rattle.server_text.specs.Words.{spaced, hex_of, hex_or_dash, node_words}
+use Rattle.server_text.specs.RequestText.{kind_word}
+use Rattle.server_text.specs.AnswerText.{denial_number, meta_outcome_words, registry_outcome_words}
+use Rattle.server_text.specs.Reading.{first_word, other_words, number_of}
+use Rattle.server_text.specs.Spellable.{IsSpellableMeta, IsSpellableRegistry}
+use Rattle.server_text.proofs.AnswersAgain as answers
+use Rattle.server_text.proofs.AnswersAgain.{denial_again, denial_small}
+use Rattle.server_text.proofs.RequestsAgain.{meta_again, report_again, registry_again}
+use Rattle.server_text.proofs.WordsAgain.{IsWord, IsWord-tested, decimal-IsWord, number_again, number_at_again, first_again, others_again, hex-IsWord, hex_again, hex_or_dash-IsWord, hex_or_dash_again}
+use Rattle.schedule_text.specs.CallText.{call_name, call_words, file_words, IsSpellableCall}
+use Rattle.schedule_text.specs.OutcomeText.{ask_refusal_words, answer_words, outcome_words, IsSpellableOutcome}
+use Rattle.schedule_text.specs.EntryText.{update_words, halt_word, entry_words, entry_text, IsEntry}
+use Rattle.schedule_text.specs.LineText.{IsPlace}
+use Rattle.schedule_text.specs.EntryReading.{times_in, file_in, clock_in, tick_in, up_in, halt_of, down_in, call_of, call_on, file_call_in, call_in, begin_in, held_in, id_of, update_in, answer_in, refusal_of, refusal_in, outcome_in, done_in, node_entry, update_entry, entry_of, entry_at}
 use Rattle.schedule_text.proofs.AnswersAgain.{answers_again}
-use Rattle.schedule_text.proofs.ManyAgain.{members_again}
-use Rattle.schedule_text.proofs.LineAgain.{place_of}
-use Rattle.schedule_text.proofs.WordsAgain.{IsWord, IsWord-tested, decimal-IsWord, number_again, number_at_again, first_again, others_again, hex-IsWord, hex_again}
+use Rattle.schedule_text.proofs.PlaceAgain.{place_again}
 
 -- What was written is read, form by form.
 
@@ -51,22 +56,13 @@ tick_again : (count : ℕ) → count < 2 ^ 64 → tick_in (spaced (decimal count
 unfolding tick_in
 tick_again count p = rw (number_at_again 64 count [] p (omega arith)) refl
 
-file_again : (number stripe : ℕ) (nodes : List NodeId) → number < 2 ^ 64 → stripe < 2 ^ 32 → FitsMembers nodes → file_in (spaced (file_words number (kept_on stripe nodes))) ≡ Some (entry.File number (kept_on stripe nodes))
+file_again : (number : ℕ) (location : Location) → number < 2 ^ 62 → IsPlace location → FitsLocation location → file_in (spaced (file_words number location)) ≡ Some (entry.File number location)
 unfolding file_in
-file_again number stripe nodes p q fits =
+file_again number location small place fits =
     rw (
-      number_at_again 64 number (codes "rep" ∷ decimal stripe ∷ node_words nodes) p (omega arith),
-      others_again (codes "rep") (decimal stripe ∷ node_words nodes) (omega arith, (omega arith, (omega arith, tt))),
-      number_at_again 32 stripe (node_words nodes) q (omega arith),
-      members_again nodes fits,
+      number_at_again 64 number (kind_word location.kind ∷ decimal location.stripe ∷ node_words location.members) (omega arith) (omega arith),
+      place_again location place fits,
     ) refl
-
-place_again : (number : ℕ) (location : Location) → number < 1000000 → IsPlace location → FitsLocation location → file_in (spaced (file_words number location)) ≡ Some (entry.File number location)
-place_again number location p place fits =
-    let e : location ≡ kept_on location.stripe location.members = place_of location.version location.kind location.stripe location.members place.version place.kind in
-    let most : location.stripe ≤ 131072 = fits.size.most in
-    subst (λ (l : Location). file_in (spaced (file_words number l)) ≡ Some (entry.File number l)) (sym e)
-    (file_again number location.stripe location.members (omega arith) (omega arith) fits.nodes)
 
 up_again : (node : NodeId) (boot : Boot) (clock : ℕ) → node.0 < 2 ^ 32 → boot.0 < 2 ^ 64 → clock < 2 ^ 64 → up_in (spaced (decimal node.0 ∷ decimal boot.0 ∷ decimal clock ∷ [])) ≡ Some (entry.Up node boot clock)
 unfolding up_in
@@ -78,10 +74,10 @@ up_again node boot clock p q r =
     ) refl
 
 pub halt-IsWord : (how : Halt) → IsWord (halt_word how)
-halt-IsWord halt.Idle = (omega arith, (omega arith, (omega arith, (omega arith, tt))))
-halt-IsWord halt.Kept = (omega arith, (omega arith, (omega arith, (omega arith, tt))))
-halt-IsWord halt.Lost = (omega arith, (omega arith, (omega arith, (omega arith, tt))))
-halt-IsWord halt.Cut = (omega arith, (omega arith, (omega arith, tt)))
+halt-IsWord halt.Idle = IsWord-tested (codes "idle") refl
+halt-IsWord halt.Kept = IsWord-tested (codes "kept") refl
+halt-IsWord halt.Lost = IsWord-tested (codes "lost") refl
+halt-IsWord halt.Cut = IsWord-tested (codes "cut") refl
 
 halt_again : (how : Halt) → halt_of (halt_word how) ≡ Some how
 unfolding halt_of
@@ -100,8 +96,8 @@ down_again node clock how p q =
       halt_again how,
     ) refl
 
-call_again : (made : Call) → IsCall made → FitsCall made → call_in (call_name made) (spaced (call_words made)) ≡ Some made
-unfolding call_name call_words call_in call_on call_of
+call_again : (made : Call) → IsSpellableCall made → FitsCall made → call_in (call_name made) (spaced (call_words made)) ≡ Some made
+unfolding call_name call_words call_in file_call_in call_on call_of
 call_again (call.Read file object at len) is (p, q, r, s, t) =
     rw (
       number_at_again 64 file (decimal object ∷ decimal at ∷ decimal len ∷ []) p (omega arith),
@@ -123,28 +119,28 @@ call_again (call.Truncate file size epoch) is (p, q, r) =
       number_at_again 64 size (decimal epoch ∷ []) q (omega arith),
       number_at_again 64 epoch [] (omega arith) (omega arith),
     ) refl
-call_again (call.Meta user group wanted) never fits = absurd never
-call_again (call.Report user group file) never fits = absurd never
-call_again (call.Registry wanted) never fits = absurd never
+call_again (call.Meta user group wanted) spelled (p, q, fits, written) = ap Some (meta_again user group wanted p q spelled fits)
+call_again (call.Report user group file) spelled (p, q, r) = ap Some (report_again user group file p q r)
+call_again (call.Registry wanted) spelled fits = ap Some (registry_again wanted spelled fits)
 
-pub name-IsWord : (made : Call) → IsCall made → IsWord (call_name made)
+pub name-IsWord : (made : Call) → IsWord (call_name made)
 unfolding call_name
-name-IsWord (call.Read file object at len) is = (omega arith, (omega arith, (omega arith, (omega arith, tt))))
-name-IsWord (call.Write file object at bytes) is = (omega arith, (omega arith, (omega arith, (omega arith, (omega arith, tt)))))
-name-IsWord (call.Truncate file size epoch) is = IsWord-tested (codes "truncate") refl
-name-IsWord (call.Meta user group wanted) never = absurd never
-name-IsWord (call.Report user group file) never = absurd never
-name-IsWord (call.Registry wanted) never = absurd never
+name-IsWord (call.Read file object at len) = IsWord-tested (codes "read") refl
+name-IsWord (call.Write file object at bytes) = IsWord-tested (codes "write") refl
+name-IsWord (call.Truncate file size epoch) = IsWord-tested (codes "truncate") refl
+name-IsWord (call.Meta user group wanted) = IsWord-tested (codes "meta") refl
+name-IsWord (call.Report user group file) = IsWord-tested (codes "meta") refl
+name-IsWord (call.Registry wanted) = IsWord-tested (codes "registry") refl
 
-begin_again : (client : NodeId) (number : ℕ) (made : Call) → client.0 < 2 ^ 32 → number < 2 ^ 64 → IsCall made → FitsCall made
+begin_again : (client : NodeId) (number : ℕ) (made : Call) → client.0 < 2 ^ 32 → number < 2 ^ 64 → IsSpellableCall made → FitsCall made
     → begin_in (spaced (decimal client.0 ∷ decimal number ∷ call_name made ∷ call_words made)) ≡ Some (entry.Begin client number made)
 unfolding begin_in
 begin_again client number made p q is fits =
     rw (
       number_at_again 32 client.0 (decimal number ∷ call_name made ∷ call_words made) p (omega arith),
       number_at_again 64 number (call_name made ∷ call_words made) q (omega arith),
-      first_again (call_name made) (call_words made) (name-IsWord made is),
-      others_again (call_name made) (call_words made) (name-IsWord made is),
+      first_again (call_name made) (call_words made) (name-IsWord made),
+      others_again (call_name made) (call_words made) (name-IsWord made),
       call_again made is fits,
     ) refl
 
@@ -169,14 +165,6 @@ update_again made node file count id p q r s t =
       number_at_again 64 id.number [] t (omega arith),
     ) refl
 
-pub hex_or_dash-IsWord : (bytes : List ℕ) → AreBytes bytes → IsWord (hex_or_dash bytes)
-hex_or_dash-IsWord [] fits = (omega arith, tt)
-hex_or_dash-IsWord (byte ∷ bytes) fits = hex-IsWord (byte ∷ bytes) fits
-
-hex_or_dash_again : (bytes : List ℕ) → AreBytes bytes → bytes_of (hex_or_dash bytes) ≡ bytes
-hex_or_dash_again [] fits = refl
-hex_or_dash_again (byte ∷ bytes) fits = hex_again (byte ∷ bytes) fits
-
 answer_again : (node : NodeId) (file count : ℕ) (id : OpId) (bytes : List ℕ) → node.0 < 2 ^ 32 → file < 2 ^ 64 → count < 2 ^ 64 → id.client.0 < 2 ^ 32 → id.number < 2 ^ 64 → AreBytes bytes
     → answer_in (spaced (decimal node.0 ∷ decimal file ∷ decimal id.client.0 ∷ decimal id.number ∷ decimal count ∷ hex_or_dash bytes ∷ [])) ≡ Some (entry.Answer node file id count bytes)
 unfolding answer_in id_of
@@ -190,23 +178,6 @@ answer_again node file count id bytes p q r s t fits =
       first_again (hex_or_dash bytes) [] (hex_or_dash-IsWord bytes fits),
       hex_or_dash_again bytes fits,
     ) refl
-
-denial_again : (rule : Denial) → denial_of (denial_number rule) ≡ rule
-unfolding denial_of
-denial_again denial.Tag = refl
-denial_again denial.File = refl
-denial_again denial.Expired = refl
-denial_again denial.Mode = refl
-denial_again denial.List = refl
-denial_again denial.Range = refl
-
-pub denial_small : (rule : Denial) → denial_number rule < 2 ^ 64
-denial_small denial.Tag = omega arith
-denial_small denial.File = omega arith
-denial_small denial.Expired = omega arith
-denial_small denial.Mode = omega arith
-denial_small denial.List = omega arith
-denial_small denial.Range = omega arith
 
 -- the words of a refusal, the first of them apart
 abbrev pub refusal_name : AskRefusal → List ℕ
@@ -232,11 +203,11 @@ refusal_is (refusal.TooFar object) = refl
 refusal_is refusal.ClientsFull = refl
 
 pub refusal-IsWord : (why : AskRefusal) → IsWord (refusal_name why)
-refusal-IsWord (refusal.Denied rule) = (omega arith, (omega arith, (omega arith, (omega arith, (omega arith, (omega arith, tt))))))
-refusal-IsWord (refusal.OldList version) = (omega arith, (omega arith, (omega arith, (omega arith, (omega arith, (omega arith, (omega arith, tt)))))))
-refusal-IsWord (refusal.OldEpoch epoch) = (omega arith, (omega arith, (omega arith, (omega arith, (omega arith, (omega arith, (omega arith, (omega arith, tt))))))))
-refusal-IsWord (refusal.TooFar object) = (omega arith, (omega arith, (omega arith, (omega arith, (omega arith, (omega arith, tt))))))
-refusal-IsWord refusal.ClientsFull = (omega arith, (omega arith, (omega arith, (omega arith, (omega arith, (omega arith, (omega arith, (omega arith, (omega arith, (omega arith, (omega arith, tt)))))))))))
+refusal-IsWord (refusal.Denied rule) = IsWord-tested (codes "denied") refl
+refusal-IsWord (refusal.OldList version) = IsWord-tested (codes "oldlist") refl
+refusal-IsWord (refusal.OldEpoch epoch) = IsWord-tested (codes "oldepoch") refl
+refusal-IsWord (refusal.TooFar object) = IsWord-tested (codes "toofar") refl
+refusal-IsWord refusal.ClientsFull = IsWord-tested (codes "clientsfull") refl
 
 value_again : (bits n : ℕ) → n < 2 ^ bits → n < 10 ^ 64 → number_of bits (first_word (spaced (decimal n ∷ []))) ≡ n
 value_again bits n small wide = ap (number_of bits) (first_again (decimal n) [] (decimal-IsWord n wide)) ∙ number_again bits n small wide
@@ -263,6 +234,15 @@ tried_again : (answers : List Answered) → AllByRecursion FitsAnswered answers 
 unfolding outcome_in
 tried_again answers fits = ap (λ (given : List Answered). Some (outcome.Retry given)) (answers_again answers fits)
 
+meta_end_again : (answer : MetaOutcome) → IsSpellableMeta answer → FitsMetaOutcome answer → outcome_in (codes "meta") (spaced (meta_outcome_words answer)) ≡ Some (outcome.Meta answer)
+unfolding outcome_in
+meta_end_again answer spelled fits = ap (λ (told : MetaOutcome). Some (outcome.Meta told)) (answers.meta_again answer spelled fits)
+
+registry_end_again : (answer : RegistryOutcome) → IsSpellableRegistry answer → FitsRegistryOutcome answer
+    → outcome_in (codes "registry") (spaced (registry_outcome_words answer)) ≡ Some (outcome.Registry answer)
+unfolding outcome_in
+registry_end_again answer spelled fits = ap (λ (told : RegistryOutcome). Some (outcome.Registry told)) (answers.registry_again answer spelled fits)
+
 -- a call's end, the first of its words apart
 ended_again : (client : NodeId) (number : ℕ) (ended : Outcome) (name : List ℕ) (values : List (List ℕ)) → client.0 < 2 ^ 32 → number < 2 ^ 64 → IsWord name
     → outcome_in name (spaced values) ≡ Some ended
@@ -277,18 +257,20 @@ ended_again client number ended name values p q word again =
       again,
     ) refl
 
-done_again : (client : NodeId) (number : ℕ) (ended : Outcome) → client.0 < 2 ^ 32 → number < 2 ^ 64 → IsFileEnd ended → FitsOutcome ended
+done_again : (client : NodeId) (number : ℕ) (ended : Outcome) → client.0 < 2 ^ 32 → number < 2 ^ 64 → IsSpellableOutcome ended → FitsOutcome ended
     → done_in (spaced (decimal client.0 ∷ decimal number ∷ outcome_words ended)) ≡ Some (entry.Done client number ended)
 unfolding outcome_words
 done_again client number (outcome.Ok count bytes) p q is (r, s) =
-    ended_again client number (outcome.Ok count bytes) (codes "ok") (decimal count ∷ hex_or_dash bytes ∷ []) p q (omega arith, (omega arith, tt)) (ok_again count bytes (omega arith) s.all)
+    ended_again client number (outcome.Ok count bytes) (codes "ok") (decimal count ∷ hex_or_dash bytes ∷ []) p q (IsWord-tested (codes "ok") refl) (ok_again count bytes (omega arith) s.all)
 done_again client number (outcome.Refused why) p q is fits =
     ap (λ (words : List (List ℕ)). done_in (spaced (decimal client.0 ∷ decimal number ∷ words))) (refusal_is why)
     ∙ ended_again client number (outcome.Refused why) (refusal_name why) (refusal_values why) p q (refusal-IsWord why) (refusal_again why fits)
 done_again client number (outcome.Retry answers) p q is fits =
     ended_again client number (outcome.Retry answers) (codes "retry") (answer_words answers) p q (IsWord-tested (codes "retry") refl) (tried_again answers fits)
-done_again client number (outcome.Meta answer) p q never fits = absurd never
-done_again client number (outcome.Registry answer) p q never fits = absurd never
+done_again client number (outcome.Meta answer) p q spelled fits =
+    ended_again client number (outcome.Meta answer) (codes "meta") (meta_outcome_words answer) p q (IsWord-tested (codes "meta") refl) (meta_end_again answer spelled fits)
+done_again client number (outcome.Registry answer) p q spelled fits =
+    ended_again client number (outcome.Registry answer) (codes "registry") (registry_outcome_words answer) p q (IsWord-tested (codes "registry") refl) (registry_end_again answer spelled fits)
 
 -- an entry that was written is read
 pub entry_again : (e : Entry) → IsEntry e → entry_at (entry_text e) ≡ Some e
@@ -297,7 +279,7 @@ entry_again (entry.Times lease drift) (is, fits) =
     let short : 2 * drift < lease = fits.short in
     let small : lease < 2 ^ 40 = fits.small in
     times_again lease drift (omega arith) (omega arith)
-entry_again (entry.File number location) (is, (p, fits)) = place_again number location p is fits
+entry_again (entry.File number location) (is, (p, fits)) = file_again number location p is fits
 entry_again (entry.Clock node clock) (is, (p, q)) = clock_again node clock p (omega arith)
 entry_again (entry.Tick count) (is, fits) = tick_again count (omega arith)
 entry_again (entry.Up node boot clock) (is, (p, q, r)) = up_again node boot clock p (omega arith) (omega arith)

@@ -1,11 +1,10 @@
-pub mod AnswerSteps
+pub use Rattle.server_text.proofs.InLine
+pub use Rattle.server_text.proofs.WordsAgain
 pub mod AnswersAgain
-pub mod Digits
 pub mod EntryAgain
-pub mod InLine
 pub mod LineAgain
 pub mod ManyAgain
 pub mod NodeSteps
+pub mod PlaceAgain
 pub mod Trace
 pub mod TraceAgain
-pub mod WordsAgain

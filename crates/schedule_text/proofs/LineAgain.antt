@@ -1,26 +1,25 @@
 -- A line that was written is read.
-use Rattle.std.proofs.Common.{◌≡◌, ℕ, ◌*◌, ◌^◌, ◌<◌, ◌≤◌, Bool, List, [], ◌∷◌, Some, refl, sym, ap, subst, ◌∙◌, arith}
-use Rattle.std.specs.Prelude.{codes}
+use Rattle.std.proofs.Common.{◌≡◌, ℕ, ◌*◌, ◌^◌, ◌<◌, Bool, List, [], ◌∷◌, Some, refl, sym, ap, ◌∙◌, arith}
 use Rattle.std.specs.Fmt.{decimal}
-use Rattle.xt_messages.specs.declared.file.Kind.{Kind}
-use Rattle.xt_messages.specs.declared.file.Kind.TheVariants.{Replicated}
 use Rattle.xt_messages.specs.declared.file.Location.{Location}
 use Rattle.xt_messages.specs.declared.event.Call.{Call}
 use Rattle.xt_messages.specs.declared.event.Call.TheVariants as call
 use Rattle.time_line.specs.declared.line.Line.{Line}
 use Rattle.time_line.specs.declared.line.Line.TheVariants as line
 use Rattle.xt_base.specs.declared.ids.NodeId.{NodeId}
-use Rattle.schedule_text.specs.Words.{spaced, hex_of, hex_pair}
+use Rattle.server_text.specs.Words.{spaced, hex_of, hex_pair}
 use Rattle.xt_base.specs.FieldLimits.{AreBytes}
-use Rattle.xt_messages.specs.Limits.{FitsLocation, FitsMembers}
-use Rattle.time_line.specs.Bounds.{FitsCall}
-use Rattle.schedule_text.specs.LineText.{line_text, line_words, IsLine, IsPlace, IsCall}
-use Rattle.schedule_text.specs.CallText.{call_name, call_words, node_words, file_words}
-use Rattle.schedule_text.specs.Reading.{first_word, other_words}
-use Rattle.schedule_text.specs.EntryReading.{kept_on}
-use Rattle.schedule_text.specs.LineReading.{times_at, osd_at, client_at, file_at, start_at, stop_at, crash_at, cut_at, clock_at, tick_at, wake_at, read_at, truncate_at, aim_at, write_at, deliver_at, drop_at, settle_at, node_line, timed_line, named_line, line_at}
-use Rattle.schedule_text.proofs.ManyAgain.{node_at_again, members_again}
-use Rattle.schedule_text.proofs.WordsAgain.{number_at_again, first_again, others_again, hex-IsWord, hex_again, pair-IsWord, byte_again}
+use Rattle.xt_messages.specs.Limits.{FitsLocation}
+use Rattle.time_line.specs.Bounds.{FitsCall, IsOnContent}
+use Rattle.schedule_text.specs.LineText.{line_text, line_words, IsLine, IsPlace}
+use Rattle.server_text.specs.RequestText.{kind_word}
+use Rattle.server_text.specs.Words.{node_words}
+use Rattle.schedule_text.specs.CallText.{call_name, call_words, file_words}
+use Rattle.server_text.specs.Reading.{first_word, other_words}
+use Rattle.schedule_text.specs.LineReading.{times_at, osd_at, client_at, file_at, start_at, stop_at, crash_at, cut_at, clock_at, tick_at, wake_at, read_at, truncate_at, again_at, aim_at, write_at, deliver_at, drop_at, settle_at, node_line, timed_line, named_line, line_at}
+use Rattle.schedule_text.proofs.ManyAgain.{node_at_again}
+use Rattle.schedule_text.proofs.PlaceAgain.{place_again}
+use Rattle.server_text.proofs.WordsAgain.{number_at_again, first_again, hex-IsWord, hex_again, pair-IsWord, byte_again}
 
 abbrev IsRead : Line → Type 0
 IsRead line = line_at (line_text line) ≡ Some line
@@ -93,20 +92,17 @@ settle_again : (count : ℕ) → count < 2 ^ 128 → IsRead (line.Settle count)
 unfolding line_text line_words line_at named_line settle_at first_word other_words
 settle_again count p = rw (number_at_again 128 count [] p (omega arith)) refl
 
--- other_words stays as it is here, so the name is passed by lemma
-file_again : (number stripe : ℕ) (nodes : List NodeId) → number < 2 ^ 64 → stripe < 2 ^ 32 → FitsMembers nodes → file_at (spaced (file_words number (kept_on stripe nodes))) ≡ Some (line.File number (kept_on stripe nodes))
+file_again : (number : ℕ) (location : Location) → number < 1000000 → IsPlace location → FitsLocation location → file_at (spaced (file_words number location)) ≡ Some (line.File number location)
 unfolding file_at
-file_again number stripe nodes p q fits =
+file_again number location small place fits =
     rw (
-      number_at_again 64 number (codes "rep" ∷ decimal stripe ∷ node_words nodes) p (omega arith),
-      others_again (codes "rep") (decimal stripe ∷ node_words nodes) (omega arith, (omega arith, (omega arith, tt))),
-      number_at_again 32 stripe (node_words nodes) q (omega arith),
-      members_again nodes fits,
+      number_at_again 64 number (kind_word location.kind ∷ decimal location.stripe ∷ node_words location.members) (omega arith) (omega arith),
+      place_again location place fits,
     ) refl
 
-file_line_again : (number stripe : ℕ) (nodes : List NodeId) → number < 2 ^ 64 → stripe < 2 ^ 32 → FitsMembers nodes → IsRead (line.File number (kept_on stripe nodes))
+file_line_again : (number : ℕ) (location : Location) → number < 1000000 → IsPlace location → FitsLocation location → IsRead (line.File number location)
 unfolding line_text line_words line_at named_line timed_line node_line first_word other_words
-file_line_again number stripe nodes p q fits = file_again number stripe nodes p q fits
+file_line_again number location small place fits = file_again number location small place fits
 
 read_again : (client : NodeId) (file object at len : ℕ) → client.0 < 2 ^ 32 → file < 2 ^ 64 → object < 2 ^ 64 → at < 2 ^ 32 → len < 2 ^ 32 → IsRead (line.Call client (call.Read file object at len))
 unfolding line_text line_words call_name call_words line_at named_line read_at first_word other_words
@@ -128,6 +124,10 @@ truncate_again client file size epoch p q r s =
       number_at_again 64 size (decimal epoch ∷ []) r (omega arith),
       number_at_again 64 epoch [] s (omega arith),
     ) refl
+
+again_again : (client : NodeId) → client.0 < 2 ^ 32 → IsRead (line.Again client)
+unfolding line_text line_words line_at named_line again_at first_word other_words
+again_again client p = rw (node_at_again client [] p) refl
 
 aim_again : (client : NodeId) (file : ℕ) (node : NodeId) → client.0 < 2 ^ 32 → file < 2 ^ 64 → node.0 < 2 ^ 32 → IsRead (line.Aim client file node)
 unfolding line_text line_words line_at named_line aim_at first_word other_words
@@ -154,18 +154,8 @@ write_again : (client : NodeId) (file object at : ℕ) (bytes : List ℕ) → cl
 unfolding line_text line_words call_name line_at first_word other_words
 write_again client file object at bytes p q r s fits = ap Some (write_words_again client file object at bytes p q r s fits)
 
-pub place_of : (version : ℕ) (kind : Kind) (stripe : ℕ) (members : List NodeId) → version ≡ 1 → kind ≡ Replicated
-    → (let location : Location = record { version = version; kind = kind; stripe = stripe; members = members } in location) ≡ kept_on stripe members
-place_of version kind stripe members p q = rw (p, q) refl
-
-place_again : (number : ℕ) (location : Location) → number < 1000000 → IsPlace location → FitsLocation location → IsRead (line.File number location)
-place_again number location p place fits =
-    let e : location ≡ kept_on location.stripe location.members = place_of location.version location.kind location.stripe location.members place.version place.kind in
-    let most : location.stripe ≤ 131072 = fits.size.most in
-    subst (λ (l : Location). IsRead (line.File number l)) (sym e) (file_line_again number location.stripe location.members (omega arith) (omega arith) fits.nodes)
-
 -- a call that was written is read
-call_again : (client : NodeId) (made : Call) → client.0 < 2 ^ 32 → IsCall made → FitsCall made → IsRead (line.Call client made)
+call_again : (client : NodeId) (made : Call) → client.0 < 2 ^ 32 → IsOnContent made → FitsCall made → IsRead (line.Call client made)
 call_again client (call.Read file object at len) p made (q, r, s, t, u) = read_again client file object at len p q (omega arith) s (omega arith)
 call_again client (call.Write file object at bytes) p made (q, r, s, t, u) = write_again client file object at bytes p q (omega arith) s t.all
 call_again client (call.Truncate file size epoch) p made (q, r, s) = truncate_again client file size epoch p q r (omega arith)
@@ -181,7 +171,7 @@ line_again first (line.Times lease drift) (form, fits) =
     times_again lease drift (omega arith) (omega arith)
 line_again first (line.Osd node) (form, fits) = osd_again node fits
 line_again first (line.Client node clock) (form, (p, q)) = client_again node clock p (omega arith)
-line_again first (line.File number location) (form, (p, fits)) = place_again number location p form fits
+line_again first (line.File number location) (form, (p, fits)) = file_line_again number location p form fits
 line_again first (line.Start node clock) (form, (p, q)) = start_again node clock p (omega arith)
 line_again first (line.Stop node) (form, fits) = stop_again node fits
 line_again first (line.Crash node device_call fill) (form, (p, q, r, s)) = crash_again node device_call fill p (omega arith) s
@@ -189,7 +179,8 @@ line_again first (line.Cut node count) (form, fits) = cut_again node count fits 
 line_again first (line.Clock node clock) (form, (p, q)) = clock_again node clock p (omega arith)
 line_again first (line.Tick count) (form, fits) = tick_again count (omega arith)
 line_again first (line.Wake node) (form, fits) = wake_again node fits
-line_again first (line.Call client made) (form, (p, fits)) = call_again client made p form fits
+line_again first (line.Call client made) (form, (p, on, fits)) = call_again client made p on fits
+line_again first (line.Again client) (form, fits) = again_again client fits
 line_again first (line.Aim client file node) (form, (p, q, r)) = aim_again client file node p q r
 line_again first (line.Deliver number) (form, fits) = deliver_again number form
 line_again first (line.Drop number) (form, fits) = drop_again number form

@@ -11,20 +11,21 @@ use Rattle.xt_messages.specs.declared.event.Outcome.{Outcome}
 use Rattle.xt_messages.specs.declared.event.Outcome.TheVariants as outcome
 use Rattle.xt_messages.specs.declared.status.AskRefusal.{AskRefusal}
 use Rattle.xt_messages.specs.declared.status.AskRefusal.TheVariants as refusal
-use Rattle.xt_messages.specs.declared.file.Kind.{Kind}
-use Rattle.xt_messages.specs.declared.file.Kind.TheVariants.{Replicated, Striped}
-use Rattle.xt_messages.specs.Limits.{FitsNode}
 use Rattle.time_line.specs.declared.entry.Entry.{Entry}
 use Rattle.time_line.specs.declared.entry.Entry.TheVariants as entry
 use Rattle.time_line.specs.Bounds.{FitsCall, FitsOutcome, FitsRefusal, FitsPosition}
-use Rattle.schedule_text.specs.LineText.{IsCall}
-use Rattle.schedule_text.specs.CallText.{call_words, kind_word, node_words}
-use Rattle.schedule_text.specs.OutcomeText.{outcome_words}
-use Rattle.schedule_text.specs.EntryText.{update_words, entry_words, entry_text, trace_text, IsFileEnd, IsEntry}
-use Rattle.schedule_text.proofs.WordsAgain.{IsWord, IsWord-tested, decimal-IsWord, hex-IsWord}
+use Rattle.server_text.proofs.AnswersAgain as answers
+use Rattle.server_text.proofs.AnswersAgain.{denial_small}
+use Rattle.server_text.proofs.InLine.{HasNoFeed, spaced_in_line, same_line}
+use Rattle.server_text.proofs.ManyAgain.{nodes-AreWords}
+use Rattle.server_text.proofs.RequestsAgain as requests
+use Rattle.server_text.proofs.RequestsAgain.{kind-IsWord}
+use Rattle.server_text.proofs.WordsAgain.{IsWord, IsWord-tested, decimal-IsWord, hex-IsWord, hex_or_dash-IsWord}
+use Rattle.schedule_text.specs.CallText.{call_words, IsSpellableCall}
+use Rattle.schedule_text.specs.OutcomeText.{outcome_words, IsSpellableOutcome}
+use Rattle.schedule_text.specs.EntryText.{update_words, entry_words, entry_text, trace_text, IsEntry}
 use Rattle.schedule_text.proofs.AnswersAgain.{answers-AreWords}
-use Rattle.schedule_text.proofs.InLine.{HasNoFeed, spaced_in_line, same_line}
-use Rattle.schedule_text.proofs.EntryAgain.{name-IsWord, halt-IsWord, hex_or_dash-IsWord, refusal_is, refusal_values, refusal-IsWord, denial_small, one_entry}
+use Rattle.schedule_text.proofs.EntryAgain.{name-IsWord, halt-IsWord, refusal_is, refusal_values, refusal-IsWord, one_entry}
 
 abbrev AreWords : List (List ℕ) → Type 0
 AreWords words = AllByRecursion IsWord words
@@ -32,17 +33,7 @@ AreWords words = AllByRecursion IsWord words
 number-IsWord : (n : ℕ) → n < 2 ^ 128 → IsWord (decimal n)
 number-IsWord n small = decimal-IsWord n (omega arith)
 
-kind-IsWord : (kind : Kind) → IsWord (kind_word kind)
-kind-IsWord Replicated = (omega arith, (omega arith, (omega arith, tt)))
-kind-IsWord Striped = (omega arith, (omega arith, (omega arith, tt)))
-
-nodes_are : (nodes : List NodeId) → AllByRecursion FitsNode nodes → AreWords (node_words nodes)
-nodes_are [] fit = tt
-nodes_are (node ∷ nodes) fit =
-    let small : node.0 < 2 ^ 32 = fit.0 in
-    (number-IsWord node.0 (omega arith), nodes_are nodes fit.1)
-
-call_are : (made : Call) → IsCall made → FitsCall made → AreWords (call_words made)
+call_are : (made : Call) → IsSpellableCall made → FitsCall made → AreWords (call_words made)
 unfolding call_words
 call_are (call.Read file object at len) is (p, q, r, s, t) =
     (number-IsWord file (omega arith), (number-IsWord object (omega arith), (number-IsWord at (omega arith), (number-IsWord len (omega arith), tt))))
@@ -50,9 +41,11 @@ call_are (call.Write file object at bytes) is (p, q, r, s, t) =
     (number-IsWord file (omega arith), (number-IsWord object (omega arith), (number-IsWord at (omega arith), (hex-IsWord bytes s.all, tt))))
 call_are (call.Truncate file size epoch) is (p, q, r) =
     (number-IsWord file (omega arith), (number-IsWord size (omega arith), (number-IsWord epoch (omega arith), tt)))
-call_are (call.Meta user group wanted) never fits = absurd never
-call_are (call.Report user group file) never fits = absurd never
-call_are (call.Registry wanted) never fits = absurd never
+call_are (call.Meta user group wanted) spelled (p, q, fits, written) =
+    (number-IsWord user (omega arith), (number-IsWord group (omega arith), requests.meta-AreWords wanted spelled fits))
+call_are (call.Report user group file) is (p, q, r) =
+    (number-IsWord user (omega arith), (number-IsWord group (omega arith), (IsWord-tested (codes "report") refl, (number-IsWord file (omega arith), tt))))
+call_are (call.Registry wanted) spelled fits = requests.registry-AreWords wanted spelled fits
 
 update_are : (node : NodeId) (file count : ℕ) (id : OpId) → FitsPosition node file count id → AreWords (update_words node file count id)
 update_are node file count id (p, q, r, s) =
@@ -67,44 +60,44 @@ values_are (refusal.OldEpoch epoch) fits = (number-IsWord epoch (omega arith), t
 values_are (refusal.TooFar object) fits = (number-IsWord object (omega arith), tt)
 values_are refusal.ClientsFull fits = tt
 
-outcome_are : (ended : Outcome) → IsFileEnd ended → FitsOutcome ended → AreWords (outcome_words ended)
+outcome_are : (ended : Outcome) → IsSpellableOutcome ended → FitsOutcome ended → AreWords (outcome_words ended)
 unfolding outcome_words
-outcome_are (outcome.Ok count bytes) is (p, q) = ((omega arith, (omega arith, tt)), (number-IsWord count (omega arith), (hex_or_dash-IsWord bytes q.all, tt)))
+outcome_are (outcome.Ok count bytes) is (p, q) = (IsWord-tested (codes "ok") refl, (number-IsWord count (omega arith), (hex_or_dash-IsWord bytes q.all, tt)))
 outcome_are (outcome.Refused why) is fits =
     subst AreWords (sym (refusal_is why)) (refusal-IsWord why, values_are why fits)
 outcome_are (outcome.Retry answers) is fits = (IsWord-tested (codes "retry") refl, answers-AreWords answers fits)
-outcome_are (outcome.Meta answer) never fits = absurd never
-outcome_are (outcome.Registry answer) never fits = absurd never
+outcome_are (outcome.Meta answer) spelled fits = (IsWord-tested (codes "meta") refl, answers.meta-AreWords answer spelled fits)
+outcome_are (outcome.Registry answer) spelled fits = (IsWord-tested (codes "registry") refl, answers.registry-AreWords answer spelled fits)
 
 entry_are : (e : Entry) → IsEntry e → AreWords (entry_words e)
 unfolding entry_words
 entry_are (entry.Times lease drift) (is, fits) =
     let short : 2 * drift < lease = fits.short in
     let small : lease < 2 ^ 40 = fits.small in
-    ((omega arith, (omega arith, (omega arith, (omega arith, (omega arith, tt))))), (number-IsWord lease (omega arith), (number-IsWord drift (omega arith), tt)))
+    (IsWord-tested (codes "times") refl, (number-IsWord lease (omega arith), (number-IsWord drift (omega arith), tt)))
 entry_are (entry.File number location) (is, (p, fits)) =
     let most = fits.size.most in
-    ((omega arith, (omega arith, (omega arith, (omega arith, tt)))), (number-IsWord number (omega arith), (kind-IsWord location.kind, (number-IsWord location.stripe (omega arith), nodes_are location.members fits.nodes.each))))
+    (IsWord-tested (codes "file") refl, (number-IsWord number (omega arith), (kind-IsWord location.kind, (number-IsWord location.stripe (omega arith), nodes-AreWords location.members fits.nodes.each))))
 entry_are (entry.Clock node clock) (is, (p, q)) =
     (IsWord-tested (codes "clock") refl, (number-IsWord node.0 (omega arith), (number-IsWord clock (omega arith), tt)))
-entry_are (entry.Tick count) (is, fits) = ((omega arith, (omega arith, (omega arith, (omega arith, tt)))), (number-IsWord count (omega arith), tt))
+entry_are (entry.Tick count) (is, fits) = (IsWord-tested (codes "tick") refl, (number-IsWord count (omega arith), tt))
 entry_are (entry.Up node boot clock) (is, (p, q, r)) =
-    ((omega arith, (omega arith, tt)), (number-IsWord node.0 (omega arith), (number-IsWord boot.0 (omega arith), (number-IsWord clock (omega arith), tt))))
+    (IsWord-tested (codes "up") refl, (number-IsWord node.0 (omega arith), (number-IsWord boot.0 (omega arith), (number-IsWord clock (omega arith), tt))))
 entry_are (entry.Down node clock how) (is, (p, q)) =
-    ((omega arith, (omega arith, (omega arith, (omega arith, tt)))), (number-IsWord node.0 (omega arith), (number-IsWord clock (omega arith), (halt-IsWord how, tt))))
+    (IsWord-tested (codes "down") refl, (number-IsWord node.0 (omega arith), (number-IsWord clock (omega arith), (halt-IsWord how, tt))))
 entry_are (entry.Begin client number made) (is, (p, q, fits)) =
-    ((omega arith, (omega arith, (omega arith, (omega arith, (omega arith, tt))))), (number-IsWord client.0 (omega arith), (number-IsWord number (omega arith), (name-IsWord made is, call_are made is fits))))
+    (IsWord-tested (codes "begin") refl, (number-IsWord client.0 (omega arith), (number-IsWord number (omega arith), (name-IsWord made, call_are made is fits))))
 entry_are (entry.Held node file end) (is, (p, q, r)) =
     (IsWord-tested (codes "held") refl, (number-IsWord node.0 (omega arith), (number-IsWord file (omega arith), (number-IsWord end (omega arith), tt))))
 entry_are (entry.Active node file count id) (is, fits) = (IsWord-tested (codes "active") refl, update_are node file count id fits)
-entry_are (entry.Issue node file count id) (is, fits) = ((omega arith, (omega arith, (omega arith, (omega arith, (omega arith, tt))))), update_are node file count id fits)
-entry_are (entry.Commit node file count id) (is, fits) = ((omega arith, (omega arith, (omega arith, (omega arith, (omega arith, (omega arith, tt)))))), update_are node file count id fits)
+entry_are (entry.Issue node file count id) (is, fits) = (IsWord-tested (codes "issue") refl, update_are node file count id fits)
+entry_are (entry.Commit node file count id) (is, fits) = (IsWord-tested (codes "commit") refl, update_are node file count id fits)
 entry_are (entry.Answer node file id count bytes) (is, ((p, q, r, s), fits)) =
     let who = s.who in
     let whole = s.operation in
-    ((omega arith, (omega arith, (omega arith, (omega arith, (omega arith, (omega arith, tt)))))), (number-IsWord node.0 (omega arith), (number-IsWord file (omega arith), (number-IsWord id.client.0 (omega arith), (number-IsWord id.number (omega arith), (number-IsWord count (omega arith), (hex_or_dash-IsWord bytes fits.all, tt)))))))
+    (IsWord-tested (codes "answer") refl, (number-IsWord node.0 (omega arith), (number-IsWord file (omega arith), (number-IsWord id.client.0 (omega arith), (number-IsWord id.number (omega arith), (number-IsWord count (omega arith), (hex_or_dash-IsWord bytes fits.all, tt)))))))
 entry_are (entry.Done client number ended) (is, (p, q, fits)) =
-    ((omega arith, (omega arith, (omega arith, (omega arith, tt)))), (number-IsWord client.0 (omega arith), (number-IsWord number (omega arith), outcome_are ended is fits)))
+    (IsWord-tested (codes "done") refl, (number-IsWord client.0 (omega arith), (number-IsWord number (omega arith), outcome_are ended is fits)))
 
 pub entry_in_line : (e : Entry) → IsEntry e → HasNoFeed (entry_text e)
 unfolding entry_text

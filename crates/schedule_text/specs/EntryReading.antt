@@ -4,16 +4,12 @@ use Rattle.std.specs.List.{before_first, after_first}
 use Rattle.std.specs.Str.{bytes_eq}
 use Rattle.xt_base.specs.declared.ids.NodeId.{NodeId}
 use Rattle.xt_base.specs.declared.ids.OpId.{OpId}
-use Rattle.xt_messages.specs.declared.file.Kind.TheVariants.{Replicated}
-use Rattle.xt_messages.specs.declared.file.Location.{Location}
 use Rattle.xt_messages.specs.declared.event.Call.{Call}
 use Rattle.xt_messages.specs.declared.event.Call.TheVariants as call
 use Rattle.xt_messages.specs.declared.event.Outcome.{Outcome}
 use Rattle.xt_messages.specs.declared.event.Outcome.TheVariants as outcome
 use Rattle.xt_messages.specs.declared.status.AskRefusal.{AskRefusal}
 use Rattle.xt_messages.specs.declared.status.AskRefusal.TheVariants as refusal
-use Rattle.xt_messages.specs.declared.reply.Denial.{Denial}
-use Rattle.xt_messages.specs.declared.reply.Denial.TheVariants as denial
 use Rattle.xt_messages.specs.declared.reply.Answered.{Answered}
 use Rattle.xt_messages.specs.declared.reply.Retry.{Retry}
 use Rattle.xt_messages.specs.declared.reply.Retry.TheVariants as retry
@@ -21,12 +17,10 @@ use Rattle.time_line.specs.declared.entry.Entry.{Entry}
 use Rattle.time_line.specs.declared.entry.Entry.TheVariants as entry
 use Rattle.time_line.specs.declared.entry.Halt.{Halt}
 use Rattle.time_line.specs.declared.entry.Halt.TheVariants as halt
-use Rattle.schedule_text.specs.Reading.{first_word, other_words, number_of, number_at, each_word, bytes_of}
-use Rattle.schedule_text.specs.LineReading.{node_of, members_at}
-
--- where a replicated file lies that these OSDs keep
-abbrev pub kept_on : ℕ → List NodeId → Location
-kept_on stripe nodes = record { version = 1; kind = Replicated; stripe = stripe; members = nodes }
+use Rattle.server_text.specs.Reading.{first_word, other_words, number_of, number_at, each_word, bytes_of, node_of}
+use Rattle.server_text.specs.RequestReading.{meta_call_in, registry_call_in}
+use Rattle.server_text.specs.AnswerReading.{denial_of, meta_outcome_in, registry_outcome_in}
+use Rattle.schedule_text.specs.LineReading.{location_at}
 
 -- The parts of a word, at a byte.
 
@@ -64,8 +58,7 @@ times_in words =
 unfoldable pub file_in : List ℕ → Option Entry
 file_in words =
     let number = number_at 64 words in
-    let stripe = number_at 32 (other_words number.1) in
-    option_map (λ nodes. entry.File number.0 (kept_on stripe.0 nodes)) (members_at stripe.1)
+    option_map (λ location. entry.File number.0 location) (location_at number.1)
 
 unfoldable pub clock_in : List ℕ → Option Entry
 clock_in words =
@@ -116,10 +109,17 @@ call_on name file words =
     let at = number_at 32 object.1 in
     call_of name file object.0 at.0 at.1)
 
-unfoldable pub call_in : List ℕ → List ℕ → Option Call
-call_in name words =
+-- the call of this name, of those on a file
+unfoldable pub file_call_in : List ℕ → List ℕ → Option Call
+file_call_in name words =
     let file = number_at 64 words in
     call_on name file.0 file.1
+
+unfoldable pub call_in : List ℕ → List ℕ → Option Call
+call_in name words =
+    if bytes_eq name (codes "meta") then Some (meta_call_in words)
+    else if bytes_eq name (codes "registry") then Some (registry_call_in words)
+    else file_call_in name words
 
 unfoldable pub begin_in : List ℕ → Option Entry
 begin_in words =
@@ -155,15 +155,6 @@ answer_in words =
     let count = number_at 64 number.1 in
     Some (entry.Answer (node_of node.0) file.0 (id_of client.0 number.0) count.0 (bytes_of (first_word count.1)))
 
-unfoldable pub denial_of : ℕ → Denial
-denial_of number =
-    if number == 1 then denial.Tag
-    else if number == 2 then denial.File
-    else if number == 3 then denial.Expired
-    else if number == 4 then denial.Mode
-    else if number == 5 then denial.List
-    else denial.Range
-
 unfoldable pub refusal_of : List ℕ → List ℕ → Option AskRefusal
 refusal_of name word =
     if bytes_eq name (codes "denied") then Some (refusal.Denied (denial_of (number_of 64 word)))
@@ -182,6 +173,8 @@ outcome_in name words =
     let count = number_at 64 words in
     Some (outcome.Ok count.0 (bytes_of (first_word count.1))))
     else if bytes_eq name (codes "retry") then Some (outcome.Retry (answers_in words))
+    else if bytes_eq name (codes "meta") then Some (outcome.Meta (meta_outcome_in words))
+    else if bytes_eq name (codes "registry") then Some (outcome.Registry (registry_outcome_in words))
     else option_map (λ why. outcome.Refused why) (refusal_in name words)
 
 unfoldable pub done_in : List ℕ → Option Entry

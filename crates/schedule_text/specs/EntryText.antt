@@ -4,17 +4,15 @@ use Rattle.std.specs.List.{flat_map}
 use Rattle.std.specs.Fmt.{decimal}
 use Rattle.xt_base.specs.declared.ids.NodeId.{NodeId}
 use Rattle.xt_base.specs.declared.ids.OpId.{OpId}
-use Rattle.xt_messages.specs.declared.event.Outcome.{Outcome}
-use Rattle.xt_messages.specs.declared.event.Outcome.TheVariants as outcome
 use Rattle.time_line.specs.declared.entry.Entry.{Entry}
 use Rattle.time_line.specs.declared.entry.Entry.TheVariants as entry
 use Rattle.time_line.specs.declared.entry.Halt.{Halt}
 use Rattle.time_line.specs.declared.entry.Halt.TheVariants as halt
 use Rattle.time_line.specs.Bounds.{FitsEntry}
-use Rattle.schedule_text.specs.Words.{spaced, hex_or_dash}
-use Rattle.schedule_text.specs.LineText.{IsPlace, IsCall}
-use Rattle.schedule_text.specs.CallText.{file_words, call_name, call_words}
-use Rattle.schedule_text.specs.OutcomeText.{outcome_words}
+use Rattle.server_text.specs.Words.{spaced, hex_or_dash}
+use Rattle.schedule_text.specs.LineText.{IsPlace}
+use Rattle.schedule_text.specs.CallText.{file_words, call_name, call_words, IsSpellableCall}
+use Rattle.schedule_text.specs.OutcomeText.{outcome_words, IsSpellableOutcome}
 
 -- N F COUNT CLIENT NUMBER
 abbrev pub update_words : NodeId → ℕ → ℕ → OpId → List (List ℕ)
@@ -55,23 +53,16 @@ entry_text e = spaced (entry_words e)
 unfoldable pub trace_text : List Entry → List ℕ
 trace_text entries = flat_map (λ e. entry_text e ++ 10 ∷ []) entries
 
--- the end of a call on a file
-abbrev pub IsFileEnd : Outcome → Type 0
-IsFileEnd (outcome.Ok count bytes) = Unit {0}
-IsFileEnd (outcome.Retry answers) = Unit {0}
-IsFileEnd (outcome.Refused why) = Unit {0}
-IsFileEnd _ = ⊥
-
--- what an entry is about: files and calls are those of a schedule's lines
-abbrev pub IsOfSchedule : Entry → Type 0
-IsOfSchedule (entry.File number location) = IsPlace location
-IsOfSchedule (entry.Begin client number made) = IsCall made
-IsOfSchedule (entry.Done client number ended) = IsFileEnd ended
-IsOfSchedule _ = Unit {0}
+-- an entry that has words, of those that fit: a location in words is of version 1
+abbrev pub IsSpellableEntry : Entry → Type 0
+IsSpellableEntry (entry.File number location) = IsPlace location
+IsSpellableEntry (entry.Begin client number made) = IsSpellableCall made
+IsSpellableEntry (entry.Done client number ended) = IsSpellableOutcome ended
+IsSpellableEntry _ = Unit {0}
 
 -- an entry of a schedule's trace, within the limits of its values
 abbrev pub IsEntry : Entry → Type 0
-IsEntry e = IsOfSchedule e × FitsEntry e
+IsEntry e = IsSpellableEntry e × FitsEntry e
 
 -- the times stand first, if anywhere
 abbrev pub IsInPlace : Bool → Entry → Type 0

@@ -3,19 +3,13 @@ use Rattle.std.specs.Prelude.{ℕ, List, if◌then◌else◌, Option, Some, None
 use Rattle.std.specs.Str.{bytes_eq}
 use Rattle.xt_base.specs.MemberList.{are_members}
 use Rattle.xt_base.specs.declared.ids.NodeId.{NodeId}
-use Rattle.xt_messages.specs.declared.file.Kind.TheVariants.{Replicated}
+use Rattle.xt_messages.specs.declared.file.Kind.{Kind}
+use Rattle.xt_messages.specs.declared.file.Location.{Location}
 use Rattle.xt_messages.specs.declared.event.Call.TheVariants as call
 use Rattle.time_line.specs.declared.line.Line.{Line}
 use Rattle.time_line.specs.declared.line.Line.TheVariants as line
-use Rattle.schedule_text.specs.Reading.{number_of, number_at, first_word, other_words, each_word, byte_of, bytes_of}
-
--- the node of a number
-abbrev pub node_of : ℕ → NodeId
-node_of number = record { 0 = number }
-
--- the node that a word numbers, or the greatest one
-abbrev pub node_in : List ℕ → NodeId
-node_in word = node_of (number_of 32 word)
+use Rattle.server_text.specs.Reading.{number_at, first_word, other_words, each_word, byte_of, bytes_of, node_in}
+use Rattle.server_text.specs.RequestReading.{kind_in}
 
 -- the node that the first word numbers, and the words behind it
 unfoldable pub node_at : List ℕ → NodeId × List ℕ
@@ -32,6 +26,16 @@ as_members nodes = if are_members nodes then Some nodes else None
 -- the members of a file that the words number
 unfoldable pub members_at : List ℕ → Option (List NodeId)
 members_at words = as_members (nodes_of 9 words)
+
+-- where a file lies that a schedule declares or the metadata server makes
+abbrev pub place_on : Kind → ℕ → List NodeId → Location
+place_on kind stripe nodes = record { version = 1; kind = kind; stripe = stripe; members = nodes }
+
+-- where a file lies: rep|str STRIPE NODE .. NODE
+unfoldable pub location_at : List ℕ → Option Location
+location_at words =
+    let stripe = number_at 32 (other_words words) in
+    option_map (λ nodes. place_on (kind_in (first_word words)) stripe.0 nodes) (members_at stripe.1)
 
 unfoldable pub times_at : List ℕ → Line
 times_at words =
@@ -53,8 +57,7 @@ client_at words =
 unfoldable pub file_at : List ℕ → Option Line
 file_at words =
     let number = number_at 64 words in
-    let stripe = number_at 32 (other_words number.1) in
-    option_map (λ nodes. line.File number.0 (record { version = 1; kind = Replicated; stripe = stripe.0; members = nodes })) (members_at stripe.1)
+    option_map (λ location. line.File number.0 location) (location_at number.1)
 
 unfoldable pub start_at : List ℕ → Line
 start_at words =
@@ -120,6 +123,11 @@ truncate_at words =
     let epoch = number_at 64 size.1 in
     line.Call client.0 (call.Truncate file.0 size.0 epoch.0)
 
+unfoldable pub again_at : List ℕ → Line
+again_at words =
+    let client = node_at words in
+    line.Again client.0
+
 unfoldable pub aim_at : List ℕ → Line
 aim_at words =
     let client = node_at words in
@@ -168,6 +176,7 @@ unfoldable pub named_line : List ℕ → List ℕ → Option Line
 named_line name words =
     if bytes_eq name (codes "read") then Some (read_at words)
     else if bytes_eq name (codes "truncate") then Some (truncate_at words)
+    else if bytes_eq name (codes "again") then Some (again_at words)
     else if bytes_eq name (codes "aim") then Some (aim_at words)
     else if bytes_eq name (codes "deliver") then Some (deliver_at words)
     else if bytes_eq name (codes "drop") then Some (drop_at words)

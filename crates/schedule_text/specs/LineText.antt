@@ -2,14 +2,11 @@
 use Rattle.std.specs.Prelude.{ℕ, Bool, IsTrue, List, [], ◌∷◌, ◌++◌, ◌≡◌, ◌<◌, ◌^◌, codes}
 use Rattle.std.specs.List.{flat_map}
 use Rattle.std.specs.Fmt.{decimal}
-use Rattle.xt_messages.specs.declared.file.Kind.TheVariants.{Replicated}
 use Rattle.xt_messages.specs.declared.file.Location.{Location}
-use Rattle.xt_messages.specs.declared.event.Call.{Call}
-use Rattle.xt_messages.specs.declared.event.Call.TheVariants as call
 use Rattle.time_line.specs.declared.line.Line.{Line}
 use Rattle.time_line.specs.declared.line.Line.TheVariants as line
 use Rattle.time_line.specs.Bounds.{FitsLine}
-use Rattle.schedule_text.specs.Words.{spaced, hex_pair}
+use Rattle.server_text.specs.Words.{spaced, hex_pair}
 use Rattle.schedule_text.specs.CallText.{file_words, call_name, call_words}
 
 -- the words of a schedule's line
@@ -26,6 +23,7 @@ line_words (line.Clock node clock) = codes "clock" ∷ decimal node.0 ∷ decima
 line_words (line.Tick count) = codes "tick" ∷ decimal count ∷ []
 line_words (line.Wake node) = codes "wake" ∷ decimal node.0 ∷ []
 line_words (line.Call client made) = call_name made ∷ decimal client.0 ∷ call_words made
+line_words (line.Again client) = codes "again" ∷ decimal client.0 ∷ []
 line_words (line.Aim client file node) = codes "aim" ∷ decimal client.0 ∷ decimal file ∷ decimal node.0 ∷ []
 line_words (line.Deliver number) = codes "deliver" ∷ decimal number ∷ []
 line_words (line.Drop number) = codes "drop" ∷ decimal number ∷ []
@@ -35,24 +33,15 @@ line_words (line.Settle count) = codes "settle" ∷ decimal count ∷ []
 unfoldable pub line_text : Line → List ℕ
 line_text line = spaced (line_words line)
 
--- where a schedule may put a file, of the places that fit
-pub record IsPlace (location : Location) : Type 0 where
-  pub version : location.version ≡ 1
-  pub kind : location.kind ≡ Replicated
-
--- a call that a schedule may make, of those that fit
-abbrev pub IsCall : Call → Type 0
-IsCall (call.Read file object at len) = Unit {0}
-IsCall (call.Write file object at bytes) = Unit {0}
-IsCall (call.Truncate file size epoch) = Unit {0}
-IsCall _ = ⊥
+-- where a schedule may put a file, of the places that fit: its list is the first one
+abbrev pub IsPlace : Location → Type 0
+IsPlace location = location.version ≡ 1
 
 -- what the language asks of a line, beside the limits of its values; `first` says whether it is the first one
 abbrev pub IsForm : Bool → Line → Type 0
 IsForm first (line.Times lease drift) = IsTrue first
 IsForm first (line.File number location) = IsPlace location
 IsForm first (line.Cut node count) = count < 2 ^ 128
-IsForm first (line.Call client made) = IsCall made
 IsForm first (line.Deliver number) = number < 2 ^ 128
 IsForm first (line.Drop number) = number < 2 ^ 128
 IsForm first (line.Settle count) = count < 2 ^ 128

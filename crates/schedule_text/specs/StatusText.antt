@@ -9,8 +9,9 @@ use Rattle.xt_messages.specs.declared.status.Refusal.{Refusal}
 use Rattle.xt_messages.specs.declared.status.Refusal.TheVariants as refusal
 use Rattle.xt_messages.specs.declared.status.Status.{Status}
 use Rattle.xt_messages.specs.declared.status.Status.TheVariants as status
-use Rattle.schedule_text.specs.Words.{spaced, hex_of}
-use Rattle.schedule_text.specs.OutcomeText.{answer_words, ask_refusal_words, meta_refusal_words}
+use Rattle.server_text.specs.Words.{spaced, hex_of}
+use Rattle.server_text.specs.AnswerText.{meta_refusal_words}
+use Rattle.schedule_text.specs.OutcomeText.{answer_words, ask_refusal_words}
 
 -- a rule's name in lower case and its values
 unfoldable pub rule_words : Rule → List (List ℕ)

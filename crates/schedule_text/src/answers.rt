@@ -3,7 +3,7 @@ ghost use Rattle.std.specs.Prelude.{◌≡◌, ◌==◌, IfOk};
 ghost use Rattle.std.specs.List.{position};
 ghost use Rattle.schedule_text.specs.EntryReading.{front, back, retry_of, retry_in, answered_in, answers_in};
 
-use crate::words::{cut, u8_of, u32_of, u64_of};
+use server_text::{cut, u8_of, u32_of, u64_of};
 use std::alloc::Global;
 use xt_base::{NodeId, OutOfMemory};
 use xt_messages::{Answered, Answers, Retry};

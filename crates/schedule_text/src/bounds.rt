@@ -1,31 +1,23 @@
-ghost use Rattle.std.specs.Prelude.{◌≡◌, ◌<◌, ◌^◌, ◌↔◌, IsTrue, nat_lt};
-ghost use Rattle.std.specs.List.{list_all, AllByRecursion};
-ghost use Rattle.xt_messages.specs.Limits.{FitsStripe, FitsMembers, FitsLocation};
-ghost use Rattle.time_line.specs.Bounds.{FitsCall, FitsRefusal, FitsRetry, FitsAnswered, FitsOutcome, FitsPosition};
+ghost use Rattle.std.specs.Prelude.{◌≡◌, ◌<◌, ◌^◌, ◌↔◌, IsTrue};
+ghost use Rattle.std.specs.List.{AllByRecursion};
+ghost use Rattle.xt_messages.specs.Limits.{FitsMembers, FitsLocation};
+ghost use Rattle.time_line.specs.Bounds.{FitsCall, FitsRefusal, FitsRetry, FitsAnswered, FitsOutcome, FitsPosition, IsOnContent};
 ghost use Rattle.xt_base.specs.FieldLimits.{FitsBytes};
-ghost use Rattle.schedule_text.specs.EntryText.{IsFileEnd, IsEntryAt};
-ghost use Rattle.schedule_text.specs.LineText.{IsLine, IsPlace, IsCall};
+ghost use Rattle.schedule_text.specs.CallText.{IsSpellableCall};
+ghost use Rattle.schedule_text.specs.OutcomeText.{IsSpellableOutcome};
+ghost use Rattle.schedule_text.specs.EntryText.{IsEntryAt};
+ghost use Rattle.schedule_text.specs.LineText.{IsLine, IsPlace};
 
+use server_text::{
+    are_nodes, is_meta_outcome, is_meta_request, is_registry_outcome, is_registry_request,
+    is_stripe,
+};
 use time_line::{Entry, Line};
 use xt_base::{BODY, COUNTS, Members, NodeId, OpId, Times};
-use xt_messages::{Answered, AskRefusal, Call, Kind, Location, Outcome, Retry};
-
-/// Whether a stripe is 1,024 to 131,072 bytes, in steps of 1,024.
-pub(crate) fn is_stripe(stripe: u32) -> bool
-    ensures { IsTrue result ↔ FitsStripe stripe }
-{
-    (1_024..=131_072).contains(&stripe) && stripe % 1_024 == 0
-}
-
-/// Whether each node's number is below 2^32, as it always is.
-fn are_nodes(nodes: &[NodeId]) -> bool
-    ensures { result ≡ list_all (λ node. nat_lt node.0 4294967296) nodes.now }
-{
-    nodes.iter().all(|node| u64::from(node.0) < 1 << 32)
-}
+use xt_messages::{Answered, AskRefusal, Call, Location, Outcome, Retry};
 
 /// Whether the nodes are one to nine different ones.
-#[tactic(auto, using(crate::proofs::ManyAgain::nodes_fit, crate::proofs::ManyAgain::nodes_pass))]
+#[tactic(auto, using(server_text::proofs::ManyAgain::nodes_fit, server_text::proofs::ManyAgain::nodes_pass))]
 pub(crate) fn are_members(nodes: &[NodeId]) -> bool
     ensures { IsTrue result ↔ FitsMembers nodes.now }
 {
@@ -36,10 +28,7 @@ pub(crate) fn are_members(nodes: &[NodeId]) -> bool
 pub(crate) fn is_place(location: &Location) -> bool
     ensures { IsTrue result ↔ (IsPlace location.now × FitsLocation location.now) }
 {
-    location.version == 1
-        && location.kind == Kind::Replicated
-        && is_stripe(location.stripe)
-        && are_members(location.members.as_slice())
+    location.version == 1 && is_stripe(location.stripe) && are_members(location.members.as_slice())
 }
 
 /// Whether a call may read this range of an object.
@@ -58,7 +47,7 @@ pub(crate) fn is_written(file: u64, object: u64, at: u32, bytes: &[u8]) -> bool
 
 /// Whether a schedule may make the call.
 pub(crate) fn is_call(call: &Call) -> bool
-    ensures { IsTrue result ↔ (IsCall call.now × FitsCall call.now) }
+    ensures { IsTrue result ↔ (IsOnContent call.now × FitsCall call.now) }
 {
     match call {
         Call::Read {
@@ -82,13 +71,58 @@ pub(crate) fn is_call(call: &Call) -> bool
     }
 }
 
+/// Whether a client's call has a spelling, and values within their limits.
+#[tactic(auto, using(server_text::proofs::RequestsAgain::request_is_written))]
+fn is_begun(call: &Call) -> bool
+    ensures { IsTrue result ↔ (IsSpellableCall call.now × FitsCall call.now) }
+{
+    match call {
+        Call::Read {
+            file,
+            object,
+            at,
+            len,
+        } => is_read(*file, *object, *at, *len),
+        Call::Write {
+            file,
+            object,
+            at,
+            bytes,
+        } => is_written(*file, *object, *at, bytes.as_slice()),
+        Call::Truncate { file, size, epoch } => {
+            let _file_fits = *file;
+            let _size_fits = *size;
+            *epoch < COUNTS
+        }
+        Call::Meta {
+            user,
+            group,
+            request,
+        } => {
+            let _user_fits = *user;
+            let _group_fits = *group;
+            is_meta_request(request)
+        }
+        Call::Report { user, group, file } => {
+            let _user_fits = *user;
+            let _group_fits = *group;
+            let _file_fits = *file;
+            true
+        }
+        Call::Registry { request } => is_registry_request(request),
+    }
+}
+
 /// Whether the line is in a schedule's language, as its first line or a later one.
 pub(crate) fn is_line(first: bool, line: &Line) -> bool
     ensures { IsTrue result ↔ IsLine first line.now }
 {
     match line {
         Line::Times { lease, drift } => first && Times::new(*lease, *drift).is_ok(),
-        Line::Osd { node } | Line::Stop { node } | Line::Wake { node } => {
+        Line::Osd { node }
+        | Line::Stop { node }
+        | Line::Wake { node }
+        | Line::Again { client: node } => {
             let _fits = node.0;
             true
         }
@@ -189,15 +223,16 @@ fn are_answers(answers: &[Answered]) -> bool
     true
 }
 
-/// Whether a call on a file may end so.
+/// Whether the end of a call has a spelling, and values within their limits.
 fn is_end(outcome: &Outcome) -> bool
-    ensures { IsTrue result ↔ (IsFileEnd outcome.now × FitsOutcome outcome.now) }
+    ensures { IsTrue result ↔ (IsSpellableOutcome outcome.now × FitsOutcome outcome.now) }
 {
     match outcome {
         Outcome::Ok { count, bytes } => *count < COUNTS && are_few(bytes.as_slice()),
         Outcome::Retry { answers } => are_answers(answers.as_slice()),
         Outcome::Refused { refusal } => is_refusal(refusal),
-        _ => false,
+        Outcome::Meta { answer } => is_meta_outcome(answer),
+        Outcome::Registry { answer } => is_registry_outcome(answer),
     }
 }
 
@@ -216,7 +251,7 @@ pub(crate) fn is_entry(first: bool, entry: &Entry) -> bool
 {
     match entry {
         Entry::Times { lease, drift } => first && Times::new(*lease, *drift).is_ok(),
-        Entry::File { number, location } => *number < 1_000_000 && is_place(location),
+        Entry::File { number, location } => *number < COUNTS && is_place(location),
         Entry::Clock { node, clock } => {
             let _fits = node.0;
             *clock < COUNTS
@@ -240,7 +275,7 @@ pub(crate) fn is_entry(first: bool, entry: &Entry) -> bool
             call,
         } => {
             let _fits = client.0;
-            *number < COUNTS && is_call(call)
+            *number < COUNTS && is_begun(call)
         }
         Entry::Held { node, file, end } => {
             let _node_fits = node.0;

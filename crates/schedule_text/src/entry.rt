@@ -1,7 +1,7 @@
 ghost use Rattle.std.specs.Prelude.{◌≡◌, ◌++◌, ◌∷◌, [], List, OnOk, IfOk, IsTrue, ◌↔◌, MatchResult, codes};
 ghost use Rattle.std.specs.List.{AllByRecursion};
 ghost use Rattle.std.specs.Fmt.{decimal};
-ghost use Rattle.schedule_text.specs.Words.{spaced, hex_or_dash};
+ghost use Rattle.server_text.specs.Words.{spaced, hex_or_dash};
 ghost use Rattle.schedule_text.specs.CallText.{call_name, call_words};
 ghost use Rattle.schedule_text.specs.OutcomeText.{outcome_words};
 ghost use Rattle.time_line.specs.declared.entry.Entry.{Entry};
@@ -9,12 +9,11 @@ ghost use Rattle.schedule_text.specs.EntryText.{entry_text, trace_text, update_w
 
 use crate::bounds::is_entry;
 use crate::call::{call_name, push_call};
+use crate::common::{push_clock, push_file_line, push_named, push_times};
 use crate::entry_forms::loose_entry;
 use crate::line::LineErr;
 use crate::outcome::push_outcome;
-use crate::spelling::{
-    Word, hex_or_dash, push_clock, push_file_line, push_named, push_named_words, push_times,
-};
+use server_text::{Word, hex_or_dash, push_named_words};
 use std::alloc::Global;
 use time_line::{Entry, Halt};
 use xt_base::{Boot, NodeId, Octets, OpId, OutOfMemory};

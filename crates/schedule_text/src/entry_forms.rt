@@ -3,15 +3,18 @@ ghost use Rattle.std.specs.Prelude.{◌≡◌, ℕ, Some, IfOk};
 ghost use Rattle.xt_base.specs.declared.ids.NodeId.{NodeId};
 ghost use Rattle.xt_base.specs.declared.ids.OpId.{OpId};
 ghost use Rattle.time_line.specs.declared.entry.Entry.{Entry};
-ghost use Rattle.schedule_text.specs.EntryReading.{times_in, file_in, clock_in, tick_in, up_in, halt_of, down_in, call_of, call_on, call_in, begin_in, held_in, id_of, update_in, answer_in, denial_of, refusal_of, refusal_in, outcome_in, done_in, node_entry, update_entry, entry_of, entry_at};
+ghost use Rattle.schedule_text.specs.EntryReading.{times_in, file_in, clock_in, tick_in, up_in, halt_of, down_in, call_of, call_on, file_call_in, call_in, begin_in, held_in, id_of, update_in, answer_in, refusal_of, refusal_in, outcome_in, done_in, node_entry, update_entry, entry_of, entry_at};
 
 use crate::answers::answers_in;
-use crate::nodes::members_at;
-use crate::words::{bytes_of, cut, u32_at, u32_of, u64_at, u64_of};
+use crate::nodes::location_at;
+use server_text::{
+    bytes_of, cut, denial_of, read_meta_call, read_meta_outcome, read_registry_call,
+    read_registry_outcome, u32_at, u32_of, u64_at, u64_of,
+};
 use std::alloc::Global;
 use time_line::{Entry, Halt};
 use xt_base::{Boot, NodeId, OpId, OutOfMemory};
-use xt_messages::{AskRefusal, Call, Denial, Kind, Location, Outcome};
+use xt_messages::{AskRefusal, Call, Outcome};
 
 /// `times L E`
 #[tactic(auto, unfolding(crate::specs::EntryReading::times_in))]
@@ -23,20 +26,13 @@ fn times(words: &[u8]) -> Entry
     Entry::Times { lease, drift }
 }
 
-/// `file F rep STRIPE NODE ..`
+/// `file F rep|str STRIPE NODE ..`
 #[tactic(auto, unfolding(crate::specs::EntryReading::file_in))]
 fn file(words: &[u8]) -> Option<Entry>
     ensures { result ≡ file_in words.now }
 {
     let (number, words) = u64_at(words);
-    let (_, words) = cut(words);
-    let (stripe, words) = u32_at(words);
-    let location = Location {
-        version: 1,
-        kind: Kind::Replicated,
-        stripe,
-        members: members_at(words)?,
-    };
+    let location = location_at(words)?;
     Some(Entry::File { number, location })
 }
 
@@ -157,13 +153,27 @@ fn call_on(alloc: Global, name: &[u8], file: u64, words: &[u8]) -> Result<Call, 
     }
 }
 
-/// A call of this name on a file.
+/// A call of this name, of those on a file.
+#[tactic(auto, unfolding(crate::specs::EntryReading::file_call_in))]
+fn file_call_in(alloc: Global, name: &[u8], words: &[u8]) -> Result<Call, OutOfMemory>
+    ensures { IfOk result (λ made. Some made ≡ file_call_in name.now words.now) }
+{
+    let (file, words) = u64_at(words);
+    call_on(alloc, name, file, words)
+}
+
+/// A call of this name.
 #[tactic(auto, unfolding(crate::specs::EntryReading::call_in))]
 fn call_in(alloc: Global, name: &[u8], words: &[u8]) -> Result<Call, OutOfMemory>
     ensures { IfOk result (λ made. Some made ≡ call_in name.now words.now) }
 {
-    let (file, words) = u64_at(words);
-    call_on(alloc, name, file, words)
+    if name == b"meta".as_slice() {
+        read_meta_call(alloc, words)
+    } else if name == b"registry".as_slice() {
+        read_registry_call(alloc, words)
+    } else {
+        file_call_in(alloc, name, words)
+    }
 }
 
 /// `begin C NUMBER` and the call
@@ -306,26 +316,6 @@ fn answer(alloc: Global, words: &[u8]) -> Result<Entry, OutOfMemory>
     })
 }
 
-/// The denial of a number.
-#[tactic(auto, unfolding(crate::specs::EntryReading::denial_of))]
-fn denial_of(number: u64) -> Denial
-    ensures { result ≡ denial_of number }
-{
-    if number == 1 {
-        Denial::Tag
-    } else if number == 2 {
-        Denial::File
-    } else if number == 3 {
-        Denial::Expired
-    } else if number == 4 {
-        Denial::Mode
-    } else if number == 5 {
-        Denial::List
-    } else {
-        Denial::Range
-    }
-}
-
 /// A refusal of this name with a value.
 #[tactic(auto, unfolding(crate::specs::EntryReading::refusal_of))]
 fn refusal_of(name: &[u8], word: &[u8]) -> AskRefusal
@@ -363,7 +353,7 @@ fn refusal_in(name: &[u8], words: &[u8]) -> AskRefusal
     }
 }
 
-/// `ok COUNT HEX`, `retry ANSWERS`, or a refusal
+/// `ok COUNT HEX`, `retry ANSWERS`, `meta ANSWER`, `registry ANSWER`, or a refusal
 #[tactic(auto, unfolding(crate::specs::EntryReading::outcome_in))]
 fn outcome_in(alloc: Global, name: &[u8], words: &[u8]) -> Result<Outcome, OutOfMemory>
     ensures { IfOk result (λ ended. Some ended ≡ outcome_in name.now words.now) }
@@ -376,6 +366,12 @@ fn outcome_in(alloc: Global, name: &[u8], words: &[u8]) -> Result<Outcome, OutOf
     } else if name == b"retry".as_slice() {
         let answers = answers_in(alloc, words)?;
         Ok(Outcome::Retry { answers })
+    } else if name == b"meta".as_slice() {
+        let answer = read_meta_outcome(alloc, words)?;
+        Ok(Outcome::Meta { answer })
+    } else if name == b"registry".as_slice() {
+        let answer = read_registry_outcome(alloc, words)?;
+        Ok(Outcome::Registry { answer })
     } else {
         let refusal = refusal_in(name, words);
         Ok(Outcome::Refused { refusal })

@@ -1,12 +1,12 @@
 ghost use Rattle.std.specs.Prelude.{◌≡◌, IfOk};
-ghost use Rattle.schedule_text.specs.LineReading.{times_at, osd_at, client_at, file_at, start_at, stop_at, crash_at, cut_at, clock_at, tick_at, wake_at, read_at, truncate_at, aim_at, write_at, deliver_at, drop_at, settle_at, node_line, timed_line, named_line, line_at};
+ghost use Rattle.schedule_text.specs.LineReading.{times_at, osd_at, client_at, file_at, start_at, stop_at, crash_at, cut_at, clock_at, tick_at, wake_at, read_at, truncate_at, again_at, aim_at, write_at, deliver_at, drop_at, settle_at, node_line, timed_line, named_line, line_at};
 
-use crate::nodes::{members_at, node_at};
-use crate::words::{byte_of, bytes_of, cut, u8_at, u32_at, u64_at, u128_at};
+use crate::nodes::{location_at, node_at};
+use server_text::{byte_of, bytes_of, cut, u8_at, u32_at, u64_at, u128_at};
 use std::alloc::Global;
 use time_line::Line;
 use xt_base::OutOfMemory;
-use xt_messages::{Call, Kind, Location};
+use xt_messages::Call;
 
 /// `times L E`
 #[tactic(auto, unfolding(crate::specs::LineReading::times_at))]
@@ -37,20 +37,13 @@ pub(crate) fn client(words: &[u8]) -> Line
     Line::Client { node, clock }
 }
 
-/// `file F rep STRIPE NODE ..`
+/// `file F rep|str STRIPE NODE ..`
 #[tactic(auto, unfolding(crate::specs::LineReading::file_at))]
 pub(crate) fn file(words: &[u8]) -> Option<Line>
     ensures { result ≡ file_at words.now }
 {
     let (number, words) = u64_at(words);
-    let (_, words) = cut(words);
-    let (stripe, words) = u32_at(words);
-    let location = Location {
-        version: 1,
-        kind: Kind::Replicated,
-        stripe,
-        members: members_at(words)?,
-    };
+    let location = location_at(words)?;
     Some(Line::File { number, location })
 }
 
@@ -174,6 +167,15 @@ pub(crate) fn truncate(words: &[u8]) -> Line
     Line::Call { client, call }
 }
 
+/// `again C`
+#[tactic(auto, unfolding(crate::specs::LineReading::again_at))]
+pub(crate) fn again(words: &[u8]) -> Line
+    ensures { result ≡ again_at words.now }
+{
+    let (client, _) = node_at(words);
+    Line::Again { client }
+}
+
 /// `aim C F N`
 #[tactic(auto, unfolding(crate::specs::LineReading::aim_at))]
 pub(crate) fn aim(words: &[u8]) -> Line
@@ -263,6 +265,8 @@ pub(crate) fn named_line(name: &[u8], words: &[u8]) -> Option<Line>
         Some(read(words))
     } else if name == b"truncate".as_slice() {
         Some(truncate(words))
+    } else if name == b"again".as_slice() {
+        Some(again(words))
     } else if name == b"aim".as_slice() {
         Some(aim(words))
     } else if name == b"deliver".as_slice() {

@@ -9,15 +9,14 @@
 mod answers;
 mod bounds;
 mod call;
+mod common;
 mod entry;
 mod entry_forms;
 mod forms;
 mod line;
 mod nodes;
 mod outcome;
-mod spelling;
 mod status;
-mod words;
 
 pub use entry::{one_entry_a_spelling, one_trace_a_spelling, print_entries, read_entry};
 pub use line::{LineErr, one_line_a_spelling, read_line};

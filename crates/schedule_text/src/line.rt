@@ -1,16 +1,15 @@
 ghost use Rattle.std.specs.Prelude.{◌≡◌, ◌++◌, ◌∷◌, [], Bool, IsTrue, ◌↔◌, OnOk, IfOk, MatchResult, codes};
 ghost use Rattle.std.specs.Fmt.{decimal};
 ghost use Rattle.time_line.specs.declared.line.Line.{Line};
-ghost use Rattle.schedule_text.specs.Words.{spaced, hex_pair};
+ghost use Rattle.server_text.specs.Words.{spaced, hex_pair};
 ghost use Rattle.schedule_text.specs.CallText.{call_name, call_words};
 ghost use Rattle.schedule_text.specs.LineText.{line_text, IsLine};
 
 use crate::bounds::is_line;
 use crate::call::{call_name, push_call};
+use crate::common::{push_clock, push_file_line, push_named, push_named_node, push_times};
 use crate::forms::loose_line;
-use crate::spelling::{
-    Word, push_clock, push_file_line, push_named, push_named_node, push_named_words, push_times,
-};
+use server_text::{Word, push_named_words};
 use std::alloc::Global;
 use time_line::Line;
 use xt_base::{NodeId, OutOfMemory};
@@ -99,6 +98,7 @@ fn push_line(out: &mut Vec<u8>, line: &Line) -> Result<(), OutOfMemory>
         Line::Tick { count } => push_named(out, b"tick", u128::from(*count)),
         Line::Wake { node } => push_named_node(out, b"wake", *node),
         Line::Call { client, call } => push_call_line(out, *client, call),
+        Line::Again { client } => push_named_node(out, b"again", *client),
         Line::Aim { client, file, node } => push_aim(out, *client, *file, *node),
         Line::Deliver { number } => push_named(out, b"deliver", *number),
         Line::Drop { number } => push_named(out, b"drop", *number),

@@ -1,9 +1,11 @@
-//! Nodes and the members of a file, as the words of a line number them.
+//! Nodes, the members of a file and where it lies, as the words of a line tell them.
 ghost use Rattle.std.specs.Prelude.{◌≡◌, ◌≤◌, length, take};
-ghost use Rattle.schedule_text.specs.LineReading.{node_in, node_at, nodes_of, as_members, members_at};
+ghost use Rattle.server_text.specs.Reading.{node_in};
+ghost use Rattle.schedule_text.specs.LineReading.{node_at, nodes_of, as_members, members_at, location_at};
 
-use crate::words::{cut, u32_of};
+use server_text::{cut, kind_of, u32_at, u32_of};
 use xt_base::{Members, NodeId};
+use xt_messages::Location;
 
 /// The node that a word numbers, or the greatest one.
 fn node_in(word: &[u8]) -> NodeId
@@ -48,10 +50,25 @@ fn as_members(nodes: &[NodeId]) -> Option<Members>
 
 /// The members of a file that the words number.
 #[tactic(auto, unfolding(crate::specs::LineReading::members_at))]
-pub(crate) fn members_at(words: &[u8]) -> Option<Members>
+fn members_at(words: &[u8]) -> Option<Members>
     ensures { result ≡ members_at words.now }
 {
     let mut places = [NodeId(0); 9];
     let count = read_nodes(&mut places, words);
     as_members(&places[..count])
+}
+
+/// Where a file lies: `rep|str STRIPE NODE ..`
+#[tactic(auto, unfolding(crate::specs::LineReading::location_at))]
+pub(crate) fn location_at(words: &[u8]) -> Option<Location>
+    ensures { result ≡ location_at words.now }
+{
+    let (kind, words) = cut(words);
+    let (stripe, words) = u32_at(words);
+    Some(Location {
+        version: 1,
+        kind: kind_of(kind),
+        stripe,
+        members: members_at(words)?,
+    })
 }

@@ -1,12 +1,13 @@
 ghost use Rattle.std.specs.Prelude.{◌≡◌, ◌++◌, ◌∷◌, [], OnOk, IfOk, codes};
 ghost use Rattle.std.specs.Fmt.{decimal};
-ghost use Rattle.schedule_text.specs.Words.{behind, hex_of};
-ghost use Rattle.schedule_text.specs.WordText.{phrase_words};
+ghost use Rattle.server_text.specs.Words.{behind, hex_of};
+ghost use Rattle.server_text.specs.WordText.{phrase_words};
 ghost use Rattle.schedule_text.specs.StatusText.{last_line, status_text, limited_word, refusal_words, rule_words, status_words};
 
-use crate::outcome::{ask_refusal, meta_refusal, push_retries};
-use crate::spelling::{
-    Phrase, Word, push_counted, push_lone, push_pair, push_phrase, push_word, push_words,
+use crate::outcome::{ask_refusal, push_retries};
+use server_text::{
+    Phrase, Word, meta_refusal, push_counted, push_lone, push_pair, push_phrase, push_word,
+    push_words,
 };
 use std::alloc::Global;
 use xt_base::{Octets, OutOfMemory};

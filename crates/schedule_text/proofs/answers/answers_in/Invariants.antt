@@ -1,5 +1,5 @@
 use Rattle.std.proofs.Common.{◌≡◌, ◌-◌, ◌++◌, length}
-use Rattle.schedule_text.specs.Reading.{each_word}
+use Rattle.server_text.specs.Reading.{each_word}
 use Rattle.schedule_text.specs.EntryReading.{answered_in}
 use Rattle.schedule_text.proofs.answers.answers_in.Given as goal
 

@@ -1,5 +1,5 @@
 use Rattle.std.proofs.Common.{◌≡◌, ◌++◌, take}
-use Rattle.schedule_text.specs.Words.{behind}
+use Rattle.server_text.specs.Words.{behind}
 use Rattle.schedule_text.specs.OutcomeText.{answer_words}
 use Rattle.schedule_text.proofs.outcome.push_answers.Given as goal
 

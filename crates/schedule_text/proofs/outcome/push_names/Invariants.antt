@@ -1,7 +1,0 @@
-use Rattle.std.proofs.Common.{◌≡◌, ◌++◌, take}
-use Rattle.schedule_text.specs.Words.{behind}
-use Rattle.schedule_text.proofs.outcome.push_names.Given as goal
-
--- what was gone over is spelled
-abbrev pub invariant-loop-name : goal.invariant-loop-name
-invariant-loop-name l = l.out.items ≡ l.fn.out.items ++ behind (take l.name-index l.names)
