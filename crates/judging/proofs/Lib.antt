@@ -10,3 +10,4 @@ pub mod Ends
 pub mod Kept
 pub mod Judged
 pub mod Audited
+pub mod Dealing

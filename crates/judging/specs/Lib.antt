@@ -2,3 +2,4 @@ pub mod Pass
 pub mod Samples
 pub mod Laws
 pub mod Audit
+pub mod Dealt

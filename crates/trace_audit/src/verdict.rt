@@ -8,7 +8,7 @@ use par_halves::{Gate, map_halves};
 use std::alloc::Global;
 use std::thread::Threads;
 use time_line::Entry;
-use trace_judge::{Verdict, files_of, judge, least};
+use trace_judge::{DealtTrace, Verdict, files_of, judge, least};
 use xt_base::OutOfMemory;
 
 /// The verdicts, if there was memory for each of them.
@@ -39,13 +39,15 @@ pub fn audit_halves<R: Threads + Sync, G: Gate>(
     ensures verdict { TimesStandFirst entries.now → IfOk result (λ v. IsVerdictOn entries.now v) }
 {
     let files = files_of(alloc, entries)?;
+    let trace = DealtTrace::new(alloc, entries)?;
+    let dealt = &trace;
     let results = map_halves(
         rt,
         alloc,
         files.as_slice(),
         &|file: &u64| -> Result<Verdict, OutOfMemory>
-            ensures { IfOk result (λ v. v ≡ verdict_of (judged file.now entries.entry.now)) }
-        { judge(alloc, entries, *file) },
+            ensures { IfOk result (λ v. v ≡ verdict_of (judged file.now dealt.entry.now)) }
+        { judge(alloc, dealt, *file) },
         gate,
     )?;
     let verdicts = all_given(alloc, results.as_slice())?;

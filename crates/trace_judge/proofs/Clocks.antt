@@ -1,10 +1,10 @@
 -- A clock that no tick touches tells the same.
-use Rattle.std.proofs.Common.{◌≡◌, ℕ, ◌+◌, ◌-◌, Bool, true, false, Option, Some, None, refl, sym, ap, ◌∙◌, arith}
+use Rattle.std.proofs.Common.{◌≡◌, ℕ, ◌+◌, ◌-◌, ◌≤◌, Bool, true, false, Option, Some, None, refl, sym, ap, ◌∙◌, arith}
 use Rattle.std.specs.Prelude.{◌==◌, ◌&&◌, if◌then◌else◌}
 use Rattle.xt_base.specs.declared.ids.NodeId.{NodeId}
 use Rattle.time_line.specs.declared.entry.Entry.{Entry}
 use Rattle.time_line.specs.declared.entry.Entry.TheVariants as entry
-use Rattle.time_line.specs.TimeLine.{Standing, standing_after, reads, held_until, holds_as, is_before_end}
+use Rattle.time_line.specs.TimeLine.{Standing, standing_after, advances, reads, held_until, holds_as, is_before_end}
 use Rattle.trace_judge.specs.declared.readings.Reading.{Reading}
 use Rattle.trace_judge.specs.Short.{ticks_after, told_at, ends_at, reading_after, holds_at, TellsStanding, ReadingsTell}
 
@@ -52,6 +52,14 @@ module _ (node : NodeId) (file ticks : ℕ) where
   more r s (entry.Commit m f count id) tells = tells
   more r s (entry.Answer m f id count bytes) tells = tells
   more r s (entry.Done client number ended) tells = tells
+
+-- where the clocks have advanced to these ticks
+pub advanced_stands : (ticks later : ℕ) (r : Option Reading) (s : Option Standing) → ticks ≤ later → TellsStanding ticks r s → TellsStanding later r (advances (later - ticks) s)
+advanced_stands ticks later None None less tells = tt
+advanced_stands ticks later None (Some s) less tells = tells
+advanced_stands ticks later (Some r) None less tells = tells
+advanced_stands ticks later (Some r) (Some s) less (before, clock, end) =
+    (omega (arith, before, less), (let same : s.clock ≡ r.clock + (ticks - r.ticks) = clock in omega (arith, before, less, same)), end)
 
 hold : (drift ticks : ℕ) (r : Option Reading) (s : Option Standing) → TellsStanding ticks r s → holds_at drift ticks r ≡ holds_as drift s
 hold drift ticks None None tells = refl

@@ -3,3 +3,5 @@ pub mod Put
 pub mod Followed
 pub mod Lesser
 pub mod Walk
+pub mod Along
+pub mod Gathered

@@ -1,16 +1,26 @@
 -- The clauses so far give the verdict of the pass.
-use Rattle.std.proofs.Common.{◌<◌, ◌≤◌, ◌≡◌, ◌∙◌, ℕ, ◌+◌, ◌*◌, ◌^◌, Bool, true, false, List, [], ◌∷◌, length, Option, Some, None, refl, sym, ap, subst, arith, ◌-◌, get_or, take, drop}
-use Rattle.std.proofs.Math.Seq.{take-length}
-use Rattle.std.specs.Prelude.{◌||◌}
+use Rattle.std.proofs.Common.{◌<◌, ◌≤◌, ◌≡◌, ◌∙◌, ℕ, ◌+◌, ◌-◌, Bool, true, false, List, [], ◌∷◌, ◌++◌, length, length-append, get_or, Option, Some, None, refl, sym, ap, subst, append_assoc, zero-add, arith, true≢false}
+use Rattle.std.specs.Prelude.{◌||◌, if◌then◌else◌}
+use Rattle.std.specs.List.{sum_by}
+use Rattle.std.proofs.lemmas.List.Sums.{sum_by-append, sum_by-cons}
 use Rattle.std.specs.Option.{option_or}
+use Rattle.xt_base.specs.declared.ids.OpId.{OpId}
+use Rattle.xt_messages.specs.declared.event.Call.{Call}
+use Rattle.xt_messages.specs.declared.file.Location.{Location}
 use Rattle.time_line.specs.declared.entry.Entry.{Entry}
-use Rattle.time_line.specs.TimeLine.{location_told}
+use Rattle.time_line.specs.declared.entry.Entry.TheVariants as entry
+use Rattle.time_line.specs.TimeLine.{begun, location_in, location_told, is_replicated_at, stripe_at, times_of}
 use Rattle.time_line.specs.Verdicts.{Break, Clause, apart, acting, one_order, once, shown, fresh}
-use Rattle.judging.specs.Pass.{Kept, nothing, after, is_told, least_broken, break_at, broken_from}
+use Rattle.judging.specs.Pass.{Kept, nothing, after, is_told, least_broken, break_at, judged}
+use Rattle.judging.proofs.Dealing.{deals}
+use Rattle.judging.specs.Dealt.{is_common, is_dealt, ticks_of, dealt, dealt_to, advanced, found_from, judged_by_dealt}
 use Rattle.trace_judge.specs.declared.kept.Judging.{Judging}
 use Rattle.trace_judge.specs.Following.{says_of, Follows}
+use Rattle.trace_judge.specs.Short.{ticks_after}
+use Rattle.trace_judge.specs.Deals.{places_from, ticks_from, is_of, stripe_if, IsNext}
 use Rattle.trace_judge.specs.declared.verdict.Verdict.{Verdict}
 use Rattle.trace_judge.specs.Found.{verdict_of, some_verdict}
+use Rattle.trace_judge.proofs.Along.{entry_at, ticks_at, ticks_length, Meets, next_is_met, none_is_met}
 
 -- six tests, the least that fails
 abbrev least : Bool → Bool → Bool → Bool → Bool → Bool → Option Clause
@@ -57,74 +67,210 @@ least_same k j f =
 
 -- ---- the walk
 
--- the first entry of the rest, and those behind it
-pub first_and_others : (rest : List Entry) (e : Entry) → 1 ≤ length rest → e ≡ get_or rest 0 e → rest ≡ e ∷ take (length rest - 1) (drop 1 rest)
-first_and_others [] e some is = absurd (omega (arith, some))
-first_and_others (x ∷ rest) e some is =
-    ap (λ (y : Entry). y ∷ rest) (sym is) ∙ ap (λ (ys : List Entry). e ∷ ys) (sym (take_all rest (length (x ∷ rest) - 1) (omega arith)))
-  where
-    take_all : (ys : List Entry) (n : ℕ) → n ≡ length ys → take n ys ≡ ys
-    take_all ys n same = ap (λ (m : ℕ). take m ys) same ∙ take-length ys
+abbrev pub all_calls : List Entry → OpId → Option Call
+all_calls entries = λ id. begun id entries
 
-pub none : (rest : List Entry) → length rest < 1 → rest ≡ []
-none [] few = refl
-none (x ∷ rest) few = absurd (omega (arith, few))
-
--- so many entries are judged, and the rest decides
-pub record IsJudged (drift stripe file : ℕ) (entries rest : List Entry) (j : Judging) (placed : Bool) (count : ℕ) : Type 0 where
+-- these entries are judged, and what is dealt of the rest decides
+pub record IsJudged (drift stripe file : ℕ) (entries : List Entry) (mine common : List ℕ) (j : Judging) (placed : Bool) : Type 0 where
   pub k : Kept
+  pub front : List Entry
+  pub rest : List Entry
+  pub ticks : ℕ
+  pub split : entries ≡ front ++ rest
   pub follows : Follows k j
-  pub same : broken_from drift stripe file nothing false 0 entries ≡ broken_from drift stripe file k placed count rest
+  pub same : found_from drift stripe file nothing false (dealt_to file entries) ≡ found_from drift stripe file k placed (dealt (is_dealt file (all_calls entries)) ticks (length front) rest)
+  pub mine_is : mine ≡ places_from (is_of (all_calls entries) file) (length front) rest
+  pub common_is : common ≡ places_from is_common (length front) rest
   pub drift_is : j.leases.drift ≡ drift
   pub file_is : j.leases.readings.file ≡ file
   pub stripe_is : j.writes.stripe ≡ stripe
-  pub ticks : j.leases.readings.ticks ≤ count * 2 ^ 64
-  pub counted : count + length rest ≡ length entries
+  pub elapsed : sum_by ticks_of front ≡ j.leases.readings.ticks + ticks
 
-module _ (drift stripe file : ℕ) (entries behind : List Entry) (e : Entry) (j l : Judging) (placed then : Bool) (count : ℕ)
-    (i : IsJudged drift stripe file entries (e ∷ behind) j placed count)
-    (more : (k : Kept) → Follows k j → Follows (after j.leases.drift j.writes.stripe j.leases.readings.file k e) l)
-    (then_is : then ≡ (placed || is_told (location_told file e))) where
-  abbrev next : Kept
-  next = after drift stripe file i.k e
+pub begins : (drift stripe file : ℕ) (entries : List Entry) (mine common : List ℕ) (j : Judging) → Follows nothing j
+    → mine ≡ places_from (is_of (all_calls entries) file) 0 entries → common ≡ places_from is_common 0 entries
+    → j.leases.drift ≡ drift → j.leases.readings.file ≡ file → j.writes.stripe ≡ stripe → j.leases.readings.ticks ≡ 0
+    → IsJudged drift stripe file entries mine common j false
+begins drift stripe file entries mine common j follows mine_is common_is drift_is file_is stripe_is ticks = record {
+  k = nothing;
+  front = [];
+  rest = entries;
+  ticks = 0;
+  split = refl;
+  follows = follows;
+  same = refl;
+  mine_is = mine_is;
+  common_is = common_is;
+  drift_is = drift_is;
+  file_is = file_is;
+  stripe_is = stripe_is;
+  elapsed = omega (arith, ticks);
+}
 
-  pub follows_next : Follows next l
-  follows_next =
-      subst (λ (n : ℕ). Follows (after drift stripe n i.k e) l) i.file_is
-      (subst (λ (n : ℕ). Follows (after drift n j.leases.readings.file i.k e) l) i.stripe_is
-      (subst (λ (n : ℕ). Follows (after n j.writes.stripe j.leases.readings.file i.k e) l) i.drift_is (more i.k i.follows)))
+-- the place of an entry, and how far the clocks have advanced before it
+pub record IsReached (entries : List Entry) (n : ℕ) (e : Entry) (ticks : ℕ) : Type 0 where
+  pub inside : n < length entries
+  pub inside_ticks : n < length (ticks_from 0 entries)
+  pub is : (d : Entry) → get_or entries n d ≡ e
+  pub ticks_are : (d : ℕ) → get_or (ticks_from 0 entries) n d ≡ ticks
+  pub few : ticks ≤ sum_by ticks_of entries
 
-  step : broken_from drift stripe file nothing false 0 entries ≡ option_or (break_at then (least_broken next.says) (count + 1)) (broken_from drift stripe file next then (count + 1) behind)
-  unfolding broken_from
-  step =
-      i.same
-      ∙ ap (λ (p : Bool). option_or (break_at p (least_broken next.says) (count + 1)) (broken_from drift stripe file next p (count + 1) behind)) (sym then_is)
+reached : (entries before behind : List Entry) (e : Entry) (n : ℕ) → entries ≡ before ++ e ∷ behind → n ≡ length before → IsReached entries n e (sum_by ticks_of before)
+reached entries before behind e n split at = record {
+  inside = inside;
+  inside_ticks = omega (arith, ticks_length entries 0, inside);
+  is = λ d. ap (λ (m : ℕ). get_or entries m d) at ∙ ap (λ (es : List Entry). get_or es (length before) d) split ∙ entry_at before behind e d;
+  ticks_are = λ d.
+      ap (λ (m : ℕ). get_or (ticks_from 0 entries) m d) at ∙ ap (λ (es : List Entry). get_or (ticks_from 0 es) (length before) d) split
+      ∙ ticks_at before behind e 0 d ∙ zero-add (sum_by ticks_of before);
+  few = omega (arith, ap (sum_by ticks_of) split, sum_by-append ticks_of before (e ∷ behind));
+}
+  where
+    inside : n < length entries
+    inside = omega (arith, at, ap length split, length-append before (e ∷ behind))
 
-  none_told : (b : Option Break) → None ≡ some_verdict b → b ≡ None
-  none_told None is = refl
-  none_told (Some b) is = absurd (cc is)
+-- the clocks advance to these ticks, and an entry is taken
+pub record IsStep (j j_then l : Judging) (e : Entry) (ticks : ℕ) : Type 0 where
+  pub advances : (k : Kept) → Follows k j → Follows (advanced (ticks - j.leases.readings.ticks) k) j_then
+  pub drift_stays : j_then.leases.drift ≡ j.leases.drift
+  pub file_stays : j_then.leases.readings.file ≡ j.leases.readings.file
+  pub stripe_stays : j_then.writes.stripe ≡ j.writes.stripe
+  pub takes : (k : Kept) → Follows k j_then → Follows (after j_then.leases.drift j_then.writes.stripe j_then.leases.readings.file k e) l
+  pub drift_then : l.leases.drift ≡ j_then.leases.drift
+  pub file_then : l.leases.readings.file ≡ j_then.leases.readings.file
+  pub stripe_then : l.writes.stripe ≡ j_then.writes.stripe
+  pub ticks_then : l.leases.readings.ticks ≡ ticks_after ticks e
 
-  some_told : (v : Verdict) (b other : Option Break) → Some v ≡ some_verdict b → v ≡ verdict_of (option_or b other)
-  some_told v None other is = absurd (cc is)
-  some_told v (Some b) other is = cc is
+module _ (drift stripe file : ℕ) (entries : List Entry) (mine common mine_left common_left : List ℕ) (n : ℕ) (j : Judging) (placed : Bool)
+    (i : IsJudged drift stripe file entries mine common j placed) (next : IsNext mine common (Some n) mine_left common_left) where
+  pub met : Meets (all_calls entries) file (length i.front) n i.rest mine_left common_left
+  met = next_is_met (all_calls entries) file (length i.front) n i.rest mine common mine_left common_left i.mine_is i.common_is next
 
-  pub goes_on : None ≡ some_verdict (break_at then (least_broken next.says) (count + 1)) → l.leases.drift ≡ j.leases.drift → l.leases.readings.file ≡ j.leases.readings.file → l.writes.stripe ≡ j.writes.stripe
-      → l.leases.readings.ticks ≤ j.leases.readings.ticks + 2 ^ 64 → IsJudged drift stripe file entries behind l then (count + 1)
-  goes_on none drift_stays file_stays stripe_stays few = record {
-    k = next;
-    follows = follows_next;
-    same = step ∙ ap (λ (b : Option Break). option_or b (broken_from drift stripe file next then (count + 1) behind)) (none_told (break_at then (least_broken next.says) (count + 1)) none);
-    drift_is = drift_stays ∙ i.drift_is;
-    file_is = file_stays ∙ i.file_is;
-    stripe_is = stripe_stays ∙ i.stripe_is;
-    ticks = omega (arith, few, i.ticks);
-    counted = omega (arith, i.counted);
-  }
+  pub before : List Entry
+  before = i.front ++ met.skipped
 
-  pub found : (v : Verdict) → Some v ≡ some_verdict (break_at then (least_broken next.says) (count + 1)) → v ≡ verdict_of (broken_from drift stripe file nothing false 0 entries)
-  found v is = some_told v (break_at then (least_broken next.says) (count + 1)) (broken_from drift stripe file next then (count + 1) behind) is ∙ ap verdict_of (sym step)
+  split : entries ≡ before ++ met.met ∷ met.behind
+  unfolding before
+  split = i.split ∙ ap (λ (es : List Entry). i.front ++ es) met.split ∙ sym (append_assoc i.front met.skipped (met.met ∷ met.behind))
 
-pub at_end : (drift stripe file : ℕ) (entries : List Entry) (j : Judging) (placed : Bool) (count : ℕ) → IsJudged drift stripe file entries [] j placed count
-    → verdict_of None ≡ verdict_of (broken_from drift stripe file nothing false 0 entries)
-unfolding broken_from
-at_end drift stripe file entries j placed count i = ap verdict_of (sym i.same)
+  at : n ≡ length before
+  unfolding before
+  at = omega (arith, met.at, length-append i.front met.skipped)
+
+  pub reaches : IsReached entries n met.met (sum_by ticks_of before)
+  reaches = reached entries before met.behind met.met n split at
+
+  elapsed : sum_by ticks_of before ≡ j.leases.readings.ticks + (i.ticks + sum_by ticks_of met.skipped)
+  unfolding before
+  elapsed = omega (arith, sum_by-append ticks_of i.front met.skipped, i.elapsed)
+
+  pub no_less : j.leases.readings.ticks ≤ sum_by ticks_of before
+  no_less = omega (arith, elapsed)
+
+  module _ (e : Entry) (ticks : ℕ) (j_then l : Judging) (told : Bool) (e_is : e ≡ met.met) (ticks_are : ticks ≡ sum_by ticks_of before)
+      (told_is : told ≡ (placed || is_told (location_told file e))) (s : IsStep j j_then l e ticks) where
+    abbrev pub then_kept : Kept
+    then_kept = after drift stripe file (advanced (i.ticks + sum_by ticks_of met.skipped) i.k) e
+
+    since_is : ticks - j.leases.readings.ticks ≡ i.ticks + sum_by ticks_of met.skipped
+    since_is = omega (arith, elapsed, ticks_are)
+
+    pub follows_then : Follows then_kept l
+    follows_then =
+        subst (λ (f : ℕ). Follows (after drift stripe f (advanced (i.ticks + sum_by ticks_of met.skipped) i.k) e) l) (s.file_stays ∙ i.file_is)
+        (subst (λ (st : ℕ). Follows (after drift st j_then.leases.readings.file (advanced (i.ticks + sum_by ticks_of met.skipped) i.k) e) l) (s.stripe_stays ∙ i.stripe_is)
+        (subst (λ (d : ℕ). Follows (after d j_then.writes.stripe j_then.leases.readings.file (advanced (i.ticks + sum_by ticks_of met.skipped) i.k) e) l) (s.drift_stays ∙ i.drift_is)
+        (s.takes (advanced (i.ticks + sum_by ticks_of met.skipped) i.k) (subst (λ (t : ℕ). Follows (advanced t i.k) j_then) since_is (s.advances i.k i.follows)))))
+
+    step : found_from drift stripe file nothing false (dealt_to file entries)
+        ≡ option_or (break_at told (least_broken then_kept.says) (n + 1)) (found_from drift stripe file then_kept told (dealt (is_dealt file (all_calls entries)) 0 (n + 1) met.behind))
+    unfolding found_from
+    step =
+        i.same
+        ∙ ap (found_from drift stripe file i.k placed) (met.dealt_is i.ticks)
+        ∙ ap (λ (x : Entry). option_or (break_at (placed || is_told (location_told file x)) (least_broken (after drift stripe file (advanced (i.ticks + sum_by ticks_of met.skipped) i.k) x).says) (n + 1))
+        (found_from drift stripe file (after drift stripe file (advanced (i.ticks + sum_by ticks_of met.skipped) i.k) x) (placed || is_told (location_told file x)) (dealt (is_dealt file (all_calls entries)) 0 (n + 1) met.behind))) (sym e_is)
+        ∙ ap (λ (p : Bool). option_or (break_at p (least_broken then_kept.says) (n + 1)) (found_from drift stripe file then_kept p (dealt (is_dealt file (all_calls entries)) 0 (n + 1) met.behind))) (sym told_is)
+
+    none_told : (b : Option Break) → None ≡ some_verdict b → b ≡ None
+    none_told None is = refl
+    none_told (Some b) is = absurd (cc is)
+
+    some_told : (v : Verdict) (b other : Option Break) → Some v ≡ some_verdict b → v ≡ verdict_of (option_or b other)
+    some_told v None other is = absurd (cc is)
+    some_told v (Some b) other is = cc is
+
+    pub found : (v : Verdict) → Some v ≡ some_verdict (break_at told (least_broken then_kept.says) (n + 1)) → v ≡ verdict_of (found_from drift stripe file nothing false (dealt_to file entries))
+    found v is = some_told v (break_at told (least_broken then_kept.says) (n + 1)) (found_from drift stripe file then_kept told (dealt (is_dealt file (all_calls entries)) 0 (n + 1) met.behind)) is ∙ ap verdict_of (sym step)
+
+    -- a clock is advanced by no entry that is dealt
+    no_tick : (x : Entry) → is_dealt file (all_calls entries) x ≡ true → (ticks_of x ≡ 0) × (ticks_after ticks x ≡ ticks)
+    no_tick (entry.Tick count) is = absurd (true≢false (sym is))
+    no_tick _ is = (refl, refl)
+
+    longer : List Entry
+    longer = before ++ e ∷ []
+
+    longer_is : length longer ≡ n + 1
+    unfolding longer
+    longer_is = omega (arith, at, length-append before (e ∷ []))
+
+    pub goes_on : None ≡ some_verdict (break_at told (least_broken then_kept.says) (n + 1)) → IsJudged drift stripe file entries mine_left common_left l told
+    unfolding longer
+    goes_on nothing_told = record {
+      k = then_kept;
+      front = longer;
+      rest = met.behind;
+      ticks = 0;
+      split = split ∙ ap (λ (x : Entry). before ++ x ∷ met.behind) (sym e_is) ∙ sym (append_assoc before (e ∷ []) met.behind);
+      follows = follows_then;
+      same =
+          step
+          ∙ ap (λ (b : Option Break). option_or b (found_from drift stripe file then_kept told (dealt (is_dealt file (all_calls entries)) 0 (n + 1) met.behind)))
+          (none_told (break_at told (least_broken then_kept.says) (n + 1)) nothing_told)
+          ∙ ap (λ (m : ℕ). found_from drift stripe file then_kept told (dealt (is_dealt file (all_calls entries)) 0 m met.behind)) (sym longer_is);
+      mine_is = met.one_is ∙ ap (λ (m : ℕ). places_from (is_of (all_calls entries) file) m met.behind) (sym longer_is);
+      common_is = met.other_is ∙ ap (λ (m : ℕ). places_from is_common m met.behind) (sym longer_is);
+      drift_is = s.drift_then ∙ s.drift_stays ∙ i.drift_is;
+      file_is = s.file_then ∙ s.file_stays ∙ i.file_is;
+      stripe_is = s.stripe_then ∙ s.stripe_stays ∙ i.stripe_is;
+      elapsed =
+          let none_more : ticks_of e ≡ 0 = ap ticks_of e_is ∙ (no_tick met.met met.is_both).0 in
+          let now : l.leases.readings.ticks ≡ ticks = s.ticks_then ∙ ap (ticks_after ticks) e_is ∙ (no_tick met.met met.is_both).1 in
+          omega (arith, sum_by-append ticks_of before (e ∷ []), sum_by-cons ticks_of e [], none_more, now, ticks_are);
+    }
+
+pub at_end : (drift stripe file : ℕ) (entries : List Entry) (mine common mine_left common_left : List ℕ) (j : Judging) (placed : Bool) → IsJudged drift stripe file entries mine common j placed
+    → IsNext mine common None mine_left common_left → verdict_of None ≡ verdict_of (found_from drift stripe file nothing false (dealt_to file entries))
+unfolding found_from
+at_end drift stripe file entries mine common mine_left common_left j placed i next =
+    ap verdict_of (sym (i.same ∙ ap (found_from drift stripe file i.k placed) (none_is_met (all_calls entries) file (length i.front) i.ticks i.rest mine common mine_left common_left i.mine_is i.common_is next)))
+
+-- the drift is that of the trace
+pub of_trace : (drift stripe file : ℕ) (entries trace : List Entry) (v : Verdict) → drift ≡ (times_of entries).drift → entries ≡ trace
+    → v ≡ verdict_of (found_from drift stripe file nothing false (dealt_to file entries)) → v ≡ verdict_of (found_from (times_of trace).drift stripe file nothing false (dealt_to file trace))
+of_trace drift stripe file entries trace v drift_is same is =
+    is ∙ ap (λ (d : ℕ). verdict_of (found_from d stripe file nothing false (dealt_to file entries))) drift_is
+    ∙ ap (λ (es : List Entry). verdict_of (found_from (times_of es).drift stripe file nothing false (dealt_to file es))) same
+
+-- ---- the verdict on a file
+
+pub judged_replicated : (file stripe : ℕ) (trace : List Entry) (location : Option Location) → location ≡ location_in file trace → Some stripe ≡ stripe_if location
+    → found_from (times_of trace).drift stripe file nothing false (dealt_to file trace) ≡ judged file trace
+unfolding judged_by_dealt
+judged_replicated file stripe trace location here is = by (is_replicated_at (location_in file trace)) (is ∙ ap stripe_if here) (deals file trace)
+  where
+    by : (b : Bool) → Some stripe ≡ (if b then Some (stripe_at (location_in file trace)) else None)
+        → (if b then found_from (times_of trace).drift (stripe_at (location_in file trace)) file nothing false (dealt_to file trace) else None) ≡ judged file trace
+        → found_from (times_of trace).drift stripe file nothing false (dealt_to file trace) ≡ judged file trace
+    by true is law = ap (λ (n : ℕ). found_from (times_of trace).drift n file nothing false (dealt_to file trace)) (cc is) ∙ law
+    by false is law = absurd (cc is)
+
+pub judged_other : (file : ℕ) (trace : List Entry) (location : Option Location) → location ≡ location_in file trace → None ≡ stripe_if location → None ≡ judged file trace
+unfolding judged_by_dealt
+judged_other file trace location here is = by (is_replicated_at (location_in file trace)) (is ∙ ap stripe_if here) (deals file trace)
+  where
+    by : (b : Bool) → None ≡ (if b then Some (stripe_at (location_in file trace)) else None)
+        → (if b then found_from (times_of trace).drift (stripe_at (location_in file trace)) file nothing false (dealt_to file trace) else None) ≡ judged file trace
+        → None ≡ judged file trace
+    by true is law = absurd (cc is)
+    by false is law = law

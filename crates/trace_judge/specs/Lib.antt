@@ -3,3 +3,5 @@ pub mod Rows
 pub mod Views
 pub mod Following
 pub mod Found
+pub mod Deals
+pub mod DealtOut

@@ -1,7 +1,7 @@
-ghost use Rattle.std.specs.Prelude.{◌≡◌, None, OnOk, option_map};
+ghost use Rattle.std.specs.Prelude.{◌≡◌, None, IfOk, OnOk, option_map};
 ghost use Rattle.std.specs.Option.{option_or};
 ghost use Rattle.xt_base.specs.declared.ids.OpId.{OpId};
-ghost use Rattle.time_line.specs.TimeLine.{call_begun};
+ghost use Rattle.time_line.specs.TimeLine.{begun, call_begun};
 ghost use Rattle.trace_judge.specs.Rows.{call_in};
 
 use std::alloc::{AllocError, Global};
@@ -44,6 +44,20 @@ impl<'a> Calls<'a> {
             }
         }
         Ok(())
+    }
+
+    /// The calls that begin in a trace. An error is want of memory.
+    pub fn of(alloc: Global, entries: &'a [Entry]) -> Result<Calls<'a>, AllocError>
+        ensures { IfOk result (λ calls. (id : OpId) →
+            call_in calls.rows id ≡ begun id entries.now) }
+    {
+        let mut calls = Calls::new(alloc);
+        let mut rest = entries;
+        while let [e, behind @ ..] = rest {
+            calls.take(e)?;
+            rest = behind;
+        }
+        Ok(calls)
     }
 
     /// The call of this id, if it has begun.

@@ -1,7 +1,9 @@
-ghost use Rattle.std.specs.Prelude.{◌≡◌, ◌≤◌, ◌<◌, ◌+◌, ◌^◌, ◌&&◌, OnOk, option_map};
+ghost use Rattle.std.specs.Prelude.{◌≡◌, ◌≤◌, ◌<◌, ◌+◌, ◌-◌, ◌^◌, ◌&&◌, OnOk, option_map};
 ghost use Rattle.time_line.specs.Verdicts.{Clause, number_of};
+ghost use Rattle.judging.specs.Dealt.{advanced};
 ghost use Rattle.judging.specs.Pass.{Kept, nothing, after, least_broken};
 ghost use Rattle.trace_judge.specs.Following.{says_of, Follows};
+ghost use Rattle.trace_judge.specs.Short.{ticks_after};
 
 use crate::calls::Calls;
 use crate::ends::{is_fresh, note_answer, note_end};
@@ -102,6 +104,19 @@ impl<'a> Judging<'a> {
         }
     }
 
+    /// The running clocks have advanced so far since the start, in milliseconds.
+    pub fn advance(&mut self, ticks: u128)
+        requires { self.old.leases.readings.ticks ≤ ticks }
+        ensures follows { (k : Kept) → Follows k self.old →
+            Follows (advanced (ticks - self.old.leases.readings.ticks) k) self.new }
+        ensures drift { self.new.leases.drift ≡ self.old.leases.drift }
+        ensures file { self.new.leases.readings.file ≡ self.old.leases.readings.file }
+        ensures stripe { self.new.writes.stripe ≡ self.old.writes.stripe }
+        ensures ticks { self.new.leases.readings.ticks ≡ ticks }
+    {
+        self.leases.readings.ticks = ticks;
+    }
+
     /// One entry more. An error is want of memory.
     pub fn take(&mut self, e: &'a Entry) -> Result<(), AllocError>
         requires room { self.old.leases.readings.ticks + 2 ^ 67 < 2 ^ 128 }
@@ -112,8 +127,8 @@ impl<'a> Judging<'a> {
         ensures drift { self.new.leases.drift ≡ self.old.leases.drift }
         ensures file { self.new.leases.readings.file ≡ self.old.leases.readings.file }
         ensures stripe { self.new.writes.stripe ≡ self.old.writes.stripe }
-        ensures ticks { OnOk result (self.new.leases.readings.ticks ≤
-            self.old.leases.readings.ticks + 2 ^ 64) }
+        ensures ticks { OnOk result (self.new.leases.readings.ticks ≡
+            ticks_after self.old.leases.readings.ticks e.now) }
     {
         let file = self.leases.readings.file;
         let end = ok_told(e);

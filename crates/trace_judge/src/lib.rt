@@ -2,10 +2,12 @@
 #![tactic(auto)]
 
 mod calls;
+mod dealing;
 mod ends;
 mod kept;
 mod leases;
 mod order;
+mod places;
 mod readings;
 mod sets;
 mod told;
@@ -16,9 +18,11 @@ mod writes;
 ghost use Rattle.trace_judge.specs.Short.{ReadingsTell};
 
 pub use calls::Calls;
+pub use dealing::DealtTrace;
 pub use kept::{Judging, Says};
 pub use leases::Leases;
 pub use order::Order;
+pub use places::{Locations, Places};
 pub use readings::{Reading, Readings};
 pub use sets::{Answers, Ids};
 pub use told::{Answer, Claim, answer_on, claim_on, ok_told};

@@ -5,6 +5,7 @@ ghost use Rattle.judging.specs.Laws.{TimesStandFirst};
 ghost use Rattle.judging.specs.Pass.{judged};
 ghost use Rattle.trace_judge.specs.Found.{verdict_of, least_verdict, lesser_verdict, IsVerdictOn};
 
+use crate::dealing::DealtTrace;
 use crate::verdict::{Verdict, judge};
 use std::alloc::{AllocError, Global};
 use time_line::Entry;
@@ -74,13 +75,13 @@ pub fn least(verdicts: &[Verdict]) -> Verdict
 }
 
 /// The verdict on each of the files, in order. An error is want of memory.
-fn judge_each(alloc: Global, entries: &[Entry], files: &[u64]) -> Result<Vec<Verdict>, AllocError>
+fn judge_each(alloc: Global, trace: &DealtTrace, files: &[u64]) -> Result<Vec<Verdict>, AllocError>
     ensures { IfOk result (λ verdicts.
-        verdicts.items ≡ map (λ file. verdict_of (judged file entries.now)) files.now) }
+        verdicts.items ≡ map (λ file. verdict_of (judged file trace.now)) files.now) }
 {
     let mut verdicts = Vec::new(alloc);
     for file in files {
-        verdicts.push(judge(alloc, entries, *file)?)?;
+        verdicts.push(judge(alloc, trace, *file)?)?;
     }
     Ok(verdicts)
 }
@@ -91,6 +92,7 @@ pub fn audit(alloc: Global, entries: &[Entry]) -> Result<Verdict, AllocError>
     ensures verdict { TimesStandFirst entries.now → IfOk result (λ v. IsVerdictOn entries.now v) }
 {
     let files = files_of(alloc, entries)?;
-    let verdicts = judge_each(alloc, entries, files.as_slice())?;
+    let trace = DealtTrace::new(alloc, entries)?;
+    let verdicts = judge_each(alloc, &trace, files.as_slice())?;
     Ok(least(verdicts.as_slice()))
 }

@@ -1,9 +1,10 @@
-use Rattle.std.proofs.Common.{length}
+use Rattle.std.proofs.Common.{◌+◌, length}
 use Rattle.trace_judge.proofs.Walk.{IsJudged}
 use Rattle.trace_judge.proofs.verdict.judge_replicated.Given as goal
 
-abbrev pub invariant-loop-rest : goal.invariant-loop-rest
-invariant-loop-rest l = IsJudged l.fn.drift l.fn.stripe l.fn.file l.fn.entries l.rest l.judging l.placed l.count
+abbrev pub invariant-loop-place : goal.invariant-loop-place
+invariant-loop-place l =
+    IsJudged l.trace-inside.drift l.fn.stripe l.fn.file l.trace-inside.entries.now l.walk.mine.now l.walk.common.now l.judging l.placed
 
-abbrev pub decreases-loop-rest : goal.decreases-loop-rest
-decreases-loop-rest l = length l.rest
+abbrev pub decreases-loop-place : goal.decreases-loop-place
+decreases-loop-place l = length l.walk.mine.now + length l.walk.common.now

@@ -1,6 +1,6 @@
 use Rattle.std.proofs.Common.{◌-◌, length, take, drop}
 use Rattle.judging.specs.Audit.{files_of}
-use Rattle.trace_judge.proofs.Walk.{first_and_others, none}
+use Rattle.trace_judge.proofs.Gathered.{first_and_others, none}
 use Rattle.trace_judge.proofs.Lesser.{files_more, files_end}
 use Rattle.trace_judge.proofs.whole.files_of.Goals as goal
 
