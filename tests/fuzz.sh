@@ -174,7 +174,7 @@ def schedule(rng):
     files = rng.randrange(1, 3)
     for f in range(1, files + 1):
         members = rng.sample(range(1, osds + 1), rng.randrange(1, osds + 1))
-        lines.append(f"file {f} rep 1024 {' '.join(map(str, members))}")
+        lines.append(f"file {f} {rng.choice(['rep', 'rep', 'str'])} 1024 {' '.join(map(str, members))}")
     lines += [f"start {n} {rng.choice([0, 0, 50])}" for n in range(1, osds + 1)]
     lines += [f"tick {rng.choice([1500, 15000, 20000])}"]
     for _ in range(rng.randrange(1, 60)):
@@ -186,7 +186,7 @@ def schedule(rng):
                     f"read {c} {f} {rng.randrange(3)} 0 {rng.choice([1, 16, 1024])}",
                     f"write {c} {f} {rng.randrange(3)} {rng.randrange(8)} {rng.randbytes(rng.randrange(1, 9)).hex()}",
                     f"truncate {c} {f} {rng.randrange(1, 9)} {rng.randrange(0, 3000)}",
-                    f"aim {c} {f} {n}", f"deliver {rng.randrange(1, 200)}", f"drop {rng.randrange(1, 200)}",
+                    f"aim {c} {f} {n}", f"again {c}", f"deliver {rng.randrange(1, 200)}", f"drop {rng.randrange(1, 200)}",
                     f"stop {n}", f"start {n} {rng.randrange(0, 40000)}", f"clock {n} {rng.randrange(0, 40000)}",
                     f"crash {n} {rng.randrange(1, 5)} {rng.choice(['00', 'a5', 'ff'])}", f"cut {n} {rng.randrange(0, 4)}",
                 ]

@@ -10,7 +10,7 @@ use Rattle.node_links.specs.declared.link.Datagram.{Datagram}
 use Rattle.client_loop.specs.declared.errors.DriveErr.TheVariants as error
 use Rattle.client_loop.specs.Carrying.{Around}
 use Rattle.client_plans.specs.declared.stage.Stage.{Stage}
-use Rattle.client_core.specs.declared.requests.CallResult.{CallResult}
+use Rattle.client_rows.specs.declared.requests.CallResult.{CallResult}
 use Rattle.client_plans.specs.declared.stage.Goes.{Goes}
 use Rattle.client_plans.specs.Plans.{Task, goes_on, after, status_at}
 use Rattle.client_jobs.specs.declared.running.Advanced.TheVariants as to

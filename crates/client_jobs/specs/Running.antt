@@ -14,11 +14,11 @@ use Rattle.node_runs.specs.Hearing.{with_address}
 use Rattle.schedule_lines.specs.Fronts.{PutsFront}
 use Rattle.schedule_lines.specs.Putting.{IsFinished}
 use Rattle.schedule_lines.specs.Causes.{CausesEnd}
-use Rattle.client_core.specs.declared.requests.CallResult.{CallResult}
-use Rattle.client_core.specs.Requests.{is_ready}
-use Rattle.client_core.specs.Rows as rows
+use Rattle.client_rows.specs.declared.requests.CallResult.{CallResult}
+use Rattle.client_rows.specs.Requests.{is_ready}
+use Rattle.client_rows.specs.Rows as rows
 use Rattle.client_core.specs.Views.{ClientView}
-use Rattle.client_fits.specs.Fits.{FitsClient}
+use Rattle.client_limits.specs.Fits.{FitsClient}
 use Rattle.client_loop.specs.declared.errors.DriveErr.{DriveErr}
 use Rattle.client_loop.specs.declared.errors.DriveErr.TheVariants as error
 use Rattle.client_loop.specs.Listening.{DriverView}

@@ -5,8 +5,8 @@ ghost use Rattle.client_plans.specs.Plans.{goes_by, end_in, end_of};
 
 use crate::pieces::{end_in, first_in, object_size, piece_length, place_of};
 use crate::showing::{lines_of, number_line, push_line_end, row_line, shown_as};
-use client_core::CallResult;
 use client_plans::{Goes, Stage};
+use client_rows::CallResult;
 use command_words::Order;
 use std::alloc::Global;
 use truncate_epochs::merge;

@@ -2,7 +2,7 @@
 ghost use Rattle.std.specs.Prelude.{◌≡◌, ◌≤◌, ◌<◌, true, nat_le, length};
 ghost use Rattle.xt_base.specs.FieldLimits.{AreBytes, FitsBytes, FitsPath, FitsName};
 ghost use Rattle.xt_messages.specs.Limits.{FitsMetaReq, FitsRegistryReq, FitsStripe};
-ghost use Rattle.client_fits.specs.Fits.{FitsCall};
+ghost use Rattle.client_limits.specs.Fits.{FitsCall};
 ghost use Rattle.client_jobs.specs.Limits as limits;
 
 use xt_base::{COUNTS, Name};

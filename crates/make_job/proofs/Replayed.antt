@@ -6,13 +6,13 @@ use Rattle.xt_messages.specs.declared.status.Status.TheVariants as status
 use Rattle.time_line.specs.declared.entry.Entry.{Entry}
 use Rattle.time_line.specs.declared.line.Line.{Line}
 use Rattle.time_line.specs.Bounds.{AreLines}
-use Rattle.cluster_runs.specs.World.{World, start_world}
-use Rattle.cluster_runs.specs.NodeSteps.{Room, Cause}
-use Rattle.cluster_runs.specs.Rules.{refusal}
-use Rattle.cluster_runs.specs.Runs.{after, run_of}
+use Rattle.world_spec.specs.World.{World, start_world}
+use Rattle.world_spec.specs.NodeSteps.{Room, Cause}
+use Rattle.world_spec.specs.Rules.{refusal}
+use Rattle.world_spec.specs.Runs.{after, run_of}
 use Rattle.world_hull.specs.declared.errors.WorldErr.{WorldErr}
 use Rattle.world_hull.specs.declared.errors.WorldErr.TheVariants as error
-use Rattle.cluster_core.specs.Standing.{Standing, IsDone, CameTo, IsRefused}
+use Rattle.world_core.specs.Standing.{Standing, IsDone, CameTo, IsRefused}
 use Rattle.schedule_replay.specs.Replay.{IsDoneFrom, AreDoneFrom}
 use Rattle.schedule_replay.specs.Steps.{status_for}
 use Rattle.schedule_replay.proofs.Whole.{are_done-more, run_of-more, lines_after, world_after, still_going}

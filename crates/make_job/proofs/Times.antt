@@ -8,9 +8,9 @@ use Rattle.time_line.specs.declared.entry.Entry.{Entry}
 use Rattle.time_line.specs.declared.line.Line.{Line}
 use Rattle.time_line.specs.Bounds.{AreLines}
 use Rattle.time_line.specs.TimeLine.{times_told}
-use Rattle.cluster_runs.specs.World.{World}
-use Rattle.cluster_runs.specs.NodeSteps.{Room, entry_of}
-use Rattle.cluster_runs.specs.Runs.{run_of}
+use Rattle.world_spec.specs.World.{World}
+use Rattle.world_spec.specs.NodeSteps.{Room, entry_of}
+use Rattle.world_spec.specs.Runs.{run_of}
 use Rattle.world_runs.proofs.Walk.{IsKept, run_kept}
 use Rattle.judging.specs.Laws.{HaveNoTimes, TimesStandFirst}
 

@@ -6,12 +6,12 @@ use Rattle.node_links.specs.Streams.{Puts}
 use Rattle.time_line.specs.declared.line.Line.{Line}
 use Rattle.time_line.specs.Verdicts.{IsSafe}
 use Rattle.schedule_text.specs.StatusText.{last_line}
-use Rattle.cluster_runs.specs.World.{World, start_world}
-use Rattle.cluster_runs.specs.Rules.{refusal}
-use Rattle.cluster_runs.specs.NodeSteps.{Room, Cause, came_to, has_no_room}
-use Rattle.cluster_runs.specs.Lines.{ends, done}
-use Rattle.cluster_runs.specs.Runs.{run_of}
-use Rattle.step_endings.specs.Steps.{limit_of}
+use Rattle.world_spec.specs.World.{World, start_world}
+use Rattle.world_spec.specs.Rules.{refusal}
+use Rattle.world_spec.specs.NodeSteps.{Room, Cause, came_to, has_no_room}
+use Rattle.world_spec.specs.Lines.{ends, done}
+use Rattle.world_spec.specs.Runs.{run_of}
+use Rattle.world_step.specs.Steps.{limit_of}
 use Rattle.schedule_lines.specs.Fronts.{PutsFront}
 use Rattle.schedule_lines.specs.Causes.{CausesEnd}
 use Rattle.schedule_maker.specs.Generated.{generated}

@@ -1,7 +1,7 @@
 ghost use Rattle.std.specs.Prelude.{◌≡◌, ◌≢◌, ◌≤◌, IfOk, MatchResult};
 ghost use Rattle.xt_messages.specs.declared.status.Status.TheVariants as status;
 ghost use Rattle.time_line.specs.Verdicts.{IsSafe};
-ghost use Rattle.node_disks.specs.Room.{journal_room};
+ghost use Rattle.world_disk.specs.Room.{journal_room};
 ghost use Rattle.judging.specs.Laws.{TimesStandFirst};
 ghost use Rattle.schedule_maker.specs.Generated.{generated};
 ghost use Rattle.make_job.specs.Counting.{counts_of, made_line};
@@ -10,9 +10,6 @@ ghost use Rattle.make_job.specs.Make.{EndsWith, text_of, IsMake};
 use crate::counts::Counts;
 use crate::replaying::replay_lines;
 use crate::telling::{made_line, put_line};
-use cluster_core::World;
-use disk_hull::DiskHull;
-use node_cores::Core;
 use node_links::Sink;
 use par_halves::Gate;
 use schedule_lines::finish;
@@ -22,6 +19,9 @@ use std::thread::Threads;
 use time_line::Entry;
 use trace_audit::audit_halves;
 use trace_judge::Verdict;
+use world_core::World;
+use world_cores::Core;
+use world_disk_hull::DiskHull;
 use xt_base::{Octets, OutOfMemory};
 use xt_messages::Status;
 

@@ -1,15 +1,15 @@
 ghost use Rattle.std.specs.Prelude.{◌≡◌, ◌≢◌, false, MatchResult};
 ghost use Rattle.xt_messages.specs.declared.status.Status.TheVariants as status;
 ghost use Rattle.time_line.specs.Bounds.{AreLines};
-ghost use Rattle.cluster_runs.specs.World.{start_world};
-ghost use Rattle.cluster_runs.specs.Runs.{run_of};
+ghost use Rattle.world_spec.specs.World.{start_world};
+ghost use Rattle.world_spec.specs.Runs.{run_of};
 ghost use Rattle.schedule_replay.specs.Replay.{AreDoneFrom};
 ghost use Rattle.make_job.specs.Make.{EndsWith};
 
-use cluster_core::World;
-use node_hosts::NodeCore;
 use schedule_replay::status_of;
 use time_line::Line;
+use world_core::World;
+use world_host::NodeCore;
 use world_hull::Hull;
 use xt_messages::Status;
 

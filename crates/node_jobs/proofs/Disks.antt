@@ -20,7 +20,7 @@ use Rattle.object_store.specs.declared.store.Store.{Store}
 use Rattle.object_store.specs.Access.{disk_of, records_of}
 use Rattle.object_store.specs.Loading.{IsLoadOf}
 use Rattle.object_store.specs.Texts.{texts_of}
-use Rattle.cluster_runs.specs.NodeSteps.{one_more}
+use Rattle.world_spec.specs.NodeSteps.{one_more}
 use Rattle.node_runs.specs.Keeping.{IsUpToSome, KeepsOn}
 use Rattle.node_runs.proofs.Keeping.{keeps_more, stands_last, stays, stays_closed}
 use Rattle.node_loop.specs.Events.{HasDiskCause}

@@ -13,11 +13,11 @@ use Rattle.xt_protocol.proofs.Folds.{fold_of-push}
 use Rattle.object_store.specs.Texts.{AreRecords}
 use Rattle.osd_core.specs.Slots.{AreRows}
 use Rattle.osd_core.specs.Views.{OsdView}
-use Rattle.cluster_fits.specs.States.{KeptIs}
-use Rattle.cluster_fits.proofs.Kept.{kept_so, start_is}
-use Rattle.osd_keeping.specs.Keeping.{RunsOn}
-use Rattle.osd_keeping.proofs.Steps.{started}
-use Rattle.node_cores.proofs.Rows.{rows_are}
+use Rattle.world_limits.specs.States.{KeptIs}
+use Rattle.world_limits.proofs.Kept.{kept_so, start_is}
+use Rattle.osd_limits.specs.Keeping.{RunsOn}
+use Rattle.osd_limits.proofs.Steps.{started}
+use Rattle.world_cores.proofs.Rows.{rows_are}
 use Rattle.node_roles.specs.Roles.{OsdRunsOn}
 use Rattle.node_jobs.specs.Boots.{next_boot, boot_record, booted}
 use Rattle.node_jobs.specs.Jobs.{osd_at}

@@ -15,7 +15,7 @@ use Rattle.xt_messages.specs.declared.status.Status.TheVariants as status
 use Rattle.object_store.specs.declared.store.Store.{Store}
 use Rattle.object_store.specs.Access.{disk_of, records_of}
 use Rattle.object_store.specs.Texts.{AreRecords}
-use Rattle.cluster_runs.specs.NodeSteps.{one_more}
+use Rattle.world_spec.specs.NodeSteps.{one_more}
 use Rattle.node_links.specs.Streams.{Puts}
 use Rattle.node_runs.specs.Hearing.{Ears}
 use Rattle.node_runs.specs.Keeping.{KeepsServed}

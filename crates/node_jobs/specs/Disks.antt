@@ -15,7 +15,7 @@ use Rattle.xt_journal.specs.Reading.{IsTheReading, Foreign, Unknown, Damaged}
 use Rattle.object_store.specs.declared.store.Store.{Store}
 use Rattle.object_store.specs.Access.{disk_of, records_of, journal_of as journal_in}
 use Rattle.object_store.specs.Texts.{texts_of, AreRecords, IsFirstBad}
-use Rattle.cluster_runs.specs.NodeSteps.{one_more}
+use Rattle.world_spec.specs.NodeSteps.{one_more}
 use Rattle.node_runs.specs.Keeping.{IsUpToSome, KeepsOn, KeepsWith}
 use Rattle.node_loop.specs.Events.{HasDiskCause, IsFullFor}
 use Rattle.node_jobs.specs.Boots.{stored_boot, next_boot, boot_record, booted}

@@ -11,8 +11,8 @@ use Rattle.xt_messages.specs.Limits.{FitsMessage}
 use Rattle.xt_messages.specs.declared.record.Record.{Record}
 use Rattle.xt_messages.specs.declared.status.Status.{Status}
 use Rattle.xt_messages.specs.declared.status.Status.TheVariants as status
-use Rattle.cluster_runs.specs.Steps.{Step}
-use Rattle.cluster_runs.specs.NodeSteps.{to_itself}
+use Rattle.client_rows.specs.Steps.{Step}
+use Rattle.world_spec.specs.NodeSteps.{to_itself}
 use Rattle.node_links.specs.declared.link.Datagram.{Datagram}
 use Rattle.node_runs.specs.Hearing.{Book}
 use Rattle.node_runs.specs.Posting.{posted, none_posted, HasPosted, HasSentFront}

@@ -3,7 +3,7 @@ use Rattle.std.proofs.Common.{ℕ, ◌≡◌, ◌≤◌, ◌<◌, ◌-◌, ◌+�
 use Rattle.std.specs.Prelude.{Result, Ok, Err, IfOk, IfErr}
 use Rattle.std.specs.List.{All}
 use Rattle.xt_messages.specs.Limits.{FitsMessage}
-use Rattle.cluster_runs.specs.Steps.{Step}
+use Rattle.client_rows.specs.Steps.{Step}
 use Rattle.node_runs.specs.Hearing.{Book}
 use Rattle.std.proofs.lemmas.List.{append-nil}
 use Rattle.xt_base.specs.declared.ids.NodeId.{NodeId}

@@ -12,8 +12,8 @@ use Rattle.xt_messages.specs.declared.status.Status.TheVariants as status
 use Rattle.xt_messages.specs.Limits.{FitsMessage, FitsRecord}
 use Rattle.xt_protocol.specs.Folds.{fold_of, IsInPlace}
 use Rattle.xt_protocol.specs.declared.turned.Turned.{Turned}
-use Rattle.cluster_runs.specs.Steps.{Step}
-use Rattle.cluster_runs.specs.NodeSteps.{one_more}
+use Rattle.client_rows.specs.Steps.{Step}
+use Rattle.world_spec.specs.NodeSteps.{one_more}
 use Rattle.node_links.specs.declared.link.Datagram.{Datagram}
 use Rattle.node_runs.specs.Hearing.{Book}
 use Rattle.node_runs.specs.Posting.{posted, none_posted, HasPosted, HasSentFront}

@@ -1,7 +1,7 @@
 ghost use Rattle.std.specs.Prelude.{◌≡◌, ◌<◌, ◌^◌, List, Ok, IfOk};
 ghost use Rattle.xt_messages.specs.Limits.{FitsEvent};
 ghost use Rattle.xt_messages.specs.declared.record.Record.{Record};
-ghost use Rattle.cluster_runs.specs.NodeSteps.{one_more};
+ghost use Rattle.world_spec.specs.NodeSteps.{one_more};
 ghost use Rattle.object_versions.specs.KeptBodies.{fault_of, ReadsOnly};
 ghost use Rattle.node_loop.specs.Events.{Fits};
 

@@ -5,7 +5,7 @@ use Rattle.xt_messages.specs.Limits.{FitsEvent, FitsMessage}
 use Rattle.xt_messages.specs.declared.event.Event.{Event}
 use Rattle.xt_messages.specs.declared.record.Record.{Record}
 use Rattle.xt_protocol.specs.declared.turned.Turned.{Turned}
-use Rattle.cluster_runs.specs.NodeSteps.{one_more}
+use Rattle.world_spec.specs.NodeSteps.{one_more}
 use Rattle.server_rows.specs.Directory.{DirState, step_of_dir}
 use Rattle.server_rows.specs.Metadata.{MrcState, step_of_mrc}
 use Rattle.server_limits.specs.Keeping.{DirRunsOn, MrcRunsOn}
@@ -15,8 +15,8 @@ use Rattle.mrc_core.proofs.Fitting as fitting
 use Rattle.xt_protocol.specs.LeaseRows.{Awake, awake_at}
 use Rattle.xt_protocol.specs.OsdSteps.{OsdState, OsdStep, Outside, handled_awake, step_of_osd}
 use Rattle.osd_core.specs.Keys.{outside_of, sealed_by}
-use Rattle.osd_keeping.specs.Keeping.{StepsOn}
-use Rattle.osd_keeping.proofs.Steps as osd_keeping
+use Rattle.osd_limits.specs.Keeping.{StepsOn}
+use Rattle.osd_limits.proofs.Steps as osd_limits
 use Rattle.node_loop.specs.Events.{Fits}
 use Rattle.node_roles.specs.Roles.{osd_role, OsdRunsOn}
 
@@ -76,7 +76,7 @@ module _ (key : Option (List ℕ)) (records : List Record) (osd : OsdState) (rea
   module _ (runs : OsdRunsOn records osd) (clock : reading < 2 ^ 62) (comes : FitsEvent happens)
       (is : step_of_osd (outside_of key records) osd reading happens ≡ record { osd = after; turned = turned }) where
     steps_on : StepsOn records (record { osd = after; turned = turned })
-    steps_on = subst (StepsOn records) is (osd_keeping.steps (sealed_by key) records osd reading happens runs.kept runs.runs clock comes)
+    steps_on = subst (StepsOn records) is (osd_limits.steps (sealed_by key) records osd reading happens runs.kept runs.runs clock comes)
 
     pub osd_fits : Fits records turned
     osd_fits = record { record_next = steps_on.next; messages = All-from_recursion FitsMessage turned.outs steps_on.outs }

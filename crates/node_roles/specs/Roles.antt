@@ -4,9 +4,9 @@ use Rattle.xt_base.specs.declared.ids.NodeId.{NodeId}
 use Rattle.xt_messages.specs.declared.record.Record.{Record}
 use Rattle.xt_protocol.specs.OsdSteps.{OsdState, OsdStep, step_of_osd}
 use Rattle.osd_core.specs.Keys.{outside_of, stops_by}
-use Rattle.cluster_fits.specs.States.{KeptIs}
-use Rattle.osd_keeping.specs.Keeping.{RunsOn}
-use Rattle.cluster_runs.specs.Steps.{Step}
+use Rattle.world_limits.specs.States.{KeptIs}
+use Rattle.osd_limits.specs.Keeping.{RunsOn}
+use Rattle.client_rows.specs.Steps.{Step}
 use Rattle.capabilities.specs.Stops.{is_stop}
 use Rattle.server_rows.specs.Directory.{DirState, DirStep, step_of_dir}
 use Rattle.server_rows.specs.Metadata.{MrcState, MrcStep, step_of_mrc}

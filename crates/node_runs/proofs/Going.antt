@@ -6,7 +6,7 @@ use Rattle.xt_messages.specs.declared.message.Msg.{Msg}
 use Rattle.xt_messages.specs.declared.event.Event.{Event}
 use Rattle.xt_messages.specs.declared.event.Event.TheVariants as event
 use Rattle.xt_messages.specs.declared.record.Record.{Record}
-use Rattle.cluster_runs.specs.NodeSteps.{one_more}
+use Rattle.world_spec.specs.NodeSteps.{one_more}
 use Rattle.node_links.specs.declared.link.Datagram.{Datagram}
 use Rattle.node_links.specs.Streams.{Takes}
 use Rattle.node_runs.specs.Runs.{Role, Turn, woke, idle, came, Served, handles, takes, meets, event_in, goes_through, Passes, by_turn, by_own, Comes, begun, passed, datagrams_in}

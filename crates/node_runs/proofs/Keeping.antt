@@ -12,7 +12,7 @@ use Rattle.xt_journal.proofs.Steps.{each_stands}
 use Rattle.replica_records.specs.RecordText.{record_text}
 use Rattle.object_store.specs.Texts.{texts_of}
 use Rattle.object_store.proofs.Reading.{texts-push}
-use Rattle.cluster_runs.specs.NodeSteps.{one_more}
+use Rattle.world_spec.specs.NodeSteps.{one_more}
 use Rattle.node_runs.specs.Keeping.{IsUpToSome, KeepsOn, KeepsWith}
 
 -- all of them

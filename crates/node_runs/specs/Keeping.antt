@@ -4,7 +4,7 @@ use Rattle.disk_model.specs.Disk.{Kept, IsImage, LeavesOnly}
 use Rattle.xt_messages.specs.declared.record.Record.{Record}
 use Rattle.xt_journal.specs.Format.{StandsFor}
 use Rattle.object_store.specs.Texts.{texts_of}
-use Rattle.cluster_runs.specs.NodeSteps.{one_more}
+use Rattle.world_spec.specs.NodeSteps.{one_more}
 use Rattle.node_runs.specs.Runs.{Served}
 use Rattle.node_runs.specs.Serving.{Undone}
 

@@ -8,8 +8,8 @@ use Rattle.xt_messages.specs.declared.message.Msg.{Msg}
 use Rattle.xt_messages.specs.declared.event.Event.{Event}
 use Rattle.xt_messages.specs.declared.event.Event.TheVariants as event
 use Rattle.xt_messages.specs.declared.record.Record.{Record}
-use Rattle.cluster_runs.specs.Steps.{Step}
-use Rattle.cluster_runs.specs.NodeSteps.{to_itself, one_more}
+use Rattle.client_rows.specs.Steps.{Step}
+use Rattle.world_spec.specs.NodeSteps.{to_itself, one_more}
 use Rattle.node_links.specs.declared.link.Datagram.{Datagram}
 use Rattle.node_links.specs.Streams.{Takes}
 use Rattle.node_runs.specs.Hearing.{Ears, hears}

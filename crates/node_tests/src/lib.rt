@@ -3,7 +3,7 @@
 //! a real file keeps its bytes, a real reader is a source and a real writer a sink, the clock of this machine moves, and children are
 //! started, waited for and stopped.
 //!
-//! Worked values of definitions stand in `worked_rows`, as theorems.
+//! Worked values of definitions stand in `spec_examples`, as theorems.
 #![tactic(auto)]
 
 #[cfg(test)]

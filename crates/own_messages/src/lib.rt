@@ -2,7 +2,7 @@
 #![tactic(auto)]
 
 ghost use Rattle.std.specs.Prelude.{◌≡◌, ◌++◌, [], OnOk};
-ghost use Rattle.cluster_runs.specs.NodeSteps.{to_itself};
+ghost use Rattle.world_spec.specs.NodeSteps.{to_itself};
 ghost use Rattle.own_messages.specs.Own.{IsNext};
 
 use std::alloc::Global;

@@ -12,8 +12,8 @@ use Rattle.command_words.specs.declared.job.Job.TheVariants as job
 use Rattle.schedule_lines.specs.Causes.{HasCause, CausesEnd}
 use Rattle.schedule_lines.specs.Putting.{IsFinished}
 use Rattle.trace_audit.specs.Audit.{IsAudit, Completes}
-use Rattle.xtfs_job.specs.Job.{IsReplayJob}
-use Rattle.node_disks.specs.Room.{journal_room}
+use Rattle.replay_job.specs.Job.{IsReplayJob}
+use Rattle.world_disk.specs.Room.{journal_room}
 use Rattle.make_job.specs.Make.{IsMake}
 use Rattle.node_jobs.specs.Disks.{Medium}
 use Rattle.node_jobs.specs.Jobs.{NodeJob}

@@ -14,13 +14,13 @@ use disk_model::Disk;
 use make_job::make;
 use node_links::{Clock, Link, Sink, Source, Spawner};
 use par_halves::NoGate;
+use replay_job::run_replay;
 use schedule_lines::finish;
 use std::alloc::Global;
 use std::thread::Threads;
 use trace_audit::audit_text;
 use xt_base::Words;
 use xt_messages::Status;
-use xtfs_job::run_replay;
 
 /// Does a job that words ask for.
 fn do_job<R: Threads + Sync, S: Source, K: Sink, L: Link, D: Disk, C: Clock, P: Spawner>(

@@ -1,7 +1,7 @@
 use Rattle.std.proofs.Common.{rules, ◌==◌, ap, ◌∙◌}
 use Rattle.std.proofs.lemmas.Fn.{filter_same}
 use Rattle.xt_messages.specs.declared.message.Msg.{Msg}
-use Rattle.cluster_runs.specs.NodeSteps.{to_itself}
+use Rattle.world_spec.specs.NodeSteps.{to_itself}
 use Rattle.own_messages.proofs.own_of.Goals as goal
 
 pub returns : goal.returns

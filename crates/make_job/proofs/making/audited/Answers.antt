@@ -1,5 +1,5 @@
 use Rattle.std.proofs.Common.{subst}
-use Rattle.cluster_safety.proofs.Fronts.{never_broken}
+use Rattle.world_safety.proofs.Fronts.{never_broken}
 use Rattle.trace_judge.specs.Found.{IsVerdictOn}
 use Rattle.make_job.proofs.making.audited.Goals as goal
 

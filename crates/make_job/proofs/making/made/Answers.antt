@@ -2,9 +2,9 @@ use Rattle.std.proofs.Common.{◌∙◌, List, sym, ap, subst}
 use Rattle.time_line.specs.declared.entry.Entry.{Entry}
 use Rattle.time_line.specs.Bounds.{AreLines}
 use Rattle.time_line.specs.Verdicts.{IsSafe}
-use Rattle.cluster_runs.specs.World.{start_world}
-use Rattle.cluster_safety.proofs.Whole.{runs_safe}
-use Rattle.node_disks.specs.Room.{journal_room}
+use Rattle.world_spec.specs.World.{start_world}
+use Rattle.world_safety.proofs.Whole.{runs_safe}
+use Rattle.world_disk.specs.Room.{journal_room}
 use Rattle.judging.specs.Laws.{TimesStandFirst}
 use Rattle.schedule_maker.specs.Generated.{generated}
 use Rattle.schedule_replay.specs.Replay.{AreDoneFrom}

@@ -1,5 +1,5 @@
 use Rattle.std.proofs.Common.{rules, ◌≡◌, Some, sym, subst, inl, inr}
-use Rattle.cluster_runs.specs.NodeSteps.{one_more}
+use Rattle.world_spec.specs.NodeSteps.{one_more}
 use Rattle.node_runs.specs.Posting.{HasSentFront}
 use Rattle.node_runs.proofs.Keeping.{stays, stays_closed, closed_with}
 use Rattle.object_store.specs.Access.{records_of, disk_of}

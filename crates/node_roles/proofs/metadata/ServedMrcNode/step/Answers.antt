@@ -1,5 +1,5 @@
 use Rattle.std.proofs.Common.{ap, sym, subst}
-use Rattle.cluster_runs.specs.NodeSteps.{one_more}
+use Rattle.world_spec.specs.NodeSteps.{one_more}
 use Rattle.server_rows.specs.Metadata.{MrcNode}
 use Rattle.server_limits.specs.Keeping.{MrcRunsOn}
 use Rattle.node_roles.proofs.Stepping.{mrc_fits, mrc_runs}
