@@ -1,0 +1,5 @@
+pub mod StripedFiles
+pub mod Members
+pub mod StripedWorld
+pub mod After
+pub mod Example
