@@ -219,7 +219,7 @@ module _ (body : ℕ → Stamp → List ℕ) (epoch : Epoch) (target : FileHead)
         let offered = head_offered row.file row.head row.held epoch target in
         ap (λ (b : Bool). cond b (as_promised row.file row.head epoch offered) unanswered) of_it ∙ in_promise row.file row.head offered is
 
-    -- one exchange, where those behind it end
+    -- one exchange, where those after it end
     one : (k : ℕ) (known : List ObjectVersion) (row : FileRow) → row.head.promised ≡ epoch → all_left known row.held ≤ k
         → ((known : List ObjectVersion) (row : FileRow) → row.head.promised ≡ epoch → all_left known row.held + 1 ≤ k → Acknowledges k (feeds known row))
         → Acknowledges (suc k) (feeds known row)

@@ -50,7 +50,7 @@ module _ (bytes : List ℕ) (at : ℕ) (piece image : List ℕ) (is : IsImage (a
   pub size_stays : at + length piece ≤ length bytes → length image ≡ length bytes
   size_stays inside = omega (arith, is.no_shorter, is.no_longer, inside)
 
-  -- and so do those behind it
+  -- and so do those after it
   pub back_stays : at + length piece ≤ length bytes → drop (at + length piece) image ≡ drop (at + length piece) bytes
   back_stays inside =
       let n = at + length piece in

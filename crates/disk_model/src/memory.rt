@@ -17,7 +17,7 @@ use xt_base::{CallList, Failed, Octets, OutOfMemory};
 pub struct MemoryDisk {
     alloc: Global,
     first: Octets,
-    /// The record of calls since the making, and its pieces behind one another. What a read gives isn't kept: it is laid
+    /// The record of calls since the making, and its pieces one after the other. What a read gives isn't kept: it is laid
     /// from these and the first bytes.
     notes: Vec<Note>,
     pieces: Vec<u8>,

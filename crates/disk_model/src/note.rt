@@ -1,4 +1,4 @@
-/// A line of the record of calls. The pieces themselves lie behind one another.
+/// A line of the record of calls. The pieces themselves lie after one another.
 #[derive(Clone, Copy)]
 pub enum Note {
     Wrote { at: usize, len: usize },

@@ -12,10 +12,10 @@ blank = (record { 0 = 0 }, record { 0 = 0 })
 abbrev pub seen : Inside → List (NodeId × Boot)
 seen t = take t.count t.places
 
--- the pairs in the first places, and blanks behind them
+-- the pairs in the first places, and blanks after them
 abbrev pub filled : List (NodeId × Boot) → Inside
 filled pairs = record { places = pairs ++ replicate (9 - length pairs) blank; count = length pairs }
 
--- at most nine, with blanks behind
+-- at most nine, with blanks after
 abbrev pub IsFilled : Inside → Type 0
 IsFilled t = (t.count ≤ 9) × (filled (seen t) ≡ t)

@@ -11,10 +11,10 @@ blank = empty_seat (record { 0 = 0 })
 abbrev pub seen : Inside → List Seat
 seen s = take s.count s.places
 
--- the seats in the first places, and blanks behind them
+-- the seats in the first places, and blanks after them
 abbrev pub filled : List Seat → Inside
 filled seats = record { places = seats ++ replicate (9 - length seats) blank; count = length seats }
 
--- at most nine, with blanks behind
+-- at most nine, with blanks after
 abbrev pub IsFilled : Inside → Type 0
 IsFilled s = (s.count ≤ 9) × (filled (seen s) ≡ s)

@@ -130,7 +130,7 @@ module _ (body : FileId → ℕ → Stamp → List ℕ) (f : FileId) (o : ℕ) (
       fold-append put b (records_of_row body r) (records_of_rows body rs)
       ∙ ap (λ (c : Option (List ℕ)). fold put c (records_of_rows body rs)) (other_row r b all.0) ∙ other_rows rs b all.1
 
-  -- the files behind this one are others
+  -- the files after this one are others
   later_others : (rows : List FileRow) → AllByRecursion (λ (later : FileRow). is_before f later.file ≡ true) rows → AreOthers rows
   later_others [] all = tt
   later_others (r ∷ rs) all = (is_file-file_cmp r.file f ∙ ap is_eq (back r.file f Less (less (file_cmp f r.file) all.0)), later_others rs all.1)

@@ -95,7 +95,7 @@ module _ (body : FileId → ℕ → Stamp → List ℕ) where
       at None = stages_are row.file row.held
       at (Some l) = (refl, stages_are row.file row.held)
 
-  -- what some records of a file make of its row, behind rows that come before it
+  -- what some records of a file make of its row, after rows that come before it
   row_behind : (boot : Boot) (pre : List FileRow) (file : FileId) (xs : List Record) → AreBefore file pre → AreOf file xs
       → row_in (fold folded_after (record { boot = boot; files = pre }) xs).files file ≡ fold row_after (new_row file) xs
   row_behind boot pre file [] before of = read_new pre file before

@@ -39,7 +39,7 @@ is_equal Greater h = absurd cc
 same_file : (a : FileId) → file_cmp a a ≡ Equal
 same_file a = is_equal (file_cmp a a) (sym (is_file-file_cmp a a) ∙ file-itself a)
 
--- ---- a row behind all others
+-- ---- a row after all others
 
 abbrev pub AreBefore : FileId → List FileRow → Type 0
 AreBefore file rows = AllByRecursion (λ (r : FileRow). file_cmp r.file file ≡ Less) rows
@@ -62,7 +62,7 @@ put_last : (pre : List FileRow) (a b : FileRow) → b.file ≡ a.file → AreBef
 put_last [] a b same all = put_over a b [] (ap (file_cmp a.file) same ∙ same_file a.file)
 put_last (r ∷ rs) a b same all = put_behind r b (rs ++ a ∷ []) (ap (file_cmp r.file) same ∙ all.0) ∙ ap (λ (t : List FileRow). r ∷ t) (put_last rs a b same all.1)
 
--- the rows behind which this row of its file comes last: it is there, or a new one would be
+-- the rows after which this row of its file comes last: it is there, or a new one would be
 pub record ComesLast (files pre : List FileRow) (a : FileRow) : Type 0 where
   pub reads : row_in files a.file ≡ a
   pub puts : (b : FileRow) → b.file ≡ a.file → with_row files b ≡ pre ++ b ∷ []
@@ -116,7 +116,7 @@ some_records (x ∷ xs) boot files pre a rec of all before last =
 abbrev pub AreBelow : List ObjectVersion → ObjectVersion → Type 0
 AreBelow versions v = AllByRecursion (λ (h : ObjectVersion). version_cmp h v ≡ Less) versions
 
--- each version comes before all behind it
+-- each version comes before all after it
 abbrev pub Ascend : List ObjectVersion → Type 0
 Ascend [] = Unit {0}
 Ascend (v ∷ vs) = AllByRecursion (λ (w : ObjectVersion). version_cmp v w ≡ Less) vs × Ascend vs
@@ -155,13 +155,13 @@ module _ (body : FileId → ℕ → Stamp → List ℕ) where
   abbrev pub listed : FileId → Option Location → FileRow
   listed file location = record { file = file; head = new_head; held = []; location = location }
 
-  -- the bodies and the head behind the list
+  -- the bodies and the head after the list
   rest_says : (row : FileRow) → Ascend row.held → fold row_after (listed row.file row.location) (map (stage_of body row.file) row.held ++ kept.Head row.file row.head ∷ []) ≡ row
   rest_says row up =
       fold-append row_after (listed row.file row.location) (map (stage_of body row.file) row.held) (kept.Head row.file row.head ∷ [])
       ∙ ap (λ (r : FileRow). record r { head = row.head }) (staged_all (listed row.file row.location) [] row.held (all_below_none row.held) up)
 
-  -- the records of a row fold to it, behind rows that come before it
+  -- the records of a row fold to it, after rows that come before it
   pub row_says : (boot : Boot) (pre : List FileRow) (row : FileRow) → Ascend row.held → AreBefore row.file pre
       → fold folded_after (record { boot = boot; files = pre }) (records_of_row body row) ≡ record { boot = boot; files = pre ++ row ∷ [] }
   row_says boot pre row up before = at row.location refl

@@ -2,7 +2,7 @@
 use Rattle.std.specs.Prelude.{ℕ, ◌+◌, ◌<◌, ◌≤◌, ◌≡◌, Bool, true, false, List, [], ◌∷◌, ◌++◌, length}
 use Rattle.disk_model.specs.Disk.{Kept, IsImage, at_rest, after_write, range_of}
 
--- The plan goes on behind this many calls that look and this many that change.
+-- The plan goes on after this many calls that look and this many that change.
 abbrev pub GoesOn : ℕ → ℕ → (ℕ → ℕ → Bool) → (ℕ → ℕ → Bool) → Type 0
 GoesOn looks changes old new = (l c : ℕ) → new l c ≡ old (looks + l) (changes + c)
 
@@ -19,7 +19,7 @@ AllSucceed fails calls = (c : ℕ) → 1 ≤ c → c ≤ calls → fails 0 c ≡
 abbrev pub MayBeTorn : ℕ → List ℕ → List ℕ → List ℕ → Type 0
 MayBeTorn at piece bytes image = IsImage (after_write at piece (at_rest bytes)) image
 
--- a write of a piece, or the sync behind it, failed on a disk that was at rest with these bytes
+-- a write of a piece, or the sync after it, failed on a disk that was at rest with these bytes
 pub record IsTornAt (at : ℕ) (piece bytes : List ℕ) (kept : Kept) : Type 0 where
   pub synced : kept.synced ≡ bytes
   pub written : kept.written ≡ range_of at piece ∷ []

@@ -5,7 +5,7 @@ use Rattle.disk_model.specs.Gate.{open_gate}
 use Rattle.journal_records.specs.declared.next.Next.{Next}
 use Rattle.journal_records.specs.declared.next.Next.TheVariants as next
 
--- a payload behind its length
+-- a payload after its length
 abbrev pub record_of : List ℕ → List ℕ
 record_of payload = big_bytes 4 (length payload) ++ payload
 
@@ -14,7 +14,7 @@ pub record IsPayload (payload : List ℕ) : Type 0 where
   pub some : 1 ≤ length payload
   pub fits : length payload < 2 ^ 32
 
--- what is behind an open gate isn't a length of at least 1, that many bytes and a gate
+-- what comes after an open gate isn't a length of at least 1, that many bytes and a gate
 abbrev pub IsCutOff : List ℕ → Type 0
 IsCutOff rest = (length rest < 4) ⊎ ((big_number 4 rest ≡ 0) ⊎ (length rest < 5 + big_number 4 rest))
 

@@ -11,7 +11,7 @@ pub enum Next<'a> {
     Record { payload: &'a [u8], rest: &'a [u8] },
 }
 
-/// What stands at a gate: behind an open one a record, of which the next gate is the end.
+/// What stands at a gate: after an open one a record, of which the next gate is the end.
 pub fn next_record(rest: &[u8]) -> Next<'_>
     requires { 1 ≤ length rest.now }
     ensures { IsNext rest.now result }

@@ -57,7 +57,7 @@ pub record Dealt : Type 0 where
   pub ticks : ℕ
   pub entry : Entry
 
--- those of these entries that are dealt, behind so many others, where the clocks have advanced so far since the last one dealt
+-- those of these entries that are dealt, after so many others, where the clocks have advanced so far since the last one dealt
 unfoldable pub dealt : (Entry → Bool) → ℕ → ℕ → List Entry → List Dealt
 dealt test ticks count [] = []
 dealt test ticks count (e ∷ es) =
@@ -71,7 +71,7 @@ dealt_to file entries = dealt (is_dealt file (λ id. begun id entries)) 0 0 entr
 abbrev pub advanced : ℕ → Kept → Kept
 advanced ticks k = record k { stands = λ node. advances ticks (k.stands node) }
 
--- Where the file is broken by one of the entries dealt to it, behind others of which this is kept. Before its place is told nothing is.
+-- Where the file is broken by one of the entries dealt to it, after others of which this is kept. Before its place is told nothing is.
 unfoldable pub found_from : ℕ → ℕ → ℕ → Kept → Bool → List Dealt → Option Break
 found_from drift stripe file k placed [] = None
 found_from drift stripe file k placed (d ∷ ds) =

@@ -37,7 +37,7 @@ above_told key (kid ∷ kids) = rw (bounded (string_cmp key kid.0)) (go (is_lt (
   go true later = ap (λ (names : List Name). name_told kid ∷ names) later
   go false later = later
 
--- nothing is on the page yet, and the entries behind the key are left
+-- nothing is on the page yet, and the entries after the key are left
 pub start : {A : Type 0} (after : Name) (key : String A) (page : List Name) (entry : Entry) (kids left : List (String A × List Row)) (rows : List Row) → flat entry kids ≡ rows → AllTrees kids → string_bytes key ≡ after → page ≡ [] → left ≡ entries_between string_cmp (Excluded key) Unbounded kids → SoFar page left (above after (names_in rows []))
 start after key page entry kids left rows view trees named none range =
     rw (none, range, ← named) (record { few = omega arith; whole = ap (above (string_bytes key)) (names_here entry kids rows [] view refl trees) ∙ above_told key kids })

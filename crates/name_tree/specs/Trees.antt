@@ -38,7 +38,7 @@ abbrev pub IsRising : List Row → Type 0
 IsRising [] = Unit {0}
 IsRising (r ∷ rs) = AllByRecursion (λ s. path_cmp r.path s.path ≡ Less) rs × IsRising rs
 
--- A tree's list: the row of its top, and behind it the rows below, rising. Below a file is nothing, and where no name is right
+-- A tree's list: the row of its top, and after it the rows below, rising. Below a file is nothing, and where no name is right
 -- in the top, nothing is below it.
 pub record HasTop (top : Row) (rest : List Row) : Type 0 where
   pub at_top : top.path ≡ []

@@ -18,7 +18,7 @@ module _ (bytes : List ℕ) (payloads : List (List ℕ)) where
   are_prop : (gate : ℕ) (rest : List ℕ) → IsProp (bytes ≡ header ++ (records payloads ++ gate ∷ rest))
   are_prop gate rest = hlevel props
 
-  -- what is behind the records
+  -- what comes after the records
   behind : (p q : IsJournal bytes payloads) → p.gate ∷ p.rest ≡ q.gate ∷ q.rest
   behind p q = append_cancel_left (records payloads) _ _ (append_cancel_left header _ _ (sym p.are ∙ q.are))
 

@@ -20,7 +20,7 @@ use Rattle.object_store.specs.Texts.{texts_of}
 abbrev pub needed_for : {D : Type 0} {g : Ghosts D} → Store D g → Record → ℕ
 needed_for old rec = place_of (journal_of old) + (6 + length (record_text rec))
 
--- The record is behind the others, in memory and on the disk, and each crash leaves it from now on. All four calls succeeded.
+-- The record comes after the others, in memory and on the disk, and each crash leaves it from now on. All four calls succeeded.
 pub record IsPut {D : Type 0} {g : Ghosts D} (old : Store D g) (rec : Record) (new : Store D g) : Type 0 where
   pub records : records_of new ≡ records_of old ++ rec ∷ []
   pub acknowledged : IsTrue g.is_told → (image : List ℕ) → IsImage (g.kept (disk_of new)) image → StandsFor image (texts_of (records_of old ++ rec ∷ []))

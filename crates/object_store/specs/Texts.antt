@@ -10,7 +10,7 @@ use Rattle.replica_records.specs.RecordText.{record_text}
 abbrev pub texts_of : List Record → List (List ℕ)
 texts_of records = map record_text records
 
--- each record is within its limits, and in its place behind those before it
+-- each record is within its limits, and in its place after those before it
 pub record AreRecords (records : List Record) : Type 0 where
   pub fit : All FitsRecord records
   pub placed : AreInPlace nothing_kept records

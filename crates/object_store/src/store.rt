@@ -55,7 +55,7 @@ impl<D: Disk> Store<D> {
         }
     }
 
-    /// Puts a record behind the others, on the disk and then in memory. At `Ok` each crash leaves it from then on.
+    /// Puts a record after the others, on the disk and then in memory. At `Ok` each crash leaves it from then on.
     ///
     /// Want of memory comes before the first device call. A store whose disk has failed is gone, and must be loaded
     /// again.

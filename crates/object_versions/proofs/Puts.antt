@@ -101,7 +101,7 @@ module _ {R : Type 0} (same before : R → R → Bool) (order : Orders same befo
   pub there : (rows : List R) (row : R) (i : ℕ) → i < length rows → ((d : R) → same (get_or rows i d) row ≡ true) → list_any (same row) rows ≡ true
   there rows row i lt here = list_any_at (same row) rows i row lt (order.back row (get_or rows i row) ∙ here row)
 
-  -- the first item that is the same as this one, and what stands behind it
+  -- the first item that is the same as this one, and what stands after it
   pub found_at : {A : Type 0} (look : List R → A) (rows : List R) (row : R) (i : ℕ) → ((r : R) (rs : List R) → same r row ≡ false → look (r ∷ rs) ≡ look rs) → IsPlace before rows row i
       → look rows ≡ look (drop i rows)
   found_at look rows row i passing place = at rows i (λ k d lt. order.apart (get_or rows k d) row (place.earlier k d lt)) place.inside

@@ -71,7 +71,7 @@ impl<'a> NeededVersions<'a> {
     }
 }
 
-/// Puts the held bodies of a file that are needed behind those that are to be kept already, in their order.
+/// Puts the held bodies of a file that are needed after those that are to be kept already, in their order.
 pub fn keep_needed(
     keep: &mut Keep,
     file: &FileId,

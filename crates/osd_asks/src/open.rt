@@ -29,7 +29,7 @@ impl Model for OpenAsks {
     ghost view = { λ a. record { waiting = a.waiting; issued = a.issued } };
 }
 
-/// Puts the reply that tells the ask of this id something behind the messages.
+/// Puts the reply that tells the ask of this id something after the messages.
 fn tell(
     alloc: Global,
     outs: &mut Msgs,
@@ -43,7 +43,7 @@ fn tell(
     outs.push(reply_to(node, file, id, reply.copy(alloc)?))
 }
 
-/// Puts the replies that tell these asks something behind the messages.
+/// Puts the replies that tell these asks something after the messages.
 fn tell_each(
     alloc: Global,
     outs: &mut Msgs,
@@ -61,7 +61,7 @@ fn tell_each(
     Ok(())
 }
 
-/// Puts the reply that tells the issued ask something behind the messages, unless it was told before.
+/// Puts the reply that tells the issued ask something after the messages, unless it was told before.
 fn tell_untold(
     alloc: Global,
     outs: &mut Msgs,
@@ -81,7 +81,7 @@ fn tell_untold(
     Ok(())
 }
 
-/// Puts the replies that tell those of these asks something whose deadline has come behind the messages.
+/// Puts the replies that tell those of these asks something whose deadline has come after the messages.
 fn tell_due_of(
     alloc: Global,
     outs: &mut Msgs,
@@ -119,7 +119,7 @@ fn is_issued(issued: &Option<IssuedAsk>, id: OpId) -> bool
     }
 }
 
-/// Puts the reply that tells the issued ask something behind the messages, where its deadline has come and it wasn't told.
+/// Puts the reply that tells the issued ask something after the messages, where its deadline has come and it wasn't told.
 fn tell_issued_due(
     alloc: Global,
     outs: &mut Msgs,
@@ -183,7 +183,7 @@ impl OpenAsks {
         self.issued.is_some()
     }
 
-    /// Puts an ask behind those that wait. Where 64 wait it is lost.
+    /// Puts an ask after those that wait. Where 64 wait it is lost.
     pub fn wait(&mut self, ask: WaitingAsk) -> Result<(), OutOfMemory>
         ensures ok { OnOk result (self.new ≡ rows.waits self.old ask) }
         ensures err { OnErr result (self.new ≡ self.old) }
@@ -194,7 +194,7 @@ impl OpenAsks {
         Ok(())
     }
 
-    /// An ask that waited stays, behind the others that do.
+    /// An ask that waited stays, after the others that do.
     pub fn stay(&mut self, ask: WaitingAsk) -> Result<(), OutOfMemory>
         ensures ok { OnOk result (self.new ≡ rows.stays self.old ask) }
         ensures err { OnErr result (self.new ≡ self.old) }

@@ -127,7 +127,7 @@ ids_set [] i s same = refl
 ids_set (x ∷ xs) zero s same = ap (λ f. f ∷ map id_of xs) (sym (same x (omega arith)))
 ids_set (x ∷ xs) (suc i) s same = ap (λ fs. id_of x ∷ fs) (ids_set xs i s (λ d lt. same d (omega arith)))
 
--- between those that come before and those that come behind
+-- between those that come before and those that come after
 rise_insert : (slots : List Slot) (i : ℕ) (s : Slot) → rises slot_before slots ≡ true → i ≤ length slots
     → ((k : ℕ) (d : Slot) → k < i → slot_before (get_or slots k d) s ≡ true) → ((d : Slot) → i < length slots → slot_before s (get_or slots i d) ≡ true)
     → rises slot_before (insert slots i s) ≡ true

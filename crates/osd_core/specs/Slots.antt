@@ -69,7 +69,7 @@ pub record IsMade (file : FileId) (old new : List Slot) (place : ℕ) : Type 0 w
   pub rising : (s : Slot) → id_of s ≡ file → slots_rise (slice_set new place s) ≡ true
   pub sound : (awake : Awake) → AreSound awake old → AreSound awake new
 
--- a Wake at a slot, whose part stands behind what others gave
+-- a Wake at a slot, whose part stands after what others gave
 pub record WakesMore (now : ℕ) (old new : Slot) (before after : Woken) : Type 0 where
   pub next : Woken
   pub woke : (awake : Awake) → IsSoundSlot awake old → WakesSlot now awake old new next
@@ -86,7 +86,7 @@ pub record WakesSlots (now : ℕ) (awake : Awake) (old new : List Slot) (woken :
       → each_file (wake_of_file (site_at awake now sealed body)) (each_file (expired (site_at awake now sealed body)) (states_of awake old)).files
       ≡ record { files = states_of awake new; turned = woken.again }
 
--- a Wake of slots, whose parts stand behind what was asked
+-- a Wake of slots, whose parts stand after what was asked
 pub record WakesBehind (now : ℕ) (old new : List Slot) (before after : Turned) : Type 0 where
   pub woken : Woken
   pub woke : (awake : Awake) → AreSound awake old → WakesSlots now awake old new woken

@@ -62,7 +62,7 @@ pub fn no_news(alloc: Global) -> Woken
     }
 }
 
-/// Puts the held bodies behind those that are to be kept already that a row needs: those of its head.
+/// Puts the held bodies after those that are to be kept already that a row needs: those of its head.
 fn keep_row(alloc: Global, row: &FileRow, keep: &mut Keep) -> Result<(), OutOfMemory>
     ensures { OnOk result (keep.new ≡
         keep.old ++ needed_among row.now.file row.now.head.versions [] [] row.now.held) }
@@ -147,7 +147,7 @@ impl Slot {
         }
     }
 
-    /// Puts the held bodies that its file needs behind those that are to be kept already.
+    /// Puts the held bodies that its file needs after those that are to be kept already.
     pub fn keep(&self, alloc: Global, keep: &mut Keep) -> Result<(), OutOfMemory>
         ensures { OnOk result ((awake : Awake) → IsSoundSlot awake self.now →
             keep.new ≡ keep.old ++ needed_of awake.node (state_of awake self.now)) }

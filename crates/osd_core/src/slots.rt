@@ -87,7 +87,7 @@ pub fn take<B: Bodies>(
     slots[place].take(alloc, awake, bodies, now, sealed, msg)
 }
 
-/// A Wake at the next file: what it gives stands behind what others gave.
+/// A Wake at the next file: what it gives stands after what others gave.
 fn wake_more(alloc: Global, slot: &mut Slot, woken: &mut Woken, now: u64) -> Result<(), OutOfMemory>
     requires { now < 2 ^ 62 }
     ensures { OnOk result (WakesMore now slot.old slot.new woken.old woken.new) }
@@ -98,7 +98,7 @@ fn wake_more(alloc: Global, slot: &mut Slot, woken: &mut Woken, now: u64) -> Res
     taken
 }
 
-/// Takes what a Wake gave at the next file behind what others gave.
+/// Takes what a Wake gave at the next file after what others gave.
 fn take_woken(woken: &mut Woken, next: &mut Woken) -> Result<(), OutOfMemory>
     ensures overdue { OnOk result (woken.new.overdue ≡ joined woken.old.overdue next.old.overdue) }
     ensures again { OnOk result (woken.new.again ≡ joined woken.old.again next.old.again) }
@@ -107,7 +107,7 @@ fn take_woken(woken: &mut Woken, next: &mut Woken) -> Result<(), OutOfMemory>
     extend(&mut woken.again, &mut next.again)
 }
 
-/// A Wake at each file, in order: what each gives stands behind what others gave.
+/// A Wake at each file, in order: what each gives stands after what others gave.
 fn wake_all(
     alloc: Global,
     slots: &mut [Slot],
@@ -176,7 +176,7 @@ pub fn wake(
     }
 }
 
-/// A Wake at the files, behind what was asked: what is overdue at each, and then the rows of a Wake.
+/// A Wake at the files, after what was asked: what is overdue at each, and then the rows of a Wake.
 fn wake_behind(
     alloc: Global,
     slots: &mut [Slot],
@@ -192,7 +192,7 @@ fn wake_behind(
     taken
 }
 
-/// Takes what a Wake gave at the files behind what was asked.
+/// Takes what a Wake gave at the files after what was asked.
 fn take_files(turned: &mut Turned, woken: &mut Woken) -> Result<(), OutOfMemory>
     ensures { OnOk result (turned.new ≡
         joined turned.old (joined woken.old.overdue woken.old.again)) }
@@ -201,7 +201,7 @@ fn take_files(turned: &mut Turned, woken: &mut Woken) -> Result<(), OutOfMemory>
     extend(turned, &mut woken.overdue)
 }
 
-/// Puts the held bodies that the files need behind those that are to be kept already, file by file.
+/// Puts the held bodies that the files need after those that are to be kept already, file by file.
 pub fn keep_all(alloc: Global, slots: &[Slot], keep: &mut Keep) -> Result<(), OutOfMemory>
     ensures { OnOk result ((awake : Awake) → AreSound awake slots.now →
         keep.new ≡ keep.old ++ flat_map (needed_of awake.node) (states_of awake slots.now)) }

@@ -57,7 +57,7 @@ unheard_by site s (writing r) from content none settled = refl
 pub unheard : (site : Site) (s : FileState) (from : NodeId) (content : Payload) → turn_of s.lease site.now ≡ None → IsSettled s.lease site.now → primary_hears site s s.lease from content ≡ nothing s
 unheard site s from content none settled = unheard_by site s s.lease from content none settled
 
--- A primary that leads on, and the asks behind it.
+-- A primary that leads on, and the asks after it.
 module _ (awake : Awake) (now : ℕ) (test : Capability → Bool) (records : List Record) (s : FileState) (from : NodeId) (content : Payload) where
   abbrev pub old : FileView
   old = record { awake = awake; state = s }
@@ -71,7 +71,7 @@ module _ (awake : Awake) (now : ℕ) (test : Capability → Bool) (records : Lis
   abbrev led : Led
   led = hears stands s.primary from content
 
-  -- the file behind the primary's row
+  -- the file after the primary's row
   abbrev behind : FileState
   behind = record s { kept = kept_after s.kept led.turned.rec; staged = staged_after s.staged led.turned.rec; primary = led.primary }
 

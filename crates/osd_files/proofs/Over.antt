@@ -97,7 +97,7 @@ deadlines_row now old new o turned is row =
     let s = old.state in
     record { here = (row sealed body).here; step = deadlines_by site s s.primary.tenure ∙ ap (told_under site s) (sym is) ∙ (row sealed body).step }
 
--- a row behind which the lease is as before leaves it settled
+-- a row after which the lease is as before leaves it settled
 pub stays_settled : (row : Site → FileState → FileStep) → ((site : Site) (s : FileState) → (row site s).state.lease ≡ s.lease)
     → (now : ℕ) (old : LeaseState) (mid new : FileView) (turned : Turned) → mid.state.lease ≡ lease_expired old now → IsRow row now mid new turned → IsSettled new.state.lease now
 stays_settled row keeps now old mid new turned is step =

@@ -115,7 +115,7 @@ pub reads_as : {B : Type 0} (records : B → List Record) (faults : B → ℕ) (
     → ReadsOnly records faults old new part → ReadsOnly records faults old new whole
 reads_as records faults old new part whole same reads = subst (λ (f : Option StepErr). ReadsOnly records faults old new f) (sym same) reads
 
--- the same behind a part that has not failed
+-- the same after a part that has not failed
 pub reads_behind : {B : Type 0} (records : B → List Record) (faults : B → ℕ) (old mid new : B) (part whole : Option StepErr) → whole ≡ part
     → ReadsOnly records faults old mid None → ReadsOnly records faults mid new part → ReadsOnly records faults old new whole
 reads_behind records faults old mid new part whole same first next =

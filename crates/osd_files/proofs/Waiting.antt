@@ -1,4 +1,4 @@
--- what becomes of an ask that waits, by what the code tests, and what the asks do behind a row of the primary
+-- what becomes of an ask that waits, by what the code tests, and what the asks do after a row of the primary
 use Rattle.std.proofs.Common.{◌≡◌, ◌∙◌, Bool, true, false, refl, ap, sym, Option, Some, None, List, [], ◌∷◌, ◌++◌, cond, append-nil}
 use Rattle.std.specs.Prelude.{◌&&◌, not, is_some}
 use Rattle.std.specs.List.{fold}

@@ -1,4 +1,4 @@
--- how asks that wait are served behind a row of the primary, and what a call on a file does then
+-- how asks that wait are served after a row of the primary, and what a call on a file does then
 use Rattle.std.specs.Prelude.{Bool, ◌≡◌, ◌&&◌, not, if◌then◌else◌, List}
 use Rattle.xt_messages.specs.declared.file.FileHead.{FileHead}
 use Rattle.xt_messages.specs.declared.file.ObjectVersion.{ObjectVersion}
@@ -32,7 +32,7 @@ pub record ServesOne (ask : WaitingAsk) (records : List Record) (old new : FileV
   pub step : (before : Turned) (own : FileHead) (held : List ObjectVersion)
       → served_in new (joined before turned) ≡ serves_waiting (ground_at old records own held) (served_in old before) ask
 
--- the same behind what was given before
+-- the same after what was given before
 pub record ServesNext (ask : WaitingAsk) (before : Turned) (records : List Record) (old new : FileView) (turned : Turned) : Type 0 where
   pub rest : OnlyServes old new
   pub step : (own : FileHead) (held : List ObjectVersion)
@@ -44,12 +44,12 @@ pub record ServesAll (records : List Record) (old new : FileView) (turned : Turn
   pub step : (own : FileHead) (held : List ObjectVersion)
       → served_in new turned ≡ serves_all (ground_at old records own held) old.state.primary old.state.asks.waiting
 
--- The asks wait on behind the primary, and nothing is given.
+-- The asks wait on after the primary, and nothing is given.
 pub record AsksWait (old new : FileView) (turned : Turned) : Type 0 where
   pub rest : OnlyServes old new
   pub step : served_in new turned ≡ record { primary = old.state.primary; asks = asks_behind old.state.primary.tenure old.state.asks; turned = quiet }
 
--- the asks behind a primary that was ready before or wasn't: where it has become ready they are served
+-- the asks after a primary that was ready before or wasn't: where it has become ready they are served
 abbrev pub asks_after : Ground → Bool → PrimaryState → Asks → Served
 asks_after g was_ready p asks =
     if is_ready p.tenure && not was_ready then serves_all g p asks.waiting

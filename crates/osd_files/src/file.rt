@@ -103,7 +103,7 @@ impl OsdFile {
         }
     }
 
-    /// Puts the held bodies that the file needs behind those that are to be kept already.
+    /// Puts the held bodies that the file needs after those that are to be kept already.
     pub fn keep(&self, keep: &mut Keep) -> Result<(), OutOfMemory>
         ensures { OnOk result (keep.new ≡
             keep.old ++ needed_of self.now.awake.node self.now.state) }

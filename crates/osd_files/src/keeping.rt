@@ -7,7 +7,7 @@ use object_versions::{NeededVersions, SoughtBodies, SoughtVersions, keep_needed}
 use xt_base::OutOfMemory;
 use xt_messages::Keep;
 
-/// Puts the held bodies that the file needs behind those that are to be kept already: those of its head, those that its primary
+/// Puts the held bodies that the file needs after those that are to be kept already: those of its head, those that its primary
 /// needs, and those that were staged since its last head or update.
 pub fn keep_held(file: &Parts, keep: &mut Keep) -> Result<(), OutOfMemory>
     ensures { OnOk result (keep.new ≡

@@ -114,7 +114,7 @@ fn serve_all<B: Bodies>(file: &mut Parts, bodies: &mut B, now: u64) -> Result<Tu
     Ok(served)
 }
 
-/// The asks behind a primary that hasn't become ready: where it isn't active, the issued one comes back.
+/// The asks after a primary that hasn't become ready: where it isn't active, the issued one comes back.
 fn asks_wait(file: &mut Parts) -> Result<Turned, OutOfMemory>
     ensures { IfOk result (λ turned. AsksWait (shown file.old) (shown file.new) turned) }
 {

@@ -168,7 +168,7 @@ new_ask site s from number capability asked new =
     ap (λ (k : Kind). sent (ask_comes site s k id capability asked)) new.replicated
     ∙ ap (λ (o : Option Reply). sent (ask_let_in site s id capability asked o)) new.valid
 
--- new also behind what was overdue
+-- new also after what was overdue
 new_behind : (site : Site) (s after : FileState) (l : LeaseState) (id : OpId) (capability : Capability) (asked : Op) → Left s after l → IsNewAsk site s id capability asked → IsNewAsk site after id capability asked
 new_behind site s after l id capability asked left new =
     record {
@@ -311,7 +311,7 @@ renews_by site from file ballot boot l k r is renews own wins inside =
     ∙ ap (λ (b : Bool). told (cond b (renewal_won k taken.round site.now) still)) wins
     ∙ ap (λ (b : Bool). told (cond b later late)) inside
 
--- the mark of a lease that is held by an answer, behind what was overdue
+-- the mark of a lease that is held by an answer, after what was overdue
 marks_held : (site : Site) (s : FileState) (from : NodeId) (content : Payload) (h : Held) (l : LeaseState) → Left s (expired site s).state l
     → message_comes site (expired site s).state from content ≡ answer_comes site (expired site s).state from content
     → on_answer (expired site s).state.lease site.now from content ≡ record { state = held h; news = holds h.end }

@@ -220,7 +220,7 @@ all_served : (members : List NodeId) (g : Ground) (p : PrimaryState) (waiting : 
 unfolding serves_all
 all_served members g p waiting q = all_wait members g (record { primary = p; asks = no_asks; turned = quiet }) waiting q
 
--- ---- behind a row of the primary
+-- ---- after a row of the primary
 
 pub record Followed (members : List NodeId) (s : Served) : Type 0 where
   pub rec : KeepsList s.turned.rec

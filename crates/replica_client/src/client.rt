@@ -549,7 +549,7 @@ impl ReplicaClient {
         }
     }
 
-    /// The call asks this member, behind those that were tried.
+    /// The call asks this member, after those that were tried.
     fn ask(
         &mut self,
         now: u64,

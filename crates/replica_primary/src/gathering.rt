@@ -41,7 +41,7 @@ fn report_of(alloc: Global, peer: &Peer) -> Result<Option<(NodeId, FileHead)>, O
     }
 }
 
-/// Puts a report behind the others, where there is one.
+/// Puts a report after the others, where there is one.
 fn put_any(
     reports: &mut Seq<(NodeId, FileHead)>,
     report: Option<(NodeId, FileHead)>,

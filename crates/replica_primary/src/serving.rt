@@ -59,7 +59,7 @@ fn receivers(alloc: Global, place: &Place, peers: &[Peer]) -> Result<Nodes, OutO
     Ok(nodes)
 }
 
-/// Puts the update to a node behind the other messages.
+/// Puts the update to a node after the other messages.
 pub fn send_update(
     alloc: Global,
     outs: &mut Msgs,

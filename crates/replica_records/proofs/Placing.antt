@@ -116,7 +116,7 @@ place_if : (tied : Bool) (put : Option ℕ) (at : Option (Option ℕ)) → unwra
 place_if true put at = refl
 place_if false put at = refl
 
--- a place behind the others
+-- a place after the others
 module _ (records : List Record) (rec : Record) where
   inside_if : (tied : Bool) (at : Option ℕ) → ((place : ℕ) → at ≡ Some place → place < length records)
       → (place : ℕ) → cond tied (Some (length records)) at ≡ Some place → place < length (records ++ rec ∷ [])

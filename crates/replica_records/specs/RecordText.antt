@@ -16,7 +16,7 @@ abbrev pub nodes_bytes : Option (List NodeId) → List ℕ
 nodes_bytes None = byte_bytes 0
 nodes_bytes (Some nodes) = members_bytes nodes
 
--- the kind of the request's message, and the fields of that message behind its number
+-- the kind of the request's message, and the fields of that message after its number
 abbrev pub logged_bytes : Logged → List ℕ
 logged_bytes (logged.Meta user group request) = byte_bytes 20 ++ (word_bytes user ++ word_bytes group ++ meta_req_bytes request)
 logged_bytes (logged.Registry request) = byte_bytes 22 ++ registry_req_bytes request

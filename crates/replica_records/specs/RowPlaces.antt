@@ -33,7 +33,7 @@ versions_after versions update =
     if update.object == NO_OBJECT then versions_below versions update.drop_from
     else with_version (versions_below versions update.drop_from) update.object update.stamp
 
--- each file comes before all files behind it
+-- each file comes before all files after it
 abbrev pub FilesRise : List FileRow → Type 0
 FilesRise [] = Unit {0}
 FilesRise (row ∷ rows) = AllByRecursion (λ later. is_before row.file later.file ≡ true) rows × FilesRise rows

@@ -5,7 +5,7 @@ use std::alloc::Global;
 use xt_base::{OutOfMemory, Seq};
 use xt_messages::{FileRow, Folded, Keep, KeepBody};
 
-/// Puts the bodies that a row's head names behind those that are there already.
+/// Puts the bodies that a row's head names after those that are there already.
 fn put_named(keep: &mut Keep, row: &FileRow) -> Result<(), OutOfMemory>
     ensures { OnOk result (keep.new ≡ keep.old ++ named_by row.now) }
 {

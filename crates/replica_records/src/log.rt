@@ -41,7 +41,7 @@ impl RecordLog {
         self.places.make_room(rec)
     }
 
-    /// Puts a record behind the others, where there is room for it.
+    /// Puts a record after the others, where there is room for it.
     pub fn put(&mut self, rec: Record)
         requires { HasRoom self.old rec }
         ensures { records_in self.new ≡ records_in self.old ++ rec ∷ [] }
@@ -50,7 +50,7 @@ impl RecordLog {
         self.records.push(rec).unwrap();
     }
 
-    /// Makes room for a record, and puts it behind the others.
+    /// Makes room for a record, and puts it after the others.
     pub fn push(&mut self, rec: Record) -> Result<(), OutOfMemory>
         ensures ok { OnOk result (records_in self.new ≡ records_in self.old ++ rec ∷ []) }
         ensures err { OnErr result (records_in self.new ≡ records_in self.old) }

@@ -438,7 +438,7 @@ module _ (stripe : ℕ) (ops : ℕ × ℕ → Op) (members : List ℕ) (site : S
     news_step t (finds l) list some alone there = live_step t t l refl refl there
     news_step t ends list some alone there = told_step t t (reply.NoLease t.last_end) refl refl there
 
-    -- the lease behind it is the one that the answer left
+    -- the lease after it is the one that the answer left
     led_lease : (s : FileState) (o : Option Tenure) → (led_on site s o).state.lease ≡ s.lease
     led_lease s (Some t) = refl
     led_lease s None = refl

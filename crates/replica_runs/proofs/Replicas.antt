@@ -172,7 +172,7 @@ in_with_version (w ∷ vs) object version v h =
         of (inl p) = inl p
         of (inr g) = inr (inr g)
 
-update_names : (row : FileRow) (u : Update) → NamesHeld row.held row.head.versions → NamesHeld (held_after row.held u) (head_after row.head u).versions
+pub update_names : (row : FileRow) (u : Update) → NamesHeld row.held row.head.versions → NamesHeld (held_after row.held u) (head_after row.head u).versions
 update_names row u are v h =
     by_test (λ b. Has v (cond b (versions_below row.head.versions u.drop_from) (with_version (versions_below row.head.versions u.drop_from) u.object u.stamp))
     → has_version (cond b row.held (with_held row.held (body_of u.object u.stamp))) v ≡ true) (u.object == NO_OBJECT)

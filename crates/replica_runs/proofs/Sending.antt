@@ -135,7 +135,7 @@ module _ (stripe : ℕ) (ops : ℕ × ℕ → Op) (members : List ℕ) (n : ℕ)
   -- ---- rows
 
   -- The first part of a row: the steps that change its node. All that it sends, and all that is to be sent to its peers, may be
-  -- sent behind it or was sent before.
+  -- sent after it or was sent before.
   pub record Core (a : Seen) (t : Tenure) (turned : Turned) : Type 0 where
     pub seen : Seen
     pub steps : List Step

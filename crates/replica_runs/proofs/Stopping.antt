@@ -1,4 +1,4 @@
--- A node stops behind a step, and leaves who holds else.
+-- A node stops after a step, and leaves who holds else.
 use Rattle.std.proofs.Common.{◌≡◌, ℕ, ◌⊎◌, List, [], ◌∷◌, ◌++◌, refl, sym, ap, ◌∙◌, subst, inl, inr, Option, Some, None, if◌then◌else◌}
 use Rattle.xt_base.specs.declared.ids.Epoch.{Epoch}
 use Rattle.xt_messages.specs.declared.file.FileHead.{FileHead}

@@ -94,7 +94,7 @@ AlwaysShowsFile =
 
 -- ---- a stop
 
--- A node that stops behind a step, however few of its messages got out: the list of small steps, and then the loss of the lease.
+-- A node that stops after a step, however few of its messages got out: the list of small steps, and then the loss of the lease.
 -- Where the step keeps a record it tells nothing, so a stop in its append, with the record kept, is the same.
 pub record Stops (stripe : ℕ) (ops : ℕ × ℕ → Op) (members : List ℕ) (n : ℕ) (a : Seen) (turned : Turned) : Type 0 where
   pub holder : Option ℕ
@@ -124,7 +124,7 @@ pub record Stops (stripe : ℕ) (ops : ℕ × ℕ → Op) (members : List ℕ) (
     entries = entries;
   })
 
--- A node may stop behind whatever it reaches; a stop in an append that keeps no record is one behind nothing.
+-- A node may stop after whatever it reaches; a stop in an append that keeps no record is one after nothing.
 abbrev pub AlwaysStops : Type 0
 AlwaysStops =
     (stripe : ℕ) (ops : ℕ × ℕ → Op) (members : List ℕ) (n : ℕ) (a : Seen) (tenure : Option Tenure) (turned : Turned)

@@ -13,7 +13,7 @@ use Rattle.replica_runs.specs.HeadWorld.{Entry, TellsActive, TellsIssue, TellsCo
 abbrev pub order_told : ℕ → ℕ × ℕ → List (ℕ × ℕ) → List (ℕ × ℕ)
 order_told count id order = if count == suc (length order) then order ++ id ∷ [] else order
 
--- The order behind these entries, the newest first, where it was this before them.
+-- The order after these entries, the newest first, where it was this before them.
 abbrev pub order_of : List (ℕ × ℕ) → List Entry → List (ℕ × ℕ)
 order_of order [] = order
 order_of order (TellsActive n count id ∷ es) = order_told count id (order_of order es)
@@ -67,7 +67,7 @@ known_at start = map name (start.line ++ start.open_writes)
 abbrev pub IsIssued : List Entry → ℕ × ℕ → Type 0
 IsIssued es id = (n : ℕ) × (count : ℕ) × Has (TellsIssue n count id) es
 
--- Each write that stands in the order behind an entry had been issued before that entry, or is one of the known ones.
+-- Each write that stands in the order after an entry had been issued before that entry, or is one of the known ones.
 abbrev pub IssuesComeFirst : List (ℕ × ℕ) → List (ℕ × ℕ) → List Entry → Type 0
 IssuesComeFirst known order [] = Unit {0}
 IssuesComeFirst known order (e ∷ es) =

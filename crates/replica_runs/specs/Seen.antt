@@ -121,7 +121,7 @@ AreUntold (mark.Commit file count id ∷ ms) = ⊥
 AreUntold (mark.Answer file id count bytes ∷ ms) = ⊥
 AreUntold (_ ∷ ms) = AreUntold ms
 
--- What a step gives is a list of small steps, which may come: what is seen behind it, what it sends, and what it tells. A status
+-- What a step gives is a list of small steps, which may come: what is seen after it, what it sends, and what it tells. A status
 -- is sent by the rows of a replica alone.
 pub record Shows (stripe : ℕ) (ops : ℕ × ℕ → Op) (members : List ℕ) (n : ℕ) (a b : Seen) (turned : Turned) : Type 0 where
   pub steps : List Step

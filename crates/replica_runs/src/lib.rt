@@ -59,13 +59,13 @@ pub fn greater_versions_do_not_do()
 {}
 
 /// Each step of a file on a message that was sent, and on a Wake, is a list of small steps of its node in the world of heads: what is
-/// kept changes by the step's record alone, the primary behind it is the one that is seen, every message of the step was sent, its
+/// kept changes by the step's record alone, the primary after it is the one that is seen, every message of the step was sent, its
 /// marks are the entries, and what holds of a file goes on to hold.
 pub fn steps_of_a_file_are_small_steps()
     ensures { AlwaysShowsFile }
 {}
 
-/// A node that stops behind a step, however few of its messages got out, or in its append, with its record kept or lost, has
+/// A node that stops after a step, however few of its messages got out, or in its append, with its record kept or lost, has
 /// taken a list of small steps; and no list of small steps of one node changes which other node holds.
 pub fn stops_are_small_steps()
     ensures stops { AlwaysStops }

@@ -24,7 +24,7 @@ pub record IsReadIssued (e : Epoch) (moves later : List Move) (shown line : List
   pub line_is : the_line first_start (state_of (moves ++ later)) ≡ line
   pub lost : (w : Write) × Has w shown × (Has (name w) (map name line) → ⊥)
 
--- A primary reads behind the later moves because it could act behind the first ones. What it knows is less than the line.
+-- A primary reads after the later moves because it could act after the first ones. What it knows is less than the line.
 pub record IsReadLate (e : Epoch) (moves later : List Move) (shown line : List Write) : Type 0 where
   pub history : IsHistory every_rule three first_start (moves ++ later)
   pub current : (state_of moves).current ≡ Some e

@@ -55,7 +55,7 @@ impl SparseBytes {
         Ok(())
     }
 
-    /// The byte at a place, and zero behind the last one.
+    /// The byte at a place, and zero after the last one.
     fn byte(&self, place: u128) -> u8
         ensures { result ≡ byte_at self.now.written place }
     {

@@ -7,7 +7,7 @@ use Rattle.time_line.specs.Content.{range_of}
 use Rattle.striping.specs.declared.Piece.{Piece}
 use Rattle.striping.specs.Cover.{IsPieceFrom, Covers, bytes_of}
 
--- a range and the one behind it are one range
+-- a range and the one after it are one range
 ranges_join : (content : List ℕ) (from a b : ℕ) → range_of content from a ++ range_of content (from + a) b ≡ range_of content from (a + b)
 ranges_join content from a b =
     let behind : List ℕ = drop from content in

@@ -70,7 +70,7 @@ pub fn pieces(
     Ok(pieces)
 }
 
-/// The bytes of these parts, one behind the other.
+/// The bytes of these parts, one after the other.
 pub fn gather(alloc: Global, parts: &[Octets]) -> Result<Octets, OutOfMemory>
     ensures { IfOk result (λ made. made ≡ concat parts.now) }
 {

@@ -25,7 +25,7 @@ parts_first (byte ∷ bytes) later no_slash = go (byte == 47) refl (parts_first 
   go true e rest = absurd (no_slash 0 (omega arith) ((Decides-eqb byte 47).0 e))
   go false e rest = ap (in_front byte) rest
 
--- the texts behind references
+-- the texts after references
 abbrev pub texts : List (Bor (List ℕ)) → List Name
 texts parts = map (λ part. part.now) parts
 

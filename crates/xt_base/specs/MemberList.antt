@@ -21,10 +21,10 @@ are_members nodes = nat_le 1 (length nodes) && nat_le (length nodes) 9 && are_di
 abbrev pub seen : Inside → List NodeId
 seen m = take m.count m.nodes
 
--- the nodes in the first places, and zeros behind them
+-- the nodes in the first places, and zeros after them
 abbrev pub filled : List NodeId → Inside
 filled nodes = record { nodes = nodes ++ replicate (9 - length nodes) (record { 0 = 0 }); count = length nodes }
 
--- at most nine, with zeros behind
+-- at most nine, with zeros after
 abbrev pub IsFilled : Inside → Type 0
 IsFilled m = (m.count ≤ 9) × (filled (seen m) ≡ m)

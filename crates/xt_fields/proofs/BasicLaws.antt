@@ -288,7 +288,7 @@ counted_field {A} {bytes} {fits} {at} {size} {size_at} limit width lt q p = reco
       ∙ rw (counts, g, list_again p list rest h.each) refl;
 }
 
--- ---- fields behind a tag
+-- ---- fields after a tag
 
 pub tagged_field : {B : Type 0} {bytes : B → List ℕ} {fits : B → Type 0} {arms : ℕ → Field B} → AreArms bytes fits arms
     → ((b : B) (rest : List ℕ) → fits b → tagged arms (bytes b ++ rest) ≡ Ok (b, rest)) → IsField bytes fits (tagged arms)

@@ -81,9 +81,9 @@ as_field to from p = record {
   again = λ a rest within. p.again a rest (from a within);
 }
 
--- ---- fields behind a tag
+-- ---- fields after a tag
 
--- what is read behind a tag is spelled with it
+-- what is read after a tag is spelled with it
 pub record IsArm {B : Type 0} (bytes : B → List ℕ) (fits : B → Type 0) (tag : ℕ) (at : Field B) : Type 0 where
   pub takes : (given : List ℕ) (x : B × List ℕ) → AreBytes given → at given ≡ Ok x → Taken (tag ∷ given) (bytes x.0) x.1 (fits x.0)
 
@@ -112,7 +112,7 @@ lone_arm {B} {bytes} {fits} tag b spelled within = record {
       (record { parts = ap (λ (t : List ℕ). t ++ given) (sym spelled); left = all; within = within });
 }
 
--- what is read behind any tag is spelled with it
+-- what is read after any tag is spelled with it
 pub record AreArms {B : Type 0} (bytes : B → List ℕ) (fits : B → Type 0) (at : ℕ → Field B) : Type 0 where
   pub takes : (tag : ℕ) (given : List ℕ) (x : B × List ℕ) → AreBytes given → at tag given ≡ Ok x → Taken (tag ∷ given) (bytes x.0) x.1 (fits x.0)
 

@@ -1,6 +1,6 @@
-//! Numbers, bytes and texts as fields: numbers with the high byte first, bytes and texts behind their length.
+//! Numbers, bytes and texts as fields: numbers with the high byte first, bytes and texts after their length.
 //!
-//! A reader takes fields from the front of bytes, and a writer puts one field behind the other. What is written is
+//! A reader takes fields from the front of bytes, and a writer puts one field after the other. What is written is
 //! the one spelling of a value, what is read is the value whose spelling stands there, and no second spelling is
 //! taken. What is refused leaves a reader as it was.
 #![tactic(auto)]

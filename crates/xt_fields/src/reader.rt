@@ -199,7 +199,7 @@ impl<'a> FieldReader<'a> {
         Ok(tag)
     }
 
-    /// Bytes behind their length in four bytes. `Over` exactly where the length passes the limit, and else `Short`
+    /// Bytes after their length in four bytes. `Over` exactly where the length passes the limit, and else `Short`
     /// exactly where too few bytes are left; after an error nothing is read.
     #[tactic(auto, unfolding(crate::specs::BasicFields::octets_at))]
     pub fn octets(&mut self, alloc: Global, limit: u32) -> Result<Octets, FieldErr>
@@ -215,7 +215,7 @@ impl<'a> FieldReader<'a> {
         Ok(octets)
     }
 
-    /// UTF-8 behind its length in two bytes. `Over` exactly where the length passes the limit, else `Short` exactly where
+    /// UTF-8 after its length in two bytes. `Over` exactly where the length passes the limit, else `Short` exactly where
     /// too few bytes are left, else `NotText` exactly where they aren't UTF-8; after an error nothing is read.
     #[tactic(auto, unfolding(crate::specs::BasicFields::text_at, crate::specs::BasicFields::utf8_at))]
     pub fn text(&mut self, alloc: Global, limit: u16) -> Result<Name, FieldErr>

@@ -6,7 +6,7 @@ use std::alloc::Global;
 use std::marker::Model;
 use xt_base::{Octets, OutOfMemory};
 
-/// Writes fields one behind the other. Contracts see the bytes that are written.
+/// Writes fields one after the other. Contracts see the bytes that are written.
 #[derive(Drop)]
 pub struct FieldWriter {
     bytes: Vec<u8>,
@@ -102,7 +102,7 @@ impl FieldWriter {
         self.raw(&tag)
     }
 
-    /// Bytes behind their length in four bytes.
+    /// Bytes after their length in four bytes.
     #[tactic(auto, unfolding(crate::specs::BasicFields::word_bytes))]
     pub fn octets(&mut self, value: &[u8]) -> Result<(), OutOfMemory>
         requires { length value.now < 2 ^ 32 }
@@ -115,7 +115,7 @@ impl FieldWriter {
         self.bytes.put_slice(value)
     }
 
-    /// UTF-8 behind its length in two bytes.
+    /// UTF-8 after its length in two bytes.
     #[tactic(auto, unfolding(crate::specs::BasicFields::half_bytes))]
     pub fn text(&mut self, value: &str) -> Result<(), OutOfMemory>
         requires { length value.now < 2 ^ 16 }

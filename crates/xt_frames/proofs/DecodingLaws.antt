@@ -49,7 +49,7 @@ whole_ok (Err d) y e = absurd cc
 abbrev framed_as : {A : Type 0} → A → Result A FrameErr
 framed_as x = Ok x
 
--- ---- what is behind the length
+-- ---- what comes after the length
 
 record Part (bytes part : List ℕ) : Type 0 where
   rest : List ℕ

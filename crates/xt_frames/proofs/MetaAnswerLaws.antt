@@ -90,7 +90,7 @@ meta_answer_arms_take = or_arm 0 (lone_arm 0 answer.Done refl tt) (or_arm 12 nam
 refused_as : (field : Field MetaRefusal) (bytes : List ℕ) {x : MetaRefusal × List ℕ} → field bytes ≡ Ok x → made answer.Refused field bytes ≡ Ok (answer.Refused x.0, x.1)
 refused_as field bytes e = rw e refl
 
--- a refusal is behind none of the other tags
+-- a refusal stands after none of the other tags
 refused_again : (r : MetaRefusal) (rest : List ℕ) → FitsMetaRefusal r → tagged meta_answer_arms (refusal_bytes r ++ rest) ≡ Ok (answer.Refused r, rest)
 unfolding byte_at meta_answer_arms refusal_arms forbidden_at too_few_at report_denied_at
 refused_again refusal.NotFound rest h = refl

@@ -23,7 +23,7 @@ use Rattle.xt_frames.proofs.RegistryAnswerLaws.{registry_answer_field}
 use Rattle.xt_frames.specs.Frames.{kind_of, payload_bytes}
 use Rattle.xt_frames.specs.PayloadFields.{ballot_of_at, epoch_of_at, versioned_at, read_fields, promise_fields, write_fields, accepted_fields, outrun_fields, gather_fields, status_fields, fetch_fields, object_fields, stage_fields, staged_fields, head_fields, update_fields, ack_fields, refused_fields, behind_fields, missing_fields, ask_fields, reply_fields, meta_fields, meta_reply_fields, registry_fields, registry_reply_fields, stop_fields, lease_arms, replica_arms, service_arms, payload_arms, message_at}
 
--- the fields behind the kind
+-- the fields after the kind
 abbrev pub marked : Payload → List ℕ
 marked p = byte_bytes (kind_of p) ++ payload_bytes p
 

@@ -26,7 +26,7 @@ abbrev pub as_frame : {A : Type 0} → Result A FieldErr → Result A FrameErr
 as_frame (Ok x) = Ok x
 as_frame (Err e) = Err fault.Field
 
--- fewer than 4 bytes, a length above 262,144, fewer bytes than the length, a length below 14; else what is behind the length
+-- fewer than 4 bytes, a length above 262,144, fewer bytes than the length, a length below 14; else what comes after the length
 unfoldable pub cut_of : ℕ → List ℕ → Result (List ℕ) FrameErr
 cut_of len bytes =
     if nat_lt FRAME len then Err fault.TooLong

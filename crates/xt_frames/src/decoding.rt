@@ -20,7 +20,7 @@ const SHORTEST: usize = 14;
 /// How many kinds there are.
 const KINDS: u8 = 24;
 
-/// What is behind the length of the frame at the front.
+/// What comes after the length of the frame at the front.
 #[tactic(auto, unfolding(crate::specs::Decoding::part_of, crate::specs::Decoding::first_word, crate::specs::Decoding::cut_of))]
 fn part_of(bytes: &[u8]) -> Result<&[u8], FrameErr>
     ensures { Gives (λ part. part.now) result (part_of bytes.now) }
@@ -41,7 +41,7 @@ fn part_of(bytes: &[u8]) -> Result<&[u8], FrameErr>
     Ok(&bytes[4..len])
 }
 
-/// The kind, behind the version.
+/// The kind, after the version.
 #[tactic(auto, unfolding(crate::specs::Decoding::head_at, crate::specs::Decoding::kind_at))]
 fn kind_of(reader: &mut FieldReader<'_>) -> Result<u8, FrameErr>
     ensures { Gives (λ kind. (kind, reader.new)) result (head_at reader.old) }
@@ -57,7 +57,7 @@ fn kind_of(reader: &mut FieldReader<'_>) -> Result<u8, FrameErr>
     Ok(kind)
 }
 
-/// The message that is behind the length of a frame.
+/// The message that comes after the length of a frame.
 #[tactic(auto, unfolding(crate::specs::Decoding::message_of))]
 fn message_of(alloc: Global, part: &[u8]) -> Result<Msg, FrameErr>
     ensures { Gives (λ msg. msg) result (message_of part.now) }

@@ -16,7 +16,7 @@ use xt_wire::WriteIds;
 /// Room for most frames, in bytes: those of the longer ones make room for themselves.
 const ROOM: usize = 256;
 
-/// What is behind the length.
+/// What comes after the length.
 fn put_content(writer: &mut FieldWriter, msg: &Msg) -> Result<(), OutOfMemory>
     requires { FitsMessage msg.now }
     ensures { OnOk result (writer.new ≡ writer.old ++ content_of msg.now) }

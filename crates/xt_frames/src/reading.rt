@@ -89,7 +89,7 @@ fn payload(reader: &mut FieldReader<'_>, alloc: Global, kind: u8) -> Result<Payl
     }
 }
 
-/// What is behind a frame's kind.
+/// What comes after a frame's kind.
 #[tactic(auto, unfolding(crate::specs::PayloadFields::message_at))]
 pub(crate) fn message(
     reader: &mut FieldReader<'_>,

@@ -19,7 +19,7 @@ pub on_err : {T E P Q : Type 0} (r : Result T E) → OnErr r P → (P → Q) →
 on_err (Ok x) p f = p
 on_err (Err e) p f = f p
 
--- the plan behind two runs of calls
+-- the plan after two runs of calls
 pub follows : (a b c : ℕ → ℕ → Bool) (l₁ c₁ l₂ c₂ : ℕ) → GoesOn l₁ c₁ a b → GoesOn l₂ c₂ b c → GoesOn (l₁ + l₂) (c₁ + c₂) a c
 follows a b c l₁ c₁ l₂ c₂ first second = λ l k.
     let looks : l₁ + (l₂ + l) ≡ (l₁ + l₂) + l = omega arith in
@@ -30,7 +30,7 @@ pub an_err : {T E P : Type 0} (r : Result T E) → P → OnErr r P
 an_err (Ok x) p = tt
 an_err (Err e) p = p
 
--- the first failure behind two calls that succeed
+-- the first failure after two calls that succeed
 pub later_failure : (old mid : ℕ → ℕ → Bool) → GoesOn 0 2 old mid → AllSucceed old 2 → (call : ℕ) → IsFirstFailure mid call → IsFirstFailure old (2 + call)
 later_failure old mid goes two call failure = record {
   fails_there = sym (goes 0 call) ∙ failure.fails_there;

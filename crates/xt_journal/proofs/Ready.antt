@@ -14,7 +14,7 @@ use Rattle.xt_journal.specs.Loaded.{IsReady, IsUnready, FailedCall, LeavesAsBefo
 pub all_read : (len size : ℕ) (read buf : List ℕ) → size ≡ len → len ≡ length read → buf ≡ take size read → buf ≡ read
 all_read len size read buf same whole is = is ∙ take_all size read (omega (arith, same, whole))
 
--- behind its sync
+-- after its sync
 pub left_later : (old mid new : Kept) → mid ≡ at_rest old.read → LeavesDisk mid new → LeavesDisk old new
 left_later old mid new rests left =
     let read : mid.read ≡ old.read = ap (λ (k : Kept). k.read) rests in
@@ -33,7 +33,7 @@ pub not_fresh : (bytes : List ℕ) (fresh : Bool) → TellsFresh bytes fresh →
 not_fresh bytes true tells is = absurd cc
 not_fresh bytes false tells is = tells
 
--- behind a reservation, which leaves what is kept and which calls fail
+-- after a reservation, which leaves what is kept and which calls fail
 module _ (old mid : ℕ → ℕ → Bool) (is : (l c : ℕ) → mid l c ≡ old l c) (bytes same : List ℕ) (are : same ≡ bytes) where
   pub made_first : (new : ℕ → ℕ → Bool) → MadeCalls mid new same → MadeCalls old new bytes
   made_first new made = record {

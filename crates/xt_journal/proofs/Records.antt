@@ -35,7 +35,7 @@ not_cut_off payload rest is some (inr (inl none)) = omega (arith, none, number_o
 not_cut_off payload rest is some (inr (inr less)) =
     omega (arith, less, number_of_record payload rest is.fits, length-append (record_of payload) rest, length-record payload)
 
--- a gate with what is behind it, where the records end
+-- a gate with what comes after it, where the records end
 abbrev pub EndsRecords : ℕ → List ℕ → Type 0
 EndsRecords gate rest = (gate ≢ open_gate) ⊎ IsCutOff rest
 

@@ -22,7 +22,7 @@ use Rattle.xt_journal.proofs.Unique.{stands_for_one}
 use Rattle.std.proofs.Math.Logic.{∥∥₁_elim, ∥∥₁_map}
 use Rattle.std.proofs.Props.{props}
 
--- a piece over the bytes behind a front
+-- a piece over the bytes after a front
 over : (place : ℕ) (front piece tail : List ℕ) → length front ≡ place → overlay (front ++ tail) place piece ≡ front ++ (piece ++ drop (length piece) tail)
 over place front piece tail size =
     let bytes = front ++ tail in
@@ -77,7 +77,7 @@ module _ (payloads : List (List ℕ)) (payload : List ℕ) (fit : All IsPayload 
     long : end + 1 ≤ length bytes
     long = omega (arith, ap length are, size, length-append front (gate ∷ rest))
 
-    -- the record is written behind a gate that stays closed
+    -- the record is written after a gate that stays closed
     stage_image : (piece image : List ℕ) → MayBeTorn (end + 1) piece bytes image → IsJournal image payloads
     stage_image piece image torn =
         let start : take (end + 1) image ≡ front ++ gate ∷ [] =
@@ -219,7 +219,7 @@ turn_of kept same end piece payloads payload is goes is_piece = record {
 pub length-piece : (payload piece : List ℕ) → piece ≡ record_of payload ++ 0 ∷ [] → length piece ≡ 5 + length payload
 length-piece payload piece is = omega (arith, ap length is, length-append (record_of payload) (0 ∷ []), length-record payload)
 
--- and it ends behind the new record
+-- and it ends after the new record
 pub ends_later : (kept new : Kept) (end later : ℕ) (payload : List ℕ) → later ≡ end + (5 + length payload) → ∥ EndsAt kept end ∥₁
     → ((payloads : List (List ℕ)) → KeepsJournal kept payloads → KeepsJournal new (payloads ++ payload ∷ [])) → ∥ EndsAt new later ∥₁
 ends_later kept new end later payload is ends done =

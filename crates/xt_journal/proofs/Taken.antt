@@ -88,7 +88,7 @@ module _ (left gates before : List ℕ) (gate : ℕ) (payloads : List (List ℕ)
     | inr more ↦ is_last more.0 more.1 more.2
   ]
 
--- some are left, and those behind them were taken, the last one first
+-- some are left, and those after them were taken, the last one first
 pub record IsHalfway (all : List (List ℕ)) (left gates : List ℕ) (placed : List Placed) : Type 0 where
   pub payloads : List (List ℕ)
   pub has : HasRecords left gates payloads

@@ -13,7 +13,7 @@ sign = 0x58 ∷ 0x54 ∷ 0x46 ∷ 0x53 ∷ 0x4a ∷ 0x52 ∷ 0x4e ∷ 0x4c ∷ [
 abbrev pub header : List ℕ
 header = sign ++ 0 ∷ 0 ∷ 0 ∷ 1 ∷ []
 
--- each behind an open gate
+-- each after an open gate
 abbrev pub records : List (List ℕ) → List ℕ
 records [] = []
 records (payload ∷ payloads) = open_gate ∷ (record_of payload ++ records payloads)
@@ -22,11 +22,11 @@ records (payload ∷ payloads) = open_gate ∷ (record_of payload ++ records pay
 abbrev pub journal_of : List (List ℕ) → List ℕ
 journal_of payloads = header ++ (records payloads ++ 0 ∷ [])
 
--- the place of the gate behind the records
+-- the place of the gate after the records
 abbrev pub end_of : List (List ℕ) → ℕ
 end_of payloads = 12 + length (records payloads)
 
--- The header, these records with open gates, and a gate that isn't open. What is behind that doesn't count.
+-- The header, these records with open gates, and a gate that isn't open. What comes after that doesn't count.
 pub record IsJournal (bytes : List ℕ) (payloads : List (List ℕ)) : Type 0 where
   pub fit : All IsPayload payloads
   pub gate : ℕ

@@ -27,7 +27,7 @@ pub record HasRecords (bytes gates : List ℕ) (payloads : List (List ℕ)) : Ty
   pub are : bytes ≡ header ++ records payloads
   pub places : gates ≡ gates_of payloads
 
--- behind the header: records up to a gate that isn't open
+-- after the header: records up to a gate that isn't open
 pub record AreRecords (bytes : List ℕ) (end : ℕ) (gates : List ℕ) : Type 0 where
   pub payloads : List (List ℕ)
   pub fit : All IsPayload payloads
@@ -38,7 +38,7 @@ pub record AreRecords (bytes : List ℕ) (end : ℕ) (gates : List ℕ) : Type 0
   pub places : gates ≡ gates_of payloads
   pub is_end : end ≡ end_of payloads
 
--- behind the header: records up to an open gate that isn't followed by one
+-- after the header: records up to an open gate that isn't followed by one
 pub record AreDamaged (bytes : List ℕ) (place : ℕ) : Type 0 where
   pub payloads : List (List ℕ)
   pub fit : All IsPayload payloads

@@ -28,7 +28,7 @@ pub fn need_of(end: u64, len: usize, limit: u64) -> Result<u64, u64>
     }
 }
 
-/// A payload behind its length, and the next gate, closed.
+/// A payload after its length, and the next gate, closed.
 pub fn piece_of(alloc: Global, payload: &[u8]) -> Result<Vec<u8>, OutOfMemory>
     requires { length payload.now < 2 ^ 32 }
     ensures { IfOk result (λ piece. piece.items ≡ record_of payload.now ++ 0 ∷ []) }

@@ -47,7 +47,7 @@ impl<T: Drop> From<AllocFailed<T>> for Trouble {
     }
 }
 
-/// The payloads that stand in more than 13 bytes, and the place of the gate behind them.
+/// The payloads that stand in more than 13 bytes, and the place of the gate after them.
 ///
 /// The memory of the bytes is given back while they are taken, so that they never stand there twice.
 pub fn parse(alloc: Global, bytes: Vec<u8>) -> Result<(u64, Vec<Placed>), Trouble>
@@ -64,7 +64,7 @@ pub fn parse(alloc: Global, bytes: Vec<u8>) -> Result<(u64, Vec<Placed>), Troubl
     Ok((end, placed))
 }
 
-/// The places of the gates of the records that stand in more than 13 bytes, and of the gate behind them.
+/// The places of the gates of the records that stand in more than 13 bytes, and of the gate after them.
 fn find(alloc: Global, bytes: &[u8]) -> Result<(u64, Vec<u64>), Trouble>
     requires { 13 < length bytes.now }
     ensures found { Finds bytes.now result }
@@ -82,7 +82,7 @@ fn find(alloc: Global, bytes: &[u8]) -> Result<(u64, Vec<u64>), Trouble>
     find_records(alloc, &bytes[12..])
 }
 
-/// The same behind the header.
+/// The same after the header.
 fn find_records(alloc: Global, records: &[u8]) -> Result<(u64, Vec<u64>), Trouble>
     requires { 1 ≤ length records.now }
     ensures found { FindsRecords records.now result }

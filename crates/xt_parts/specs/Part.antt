@@ -21,7 +21,7 @@ header_bytes header =
     VERSION ∷ to_be_bytes w32 header.id.sender.0 ++ to_be_bytes w64 header.id.boot.0
     ++ to_be_bytes w64 header.id.number ++ header.index ∷ parts_in header.size ∷ to_be_bytes w32 header.size
 
--- the payload stands behind the header
+-- the payload stands after the header
 abbrev pub part_bytes : Header → List ℕ → List ℕ
 part_bytes header payload = header_bytes header ++ payload
 

@@ -38,7 +38,7 @@ is_issued_ask (Some issued) id = is_id issued.ask.id id
 abbrev pub asked_already : Asks → OpId → Bool
 asked_already asks id = list_any (λ w. is_id w.id id) asks.waiting || is_issued_ask asks.issued id
 
--- waits: behind the others; lost where as many wait as may
+-- waits: after the others; lost where as many wait as may
 abbrev pub waits : Asks → WaitingAsk → Asks
 waits asks ask = if nat_lt (length asks.waiting) WAITING then record asks { waiting = asks.waiting ++ ask ∷ [] } else asks
 
@@ -111,7 +111,7 @@ serves_all g p waiting = fold (serves_waiting g) (record { primary = p; asks = n
 abbrev pub comes_back : Asks → Asks
 comes_back asks = elim asks.issued [ None ↦ asks | Some issued ↦ record { waiting = issued.ask ∷ asks.waiting; issued = None } ]
 
--- the asks behind a row that leaves the primary in a tenure: while an update is issued they wait, and where the tenure is a
+-- the asks after a row that leaves the primary in a tenure: while an update is issued they wait, and where the tenure is a
 -- new one the issued ask comes back
 abbrev pub asks_behind : Option Tenure → Asks → Asks
 asks_behind tenure asks = if is_active tenure then asks else comes_back asks

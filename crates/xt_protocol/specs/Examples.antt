@@ -350,7 +350,7 @@ deadline =
 abbrev pub deadline_reply : List Msg
 deadline_reply = reply_to (node 1) file_1 (id_of 10 1) (reply.NoMajority 1 2) ∷ []
 
--- Two writes wait behind one that is issued when the primary becomes active. They stay as they are, also the one that is too far,
+-- Two writes wait after one that is issued when the primary becomes active. They stay as they are, also the one that is too far,
 -- and are looked at once the issued one is committed.
 abbrev pub behind_issued : List Deed
 behind_issued =
@@ -430,7 +430,7 @@ abbrev pub striped_write : Acted
 striped_write =
     after_record striped_update (payload.Reply 1 file_1 (reply.Ok 1 (record { epoch = 0; size = 131075 }) []))
 
--- a read shows what the write left, with zeros behind it; another node doesn't own the object
+-- a read shows what the write left, with zeros after it; another node doesn't own the object
 abbrev pub striped_read : Acted
 striped_read =
     only (payload.Reply 2 file_1 (reply.Ok 1 (record { epoch = 0; size = 131075 }) (98 ∷ 99 ∷ 0 ∷ [])))

@@ -118,7 +118,7 @@ IsInPlace folded (kept.View file location) = Unit {0}
 IsInPlace folded (kept.Boot boot) = Unit {0}
 IsInPlace folded (kept.Meta from number now nodes request) = Unit {0}
 
--- each record is in its place behind those before it
+-- each record is in its place after those before it
 abbrev pub AreInPlace : Folded → List Record → Type 0
 AreInPlace folded [] = Unit {0}
 AreInPlace folded (rec ∷ recs) = IsInPlace folded rec × AreInPlace (folded_after folded rec) recs

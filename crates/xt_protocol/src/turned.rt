@@ -180,7 +180,7 @@ pub fn to_each(
     Ok(outs)
 }
 
-/// Takes these items behind the others.
+/// Takes these items after the others.
 fn append<T: Drop>(items: &mut Seq<T>, more: &mut Seq<T>) -> Result<(), OutOfMemory>
     ensures { OnOk result (items.new ≡ items.old ++ more.old) }
 {
@@ -192,7 +192,7 @@ fn append<T: Drop>(items: &mut Seq<T>, more: &mut Seq<T>) -> Result<(), OutOfMem
     Ok(())
 }
 
-/// Takes what the next part of a step gives behind what the first one gave. No two parts of a step make a record.
+/// Takes what the next part of a step gives after what the first one gave. No two parts of a step make a record.
 pub fn extend(first: &mut Turned, next: &mut Turned) -> Result<(), OutOfMemory>
     ensures { OnOk result (first.new ≡ rows.joined first.old next.old) }
 {

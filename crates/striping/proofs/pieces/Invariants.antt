@@ -3,7 +3,7 @@ use Rattle.striping.specs.declared.Piece.{Piece}
 use Rattle.striping.specs.Cover.{Covers}
 use Rattle.striping.proofs.pieces.Given as goal
 
--- what covers the rest of the range covers the whole behind these
+-- what covers the rest of the range covers the whole after these
 abbrev pub invariant-loop-from : goal.invariant-loop-from
 invariant-loop-from l =
     (l.from ≤ l.end)

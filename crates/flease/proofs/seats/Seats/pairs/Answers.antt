@@ -20,7 +20,7 @@ counted_pairs-some seat boot e = ap (λ (counted : Option Boot). counted_pairs (
 counted_pairs-none : (seat : Seat) → seat.counted ≡ None → counted_pairs (seat ∷ []) ≡ []
 counted_pairs-none seat e = ap (λ (counted : Option Boot). counted_pairs (record { node = seat.node; counted = counted; accepted = seat.accepted } ∷ [])) e
 
--- nothing behind a list
+-- nothing after a list
 append_nil : {A : Type 0} (xs : List A) → xs ++ [] ≡ xs
 append_nil [] = refl
 append_nil (x ∷ xs) = ap (λ ys. x ∷ ys) (append_nil xs)
