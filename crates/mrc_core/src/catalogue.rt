@@ -1,4 +1,5 @@
-ghost use Rattle.std.specs.Prelude.{◌≡◌, ◌≤◌, ◌<◌, false, length, nat_eq, OnOk, OnErr, IfOk, Some};
+ghost use Rattle.std.specs.Prelude.{◌≡◌, ◌≤◌, ◌<◌, false, length, nat_eq, slice_get, OnOk, OnErr, IfOk, Some};
+ghost use Rattle.std.specs.Option.{option_map};
 ghost use Rattle.indexmap.specs.IndexMap.{insert_entry, spare};
 ghost use Rattle.xt_messages.specs.declared.meta.MetaReq.TheVariants as ask;
 ghost use Rattle.kept_answers.specs.Standings.{standing_of};
@@ -61,20 +62,20 @@ fn put(made: &mut IndexMap<u64, MadeFile>, number: u64, file: MadeFile)
 /// Notes what a request that is done did to the file that it makes or unlinks, if there is one. There is room for it.
 fn note(
     made: &mut IndexMap<u64, MadeFile>,
-    file: Option<FileId>,
+    file: &Option<FileId>,
     place: &Picked,
     now: u64,
     request: &MetaReq,
 )
     requires { 0 < spare made.old }
-    ensures { made.new.entries ≡ noted_of file place.now now request.now made.old.entries }
+    ensures { made.new.entries ≡ noted_of file.now place.now now request.now made.old.entries }
 {
     let Some(file) = file else { return };
     match request {
         MetaReq::Create { .. } => {
             if let Picked::On { location } = place {
                 let new = MadeFile {
-                    file,
+                    file: *file,
                     location: *location,
                     unlinked: None,
                 };
@@ -240,8 +241,25 @@ impl Catalogue {
             .collect(alloc)
     }
 
+    /// How many files were ever made.
+    pub fn made_count(&self) -> usize
+        ensures { result ≡ length self.now.made }
+    {
+        self.made.len()
+    }
+
+    /// The file at this place among those that were ever made, by rising number, if there are so many.
+    pub fn made_at(&self, place: usize) -> Option<MadeFile>
+        ensures { result ≡ option_map (λ entry. entry.1) (slice_get self.now.made place) }
+    {
+        match self.made.get_index(place) {
+            Some((_, made)) => Some(*made),
+            None => None,
+        }
+    }
+
     /// The file that a request makes or unlinks.
-    fn subject(&self, alloc: Global, request: &MetaReq) -> Result<Option<FileId>, OutOfMemory>
+    pub fn subject(&self, alloc: Global, request: &MetaReq) -> Result<Option<FileId>, OutOfMemory>
         ensures { IfOk result (λ file. file ≡ subject_of self.now.volumes request.now) }
     {
         match request {
@@ -251,31 +269,31 @@ impl Catalogue {
         }
     }
 
-    /// Makes a change of names, rights or files, and keeps its answer. Nothing changes if memory runs out.
+    /// Makes a change of names, rights or files, of its subject, and keeps its answer. Nothing changes if memory runs out.
     #[tactic(auto, using(crate::proofs::Noting::noted_is_made))]
     pub fn change(
         &mut self,
-        alloc: Global,
         site: &Site,
         asking: &Asking,
         nodes: &Option<Members>,
+        subject: &Option<FileId>,
     ) -> Result<Settled, OutOfMemory>
         requires change { IsChange asking.now.request.now }
         requires wants { WantsSome asking.now.request.now }
         requires left { rows.is_spent self.old.volumes asking.now.who asking.now.request.now ≡
             false }
+        requires subject { subject.now ≡ subject_of self.old.volumes asking.now.request.now }
         ensures ok { OnOk result (self.new ≡ after_asking site.now self.old asking.now nodes.now) }
         ensures answer { IfOk result (λ settled. answer_of settled ≡
             (outcome_at site.now self.old asking.now nodes.now).answer) }
         ensures err { OnErr result (self.new ≡ self.old) }
     {
-        let file = self.subject(alloc, asking.request)?;
         let place = place_of(nodes, asking.request);
         self.made.reserve(1)?;
         self.clients.reserve()?;
         let settled = change(&mut self.tree, asking.who, &place, asking.request)?;
         if settled.is_done() {
-            note(&mut self.made, file, &place, site.clock, asking.request);
+            note(&mut self.made, subject, &place, site.clock, asking.request);
         }
         self.clients
             .keep(asking.client, asking.number, settled.answer());
@@ -318,7 +336,8 @@ impl Catalogue {
             Plan::Nothing => Ok(()),
             Plan::Tell { .. } => Ok(()),
             Plan::Change => {
-                self.change(alloc, site, asking, nodes)?;
+                let subject = self.subject(alloc, asking.request)?;
+                self.change(site, asking, nodes, &subject)?;
                 Ok(())
             }
             Plan::Set { settling } => self.set(asking.client, asking.number, settling),

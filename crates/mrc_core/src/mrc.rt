@@ -1,4 +1,5 @@
-ghost use Rattle.std.specs.Prelude.{◌≡◌, ◌≤◌, ◌<◌, ◌^◌, [], length, IfOk, OnOk, OnErr, Ok, All};
+ghost use Rattle.std.specs.Prelude.{◌≡◌, ◌≤◌, ◌<◌, ◌^◌, [], length, slice_get, IfOk, OnOk, OnErr, Ok, All};
+ghost use Rattle.std.specs.Option.{option_map};
 ghost use Rattle.capabilities.specs.Stops.{is_stop};
 ghost use Rattle.xt_protocol.specs.OsdSteps.{asks_dir};
 ghost use Rattle.server_rows.specs.Laws.{files_made};
@@ -12,6 +13,7 @@ use crate::catalogue::Catalogue;
 use crate::picking::nodes_of;
 use crate::serving::requested;
 use capabilities::is_stop;
+use server_rows::MadeFile;
 use std::alloc::Global;
 use std::marker::Model;
 use volume_rows::Asker;
@@ -143,6 +145,22 @@ impl Mrc {
         ensures { IfOk result (λ files. files.items ≡ files_made self.now.state.catalogue.made) }
     {
         self.catalogue.files(self.alloc)
+    }
+
+    /// How many files were ever made.
+    pub fn made_count(&self) -> usize
+        ensures { result ≡ length self.now.state.catalogue.made }
+    {
+        self.catalogue.made_count()
+    }
+
+    /// The file at this place among those that were ever made, by rising number (`server_rows::made_files_rise`), if there are so
+    /// many.
+    pub fn made_at(&self, place: usize) -> Option<MadeFile>
+        ensures { result ≡
+            option_map (λ entry. entry.1) (slice_get self.now.state.catalogue.made place) }
+    {
+        self.catalogue.made_at(place)
     }
 
     /// Hears a message at a clock.

@@ -7,7 +7,7 @@ ghost use Rattle.mrc_core.specs.Picking.{WantsSome};
 use replica_lists::{PickErr, pick};
 use std::alloc::{AllocError, Global};
 use volume_rows::Picked;
-use xt_base::{Members, NodeId, OutOfMemory, Seq, has_node};
+use xt_base::{FileId, Members, NodeId, OutOfMemory, Seq, has_node};
 use xt_messages::{Kind, Location, Mark, Marks, MetaReq, RegistryRow};
 
 /// The nodes of rows, each once.
@@ -107,13 +107,13 @@ pub fn place_of(nodes: &Option<Members>, request: &MetaReq) -> Picked
 }
 
 /// The mark of a new file, where it was placed.
-pub fn marks_on(alloc: Global, next: u64, place: &Picked) -> Result<Marks, OutOfMemory>
-    ensures { IfOk result (λ marks. marks ≡ rows.marks_on next place.now) }
+pub fn marks_on(alloc: Global, file: &Option<FileId>, place: &Picked) -> Result<Marks, OutOfMemory>
+    ensures { IfOk result (λ marks. marks ≡ rows.marks_on file.now place.now) }
 {
     let mut marks = Seq::new(alloc);
-    if let Picked::On { location } = place {
+    if let (Some(file), Picked::On { location }) = (file, place) {
         marks.push(Mark::File {
-            file: next,
+            file: *file,
             location: *location,
         })?;
     }

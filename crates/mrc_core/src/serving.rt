@@ -132,6 +132,7 @@ impl Prepared {
 }
 
 /// Handles a fresh request that changes names, rights or files.
+#[tactic(auto, using(crate::proofs::Noting::subject_is_marked))]
 fn changed(
     alloc: Global,
     catalogue: &mut Catalogue,
@@ -149,9 +150,10 @@ fn changed(
 {
     let next = catalogue.next();
     let nodes = nodes_for(alloc, site.osds, next, asking.request)?;
-    let marks = marks_on(alloc, next, &place_of(&nodes, asking.request))?;
+    let subject = catalogue.subject(alloc, asking.request)?;
+    let marks = marks_on(alloc, &subject, &place_of(&nodes, asking.request))?;
     let made = Prepared::of(alloc, site, asking, &nodes, marks)?;
-    let settled = catalogue.change(alloc, site, asking, &nodes)?;
+    let settled = catalogue.change(site, asking, &nodes, &subject)?;
     Ok(made.turned(alloc, asking, &settled))
 }
 

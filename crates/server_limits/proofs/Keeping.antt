@@ -35,7 +35,7 @@ follows_one (kept.Stage file object version bytes) folded fits = absurd fits
 follows_one (kept.Head file head) folded fits = absurd fits
 follows_one (kept.View file location) folded fits = absurd fits
 
-follows : (records : List Record) (rec : Option Record) → IfSome rec FitsKept → MayFollow records rec
+pub follows : (records : List Record) (rec : Option Record) → IfSome rec FitsKept → MayFollow records rec
 follows records None fits = tt
 follows records (Some rec) fits = follows_one rec (fold_of records) fits
 

@@ -9,7 +9,7 @@ use Rattle.xt_base.specs.declared.TheConstants.{COUNTS}
 use Rattle.xt_base.specs.FieldLimits.{IsCount}
 use Rattle.xt_base.specs.declared.ids.NodeId.{NodeId}
 use Rattle.xt_base.specs.declared.ids.FileId.{FileId}
-use Rattle.xt_messages.specs.Limits.{FitsNode, FitsMembers, FitsMetaReq, FitsMetaAnswer, FitsRegistryAnswer, FitsPayload, FitsEvent, FitsRecord}
+use Rattle.xt_messages.specs.Limits.{FitsFile, FitsNode, FitsMembers, FitsMetaReq, FitsMetaAnswer, FitsRegistryAnswer, FitsPayload, FitsEvent, FitsRecord}
 use Rattle.xt_messages.specs.declared.meta.MetaReq.{MetaReq}
 use Rattle.xt_messages.specs.declared.meta.MetaReq.TheVariants as ask
 use Rattle.xt_messages.specs.declared.meta.MetaAnswer.{MetaAnswer}
@@ -35,7 +35,7 @@ use Rattle.volume_rows.specs.Paths.{Path, path_in}
 use Rattle.volume_rows.specs.Rows.{Volumes}
 use Rattle.volume_rows.specs.Grants.{volume_id, file_at}
 use Rattle.server_rows.specs.declared.MadeFile.{MadeFile}
-use Rattle.server_rows.specs.Requests.{outcome_of, place_of, placed, nodes_in, is_done, new_file, noted, ends_at, ended, made_by, marks_on, is_recorded, is_spent, nodes_for}
+use Rattle.server_rows.specs.Requests.{outcome_of, place_of, placed, nodes_in, is_done, new_file, noted, ends_at, ended, made_by, file_wanted, marks_on, is_recorded, is_spent, nodes_for}
 use Rattle.server_rows.specs.Metadata.{Catalogue, MrcState, empty_catalogue, after_request, after_meta, after_record, mrc_of, nothing, answered, recorded, fresh, by_standing, rows_heard, nodes_of, is_dir, told_by, handled, step_of_mrc}
 use Rattle.server_limits.specs.Limits.{IsGiven, FitsShown, FitsVolumes, FitsMade, AreMade, FitsMetaAnswers, FitsCatalogue, FitsMrc, FitsMrcStep}
 use Rattle.server_limits.proofs.Bytes.{volume_bytes, volume_length}
@@ -62,14 +62,17 @@ made_put (e ∷ es) number which new fits = go (nat_eq number e.0) (made_put es 
   go true later = (new, fits.1)
   go false later = (fits.0, later)
 
+-- a new file's id
+file_own : (volume : List ℕ) (next : ℕ) → IsGiven next → FitsFile (record { volume = volume_id volume; number = next })
+file_own volume next given = let low = given.most in record { all = volume_bytes volume; whole = volume_length volume; own = omega (arith, low) }
+
 noted_fits : (path : Option Path) (next : ℕ) (pick : Picked) (es : List (ℕ × MadeFile)) → IsGiven next → PickFits pick → AreMade es → AreMade (noted (new_file path next) pick es)
 noted_fits None next pick es given picks fits = fits
 noted_fits (Some []) next pick es given picks fits = fits
 noted_fits (Some (volume ∷ names)) next (place.TooFew have) es given picks fits = fits
 noted_fits (Some (volume ∷ names)) next (place.On location) es given picks fits =
-    let low = given.most in
     made_put es next (record { file = record { volume = volume_id volume; number = next }; location = location; unlinked = None })
-    (record { own = record { all = volume_bytes volume; whole = volume_length volume; own = omega (arith, low) }; given = given; place = picks }) fits
+    (record { own = file_own volume next given; given = given; place = picks }) fits
 
 ended_fits : (now : ℕ) (file : Option FileId) (es : List (ℕ × MadeFile)) → AreMade es → AreMade (ended now file es)
 ended_fits now None es fits = fits
@@ -97,14 +100,16 @@ after_fits true es new fits more = more
 after_fits false es new fits more = fits
 
 -- the mark of a file that is made
-placed_mark : (next : ℕ) (pick : Picked) → IsGiven next → PickFits pick → AllByRecursion FitsShown (marks_on next pick)
-placed_mark next (place.On location) given picks = ((given, picks), tt)
-placed_mark next (place.TooFew have) given picks = tt
+placed_mark : (path : Option Path) (next : ℕ) (pick : Picked) → IsGiven next → PickFits pick → AllByRecursion FitsShown (marks_on (new_file path next) pick)
+placed_mark None next pick given picks = tt
+placed_mark (Some []) next pick given picks = tt
+placed_mark (Some (volume ∷ names)) next (place.On location) given picks = ((given, file_own volume next given, picks), tt)
+placed_mark (Some (volume ∷ names)) next (place.TooFew have) given picks = tt
 
 marks_fit : (volumes : Volumes) (nodes : Option (List NodeId)) (request : MetaReq) (who : Asker) → FitsVolumes volumes → IfSome nodes FitsMembers → FitsMetaReq request → is_spent volumes who request ≡ false
-    → AllByRecursion FitsShown (marks_on volumes.next (place_of nodes request))
+    → AllByRecursion FitsShown (marks_on (file_wanted volumes.next request) (place_of nodes request))
 marks_fit volumes nodes (ask.Create path mode kind n stripe) who volumes_fit members asked unspent =
-    placed_mark volumes.next (placed kind n stripe (nodes_in nodes)) (record { least = volumes_fit.least; most = leb-false COUNTS volumes.next unspent }) (placed_fits kind n stripe nodes asked.2 asked.4 members)
+    placed_mark (path_in path) volumes.next (placed kind n stripe (nodes_in nodes)) (record { least = volumes_fit.least; most = leb-false COUNTS volumes.next unspent }) (placed_fits kind n stripe nodes asked.2 asked.4 members)
 marks_fit volumes nodes (ask.Unlink path) who volumes_fit members asked unspent = tt
 marks_fit volumes nodes (ask.Mkdir path mode) who volumes_fit members asked unspent = tt
 marks_fit volumes nodes (ask.Rename from to) who volumes_fit members asked unspent = tt
@@ -223,7 +228,7 @@ fresh_fits key mrc client number who request fits node counts asks asked = go (i
             record {
               kept = (node, counts, fits.clock, members, (asks.user, asks.users, asked));
               messages = (record { sender = omega arith; receiver = node; first = refl; content = (counts, good.told) }, tt);
-              marks = if_done (is_done (outcome_of key mrc.catalogue.volumes who mrc.last nodes request).answer) (marks_on mrc.catalogue.volumes.next (place_of nodes request)) (marks_fit mrc.catalogue.volumes nodes request who fits.catalogue.volumes members asked is);
+              marks = if_done (is_done (outcome_of key mrc.catalogue.volumes who mrc.last nodes request).answer) (marks_on (file_wanted mrc.catalogue.volumes.next request) (place_of nodes request)) (marks_fit mrc.catalogue.volumes nodes request who fits.catalogue.volumes members asked is);
             };
       }
   go false is false =

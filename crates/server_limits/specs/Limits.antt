@@ -31,7 +31,7 @@ pub record IsGiven (number : ℕ) : Type 0 where
 
 -- a server marks nothing but files that it made
 abbrev pub FitsShown : Mark → Type 0
-FitsShown (mark.File file location) = IsGiven file × FitsLocation location
+FitsShown (mark.File file location) = IsGiven file.number × FitsFile file × FitsLocation location
 FitsShown _ = ⊥
 
 -- a server keeps the records of requests, and no others

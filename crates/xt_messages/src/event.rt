@@ -5,7 +5,7 @@ use crate::registry::{RegistryReq, RegistryRow};
 use crate::reply::Answers;
 use crate::status::AskRefusal;
 use std::alloc::Global;
-use xt_base::{Copies, NodeId, Octets, OpId, OutOfMemory, Seq, SizeMark};
+use xt_base::{Copies, FileId, NodeId, Octets, OpId, OutOfMemory, Seq, SizeMark};
 
 /// A call of a client, on a file by its number, on the MRC or on the DIR.
 pub enum Call {
@@ -216,7 +216,7 @@ impl Copies for Outcome {
 pub enum Mark {
     /// The MRC made a file.
     File {
-        file: u64,
+        file: FileId,
         location: Location,
     },
     /// A client's call begins.

@@ -29,7 +29,7 @@ pub enum MetaReq {
     Rmdir {
         path: Name,
     },
-    /// The names behind `after`, in order of bytes.
+    /// The names after `after`, in order of bytes.
     List {
         path: Name,
         after: Name,
