@@ -18,6 +18,7 @@ use Rattle.truncate_epochs.specs.SizeMarks.{merged}
 use Rattle.client_rows.specs.declared.holding.HeldFile.{HeldFile}
 use Rattle.client_rows.specs.declared.progress.Learnt.{Learnt}
 use Rattle.client_rows.specs.declared.progress.Learnt.TheVariants as learnt
+use Rattle.client_rows.specs.declared.requests.Request.{Request}
 use Rattle.client_rows.specs.declared.requests.MadeCall.{MadeCall}
 use Rattle.client_rows.specs.declared.requests.Stage.{Stage}
 use Rattle.client_rows.specs.declared.requests.Stage.TheVariants as stage
@@ -28,8 +29,8 @@ use Rattle.client_rows.specs.Requests.{file_of}
 use Rattle.client_rows.specs.Waiting as waiting
 use Rattle.client_rows.specs.Rows as rows
 use Rattle.client_rows.specs.Rows.{WholeClient, stepped}
-use Rattle.client_steps.specs.Asked.{IsOnFile, AllHeld, MadeIs}
-use Rattle.client_steps.proofs.Waits.{NotGranted, event_grants_nothing}
+use Rattle.client_steps.specs.Asked.{IsOnFile, AllHeld, MadeIs, GrantIs}
+use Rattle.client_steps.proofs.Waits.{LearntIs, MayGrant, event_learns, files_grant_nothing, event_grants}
 
 -- ---- numbers
 
@@ -65,7 +66,7 @@ one a = go (nat_lt a a) (a == a) (not_less a) (is_same a)
 -- ---- by number
 
 -- an entry that is put is found under its number
-put_found : (held : Held) (file : ℕ) (h : HeldFile) → held_of (insert_entry nat_cmp held file h) file ≡ Some h
+pub put_found : (held : Held) (file : ℕ) (h : HeldFile) → held_of (insert_entry nat_cmp held file h) file ≡ Some h
 put_found [] file h = ap (λ (b : Bool). cond b (Some h) None) (one file)
 put_found (e ∷ es) file h = go (nat_cmp file e.0) refl (put_found es file h)
   where
@@ -76,7 +77,7 @@ put_found (e ∷ es) file h = go (nat_cmp file e.0) refl (put_found es file h)
     go Greater is later = ap (λ (b : Bool). cond b (Some e.1) (held_of (insert_entry nat_cmp es file h) file)) (ap is_eq is) ∙ later
 
 -- and what is held under other numbers stays
-put_others : (held : Held) (file : ℕ) (h : HeldFile) (n : ℕ) → n ≢ file → held_of (insert_entry nat_cmp held file h) n ≡ held_of held n
+pub put_others : (held : Held) (file : ℕ) (h : HeldFile) (n : ℕ) → n ≢ file → held_of (insert_entry nat_cmp held file h) n ≡ held_of held n
 put_others [] file h n other = ap (λ (b : Bool). cond b (Some h) None) (apart n file other)
 put_others (e ∷ es) file h n other = go (nat_cmp file e.0) refl (put_others es file h n other)
   where
@@ -143,11 +144,11 @@ module _ (IsHeld : ℕ → Capability → Type 0) where
 
   -- ---- after a step
 
-  learnt_held : (held : Held) (l : Learnt) → NotGranted l → AllHeld IsHeld held → AllHeld IsHeld (rows.holds_learnt held l)
-  learnt_held held (learnt.Mark file size) none all = joins_held held file size all
-  learnt_held held (learnt.Capability capability size) none all = absurd none
-  learnt_held held learnt.Nothing none all = all
-  learnt_held held (learnt.Epoch file epoch) none all = all
+  learnt_held : (held : Held) (l : Learnt) → LearntIs IsHeld l → AllHeld IsHeld held → AllHeld IsHeld (rows.holds_learnt held l)
+  learnt_held held (learnt.Mark file size) is all = joins_held held file size all
+  learnt_held held (learnt.Capability capability size) is all = holds_held held capability size is all
+  learnt_held held learnt.Nothing is all = all
+  learnt_held held (learnt.Epoch file epoch) is all = all
 
   ended_held : (held : Held) (file : ℕ) (size : SizeMark) (how : Outcome) → AllHeld IsHeld held → AllHeld IsHeld (rows.held_behind held file size how)
   ended_held held file size (outcome.Ok count bytes) all = joins_held held file size all
@@ -159,23 +160,39 @@ module _ (IsHeld : ℕ → Capability → Type 0) where
   behind_held c None size how all = all
 
   module _ (node : NodeId) (times : TimeSettings) where
-    goes_on_held : (c : WholeClient) (reading : ℕ) (happens : Event) (made : MadeCall) (s : Stage) → IsOnFile made.request → AllHeld IsHeld c.held
+    goes_on_held : (c : WholeClient) (reading : ℕ) (happens : Event) (made : MadeCall) (s : Stage) → MayGrant IsHeld happens made.request → AllHeld IsHeld c.held
         → AllHeld IsHeld (rows.goes_on node times c reading happens made s).state.held
-    goes_on_held c reading happens made stage.OnReplicas is all =
+    goes_on_held c reading happens made stage.OnReplicas may all =
         let step = step_of_client node times c.replicas reading happens in
         behind_held (record c { replicas = step.state }) c.made (rows.mark_told happens) (ended_by None step.turned.marks) all
-    goes_on_held c reading happens made (stage.Waiting target deadline) is all =
+    goes_on_held c reading happens made (stage.Waiting target deadline) may all =
         let now = rows.clock_of c reading in
-        learnt_held c.held (waiting.event_comes now c.held made target deadline happens).learnt (event_grants_nothing now c.held made target deadline happens is) all
-    goes_on_held c reading happens made (stage.Ended how) is all = all
+        learnt_held c.held (waiting.event_comes now c.held made target deadline happens).learnt (event_learns IsHeld now c.held made target deadline happens may) all
+    goes_on_held c reading happens made (stage.Ended how) may all = all
 
-    goes_with_held : (c : WholeClient) (reading : ℕ) (happens : Event) (o : Option MadeCall) → MadeIs (λ n asked. IsOnFile asked) o → AllHeld IsHeld c.held
+    goes_with_held : (c : WholeClient) (reading : ℕ) (happens : Event) (o : Option MadeCall) → MadeIs (λ n asked. MayGrant IsHeld happens asked) o → AllHeld IsHeld c.held
         → AllHeld IsHeld (rows.goes_on_with node times c reading happens o).state.held
-    goes_with_held c reading happens None is all = all
-    goes_with_held c reading happens (Some made) is all = goes_on_held c reading happens made made.stage is all
+    goes_with_held c reading happens None may all = all
+    goes_with_held c reading happens (Some made) may all = goes_on_held c reading happens made made.stage may all
+
+  made_may : (happens : Event) (o : Option MadeCall) → ((asked : Request) → MayGrant IsHeld happens asked) → MadeIs (λ n asked. MayGrant IsHeld happens asked) o
+  made_may happens None each = tt
+  made_may happens (Some made) each = each made.request
+
+  on_file_may : (happens : Event) (o : Option MadeCall) → MadeIs (λ n asked. IsOnFile asked) o → MadeIs (λ n asked. MayGrant IsHeld happens asked) o
+  on_file_may happens None is = tt
+  on_file_may happens (Some made) is = files_grant_nothing IsHeld happens made.request is
+
+-- after an event a client holds what it held, and what the event granted
+pub held_after : (IsHeld : ℕ → Capability → Type 0) (node : NodeId) (times : TimeSettings) (c : WholeClient) (reading : ℕ) (happens : Event)
+    → GrantIs IsHeld happens → AllHeld IsHeld c.held → AllHeld IsHeld (stepped node times c reading happens).state.held
+unfolding stepped
+held_after IsHeld node times c reading happens grants all =
+    goes_with_held IsHeld node times c reading happens c.made (made_may IsHeld happens c.made (λ asked. event_grants IsHeld happens asked grants)) all
 
 -- what a client holds stays what it was granted, where no call to the metadata server runs
 pub held_stays : (IsHeld : ℕ → Capability → Type 0) (node : NodeId) (times : TimeSettings) (c : WholeClient) (reading : ℕ) (happens : Event)
     → MadeIs (λ n asked. IsOnFile asked) c.made → AllHeld IsHeld c.held → AllHeld IsHeld (stepped node times c reading happens).state.held
 unfolding stepped
-held_stays IsHeld node times c reading happens is all = goes_with_held IsHeld node times c reading happens c.made is all
+held_stays IsHeld node times c reading happens is all =
+    goes_with_held IsHeld node times c reading happens c.made (on_file_may IsHeld happens c.made is) all

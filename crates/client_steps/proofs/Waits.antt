@@ -1,5 +1,5 @@
--- while a call waits for a node: a call on a replicated file doesn't end well, and a request on a file is granted nothing
-use Rattle.std.proofs.Common.{ℕ}
+-- while a call waits for a node: a call on a replicated file doesn't end well, and only a request to the metadata server is granted something
+use Rattle.std.proofs.Common.{◌≡◌, ℕ, refl, subst}
 use Rattle.std.specs.Prelude.{◌==◌, ◌&&◌, nat_le}
 use Rattle.xt_base.specs.declared.ids.NodeId.{NodeId}
 use Rattle.xt_messages.specs.declared.file.Capability.{Capability}
@@ -10,7 +10,9 @@ use Rattle.xt_messages.specs.declared.reply.Retry.{Retry}
 use Rattle.xt_messages.specs.declared.reply.Retry.TheVariants as retry
 use Rattle.xt_messages.specs.declared.status.AskRefusal.{AskRefusal}
 use Rattle.xt_messages.specs.declared.status.AskRefusal.TheVariants as refusal
+use Rattle.xt_messages.specs.declared.meta.MetaReq.{MetaReq}
 use Rattle.xt_messages.specs.declared.meta.MetaAnswer.{MetaAnswer}
+use Rattle.xt_messages.specs.declared.meta.MetaAnswer.TheVariants as answer
 use Rattle.xt_messages.specs.declared.registry.RegistryAnswer.{RegistryAnswer}
 use Rattle.xt_messages.specs.declared.message.Payload.{Payload}
 use Rattle.xt_messages.specs.declared.message.Payload.TheVariants as payload
@@ -28,7 +30,7 @@ use Rattle.client_rows.specs.declared.requests.MadeCall.{MadeCall}
 use Rattle.client_rows.specs.Holding.{Held}
 use Rattle.client_rows.specs.Requests.{outcome_of, was_asked}
 use Rattle.client_rows.specs.Waiting as waiting
-use Rattle.client_steps.specs.Asked.{IsOnFile, EndsSo}
+use Rattle.client_steps.specs.Asked.{IsOnFile, EndsSo, AnswerGrants, PayloadGrants, GrantIs}
 use Rattle.client_steps.proofs.Cases.{either}
 
 -- ---- how a call goes on
@@ -43,14 +45,6 @@ module _ (happens : Event) (number : ℕ) where
   striped_goes : (capability : Capability) (asked : Op) (n : Next) → GoesSo happens number (request.Striped capability asked) n
   striped_goes capability asked (next.End how) = tt
   striped_goes capability asked _ = tt
-
-  meta_goes : (user group : ℕ) (asked : _) (n : Next) → GoesSo happens number (request.Meta user group asked) n
-  meta_goes user group asked (next.End how) = tt
-  meta_goes user group asked _ = tt
-
-  registry_goes : (asked : _) (n : Next) → GoesSo happens number (request.Registry asked) n
-  registry_goes asked (next.End how) = tt
-  registry_goes asked _ = tt
 
   reply_goes : (held : Held) (asked : Request) (target from : NodeId) (content : Reply) → GoesSo happens number asked (waiting.reply_to held asked target from content).next
   reply_goes held (request.Replicated capability asked) target from content = tt
@@ -99,65 +93,95 @@ module _ (happens : Event) (number : ℕ) where
 
 -- ---- what is learnt
 
--- no capability is learnt
-abbrev pub NotGranted : Learnt → Type 0
-NotGranted (learnt.Capability capability size) = ⊥
-NotGranted _ = Unit {0}
+module _ (IsHeld : ℕ → Capability → Type 0) where
+  -- a capability that is learnt is such a one
+  abbrev pub LearntIs : Learnt → Type 0
+  LearntIs (learnt.Capability capability size) = IsHeld capability.file.number capability
+  LearntIs _ = Unit {0}
 
-abbrev GrantsNothing : Progress → Type 0
-GrantsNothing p = NotGranted p.learnt
+  -- only a request to the metadata server is granted something
+  abbrev pub MayGrant : Event → Request → Type 0
+  MayGrant happens (request.Meta user group asked) = GrantIs IsHeld happens
+  MayGrant happens _ = Unit {0}
 
-away_grants_nothing : (target from : NodeId) (how : Retry) → GrantsNothing (waiting.striped_away target from how)
-away_grants_nothing target from how = either GrantsNothing (from.0 == target.0) (waiting.gives_up target how) waiting.waits_on tt tt
+  abbrev Learns : Progress → Type 0
+  Learns p = LearntIs p.learnt
 
-refused_grants_nothing : (l : Learnt) (capability : Capability) (asked : Op) (target from : NodeId) (why : AskRefusal) → NotGranted l
-    → GrantsNothing (waiting.striped_refused l capability asked target from why)
-refused_grants_nothing l capability asked target from why none =
-    either GrantsNothing (was_asked capability.location.members asked target from) (record { learnt = l; next = next.End (result.Refused why) }) waiting.waits_on none tt
+  away_learns : (target from : NodeId) (how : Retry) → Learns (waiting.striped_away target from how)
+  away_learns target from how = either Learns (from.0 == target.0) (waiting.gives_up target how) waiting.waits_on tt tt
 
-reply_grants_nothing : (held : Held) (capability : Capability) (asked : Op) (target from : NodeId) (content : Reply) → GrantsNothing (waiting.reply_comes held capability asked target from content)
-reply_grants_nothing held capability asked target from (reply.Ok count size bytes) =
-    either GrantsNothing (from.0 == target.0) (waiting.served held capability asked target count size bytes) waiting.waits_on tt tt
-reply_grants_nothing held capability asked target from (reply.NoLease end) = away_grants_nothing target from (retry.NoLease end)
-reply_grants_nothing held capability asked target from (reply.NoMajority have need) = away_grants_nothing target from (retry.NoMajority have need)
-reply_grants_nothing held capability asked target from (reply.Elsewhere node end) = away_grants_nothing target from (retry.Elsewhere node end)
-reply_grants_nothing held capability asked target from (reply.Denied why) = refused_grants_nothing learnt.Nothing capability asked target from (refusal.Denied why) tt
-reply_grants_nothing held capability asked target from (reply.OldList version) = refused_grants_nothing learnt.Nothing capability asked target from (refusal.OldList version) tt
-reply_grants_nothing held capability asked target from (reply.OldEpoch epoch) =
-    refused_grants_nothing (learnt.Epoch capability.file epoch) capability asked target from (refusal.OldEpoch epoch) tt
-reply_grants_nothing held capability asked target from (reply.TooFar object) = refused_grants_nothing learnt.Nothing capability asked target from (refusal.TooFar object) tt
-reply_grants_nothing held capability asked target from reply.ClientsFull = refused_grants_nothing learnt.Nothing capability asked target from refusal.ClientsFull tt
+  refused_learns : (l : Learnt) (capability : Capability) (asked : Op) (target from : NodeId) (why : AskRefusal) → LearntIs l
+      → Learns (waiting.striped_refused l capability asked target from why)
+  refused_learns l capability asked target from why is =
+      either Learns (was_asked capability.location.members asked target from) (record { learnt = l; next = next.End (result.Refused why) }) waiting.waits_on is tt
 
-reply_to_grants_nothing : (held : Held) (asked : Request) (target from : NodeId) (content : Reply) → GrantsNothing (waiting.reply_to held asked target from content)
-reply_to_grants_nothing held (request.Striped capability asked) target from content = reply_grants_nothing held capability asked target from content
-reply_to_grants_nothing held (request.Replicated capability asked) target from content = tt
-reply_to_grants_nothing held (request.Meta user group asked) target from content = tt
-reply_to_grants_nothing held (request.Registry asked) target from content = tt
+  reply_learns : (held : Held) (capability : Capability) (asked : Op) (target from : NodeId) (content : Reply) → Learns (waiting.reply_comes held capability asked target from content)
+  reply_learns held capability asked target from (reply.Ok count size bytes) =
+      either Learns (from.0 == target.0) (waiting.served held capability asked target count size bytes) waiting.waits_on tt tt
+  reply_learns held capability asked target from (reply.NoLease end) = away_learns target from (retry.NoLease end)
+  reply_learns held capability asked target from (reply.NoMajority have need) = away_learns target from (retry.NoMajority have need)
+  reply_learns held capability asked target from (reply.Elsewhere node end) = away_learns target from (retry.Elsewhere node end)
+  reply_learns held capability asked target from (reply.Denied why) = refused_learns learnt.Nothing capability asked target from (refusal.Denied why) tt
+  reply_learns held capability asked target from (reply.OldList version) = refused_learns learnt.Nothing capability asked target from (refusal.OldList version) tt
+  reply_learns held capability asked target from (reply.OldEpoch epoch) =
+      refused_learns (learnt.Epoch capability.file epoch) capability asked target from (refusal.OldEpoch epoch) tt
+  reply_learns held capability asked target from (reply.TooFar object) = refused_learns learnt.Nothing capability asked target from (refusal.TooFar object) tt
+  reply_learns held capability asked target from reply.ClientsFull = refused_learns learnt.Nothing capability asked target from refusal.ClientsFull tt
 
-told_grants_nothing : (asked : Request) (told : MetaAnswer) → IsOnFile asked → GrantsNothing (waiting.meta_comes asked told)
-told_grants_nothing (request.Replicated capability asked) told is = tt
-told_grants_nothing (request.Striped capability asked) told is = tt
-told_grants_nothing (request.Meta user group asked) told is = absurd is
-told_grants_nothing (request.Registry asked) told is = absurd is
+  reply_to_learns : (held : Held) (asked : Request) (target from : NodeId) (content : Reply) → Learns (waiting.reply_to held asked target from content)
+  reply_to_learns held (request.Striped capability asked) target from content = reply_learns held capability asked target from content
+  reply_to_learns held (request.Replicated capability asked) target from content = tt
+  reply_to_learns held (request.Meta user group asked) target from content = tt
+  reply_to_learns held (request.Registry asked) target from content = tt
 
-listed_grants_nothing : (asked : Request) (told : RegistryAnswer) → GrantsNothing (waiting.registry_comes asked told)
-listed_grants_nothing (request.Replicated capability asked) told = tt
-listed_grants_nothing (request.Striped capability asked) told = tt
-listed_grants_nothing (request.Meta user group asked) told = tt
-listed_grants_nothing (request.Registry asked) told = tt
+  granted_learns : (told : MetaAnswer) → AnswerGrants IsHeld told → LearntIs (waiting.granted told)
+  granted_learns (answer.Granted capability size) is = is
+  granted_learns answer.Done is = tt
+  granted_learns (answer.Refused why) is = tt
+  granted_learns (answer.Names names) is = tt
+  granted_learns (answer.Row how owner group mode mark) is = tt
 
-message_grants_nothing : (held : Held) (made : MadeCall) (target from : NodeId) (content : Payload) → IsOnFile made.request → GrantsNothing (waiting.message_comes held made target from content)
-message_grants_nothing held made target from (payload.Reply n file content) is =
-    either GrantsNothing (n == made.number) (waiting.reply_to held made.request target from content) waiting.waits_on (reply_to_grants_nothing held made.request target from content) tt
-message_grants_nothing held made target from (payload.MetaReply n told) is =
-    either GrantsNothing (n == made.number && from.0 == target.0) (waiting.meta_comes made.request told) waiting.waits_on (told_grants_nothing made.request told is) tt
-message_grants_nothing held made target from (payload.RegistryReply n told) is =
-    either GrantsNothing (n == made.number && from.0 == target.0) (waiting.registry_comes made.request told) waiting.waits_on (listed_grants_nothing made.request told) tt
-message_grants_nothing held made target from _ is = tt
+  -- what a metadata server answers to another request isn't heard
+  told_learns : (asked : Request) (told : MetaAnswer) → ((user group : ℕ) (wanted : MetaReq) → asked ≡ request.Meta user group wanted → AnswerGrants IsHeld told)
+      → Learns (waiting.meta_comes asked told)
+  told_learns (request.Replicated capability asked) told grants = tt
+  told_learns (request.Striped capability asked) told grants = tt
+  told_learns (request.Meta user group asked) told grants = granted_learns told (grants user group asked refl)
+  told_learns (request.Registry asked) told grants = tt
 
-pub event_grants_nothing : (now : ℕ) (held : Held) (made : MadeCall) (target : NodeId) (deadline : ℕ) (comes : Event) → IsOnFile made.request
-    → NotGranted (waiting.event_comes now held made target deadline comes).learnt
-event_grants_nothing now held made target deadline (event.Deliver msg) is = message_grants_nothing held made target msg.from msg.payload is
-event_grants_nothing now held made target deadline event.Wake is =
-    either GrantsNothing (nat_le deadline now) (waiting.gives_up target retry.Silent) waiting.waits_on tt tt
-event_grants_nothing now held made target deadline (event.Call k) is = tt
+  listed_learns : (asked : Request) (told : RegistryAnswer) → Learns (waiting.registry_comes asked told)
+  listed_learns (request.Replicated capability asked) told = tt
+  listed_learns (request.Striped capability asked) told = tt
+  listed_learns (request.Meta user group asked) told = tt
+  listed_learns (request.Registry asked) told = tt
+
+  message_learns : (held : Held) (made : MadeCall) (target from : NodeId) (content : Payload)
+      → ((user group : ℕ) (wanted : MetaReq) → made.request ≡ request.Meta user group wanted → PayloadGrants IsHeld content)
+      → Learns (waiting.message_comes held made target from content)
+  message_learns held made target from (payload.Reply n file content) grants =
+      either Learns (n == made.number) (waiting.reply_to held made.request target from content) waiting.waits_on (reply_to_learns held made.request target from content) tt
+  message_learns held made target from (payload.MetaReply n told) grants =
+      either Learns (n == made.number && from.0 == target.0) (waiting.meta_comes made.request told) waiting.waits_on (told_learns made.request told grants) tt
+  message_learns held made target from (payload.RegistryReply n told) grants =
+      either Learns (n == made.number && from.0 == target.0) (waiting.registry_comes made.request told) waiting.waits_on (listed_learns made.request told) tt
+  message_learns held made target from _ grants = tt
+
+  pub event_learns : (now : ℕ) (held : Held) (made : MadeCall) (target : NodeId) (deadline : ℕ) (comes : Event) → MayGrant comes made.request
+      → LearntIs (waiting.event_comes now held made target deadline comes).learnt
+  event_learns now held made target deadline (event.Deliver msg) may =
+      message_learns held made target msg.from msg.payload (λ user group wanted is. subst (MayGrant (event.Deliver msg)) is may)
+  event_learns now held made target deadline event.Wake may = either Learns (nat_le deadline now) (waiting.gives_up target retry.Silent) waiting.waits_on tt tt
+  event_learns now held made target deadline (event.Call k) may = tt
+
+  -- a request on the content of a file is granted nothing, and else only what the event grants
+  pub files_grant_nothing : (happens : Event) (asked : Request) → IsOnFile asked → MayGrant happens asked
+  files_grant_nothing happens (request.Replicated capability asked) is = tt
+  files_grant_nothing happens (request.Striped capability asked) is = tt
+  files_grant_nothing happens (request.Meta user group asked) is = absurd is
+  files_grant_nothing happens (request.Registry asked) is = absurd is
+
+  pub event_grants : (happens : Event) (asked : Request) → GrantIs IsHeld happens → MayGrant happens asked
+  event_grants happens (request.Replicated capability asked) is = tt
+  event_grants happens (request.Striped capability asked) is = tt
+  event_grants happens (request.Meta user group asked) is = is
+  event_grants happens (request.Registry asked) is = tt

@@ -6,7 +6,10 @@ use Rattle.xt_base.specs.declared.ids.FileId.{FileId}
 use Rattle.xt_base.specs.declared.ids.SizeMark.{SizeMark}
 use Rattle.xt_messages.specs.declared.file.Capability.{Capability}
 use Rattle.xt_messages.specs.declared.reply.Reply.TheVariants as reply
+use Rattle.xt_messages.specs.declared.meta.MetaAnswer.{MetaAnswer}
+use Rattle.xt_messages.specs.declared.meta.MetaAnswer.TheVariants as answer
 use Rattle.xt_messages.specs.declared.message.Msg.{Msg}
+use Rattle.xt_messages.specs.declared.message.Payload.{Payload}
 use Rattle.xt_messages.specs.declared.message.Payload.TheVariants as payload
 use Rattle.xt_messages.specs.declared.event.Call.{Call}
 use Rattle.xt_messages.specs.declared.event.Event.{Event}
@@ -36,6 +39,21 @@ IsOnFile (request.Registry asked) = ⊥
 abbrev pub AllHeld : (ℕ → Capability → Type 0) → Held → Type 0
 AllHeld IsHeld held = AllByRecursion (λ e. IsHeld e.0 e.1.capability) held
 
+-- a capability that an event grants is such a one
+module _ (IsHeld : ℕ → Capability → Type 0) where
+  abbrev pub AnswerGrants : MetaAnswer → Type 0
+  AnswerGrants (answer.Granted capability size) = IsHeld capability.file.number capability
+  AnswerGrants _ = Unit {0}
+
+  abbrev pub PayloadGrants : Payload → Type 0
+  PayloadGrants (payload.MetaReply number told) = AnswerGrants told
+  PayloadGrants _ = Unit {0}
+
+  abbrev pub GrantIs : Event → Type 0
+  GrantIs (event.Deliver msg) = PayloadGrants msg.payload
+  GrantIs event.Wake = Unit {0}
+  GrantIs (event.Call c) = Unit {0}
+
 -- an Ok comes that answers the call of this number with this count and these bytes
 abbrev pub HearsOk : Event → ℕ → ℕ → List ℕ → Type 0
 HearsOk (event.Deliver msg) number count bytes =
@@ -43,9 +61,11 @@ HearsOk (event.Deliver msg) number count bytes =
 HearsOk event.Wake number count bytes = ⊥
 HearsOk (event.Call c) number count bytes = ⊥
 
--- a call on a replicated file ends well only where an Ok comes that says so
+-- a call on a replicated file ends well only where an Ok comes that says so; no request to a server ends so
 abbrev pub EndsSo : Event → ℕ → Request → Outcome → Type 0
 EndsSo happens number (request.Replicated capability asked) (outcome.Ok count bytes) = HearsOk happens number count bytes
+EndsSo happens number (request.Meta user group asked) (outcome.Ok count bytes) = ⊥
+EndsSo happens number (request.Registry asked) (outcome.Ok count bytes) = ⊥
 EndsSo happens number _ _ = Unit {0}
 
 module _ (Is : ℕ → Request → Type 0) where

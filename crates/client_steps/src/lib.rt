@@ -21,7 +21,7 @@ ghost use Rattle.client_rows.specs.declared.holding.HeldFile.{HeldFile};
 ghost use Rattle.client_rows.specs.Holding.{Held, held_of, holds};
 ghost use Rattle.client_rows.specs.Requests.{request_of};
 ghost use Rattle.client_rows.specs.Rows.{WholeClient, passes, stepped, called, called_again};
-ghost use Rattle.client_steps.specs.Asked.{IsOnFile, AllHeld, MadeIs, ClientIs, EventStepIs, CallStepIs, AgainStepIs};
+ghost use Rattle.client_steps.specs.Asked.{IsOnFile, AllHeld, GrantIs, MadeIs, ClientIs, EventStepIs, CallStepIs, AgainStepIs};
 ghost use Rattle.client_steps.specs.Tests.{Passes};
 
 /// The steps of a client, for any test of what is asked under a number.
@@ -45,6 +45,16 @@ pub fn what_is_held_stays()
     ensures { (test : ℕ → Capability → Bool) (node : NodeId) (times : TimeSettings)
         (c : WholeClient) (reading : ℕ) (happens : Event) →
         MadeIs (λ n asked. IsOnFile asked) c.made →
+        AllHeld (Passes test) c.held →
+        AllHeld (Passes test) (stepped node times c reading happens).state.held }
+{}
+
+/// After an event a client holds what it held, and what the event granted: each capability is such a one, where each was before it
+/// and the one that the event grants is, if it grants one.
+pub fn what_is_held_was_granted()
+    ensures { (test : ℕ → Capability → Bool) (node : NodeId) (times : TimeSettings)
+        (c : WholeClient) (reading : ℕ) (happens : Event) →
+        GrantIs (Passes test) happens →
         AllHeld (Passes test) c.held →
         AllHeld (Passes test) (stepped node times c reading happens).state.held }
 {}

@@ -40,17 +40,12 @@ FitsCall (call.Meta user group request) = (user < 2 ^ 32) × (group < 2 ^ 32) ×
 FitsCall (call.Report user group file) = (user < 2 ^ 32) × (group < 2 ^ 32) × (file < 2 ^ 64)
 FitsCall (call.Registry request) = FitsRegistryReq request
 
--- a call on the content of a file: a schedule makes no others yet
-abbrev pub IsOnContent : Call → Type 0
-IsOnContent (call.Read file object at len) = Unit {0}
-IsOnContent (call.Write file object at bytes) = Unit {0}
-IsOnContent (call.Truncate file size epoch) = Unit {0}
-IsOnContent _ = ⊥
-
 -- the values of a line; a message's number, and how many messages are settled or come before a cut, have none here
 abbrev pub FitsLine : Line → Type 0
 FitsLine (line.Times lease drift) = AreTimes lease drift
 FitsLine (line.Osd node) = FitsNode node
+FitsLine line.Mrc = Unit {0}
+FitsLine line.Dir = Unit {0}
 FitsLine (line.Client node clock) = FitsNode node × (clock < 2 ^ 62)
 FitsLine (line.File number location) = (number < 1000000) × FitsLocation location
 FitsLine (line.Start node clock) = FitsNode node × (clock < 2 ^ 62)
@@ -60,7 +55,7 @@ FitsLine (line.Cut node count) = FitsNode node
 FitsLine (line.Clock node clock) = FitsNode node × (clock < 2 ^ 62)
 FitsLine (line.Tick count) = count < 2 ^ 32
 FitsLine (line.Wake node) = FitsNode node
-FitsLine (line.Call client c) = FitsNode client × IsOnContent c × FitsCall c
+FitsLine (line.Call client c) = FitsNode client × FitsCall c
 FitsLine (line.Again client) = FitsNode client
 FitsLine (line.Aim client file node) = FitsNode client × (file < 2 ^ 64) × FitsNode node
 FitsLine (line.Deliver number) = Unit {0}
@@ -72,7 +67,7 @@ abbrev pub sets_times : Line → Bool
 sets_times (line.Times lease drift) = true
 sets_times _ = false
 
--- a line that may stand behind the first one
+-- a line that may stand after the first one
 abbrev pub FitsLater : Line → Type 0
 FitsLater l = FitsLine l × (sets_times l ≡ false)
 

@@ -12,6 +12,10 @@ pub enum Line {
     Osd {
         node: NodeId,
     },
+    /// Declares the metadata server.
+    Mrc,
+    /// Declares the directory service.
+    Dir,
     /// Declares a client, and starts it for good.
     Client {
         node: NodeId,
@@ -37,7 +41,7 @@ pub enum Line {
         call: u8,
         fill: u8,
     },
-    /// The node's next step that sends stops behind so many messages, or behind all.
+    /// The node's next step that sends stops after so many messages, or after all.
     Cut {
         node: NodeId,
         count: u128,
@@ -90,6 +94,8 @@ impl Drop for Line {
         match self {
             Line::Times { lease: _, drift: _ } => {}
             Line::Osd { node: _ } => {}
+            Line::Mrc => {}
+            Line::Dir => {}
             Line::Client { node: _, clock: _ } => {}
             Line::File {
                 number: _,

@@ -1,5 +1,5 @@
 -- What a client asks has begun, and its calls end well only as they were answered.
-use Rattle.std.proofs.Common.{◌≡◌, ℕ, ◌⊎◌, inl, inr, List, [], ◌∷◌, refl, sym, subst, Option, Some, None}
+use Rattle.std.proofs.Common.{◌≡◌, ℕ, ◌⊎◌, inl, inr, List, [], ◌∷◌, refl, sym, subst, Some}
 use Rattle.xt_messages.specs.Limits.{FitsOp}
 use Rattle.xt_base.specs.declared.ids.NodeId.{NodeId}
 use Rattle.xt_base.specs.declared.ids.OpId.{OpId}
@@ -22,9 +22,8 @@ use Rattle.lease_safety.specs.State.{Has}
 use Rattle.time_line.specs.declared.entry.Entry.{Entry}
 use Rattle.client_rows.specs.declared.requests.Request.{Request}
 use Rattle.client_rows.specs.declared.requests.Request.TheVariants as request
-use Rattle.client_rows.specs.declared.requests.MadeCall.{MadeCall}
 use Rattle.client_rows.specs.Requests.{payload_of}
-use Rattle.client_steps.specs.Asked.{IsOnFile, MadeIs, EndsSo, HearsOk, Sends, sends_none, sends_one, Tells, tells_none, tells_end}
+use Rattle.client_steps.specs.Asked.{EndsSo, HearsOk, AnswerGrants, PayloadGrants, GrantIs, Sends, sends_none, sends_one, Tells, tells_none, tells_end}
 use Rattle.time_line.specs.TimeLine.{id_of, location_in, operation_begun}
 use Rattle.time_line.specs.Clauses.{HasBegunOn}
 use Rattle.world_runs.proofs.Entries.{HasAnswer}
@@ -51,22 +50,23 @@ abbrev pub AskIs : List Entry → OpId → Capability → Op → Type 0
 AskIs es id capability asked =
     (operation_begun capability.file.number es id ≡ Some asked) × FitsOp asked × (location_in capability.file.number es ≡ Some capability.location)
 
--- a message that was sent: an ask is of such a call, and an Ok was answered so
-abbrev pub ContentIs : List Entry → NodeId → NodeId → Payload → Type 0
-ContentIs es from to (payload.Ask number capability asked) = AskIs es (id_of from number) capability asked
-ContentIs es from to (payload.Reply number file answer) = ReplyIs es to number answer
-ContentIs es from to _ = Unit {0}
-
--- What a client asks under a number is of a call of its own that has begun, by a request of the file's kind.
-abbrev pub RequestIs : List Entry → NodeId → ℕ → Request → Type 0
-RequestIs es node number (request.Replicated capability asked) = AskIs es (id_of node number) capability asked × (capability.location.kind ≡ kind.Replicated)
-RequestIs es node number (request.Striped capability asked) = AskIs es (id_of node number) capability asked × (capability.location.kind ≡ kind.Striped)
-RequestIs es node number (request.Meta user group asked) = ⊥
-RequestIs es node number (request.Registry asked) = ⊥
-
 -- a capability that a client holds of the file of this number is of that file, and the file is told to be there
 abbrev pub HeldIs : List Entry → ℕ → Capability → Type 0
 HeldIs es number capability = (capability.file.number ≡ number) × (location_in number es ≡ Some capability.location)
+
+-- a message that was sent: an ask is of such a call, an Ok was answered so, and what is granted is of a file that is told to be there
+abbrev pub ContentIs : List Entry → NodeId → NodeId → Payload → Type 0
+ContentIs es from to (payload.Ask number capability asked) = AskIs es (id_of from number) capability asked
+ContentIs es from to (payload.Reply number file answer) = ReplyIs es to number answer
+ContentIs es from to (payload.MetaReply number told) = AnswerGrants (HeldIs es) told
+ContentIs es from to _ = Unit {0}
+
+-- What a client asks of a file's content under a number is of a call of its own that has begun, by a request of the file's kind.
+abbrev pub RequestIs : List Entry → NodeId → ℕ → Request → Type 0
+RequestIs es node number (request.Replicated capability asked) = AskIs es (id_of node number) capability asked × (capability.location.kind ≡ kind.Replicated)
+RequestIs es node number (request.Striped capability asked) = AskIs es (id_of node number) capability asked × (capability.location.kind ≡ kind.Striped)
+RequestIs es node number (request.Meta user group asked) = Unit {0}
+RequestIs es node number (request.Registry asked) = Unit {0}
 
 -- an outcome: a call ends well only as it was answered, unless it is on a striped file
 abbrev pub OutcomeIs : List Entry → OpId → Outcome → Type 0
@@ -89,8 +89,8 @@ module _ (es : List Entry) (node : NodeId) where
   asked_is : (to : NodeId) (number : ℕ) (asked : Request) → RequestIs es node number asked → ContentIs es node to (payload_of number asked)
   asked_is to number (request.Replicated capability asked) is = is.0
   asked_is to number (request.Striped capability asked) is = is.0
-  asked_is to number (request.Meta user group asked) is = absurd is
-  asked_is to number (request.Registry asked) is = absurd is
+  asked_is to number (request.Meta user group asked) is = tt
+  asked_is to number (request.Registry asked) is = tt
 
   pub sent_is : (outs : List Msg) → Sends (RequestIs es node) node outs → (m : Msg) → Has m outs → ContentIs es m.from m.to m.payload
   sent_is _ sends_none m h = absurd h
@@ -110,8 +110,8 @@ module _ (es : List Entry) (node : NodeId) where
   outcome_is : (happens : Event) (number : ℕ) (asked : Request) (how : Outcome) → EventIs es node happens → RequestIs es node number asked → EndsSo happens number asked how → OutcomeIs es (id_of node number) how
   outcome_is happens number (request.Replicated capability asked) (outcome.Ok count bytes) came is so = heard_is happens number count bytes came so
   outcome_is happens number (request.Striped capability asked) (outcome.Ok count bytes) came is so = inr (striped_is number capability asked is)
-  outcome_is happens number (request.Meta user group asked) (outcome.Ok count bytes) came is so = absurd is
-  outcome_is happens number (request.Registry asked) (outcome.Ok count bytes) came is so = absurd is
+  outcome_is happens number (request.Meta user group asked) (outcome.Ok count bytes) came is so = absurd so
+  outcome_is happens number (request.Registry asked) (outcome.Ok count bytes) came is so = absurd so
   outcome_is happens number asked (outcome.Retry answers) came is so = tt
   outcome_is happens number asked (outcome.Refused why) came is so = tt
   outcome_is happens number asked (outcome.Meta answer) came is so = tt
@@ -121,13 +121,12 @@ module _ (es : List Entry) (node : NodeId) where
   ending_is happens _ came tells_none = silent refl
   ending_is happens _ came (tells_end number asked how is so) = ended number how refl (outcome_is happens number asked how came is so)
 
-  -- it asks nothing of servers
-  on_file : (number : ℕ) (asked : Request) → RequestIs es node number asked → IsOnFile asked
-  on_file number (request.Replicated capability asked) is = tt
-  on_file number (request.Striped capability asked) is = tt
-  on_file number (request.Meta user group asked) is = absurd is
-  on_file number (request.Registry asked) is = absurd is
+  -- what is granted is of a file that is told to be there
+  content_grants : (from : NodeId) (content : Payload) → ContentIs es from node content → PayloadGrants (HeldIs es) content
+  content_grants from (payload.MetaReply number told) is = is
+  content_grants from _ is = tt
 
-  pub made_on_file : (made : Option MadeCall) → MadeIs (RequestIs es node) made → MadeIs (λ n asked. IsOnFile asked) made
-  made_on_file None is = tt
-  made_on_file (Some made) is = on_file made.number made.request is
+  pub grant_is : (happens : Event) → EventIs es node happens → GrantIs (HeldIs es) happens
+  grant_is (event.Deliver msg) came = content_grants msg.from msg.payload came
+  grant_is event.Wake came = tt
+  grant_is (event.Call call) came = tt

@@ -1,4 +1,4 @@
--- what holds of the files of an OSD in a world: their lists are the declared ones
+-- what holds of the files of an OSD in a world: their lists are those of known files
 use Rattle.std.proofs.Common.{◌≡◌, ℕ, inl, inr, List, [], ◌∷◌, ◌++◌, map, refl, arith, ap, sym, ◌∙◌, subst, Option, Some, None, Bool, true, false}
 use Rattle.std.specs.Prelude.{cond}
 use Rattle.xt_base.specs.TimeSettings.{TimeSettings}
@@ -6,6 +6,10 @@ use Rattle.xt_base.specs.declared.ids.NodeId.{NodeId}
 use Rattle.xt_base.specs.declared.ids.FileId.{FileId}
 use Rattle.xt_base.specs.declared.ids.Boot.{Boot}
 use Rattle.xt_messages.specs.declared.file.Location.{Location}
+use Rattle.xt_messages.specs.declared.meta.MetaReq.{MetaReq}
+use Rattle.xt_messages.specs.declared.meta.MetaReq.TheVariants as want
+use Rattle.xt_messages.specs.declared.meta.MetaAnswer.{MetaAnswer}
+use Rattle.xt_messages.specs.declared.meta.MetaAnswer.TheVariants as answer
 use Rattle.xt_messages.specs.declared.message.Payload.{Payload}
 use Rattle.xt_messages.specs.declared.message.Payload.TheVariants as payload
 use Rattle.xt_messages.specs.declared.record.Record.{Record}
@@ -32,47 +36,46 @@ use Rattle.lease_runs.specs.ActsView.{IsBusy, RecordIs}
 use Rattle.lease_runs.proofs.LeaseSteps as lease_steps
 use Rattle.lease_runs.proofs.OsdLeases.{each_wakes}
 use Rattle.lease_runs.proofs.ActSteps.{step_rec, wake_step_kept}
-use Rattle.world_spec.specs.declared.DeclaredFile.{DeclaredFile}
-use Rattle.world_spec.specs.World.{file_in}
-use Rattle.world_spec.specs.Lines.{declared_file}
+use Rattle.world_spec.specs.declared.PlacedFile.{PlacedFile}
 use Rattle.xt_protocol.specs.OsdSteps.{with_file}
 use Rattle.world_spec.specs.NodeSteps.{one_more}
 use Rattle.world_runs.specs.View.{awake_as}
 use Rattle.lease_runs.proofs.OsdLeases.{file_at-with_file, at_file}
 use Rattle.world_runs.proofs.Rising.{with_row_has, with_row_rises}
-use Rattle.world_runs.specs.Worlds.{Agrees, Rises, files_of, row_files, Listed, AskFits, FileFits, RowsFit, OsdFits}
+use Rattle.world_runs.proofs.Tables.{AllStay}
+use Rattle.world_runs.specs.Worlds.{Agrees, Rises, files_of, row_files, IsKnown, Listed, WantFits, AnswerFits, PayloadFits, FileFits, RowsFit, OsdFits}
 
--- ---- what is declared
+-- ---- what is known
 
--- a record that stores a list stores the declared one
-abbrev pub RecordFits : List DeclaredFile → Record → Type 0
-RecordFits files (kept.View file location) = file_in files file.number ≡ Some location
+-- a record that stores a list stores that of a known file
+abbrev pub RecordFits : List PlacedFile → Record → Type 0
+RecordFits files (kept.View file location) = IsKnown files file location
 RecordFits files _ = Unit {0}
 
 -- ---- records
 
-record_of : (files : List DeclaredFile) (file : FileId) (content : Payload) (rec : Record) → AskFits files content → (is_ask content ≡ true → file_concerned content ≡ Some file)
+record_of : (files : List PlacedFile) (file : FileId) (content : Payload) (rec : Record) → PayloadFits files content → (is_ask content ≡ true → file_concerned content ≡ Some file)
     → RecordIs file content (Some rec) → RecordFits files rec
 record_of files file content (kept.View f location) fits concerns is = viewed content fits concerns is
   where
-    viewed : (content : Payload) → AskFits files content → (is_ask content ≡ true → file_concerned content ≡ Some file) → RecordIs file content (Some (kept.View f location)) → file_in files f.number ≡ Some location
+    viewed : (content : Payload) → PayloadFits files content → (is_ask content ≡ true → file_concerned content ≡ Some file) → RecordIs file content (Some (kept.View f location)) → IsKnown files f location
     viewed (payload.Ask number capability asked) fits concerns is =
         let here : Some capability.file ≡ Some file = concerns refl in
         let same : capability.file ≡ f = (let e : capability.file ≡ file = cc in e ∙ sym is.0) in
-        subst (λ (f : FileId). file_in files f.number ≡ Some location) same (fits.1 ∙ ap (λ l. Some l) is.1)
+        subst (λ (f : FileId). IsKnown files f location) same (subst (IsKnown files capability.file) is.1 fits)
     viewed (payload.Read file ballot) fits concerns is = absurd is.1
     viewed (payload.Promise file ballot boot report) fits concerns is = absurd is.1
     viewed (payload.Write file ballot boot lease) fits concerns is = absurd is.1
     viewed _ fits concerns is = absurd is.1
 record_of files file content _ fits concerns is = tt
 
-listed_after : (files : List DeclaredFile) (row : FileRow) (rec : Record) → RecordFits files rec → file_of rec ≡ Some row.file → Listed files row.file row.location
+listed_after : (files : List PlacedFile) (row : FileRow) (rec : Record) → RecordFits files rec → file_of rec ≡ Some row.file → Listed files row.file row.location
     → Listed files (row_after row rec).file (row_after row rec).location
 listed_after files row (kept.Promise file epoch) fits is listed = listed
 listed_after files row (kept.Update file update) fits is listed = listed
 listed_after files row (kept.Stage file object version bytes) fits is listed = listed
 listed_after files row (kept.Head file head) fits is listed = listed
-listed_after files row (kept.View file location) fits is listed = (let same : file ≡ row.file = cc in subst (λ (f : FileId). file_in files f.number ≡ Some location) same fits)
+listed_after files row (kept.View file location) fits is listed = (let same : file ≡ row.file = cc in subst (λ (f : FileId). IsKnown files f location) same fits)
 listed_after files row (kept.Boot boot) fits is listed = listed
 listed_after files row (kept.Meta from number now nodes request) fits is listed = listed
 
@@ -91,7 +94,7 @@ file_after row None = refl
 file_after row (Some rec) = row_after-file row rec
 
 -- what is kept of a file after a record of a step on it
-kept_listed : (files : List DeclaredFile) (row : FileRow) (content : Payload) (rec : Option Record) → AskFits files content → (is_ask content ≡ true → file_concerned content ≡ Some row.file)
+kept_listed : (files : List PlacedFile) (row : FileRow) (content : Payload) (rec : Option Record) → PayloadFits files content → (is_ask content ≡ true → file_concerned content ≡ Some row.file)
     → RecordIs row.file content rec → Listed files row.file row.location → Listed files (kept_after row rec).file (kept_after row rec).location
 kept_listed files row content None fits concerns is listed = listed
 kept_listed files row content (Some (kept.Promise file epoch)) fits concerns is listed = listed
@@ -103,8 +106,8 @@ kept_listed files row content (Some (kept.View file location)) fits concerns is 
 kept_listed files row content (Some (kept.Boot boot)) fits concerns is listed = absurd is
 kept_listed files row content (Some (kept.Meta from number now nodes request)) fits concerns is listed = absurd is
 
--- the record of a step is of no start, and stores the declared list
-pub step_record : (files : List DeclaredFile) (site : Site) (s : FileState) (from : NodeId) (content : Payload) (rec : Record) → AskFits files content → (is_ask content ≡ true → file_concerned content ≡ Some s.kept.file)
+-- the record of a step is of no start, and stores the list of a known file
+pub step_record : (files : List PlacedFile) (site : Site) (s : FileState) (from : NodeId) (content : Payload) (rec : Record) → PayloadFits files content → (is_ask content ≡ true → file_concerned content ≡ Some s.kept.file)
     → (step_of_file site s from content).turned.rec ≡ Some rec → RecordFits files rec
 step_record files site s from content rec fits concerns is =
     record_of files s.kept.file content rec fits concerns (subst (RecordIs s.kept.file content) is (step_rec site s from content))
@@ -151,34 +154,20 @@ held_busy (asking r) is = absurd is
 held_busy (writing r) is = absurd is
 held_busy (held h) is = tt
 
--- the file of an ask is declared
-ask_declared : (files : List DeclaredFile) (content : Payload) (file : FileId) → is_ask content ≡ true → AskFits files content → file_concerned content ≡ Some file → file ≡ declared_file file.number
-ask_declared files (payload.Ask number capability asked) file is fits concerns = (let same : capability.file ≡ file = cc in subst (λ (f : FileId). f ≡ declared_file f.number) same fits.0)
-ask_declared files (payload.Read f ballot) file is fits concerns = absurd (cc)
-ask_declared files _ file is fits concerns = absurd (cc)
-
 -- a message
-pub step_fits : (files : List DeclaredFile) (site : Site) (s : FileState) (from : NodeId) (content : Payload) → AskFits files content → file_concerned content ≡ Some s.kept.file
+pub step_fits : (files : List PlacedFile) (site : Site) (s : FileState) (from : NodeId) (content : Payload) → PayloadFits files content → file_concerned content ≡ Some s.kept.file
     → FileFits files s → FileFits files (step_of_file site s from content).state
 step_fits files site s from content ask concerns fits =
     let step = step_of_file site s from content in
     let kept_is = step_follows site s from content in
-    let file_is : step.state.kept.file ≡ s.kept.file = ap (λ (row : FileRow). row.file) kept_is ∙ file_after s.kept step.turned.rec in
     record {
       listed = subst (λ (row : FileRow). Listed files row.file row.location) (sym kept_is) (kept_listed files s.kept content step.turned.rec ask (λ is. concerns) (step_rec site s from content) fits.listed);
-      declared = λ busy. subst (λ (f : FileId). f ≡ declared_file f.number) (sym file_is) (of_file (lease_steps.step_follows site s from content) busy);
       stored = λ busy. is_stored (lease_steps.step_follows site s from content) busy;
       sound = SoundSteps.step_so site s from content fits.sound;
     }
   where
     step : FileStep
     step = step_of_file site s from content
-
-    of_file : Follows s.kept.file site (settled_row site s) (settled_row site s).lease from content (step_of_file site s from content) → IsBusy step.state.lease → s.kept.file ≡ declared_file s.kept.file.number
-    of_file (handles p) busy =
-        fits.declared (unbusy s.lease site.now (handled (lease_setting site s.kept.file step.state.kept.location) site.node site.now (settled_row site s) from content (subst (λ (x : LeaseRow). IsBusy x.lease) p.row busy)))
-    of_file (asks is stored p) busy = ask_declared files content s.kept.file is ask concerns
-    of_file (stays p) busy = fits.declared (unbusy s.lease site.now (subst (λ (x : LeaseRow). IsBusy x.lease) p.row busy))
 
     still : IsBusy s.lease → IsStored step.state.kept.location
     still busy = subst (λ (row : FileRow). IsStored row.location) (sym (step_follows site s from content)) (stored_after s.kept step.turned.rec (fits.stored busy))
@@ -190,12 +179,11 @@ step_fits files site s from content ask concerns fits =
     is_stored (stays p) busy = still (unbusy s.lease site.now (subst (λ (x : LeaseRow). IsBusy x.lease) p.row busy))
 
 -- a Wake
-pub wake_fits : (files : List DeclaredFile) (site : Site) (s : FileState) → FileFits files s → FileFits files (wake_step site s).state
+pub wake_fits : (files : List PlacedFile) (site : Site) (s : FileState) → FileFits files s → FileFits files (wake_step site s).state
 wake_fits files site s fits =
     let kept_is = wake_step_kept site s in
     record {
       listed = subst (λ (row : FileRow). Listed files row.file row.location) (sym kept_is) fits.listed;
-      declared = λ busy. subst (λ (row : FileRow). row.file ≡ declared_file row.file.number) (sym kept_is) (fits.declared (was_busy (each_wakes site s) busy));
       stored = λ busy. subst (λ (row : FileRow). IsStored row.location) (sym kept_is) (fits.stored (was_busy (each_wakes site s) busy));
       sound = SoundSteps.wake_so site (expired site s).state (SoundSteps.expired_so site s fits.sound);
     }
@@ -206,11 +194,11 @@ wake_fits files site s fits =
 
 -- ---- OSDs
 
-pub fresh_fits : (files : List DeclaredFile) (awake : Awake) (row : FileRow) → Listed files row.file row.location → FileFits files (file_from awake row)
-fresh_fits files awake row listed = record { listed = listed; declared = λ busy. absurd busy; stored = λ busy. absurd busy; sound = SoundSteps.start_so awake row }
+pub fresh_fits : (files : List PlacedFile) (awake : Awake) (row : FileRow) → Listed files row.file row.location → FileFits files (file_from awake row)
+fresh_fits files awake row listed = record { listed = listed; stored = λ busy. absurd busy; sound = SoundSteps.start_so awake row }
 
 -- the state of any file at it
-pub at_fits : (files : List DeclaredFile) (awake : Awake) (states : List FileState) (file : FileId) → ((f : FileState) → Has f states → FileFits files f) → FileFits files (file_at awake states file)
+pub at_fits : (files : List PlacedFile) (awake : Awake) (states : List FileState) (file : FileId) → ((f : FileState) → Has f states → FileFits files f) → FileFits files (file_at awake states file)
 unfolding file_at
 at_fits files awake [] file each = fresh_fits files awake (new_row file) tt
 at_fits files awake (f ∷ fs) file each = one_of (is_file f.kept.file file) (at_fits files awake fs file (λ s h. each s (inr h)))
@@ -219,10 +207,10 @@ at_fits files awake (f ∷ fs) file each = one_of (is_file f.kept.file file) (at
     one_of true rest = each f (inl refl)
     one_of false rest = rest
 
-pub no_rows : (files : List DeclaredFile) → RowsFit files (fold_of []).files
+pub no_rows : (files : List PlacedFile) → RowsFit files (fold_of []).files
 no_rows files = subst (λ (f : Folded). RowsFit files f.files) (sym fold_of-nothing) (record { listed = λ r h. absurd h; rises = tt })
 
-row_listed : (files : List DeclaredFile) (rows : List FileRow) (file : FileId) → ((r : FileRow) → Has r rows → Listed files r.file r.location) → Listed files (row_in rows file).file (row_in rows file).location
+row_listed : (files : List PlacedFile) (rows : List FileRow) (file : FileId) → ((r : FileRow) → Has r rows → Listed files r.file r.location) → Listed files (row_in rows file).file (row_in rows file).location
 unfolding row_in
 row_listed files [] file each = tt
 row_listed files (r ∷ rs) file each = one_of (is_file r.file file) (row_listed files rs file (λ s h. each s (inr h)))
@@ -231,7 +219,7 @@ row_listed files (r ∷ rs) file each = one_of (is_file r.file file) (row_listed
     one_of true rest = each r (inl refl)
     one_of false rest = rest
 
-rows_fit : (files : List DeclaredFile) (rows : List FileRow) (rec : Record) (o : Option FileId) → file_of rec ≡ o → RecordFits files rec → RowsFit files rows → RowsFit files (rows_after rows rec o)
+rows_fit : (files : List PlacedFile) (rows : List FileRow) (rec : Record) (o : Option FileId) → file_of rec ≡ o → RecordFits files rec → RowsFit files rows → RowsFit files (rows_after rows rec o)
 rows_fit files rows rec None is fits q = q
 rows_fit files rows rec (Some file) is fits q =
     let row = row_after (row_in rows file) rec in
@@ -244,7 +232,7 @@ rows_fit files rows rec (Some file) is fits q =
       rises = with_row_rises rows row q.rises;
     }
 
-pub record_fits : (files : List DeclaredFile) (records : List Record) (rec : Record) → RecordFits files rec → RowsFit files (fold_of records).files → RowsFit files (fold_of (records ++ rec ∷ [])).files
+pub record_fits : (files : List PlacedFile) (records : List Record) (rec : Record) → RecordFits files rec → RowsFit files (fold_of records).files → RowsFit files (fold_of (records ++ rec ∷ [])).files
 record_fits files records rec fits q =
     subst (λ (f : Folded). RowsFit files f.files) (sym (fold_of-push records rec)) (rows_fit files (fold_of records).files rec (file_of rec) refl fits q)
 
@@ -258,7 +246,7 @@ from_files awake [] = refl
 from_files awake (r ∷ rs) = ap (λ others. r.file ∷ others) (from_files awake rs)
 
 -- an OSD that starts from these
-pub starting_fits : (times : TimeSettings) (files : List DeclaredFile) (node : NodeId) (boot : Boot) (clock : ℕ) (rows : List FileRow) → RowsFit files rows
+pub starting_fits : (times : TimeSettings) (files : List PlacedFile) (node : NodeId) (boot : Boot) (clock : ℕ) (rows : List FileRow) → RowsFit files rows
     → OsdFits times files node boot clock (osd_from (record { node = node; boot = boot; times = times; start = clock }) rows)
 starting_fits times files node boot clock rows q =
     let awake : Awake = record { node = node; boot = boot; times = times } in
@@ -281,15 +269,15 @@ of_step file content (kept.View f location) is = ap (λ f. Some f) is.0
 of_step file content (kept.Boot boot) is = absurd is
 of_step file content (kept.Meta from number now nodes request) is = absurd is
 
--- the row of any file behind the record of a step of this one
-row_behind : (records : List Record) (file other : FileId) (content : Payload) (rec : Option Record) → RecordIs file content rec
+-- the row of any file after the record of a step of this one
+row_then : (records : List Record) (file other : FileId) (content : Payload) (rec : Option Record) → RecordIs file content rec
     → row_in (fold_of (one_more records rec)).files other ≡ cond (is_file file other) (kept_after (row_in (fold_of records).files file) rec) (row_in (fold_of records).files other)
-row_behind records file other content None is = at (is_file file other) refl
+row_then records file other content None is = at (is_file file other) refl
   where
     at : (b : Bool) → is_file file other ≡ b → row_in (fold_of records).files other ≡ cond b (row_in (fold_of records).files file) (row_in (fold_of records).files other)
     at true same_file = ap (row_in (fold_of records).files) (sym (file-equal file other same_file))
     at false differ = refl
-row_behind records file other content (Some rec) is =
+row_then records file other content (Some rec) is =
     let rows = (fold_of records).files in
     let row = row_after (row_in rows file) rec in
     ap (λ (f : Folded). row_in f.files other) (fold_of-push records rec)
@@ -304,7 +292,7 @@ pub step_agrees : (records : List Record) (s : OsdState) (file : FileId) (conten
 step_agrees records s file content after rec agrees is kept_is other =
     ap (λ (f : FileState). f.kept) (file_at-with_file (awake_as s.started) s.files after other)
     ∙ (ap (λ (f : FileId). (cond (is_file f other) after (file_at (awake_as s.started) s.files other)).kept) its_file
-    ∙ (by_file (is_file file other) ∙ sym (row_behind records file other content rec is)))
+    ∙ (by_file (is_file file other) ∙ sym (row_then records file other content rec is)))
   where
     its_file : after.kept.file ≡ file
     its_file = ap (λ (row : FileRow). row.file) kept_is ∙ (file_after (file_at (awake_as s.started) s.files file).kept rec ∙ at_file (awake_as s.started) s.files file)
@@ -327,17 +315,40 @@ pub start_agrees : (records : List Record) (boot : Boot) (started : Silent) → 
 start_agrees records boot started file =
     from_rows (awake_as started) (fold_of records).files file ∙ sym (ap (λ (f : Folded). row_in f.files file) (fold_of-push records (kept.Boot boot)))
 
--- more files are declared
-pub listed_more : (files more : List DeclaredFile) (file : FileId) (o : Option Location) → ((number : ℕ) (location : Location) → file_in files number ≡ Some location → file_in more number ≡ Some location)
-    → Listed files file o → Listed more file o
-listed_more files more file None same listed = tt
-listed_more files more file (Some location) same listed = same file.number location listed
+-- a file with a round or a lease is known
+pub busy_known : (files : List PlacedFile) (s : FileState) → FileFits files s → IsBusy s.lease → (location : Location) × IsKnown files s.kept.file location
+busy_known files s fits busy = at s.kept.location (fits.stored busy) fits.listed
+  where
+    at : (o : Option Location) → IsStored o → Listed files s.kept.file o → (location : Location) × IsKnown files s.kept.file location
+    at None stored listed = absurd stored
+    at (Some location) stored listed = (location, listed)
 
-pub fits_more : (files more : List DeclaredFile) (s : FileState) → ((number : ℕ) (location : Location) → file_in files number ≡ Some location → file_in more number ≡ Some location)
-    → FileFits files s → FileFits more s
-fits_more files more s same q = record { listed = listed_more files more s.kept.file s.kept.location same q.listed; declared = q.declared; stored = q.stored; sound = q.sound }
+-- ---- more files are known, and each stays what it is
 
-pub ask_more : (files more : List DeclaredFile) (content : Payload) → ((number : ℕ) (location : Location) → file_in files number ≡ Some location → file_in more number ≡ Some location)
-    → AskFits files content → AskFits more content
-ask_more files more (payload.Ask number capability asked) same q = (q.0, same capability.file.number capability.location q.1)
-ask_more files more _ same q = tt
+module _ (files more : List PlacedFile) (stay : AllStay files more) where
+  pub known_more : (file : FileId) (location : Location) → IsKnown files file location → IsKnown more file location
+  known_more file location is = stay file.number (record { file = file; location = location }) is
+
+  pub listed_more : (file : FileId) (o : Option Location) → Listed files file o → Listed more file o
+  listed_more file None listed = tt
+  listed_more file (Some location) listed = known_more file location listed
+
+  pub rows_more : (rows : List FileRow) → RowsFit files rows → RowsFit more rows
+  rows_more rows fits = record { listed = λ r h. listed_more r.file r.location (fits.listed r h); rises = fits.rises }
+
+  pub fits_more : (s : FileState) → FileFits files s → FileFits more s
+  fits_more s q = record { listed = listed_more s.kept.file s.kept.location q.listed; stored = q.stored; sound = q.sound }
+
+  pub want_more : (wanted : MetaReq) → WantFits files wanted → WantFits more wanted
+  want_more (want.Report capability mark) is = known_more capability.file capability.location is
+  want_more _ is = tt
+
+  pub answer_more : (told : MetaAnswer) → AnswerFits files told → AnswerFits more told
+  answer_more (answer.Granted capability mark) is = known_more capability.file capability.location is
+  answer_more _ is = tt
+
+  pub payload_more : (content : Payload) → PayloadFits files content → PayloadFits more content
+  payload_more (payload.Ask number capability asked) is = known_more capability.file capability.location is
+  payload_more (payload.Meta number user group wanted) is = want_more wanted is
+  payload_more (payload.MetaReply number told) is = answer_more told is
+  payload_more _ is = tt

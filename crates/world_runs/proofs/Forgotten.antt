@@ -17,7 +17,7 @@ use Rattle.xt_protocol.specs.OsdSteps.{OsdState, file_at}
 use Rattle.osd_invariants.specs.Sound.{IsSound}
 use Rattle.lease_runs.specs.LeaseView.{lease_row_of}
 use Rattle.lease_runs.specs.LeaseWorld.{LeaseSetting}
-use Rattle.world_spec.specs.declared.DeclaredFile.{DeclaredFile}
+use Rattle.world_spec.specs.declared.PlacedFile.{PlacedFile}
 use Rattle.world_spec.specs.World.{Running, osd}
 use Rattle.world_runs.specs.View.{awake_as, core_seen}
 use Rattle.world_runs.specs.Worlds.{Rises, row_files, Listed, FileFits, RowsFit, Agrees, CoreFits}
@@ -65,7 +65,7 @@ pub boot_then : (keep : List KeepBody) (records : List Record) → (fold_of (rew
 unfolding folded_without
 boot_then keep records = ap (λ (f : Folded). f.boot) (said.same keep records)
 
-pub rows_fit_then : (files : List DeclaredFile) (keep : List KeepBody) (records : List Record) → RowsFit files (fold_of records).files → RowsFit files (fold_of (rewritten keep records)).files
+pub rows_fit_then : (files : List PlacedFile) (keep : List KeepBody) (records : List Record) → RowsFit files (fold_of records).files → RowsFit files (fold_of (rewritten keep records)).files
 rows_fit_then files keep records fits = subst (RowsFit files) (sym (rows_then keep records)) (record {
   listed = λ r h. let from = has_map (row_without keep) (fold_of records).files r h in
       subst (λ (x : FileRow). Listed files x.file x.location) (sym from.2) (fits.listed from.0 from.1);
@@ -82,10 +82,10 @@ agrees_then keep records s agrees file =
 
 -- ---- a running OSD
 
-file_then : (files : List DeclaredFile) (keep : List KeepBody) (s : FileState) → FileFits files s → FileFits files (file_without keep s)
-file_then files keep s fits = record { listed = fits.listed; declared = fits.declared; stored = fits.stored; sound = held_so keep s fits.sound }
+file_then : (files : List PlacedFile) (keep : List KeepBody) (s : FileState) → FileFits files s → FileFits files (file_without keep s)
+file_then files keep s fits = record { listed = fits.listed; stored = fits.stored; sound = held_so keep s fits.sound }
 
-pub core_then : (times : TimeSettings) (files : List DeclaredFile) (node : NodeId) (keep : List KeepBody) (records : List Record) (r : Running) (s : OsdState) → CoreFits times files node records r (osd s)
+pub core_then : (times : TimeSettings) (files : List PlacedFile) (node : NodeId) (keep : List KeepBody) (records : List Record) (r : Running) (s : OsdState) → CoreFits times files node records r (osd s)
     → CoreFits times files node (rewritten keep records) (record r { core = osd (osd_without keep s) }) (osd (osd_without keep s))
 unfolding osd_without
 core_then times files node keep records r s fits = (

@@ -1,5 +1,5 @@
 -- What a node's step leaves of a world, as it is seen of one file: whether it is whole, stopped in its append, or cut.
-use Rattle.std.proofs.Common.{◌≡◌, ◌≢◌, ℕ, ◌≤◌, inl, inr, List, [], ◌∷◌, ◌++◌, map, refl, arith, ap, sym, ◌∙◌, subst, Option, Some, None, true}
+use Rattle.std.proofs.Common.{◌≡◌, ◌≢◌, ℕ, ◌≤◌, inl, inr, List, [], ◌∷◌, ◌++◌, map, refl, arith, ap, sym, ◌∙◌, subst, Option, Some, None, true, false}
 use Rattle.std.specs.Prelude.{◌⊎◌, ◌==◌, filter, is_some, not, ◌&&◌}
 use Rattle.std.proofs.lemmas.List.{map-append}
 use Rattle.disk_model.specs.declared.plan.Stop.{Stop}
@@ -7,34 +7,74 @@ use Rattle.xt_base.specs.declared.ids.NodeId.{NodeId}
 use Rattle.xt_base.specs.declared.ids.FileId.{FileId}
 use Rattle.xt_messages.specs.declared.message.Msg.{Msg}
 use Rattle.xt_messages.specs.declared.record.Record.{Record}
-use Rattle.xt_messages.specs.declared.file.Location.{Location}
 use Rattle.xt_protocol.specs.declared.turned.Turned.{Turned}
-use Rattle.xt_protocol.specs.Folds.{fold_of}
 use Rattle.time_line.specs.declared.entry.Halt.{Halt}
 use Rattle.time_line.specs.declared.entry.Halt.TheVariants as halt
-use Rattle.world_spec.specs.declared.DeclaredFile.{DeclaredFile}
+use Rattle.world_spec.specs.declared.PlacedFile.{PlacedFile}
+use Rattle.world_spec.specs.declared.Role.{Role}
+use Rattle.world_spec.specs.declared.Role.TheVariants as role
 use Rattle.time_line.specs.declared.entry.Entry.TheVariants as entry
 use Rattle.world_spec.specs.declared.Sent.{Sent}
-use Rattle.world_spec.specs.World.{World, Node, Running, Core, node_in, file_in, puts}
+use Rattle.world_spec.specs.World.{World, Node, Running, Core, node_in, file_in, known, puts}
 use Rattle.world_spec.specs.NodeSteps.{entry_of, pending, numbered, to_itself, one_more, after_turn, halted, keeps_record, cut_in_sending, Doing, loses_own, sends, appends, one_put}
 use Rattle.lease_safety.specs.State.{Has}
 use Rattle.lease_runs.specs.LeaseWorld.{LeaseSetting, LeaseNode, RowStep, node_stepped, row_stepped, IsReached}
 use Rattle.lease_runs.proofs.Tests.{when}
 use Rattle.lease_runs.proofs.Seen as seen_steps
-use Rattle.world_runs.specs.View.{file_setting, node_id, end_in, told, unseen, core_seen, up_seen, node_seen, messages, is_of, lease_view}
+use Rattle.world_runs.specs.View.{file_setting, node_id, end_in, told, unseen, core_seen, up_seen, role_seen, node_seen, messages, is_of, lease_view}
 use Rattle.world_runs.proofs.Lists.{has_in, has_left, has_right, has_filter, filter_has, map_same}
-use Rattle.world_runs.proofs.Tables.{node_in-new, node_in-other}
+use Rattle.world_runs.proofs.Tables.{node_in-new, node_in-other, AllStay}
 use Rattle.world_runs.proofs.Standings.{standing-push, other_down}
 
 -- ---- each file's view
 
--- the members of a file's list, if it is declared; of one that isn't, any
-abbrev pub AreMembers : List DeclaredFile → ℕ → List NodeId → Type 0
-AreMembers files number members = (location : Location) → file_in files number ≡ Some location → location.members ≡ members
+-- the members of a file's list, if it is known; of one that isn't, any. Where its number is that of another known file, there are none.
+abbrev pub AreMembers : List PlacedFile → FileId → List NodeId → Type 0
+AreMembers files file members = (k : PlacedFile) → file_in files file.number ≡ Some k → (k.file ≡ file) × (k.location.members ≡ members)
+
+-- what they are later, they are before
+pub members_before : (files later : List PlacedFile) (file : FileId) (members : List NodeId) → AllStay files later → AreMembers later file members → AreMembers files file members
+members_before files later file members stay are k is = are k (stay file.number k is)
 
 -- the view of each file is a world of leases that moves lead to
 abbrev pub Good : World → List Msg → Type 0
-Good w own = (number : ℕ) (members : List NodeId) → AreMembers w.files number members → IsReached (file_setting w.times number members) (lease_view (file_setting w.times number members) w own)
+Good w own = (file : FileId) (members : List NodeId) → AreMembers (known w) file members → IsReached (file_setting w.times file members) (lease_view (file_setting w.times file members) w own)
+
+-- ---- roles
+
+abbrev pub IsOther : Role → Type 0
+IsOther role.Osd = ⊥
+IsOther _ = Unit {0}
+
+pub osd_or_other : (its : Role) → (its ≡ role.Osd) ⊎ IsOther its
+osd_or_other role.Osd = inl refl
+osd_or_other role.Client = inr tt
+osd_or_other role.Mrc = inr tt
+osd_or_other role.Dir = inr tt
+
+-- a running OSD is seen by its state
+pub seen_osd : (g : LeaseSetting) (n : ℕ) (end : Option ℕ) (node : Node) (r : Running) → node.role ≡ role.Osd → node.up ≡ Some r → node_seen g n end (Some node) ≡ core_seen g n end node.kept r r.core
+seen_osd g n end node r its up = ap (role_seen g n end node) its ∙ ap (up_seen g n end node.kept) up
+
+-- another node is unseen, and keeps nothing of leases
+pub seen_other : (g : LeaseSetting) (n : ℕ) (end : Option ℕ) (node : Node) → IsOther node.role → node_seen g n end (Some node) ≡ unseen g n []
+seen_other g n end node other = at node.role other
+  where
+    at : (its : Role) → IsOther its → role_seen g n end node its ≡ unseen g n []
+    at role.Osd other = absurd other
+    at role.Client other = refl
+    at role.Mrc other = refl
+    at role.Dir other = refl
+
+-- a node that has stopped doesn't run
+pub seen_idle : (g : LeaseSetting) (n : ℕ) (end : Option ℕ) (node : Node) → (node_seen g n end (Some (record node { up = None }))).runs ≡ false
+seen_idle g n end node = at node.role
+  where
+    at : (its : Role) → (role_seen g n end (record node { up = None }) its).runs ≡ false
+    at role.Osd = refl
+    at role.Client = refl
+    at role.Mrc = refl
+    at role.Dir = refl
 
 -- ---- what becomes of a step
 
@@ -67,17 +107,16 @@ however P d node running turned all cut lost stands = in_append running.crash tu
 
 -- ---- the frame
 
+abbrev pub next_node : Node → Running → Core → Turned → Node
+next_node node r next turned = record node { kept = one_more node.kept turned.rec; past = one_put node.past turned.rec; up = Some (record r { core = next }) }
+
 -- what a step of this node owes: its new state shows the step's, its messages about the file are the step's, the other nodes
 -- stand as they did, and its record is of no start
 pub record IsStep (g : LeaseSetting) (w : World) (node : Node) (r : Running) (next : Core) (turned : Turned) (step : RowStep) : Type 0 where
-  pub here : core_seen g node.id.0 (told g.file.number node.id.0 (w.entries ++ map (entry_of node.id) turned.marks)) (one_more node.kept turned.rec) (record r { core = next }) next
-      ≡ node_stepped (core_seen g node.id.0 (told g.file.number node.id.0 w.entries) node.kept r r.core) step
+  pub here : node_seen g node.id.0 (told g.file.number node.id.0 (w.entries ++ map (entry_of node.id) turned.marks)) (Some (next_node node r next turned))
+      ≡ node_stepped (node_seen g node.id.0 (told g.file.number node.id.0 w.entries) (Some node)) step
   pub others : (n : ℕ) → n ≢ node.id.0 → told g.file.number n (w.entries ++ map (entry_of node.id) turned.marks) ≡ told g.file.number n w.entries
   pub outs : (m : Msg) → Has m turned.outs → is_of g.file m ≡ true → Has m step.outs
-
-pub seen_running : (g : LeaseSetting) (n : ℕ) (end : Option ℕ) (found : Option Node) (node : Node) (r : Running) → found ≡ Some node → node.up ≡ Some r
-    → node_seen g n end found ≡ core_seen g n end node.kept r r.core
-seen_running g n end found node r e up = ap (node_seen g n end) e ∙ ap (up_seen g n end node.kept) up
 
 -- messages
 sent_by : (file : FileId) (own kept : List Msg) (w : World) (node : NodeId) (nodes : List Node) (outs : List Msg) (m : Msg) → ((k : Msg) → Has k kept → Has k own)
@@ -103,15 +142,12 @@ sent_by file own kept w node nodes outs m within h =
       ]
     ]
 
-abbrev pub next_node : Node → Running → Core → Turned → Node
-next_node node r next turned = record node { kept = one_more node.kept turned.rec; past = one_put node.past turned.rec; up = Some (record r { core = next }) }
-
 -- a whole step
 pub after_reached : (g : LeaseSetting) (w : World) (own kept : List Msg) (node : Node) (r : Running) (next : Core) (turned : Turned) (step : RowStep)
-    → ((k : Msg) → Has k kept → Has k own) → node_in w.nodes node.id.0 ≡ Some node → node.up ≡ Some r
+    → ((k : Msg) → Has k kept → Has k own) → node_in w.nodes node.id.0 ≡ Some node
     → IsStep g w node r next turned step → IsReached g (row_stepped (lease_view g w own) node.id step)
     → IsReached g (lease_view g (after_turn w node (record r { core = next }) turned) (kept ++ to_itself node.id turned.outs))
-after_reached g w own kept node r next turned step within found up is reached =
+after_reached g w own kept node r next turned step within found is reached =
     let there = next_node node r next turned in
     let end = after_turn w node (record r { core = next }) turned in
     let view = lease_view g w own in
@@ -119,9 +155,9 @@ after_reached g w own kept node r next turned step within found up is reached =
     let id = node.id.0 in
     seen_steps.stepped g view seen node.id step reached
     (seen_steps.as_it_is (node_stepped (view.node id) step) (seen.node id)
-    (seen_running g id (told g.file.number id end.entries) (node_in end.nodes id) there (record r { core = next }) (node_in-new w.nodes there node found) refl
+    (ap (node_seen g id (told g.file.number id end.entries)) (node_in-new w.nodes there node found)
     ∙ is.here
-    ∙ sym (ap (λ (x : LeaseNode). node_stepped x step) (seen_running g id (told g.file.number id w.entries) (node_in w.nodes id) node r found up))))
+    ∙ sym (ap (λ (f : Option Node). node_stepped (node_seen g id (told g.file.number id w.entries) f) step) found)))
     (λ n ne. seen_steps.as_it_is _ _
     (ap (λ (t : Option ℕ). node_seen g n t (node_in end.nodes n)) (is.others n ne)
     ∙ ap (node_seen g n (told g.file.number n w.entries)) (node_in-other w.nodes there n ne)))
@@ -132,15 +168,17 @@ after_reached g w own kept node r next turned step within found up is reached =
 
 -- a stop; its node may keep a record more
 pub halts : (g : LeaseSetting) (w : World) (own : List Msg) (node old : Node) (r : Running) (how : Halt) → node_in w.nodes node.id.0 ≡ Some old
-    → ((lease_view g w own).node node.id.0).boot ≤ (fold_of node.kept).boot.0 → IsReached g (lease_view g w own) → IsReached g (lease_view g (halted w node r how) [])
+    → ((end : Option ℕ) → ((lease_view g w own).node node.id.0).boot ≤ (node_seen g node.id.0 end (Some (record node { up = None }))).boot) → IsReached g (lease_view g w own) → IsReached g (lease_view g (halted w node r how) [])
 halts g w own node old r how found boot reached =
     let view = lease_view g w own in
     let end = halted w node r how in
     let seen = lease_view g end [] in
     let id = node.id.0 in
     let there : Node = record node { up = None } in
-    let now : seen.node id ≡ unseen g id node.kept = ap (node_seen g id (told g.file.number id end.entries)) (node_in-new w.nodes there old found) in
-    seen_steps.stopped g view seen node.id reached (ap (λ (x : LeaseNode). x.runs) now) (omega (arith, ap (λ (x : LeaseNode). x.boot) now, boot))
+    let its = told g.file.number id end.entries in
+    let now : seen.node id ≡ node_seen g id its (Some there) = ap (node_seen g id its) (node_in-new w.nodes there old found) in
+    let below = boot its in
+    seen_steps.stopped g view seen node.id reached (ap (λ (x : LeaseNode). x.runs) now ∙ seen_idle g id its node) (omega (arith, ap (λ (x : LeaseNode). x.boot) now, below))
     (λ n ne. seen_steps.as_it_is _ _
     (ap (λ (t : Option ℕ). node_seen g n t (node_in end.nodes n)) (ap end_in (standing-push (node_id n) g.file.number w.entries (entry.Down node.id r.clock how) ∙ other_down (node_id n) node.id g.file.number r.clock how _ (λ e. ne (sym e))))
     ∙ ap (node_seen g n (told g.file.number n w.entries)) (node_in-other w.nodes there n ne)))

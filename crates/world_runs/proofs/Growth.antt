@@ -12,6 +12,8 @@ use Rattle.xt_messages.specs.declared.file.Location.{Location}
 use Rattle.xt_messages.specs.declared.file.Op.{Op}
 use Rattle.xt_messages.specs.declared.reply.Reply.{Reply}
 use Rattle.xt_messages.specs.declared.reply.Reply.TheVariants as reply
+use Rattle.xt_messages.specs.declared.meta.MetaAnswer.{MetaAnswer}
+use Rattle.xt_messages.specs.declared.meta.MetaAnswer.TheVariants as answer
 use Rattle.xt_messages.specs.declared.message.Msg.{Msg}
 use Rattle.xt_messages.specs.declared.message.Payload.{Payload}
 use Rattle.xt_messages.specs.declared.message.Payload.TheVariants as payload
@@ -33,11 +35,11 @@ use Rattle.client_rows.specs.declared.requests.Request.TheVariants as request
 use Rattle.client_rows.specs.declared.requests.MadeCall.{MadeCall}
 use Rattle.client_rows.specs.Holding.{Held}
 use Rattle.client_rows.specs.Rows.{WholeClient}
-use Rattle.client_steps.specs.Asked.{RunningIs, MadeIs, ClientIs, AllHeld}
-use Rattle.world_spec.specs.declared.DeclaredFile.{DeclaredFile}
+use Rattle.client_steps.specs.Asked.{RunningIs, MadeIs, ClientIs, AllHeld, AnswerGrants}
+use Rattle.world_spec.specs.declared.PlacedFile.{PlacedFile}
 use Rattle.time_line.specs.TimeLine.{id_of, location_in, is_replicated_at, is_replicated, begun, call_begun}
 use Rattle.time_line.specs.Clauses.{IsBefore, ok_entry, HasBegunOn, EndsAreAnswered}
-use Rattle.world_spec.specs.World.{Node, Running, Core, osd, client, node_in}
+use Rattle.world_spec.specs.World.{Node, Running, Core, osd, client, mrc, dir, node_in}
 use Rattle.world_spec.specs.NodeSteps.{entry_of}
 use Rattle.world_runs.specs.View.{node_id}
 use Rattle.world_runs.specs.Acts.{acted_for, ActsHaveBegun}
@@ -48,6 +50,7 @@ use Rattle.world_runs.proofs.FileIds.{IssuedAskIs, FileIs}
 use Rattle.world_runs.proofs.OsdIds.{FilesAre, EndsNone, NoneEnds, IsTold}
 use Rattle.world_runs.proofs.Calls.{IsAnswered, IsOnStriped, ReplyIs, AskIs, ContentIs, RequestIs, HeldIs, OutcomeIs}
 use Rattle.world_runs.proofs.Places.{AreTold, location-grown}
+use Rattle.world_runs.proofs.Making.{AreFileMarks}
 
 -- ---- the trace
 
@@ -113,6 +116,27 @@ pub entries-marks : (file : ℕ) (node : NodeId) (es : List Entry) (ms : List Ma
 entries-marks file node es ms are none marked =
     subst (λ (xs : List Entry). EntriesAre (xs ++ map (entry_of node) ms)) (append-nil es)
     (marks_are file node es [] ms (subst EntriesAre (sym (append-nil es)) are) none marked)
+
+-- files that a server makes
+files_are : (node : NodeId) (es more : List Entry) (ms : List Mark) → EntriesAre (es ++ more) → AreFileMarks ms → EntriesAre ((es ++ more) ++ map (entry_of node) ms)
+files_are node es more [] are of_files = subst EntriesAre (sym (append-nil (es ++ more))) are
+files_are node es more (mark.File file location ∷ ms) are of_files =
+    let e = entry.File file.number location in
+    let here : EntriesAre ((es ++ more) ++ e ∷ []) = entries-push (es ++ more) e are tt in
+    subst EntriesAre (append_assoc (es ++ more) (e ∷ []) (map (entry_of node) ms))
+    (subst (λ (xs : List Entry). EntriesAre (xs ++ map (entry_of node) ms)) (sym (append_assoc es more (e ∷ [])))
+    (files_are node es (more ++ e ∷ []) ms (subst EntriesAre (append_assoc es more (e ∷ [])) here) of_files.1))
+files_are node es more (mark.Begin number c ∷ ms) are of_files = absurd of_files.0
+files_are node es more (mark.Done number how ∷ ms) are of_files = absurd of_files.0
+files_are node es more (mark.Held file end ∷ ms) are of_files = absurd of_files.0
+files_are node es more (mark.Active file count id ∷ ms) are of_files = absurd of_files.0
+files_are node es more (mark.Issue file count id ∷ ms) are of_files = absurd of_files.0
+files_are node es more (mark.Commit file count id ∷ ms) are of_files = absurd of_files.0
+files_are node es more (mark.Answer file id count bytes ∷ ms) are of_files = absurd of_files.0
+
+pub entries-files : (node : NodeId) (es : List Entry) (ms : List Mark) → EntriesAre es → AreFileMarks ms → EntriesAre (es ++ map (entry_of node) ms)
+entries-files node es ms are of_files =
+    subst (λ (xs : List Entry). EntriesAre (xs ++ map (entry_of node) ms)) (append-nil es) (files_are node es [] ms (subst EntriesAre (sym (append-nil es)) are) of_files)
 
 -- no call of this client has begun from this number on
 abbrev pub FreshFrom : List Entry → NodeId → ℕ → Type 0
@@ -208,8 +232,8 @@ striped-grown es more id is =
 request-grown : (es more : List Entry) (node : NodeId) (number : ℕ) (asked : Request) → RequestIs es node number asked → RequestIs (es ++ more) node number asked
 request-grown es more node number (request.Replicated capability asked) is = (ask-grown es more (id_of node number) capability asked is.0, is.1)
 request-grown es more node number (request.Striped capability asked) is = (ask-grown es more (id_of node number) capability asked is.0, is.1)
-request-grown es more node number (request.Meta user group asked) is = absurd is
-request-grown es more node number (request.Registry asked) is = absurd is
+request-grown es more node number (request.Meta user group asked) is = tt
+request-grown es more node number (request.Registry asked) is = tt
 
 running-grown : (es more : List Entry) (node : NodeId) (running : Option RunningCall) → RunningIs (RequestIs es node) running → RunningIs (RequestIs (es ++ more) node) running
 running-grown es more node None is = tt
@@ -238,7 +262,15 @@ reply-grown es more to number (reply.OldEpoch epoch) is = tt
 reply-grown es more to number (reply.TooFar object) is = tt
 reply-grown es more to number reply.ClientsFull is = tt
 
+answer-granted : (es more : List Entry) (told : MetaAnswer) → AnswerGrants (HeldIs es) told → AnswerGrants (HeldIs (es ++ more)) told
+answer-granted es more (answer.Granted capability size) is = (is.0, location-grown capability.file.number es more capability.location is.1)
+answer-granted es more answer.Done is = tt
+answer-granted es more (answer.Refused why) is = tt
+answer-granted es more (answer.Names names) is = tt
+answer-granted es more (answer.Row how owner group mode size) is = tt
+
 pub content-grown : (es more : List Entry) (from to : NodeId) (content : Payload) → ContentIs es from to content → ContentIs (es ++ more) from to content
+content-grown es more from to (payload.MetaReply number told) is = answer-granted es more told is
 content-grown es more from to (payload.Ask number capability asked) is = ask-grown es more (id_of from number) capability asked is
 content-grown es more from to (payload.Reply number file answer) is = reply-grown es more to number answer is
 content-grown es more from to _ is = tt
@@ -281,6 +313,8 @@ reply_told es node file marks to number reply.ClientsFull said = tt
 content_told : (es : List Entry) (node : NodeId) (file : ℕ) (marks : List Mark) (from to : NodeId) (content : Payload) → Said (λ (id : OpId). HasBegunOn file es id) file marks to content
     → ContentIs (es ++ map (entry_of node) marks) from to content
 content_told es node file marks from to (payload.Ask number capability asked) said = absurd said
+content_told es node file marks from to (payload.Meta number user group wanted) said = absurd said
+content_told es node file marks from to (payload.MetaReply number told) said = absurd said
 content_told es node file marks from to (payload.Reply number f answer) said = reply_told es node file marks to number answer said
 content_told es node file marks from to _ said = tt
 
@@ -312,14 +346,16 @@ pub record CallerIs (es : List Entry) (node : NodeId) (c : WholeClient) : Type 0
 abbrev pub CoreIs : List Entry → NodeId → Core → Type 0
 CoreIs es node (osd s) = FilesAre es s.files
 CoreIs es node (client c) = CallerIs es node c
+CoreIs es node (mrc m) = Unit {0}
+CoreIs es node (dir s) = Unit {0}
 
 abbrev pub UpIs : List Entry → NodeId → Option Running → Type 0
 UpIs es node None = Unit {0}
 UpIs es node (Some r) = CoreIs es node r.core
 
 -- What holds at every moment: asks and the calls of clients have begun, who isn't declared has begun nothing, what was told or ended
--- well was answered, and the trace tells where each file is.
-pub record EndsFit (files : List DeclaredFile) (nodes : List Node) (es : List Entry) (sent : List Msg) : Type 0 where
+-- well was answered, and the trace tells where each known file is.
+pub record EndsFit (files : List PlacedFile) (nodes : List Node) (es : List Entry) (sent : List Msg) : Type 0 where
   pub nodes_are : (n : ℕ) (node : Node) → node_in nodes n ≡ Some node → UpIs es node.id node.up
   pub strangers : (n : ℕ) → node_in nodes n ≡ None → FreshFrom es (node_id n) 0
   pub messages : (m : Msg) → Has m sent → ContentIs es m.from m.to m.payload
@@ -328,6 +364,8 @@ pub record EndsFit (files : List DeclaredFile) (nodes : List Node) (es : List En
 
 pub core-grown : (es more : List Entry) (node : NodeId) (core : Core) → Quiet more node → CoreIs es node core → CoreIs (es ++ more) node core
 core-grown es more node (osd s) quiet is = files-grown es more s.files is
+core-grown es more node (mrc m) quiet is = tt
+core-grown es more node (dir s) quiet is = tt
 core-grown es more node (client c) quiet is =
     record { calls = calls-grown es more node c is.calls; held = held-grown es more c.held is.held; fresh = fresh-grown es more node c.replicas.next quiet is.fresh }
 

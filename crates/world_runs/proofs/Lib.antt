@@ -1,6 +1,7 @@
 pub mod Lists
 pub mod Tables
 pub mod Standings
+pub mod Making
 pub mod Frame
 pub mod Rising
 pub mod Files
@@ -8,7 +9,10 @@ pub mod Marks
 pub mod Woken
 pub mod OsdEvents
 pub mod Moments
+pub mod Roles
+pub mod Clients
 pub mod Fit
+pub mod Drifts
 pub mod Walk
 pub mod NodeEvents
 pub mod Declares
@@ -23,6 +27,7 @@ pub mod Fresh
 pub mod Said
 pub mod PrimaryIds
 pub mod FileIds
+pub mod OsdSilence
 pub mod Calls
 pub mod OsdIds
 pub mod Growth

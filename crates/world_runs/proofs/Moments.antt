@@ -139,7 +139,7 @@ act-still node number m are = (λ id k before. acts_still node number (m ∷ [])
 inert-acts : (node : NodeId) (m : Mark) (number : ℕ) (by : NodeId) → IsInert m → acts_on number (entry_of node m) ≡ Some by → ⊥
 inert-acts node (mark.Begin k c) number by is acting = cc
 inert-acts node (mark.Done k outcome) number by is acting = cc
-inert-acts node (mark.File k location) number by is acting = is
+inert-acts node (mark.File k location) number by is acting = cc
 inert-acts node (mark.Held k end) number by is acting = is
 inert-acts node (mark.Active k count write) number by is acting = is
 inert-acts node (mark.Issue k count write) number by is acting = is

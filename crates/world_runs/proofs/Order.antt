@@ -1,13 +1,13 @@
 -- the worlds of a run are in order
-use Rattle.std.proofs.Common.{◌≡◌, ℕ, List, [], ap, ◌∙◌, subst, Option, Some, None, true}
+use Rattle.std.proofs.Common.{◌≡◌, ℕ, List, [], ap, sym, ◌∙◌, subst, Option, Some, None, true}
 use Rattle.xt_messages.specs.declared.message.Msg.{Msg}
-use Rattle.world_spec.specs.World.{World, node_in}
+use Rattle.world_spec.specs.World.{World, node_in, known}
 use Rattle.world_spec.specs.Lines.{Next, finished, opens, goes_on, ends}
-use Rattle.world_runs.specs.Worlds.{CoreFits, UpFits, LeasesHold, Leads, OneLeads, IsInOrder, IsNextInOrder}
+use Rattle.world_runs.specs.Worlds.{CoreFits, UpFits, role_of, LeasesHold, Leads, OneLeads, IsInOrder, IsNextInOrder}
 use Rattle.world_runs.proofs.Tables.{node_in-id}
 use Rattle.world_runs.proofs.OsdEvents as osd_events
-use Rattle.world_runs.proofs.Fit.{IsShaped, IsFit, apart_now, members_by, are_members}
-use Rattle.world_runs.proofs.NodeEvents.{stood_by}
+use Rattle.world_runs.proofs.Fit.{IsShaped, IsFit, apart_now}
+use Rattle.world_runs.proofs.NodeEvents.{stood_by, core_at, its_role}
 use Rattle.world_runs.proofs.LineSteps.{fits_kept}
 use Rattle.world_runs.proofs.Walk.{NextIs}
 use Rattle.xt_base.specs.declared.ids.NodeId.{NodeId}
@@ -30,10 +30,10 @@ use Rattle.world_runs.proofs.Files.{at_fits}
 leases_hold : (w : World) (own : List Msg) → IsShaped w own → LeasesHold w
 leases_hold w own shape n node r s file is is_up is_osd held =
     let found = ap (node_in w.nodes) (node_in-id w.nodes n node is) ∙ is in
-    let core = subst (CoreFits w.times w.files node.id node.kept r) is_osd (subst (UpFits w.times w.files node.id node.kept) is_up (shape.nodes n node is).up) in
-    osd_events.lease_holds w own node r s found is_up is_osd core.0 core.2 shape.good
+    let core = subst (CoreFits w.times (known w) node.id node.kept r) is_osd (core_at w own node r shape found is_up) in
+    osd_events.lease_holds w own node r s found is_up is_osd (sym (its_role w own node r shape found is_up) ∙ ap role_of is_osd) core.0 core.2 shape.good
     (λ number. let st = stood_by w own node r shape found is_up number in record { at = st.0; stands = st.1; clock = st.2 })
-    shape.times file (members_by w.files file.number) (are_members w.files file.number) held
+    shape.times file held
 
 -- a tenure is under a lease that is held
 led_held : (l : LeaseState) (o : Option Tenure) (t : Tenure) → o ≡ Some t → LedUnder l o → IsHeld l
@@ -48,12 +48,12 @@ leader_holds w own file n shape lead =
     let r = lead.running in
     let site = site_of (outside_of node.kept) (awake_as s.started) r.clock in
     let f = file_at (awake_as s.started) s.files file in
-    let core = subst (CoreFits w.times w.files node.id node.kept r) lead.core (subst (UpFits w.times w.files node.id node.kept) lead.up (shape.nodes n node lead.found).up) in
-    let sound = SoundSteps.expired_so site f (at_fits w.files (awake_as s.started) s.files file core.0.fits).sound in
+    let core = subst (CoreFits w.times (known w) node.id node.kept r) lead.core (subst (UpFits w.times (known w) node.id node.kept) lead.up (shape.nodes n node lead.found).up) in
+    let sound = SoundSteps.expired_so site f (at_fits (known w) (awake_as s.started) s.files file core.0.fits).sound in
     let held_now = led_held (expired site f).state.lease (expired site f).state.primary.tenure lead.tenure lead.leads sound.led in
     let held_then = subst (λ (x : LeaseRow). IsHeld x.lease) (expired_shows site f).row held_now in
     subst (λ (id : NodeId). holds w.entries id file.number ≡ true) (same_node node.id (node_id n) (node_in-id w.nodes n node lead.found))
-    (leases_hold w own shape n node r s file lead.found lead.up lead.core held_then).1
+    (leases_hold w own shape n node r s file lead.found lead.up lead.core held_then)
 
 one_leads : (w : World) (own : List Msg) → IsShaped w own → OneLeads w
 one_leads w own shape file a b first second =
@@ -61,7 +61,17 @@ one_leads w own shape file a b first second =
 
 pub in_order : (w : World) (own : List Msg) → IsFit w own → IsInOrder w own
 in_order w own fit =
-    record { nodes = fit.shape.nodes; stands = fit.shape.stands; asks = fit.shape.asks; times = fit.shape.times; leases = leases_hold w own fit.shape; leads = one_leads w own fit.shape }
+    record {
+      nodes = fit.shape.nodes;
+      stands = fit.shape.stands;
+      payloads = fit.shape.payloads;
+      declared = fit.shape.declared;
+      made = fit.shape.made;
+      one_server = fit.shape.one_server;
+      times = fit.shape.times;
+      leases = leases_hold w own fit.shape;
+      leads = one_leads w own fit.shape;
+    }
 
 pub next_in_order : (next : Next) → NextIs IsFit fits_kept next → IsNextInOrder next
 next_in_order (finished w) fit = in_order w [] fit

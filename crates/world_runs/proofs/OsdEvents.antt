@@ -36,21 +36,21 @@ use Rattle.lease_runs.specs.ActsView.{RecordIs, IsBusy, MarksAre, no_marks, won,
 use Rattle.lease_runs.proofs.LeaseSteps as lease_steps
 use Rattle.lease_runs.proofs.OsdLeases as osd_leases
 use Rattle.lease_runs.proofs.ActSteps as act_steps
-use Rattle.world_spec.specs.declared.DeclaredFile.{DeclaredFile}
+use Rattle.world_spec.specs.declared.PlacedFile.{PlacedFile}
 use Rattle.time_line.specs.TimeLine.{Standing, standing, holds, times_of}
-use Rattle.world_spec.specs.World.{World, Node, Running, osd, node_in}
-use Rattle.world_spec.specs.Lines.{declared_file}
+use Rattle.world_spec.specs.declared.Role.TheVariants as role
+use Rattle.world_spec.specs.World.{World, Node, Running, osd, node_in, file_in, known}
 use Rattle.world_spec.specs.NodeSteps.{entry_of, one_more, outside_of}
-use Rattle.world_runs.specs.View.{file_setting, told, awake_as, core_seen, messages, is_of, lease_view}
+use Rattle.world_runs.specs.View.{file_setting, told, awake_as, core_seen, node_seen, messages, is_of, lease_view}
 use Rattle.world_runs.proofs.Lists.{filter_has, has_map}
-use Rattle.world_runs.proofs.Frame.{AreMembers, Good, seen_running}
-use Rattle.world_runs.proofs.Files.{step_agrees, unbusy, held_busy, RecordFits, at_fits, step_fits, wake_fits, step_record, same_boot}
+use Rattle.world_runs.proofs.Frame.{AreMembers, Good, seen_osd}
+use Rattle.world_runs.proofs.Files.{step_agrees, unbusy, held_busy, busy_known, RecordFits, at_fits, step_fits, wake_fits, step_record, same_boot}
 use Rattle.world_runs.proofs.Rising.{with_file_has, with_file_rises}
 use Rattle.world_runs.proofs.Woken.{AtMap, found_at, found_nowhere, at_map, one_state, mapped_files, flat_has}
 use Rattle.world_runs.proofs.Standings.{AreInert}
 use Rattle.world_runs.proofs.Marks.{none_told, MarksFit, inert, wins, acts, told_as, told_of_other, expired_turn, holds_true}
 use Rattle.osd_invariants.proofs.Kept as kept_steps
-use Rattle.world_runs.specs.Worlds.{Agrees, Rises, files_of, Listed, AskFits, FileFits, OsdFits}
+use Rattle.world_runs.specs.Worlds.{Agrees, Rises, files_of, IsKnown, Listed, PayloadFits, FileFits, OsdFits}
 
 -- ---- messages of a step
 
@@ -67,37 +67,6 @@ about_same file f m is of_file = file-equal f file (sym (ap (is_about file) of_f
 
 pub outs_shown : (step : FileStep) (st : RowStep) (file : FileId) (m : Msg) → ShowsRow step st → Has m step.turned.outs → is_of file m ≡ true → Has m st.outs
 outs_shown step st file m shows h is = subst (Has m) shows.outs (filter_has is_lease_or_ask m step.turned.outs h (about_lease file m is))
-
--- no ask is about a lease
-lease_no_ask : (p : Payload) (file : FileId) → is_ask p ≡ true → lease_file p ≡ Some file → ⊥
-lease_no_ask (payload.Ask number capability asked) file is of_file = cc
-lease_no_ask (payload.Read f ballot) file is of_file = cc
-lease_no_ask (payload.Promise f ballot boot report) file is of_file = cc
-lease_no_ask (payload.Write f ballot boot l) file is of_file = cc
-lease_no_ask (payload.Accepted f ballot boot) file is of_file = cc
-lease_no_ask (payload.Outrun f ballot seen) file is of_file = cc
-lease_no_ask _ file is of_file = cc
-
-ask_counts : (m : Msg) → is_ask m.payload ≡ true → is_lease_or_ask m ≡ true
-ask_counts m is = or_right (is_some (lease_file m.payload)) (is_ask m.payload) is
-  where
-    or_right : (a b : Bool) → b ≡ true → (a || b) ≡ true
-    or_right true b is = refl
-    or_right false b is = is
-
--- so where all messages about leases, and asks, are about a file's lease, no ask is sent
-pub no_ask : (files : List DeclaredFile) (m : Msg) → (is_lease_or_ask m ≡ true → (file : FileId) × (lease_file m.payload ≡ Some file)) → AskFits files m.payload
-no_ask files m each = at m.payload refl
-  where
-    at : (p : Payload) → m.payload ≡ p → AskFits files p
-    at (payload.Ask number capability asked) is =
-        let ask : is_ask m.payload ≡ true = ap is_ask is in
-        let about = each (ask_counts m ask) in
-        absurd (lease_no_ask m.payload about.0 ask about.1)
-    at _ is = tt
-
-none_asked : (files : List DeclaredFile) (file : FileId) (step : FileStep) (st : RowStep) (m : Msg) → ShowsRow step st → ((k : Msg) → Has k st.outs → lease_file k.payload ≡ Some file) → Has m step.turned.outs → AskFits files m.payload
-none_asked files file step st m shows are h = no_ask files m (λ is. (file, are m (subst (Has m) shows.outs (filter_has is_lease_or_ask m step.turned.outs h is))))
 
 -- a message about a lease concerns its file
 lease_concerns : (p : Payload) (f : FileId) → lease_file p ≡ Some f → file_concerned p ≡ Some f
@@ -134,12 +103,11 @@ wakes_of file site x l step (resting p) = (stays_so x, p, λ m h. absurd h)
 
 -- ---- an event
 
--- what an OSD's step owes in general: its state, its messages, its record and its marks
+-- what an OSD's step owes in general: its state, its record and its marks
 pub record StepFits (w : World) (node : Node) (r : Running) (s : OsdState) (o : OsdStep) : Type 0 where
   pub started : o.osd.started ≡ s.started
-  pub fits : OsdFits w.times w.files node.id r.boot r.clock o.osd
-  pub asks : (m : Msg) → Has m o.turned.outs → AskFits w.files m.payload
-  pub rec : (rec : Record) → o.turned.rec ≡ Some rec → RecordFits w.files rec × ((fold_of (node.kept ++ rec ∷ [])).boot ≡ (fold_of node.kept).boot)
+  pub fits : OsdFits w.times (known w) node.id r.boot r.clock o.osd
+  pub rec : (rec : Record) → o.turned.rec ≡ Some rec → RecordFits (known w) rec × ((fold_of (node.kept ++ rec ∷ [])).boot ≡ (fold_of node.kept).boot)
   pub marks : MarksFit node.id w.entries o.turned.marks
   pub kept : Agrees (one_more node.kept o.turned.rec) o.osd
 
@@ -159,20 +127,20 @@ pub record Stood (w : World) (node : Node) (r : Running) (number : ℕ) : Type 0
 
 -- what is said of a message that comes to a node
 abbrev pub Comes : World → List Msg → NodeId → Event → Type 0
-Comes w was node (event.Deliver msg) = (msg.to ≡ node) × Has msg (was ++ messages w) × AskFits w.files msg.payload
+Comes w was node (event.Deliver msg) = (msg.to ≡ node) × Has msg (was ++ messages w) × PayloadFits (known w) msg.payload
 Comes w was node event.Wake = Unit {0}
 Comes w was node (event.Call call) = Unit {0}
 
 -- what an event at an OSD owes
 pub record EventAt (w : World) (was : List Msg) (node : Node) (r : Running) (s : OsdState) (o : OsdStep) : Type 0 where
-  pub shows : (k : ℕ) (members : List NodeId) → AreMembers w.files k members → Shows (file_setting w.times k members) w was node s o
+  pub shows : (file : FileId) (members : List NodeId) → AreMembers (known w) file members → Shows (file_setting w.times file members) w was node s o
   pub all_fits : StepFits w node r s o
 
 no_rec : {rec : Record} {P : Type 0} → None ≡ Some rec → P
 no_rec is = absurd (cc)
 
-module _ (w : World) (was : List Msg) (node : Node) (r : Running) (s : OsdState) (found : node_in w.nodes node.id.0 ≡ Some node) (is_up : node.up ≡ Some r) (is_osd : r.core ≡ osd s)
-    (fits : OsdFits w.times w.files node.id r.boot r.clock s) (agrees : Agrees node.kept s) (good : Good w was) (stood : (number : ℕ) → Stood w node r number) (times : times_of w.entries ≡ w.times) where
+module _ (w : World) (was : List Msg) (node : Node) (r : Running) (s : OsdState) (found : node_in w.nodes node.id.0 ≡ Some node) (is_up : node.up ≡ Some r) (is_osd : r.core ≡ osd s) (its_role : node.role ≡ role.Osd)
+    (fits : OsdFits w.times (known w) node.id r.boot r.clock s) (agrees : Agrees node.kept s) (good : Good w was) (stood : (number : ℕ) → Stood w node r number) (times : times_of w.entries ≡ w.times) where
   abbrev now : ℕ
   now = max r.clock s.last
 
@@ -191,74 +159,89 @@ module _ (w : World) (was : List Msg) (node : Node) (r : Running) (s : OsdState)
   node_is : s.started.node ≡ node.id
   node_is = ap (λ (t : Silent). t.node) fits.started
 
-  abbrev seen : ℕ → List NodeId → LeaseNode
-  seen k members = core_seen (file_setting w.times k members) node.id.0 (told k node.id.0 w.entries) node.kept r (osd s)
+  abbrev seen : FileId → List NodeId → LeaseNode
+  seen file members = core_seen (file_setting w.times file members) node.id.0 (told file.number node.id.0 w.entries) node.kept r (osd s)
 
-  seen_is : (k : ℕ) (members : List NodeId) → (lease_view (file_setting w.times k members) w was).node node.id.0 ≡ seen k members
-  seen_is k members =
-      let g = file_setting w.times k members in
-      seen_running g node.id.0 (told k node.id.0 w.entries) (node_in w.nodes node.id.0) node r found is_up
-      ∙ ap (core_seen g node.id.0 (told k node.id.0 w.entries) node.kept r) is_osd
+  seen_is : (file : FileId) (members : List NodeId) → (lease_view (file_setting w.times file members) w was).node node.id.0 ≡ seen file members
+  seen_is file members =
+      let g = file_setting w.times file members in
+      let end = told file.number node.id.0 w.entries in
+      ap (node_seen g node.id.0 end) found ∙ (seen_osd g node.id.0 end node r its_role is_up ∙ ap (core_seen g node.id.0 end node.kept r) is_osd)
 
   -- a step that leaves the lease as it is
-  untouched : (k : ℕ) (members : List NodeId) → AreMembers w.files k members → (o : OsdStep)
-      → lease_row_of (file_at awake o.osd.files (declared_file k)) ≡ lease_row_of (file_at awake s.files (declared_file k))
-      → ((m : Msg) → Has m o.turned.outs → is_of (declared_file k) m ≡ true → ⊥)
-      → told k node.id.0 (w.entries ++ map (entry_of node.id) o.turned.marks) ≡ told k node.id.0 w.entries
-      → Shows (file_setting w.times k members) w was node s o
-  untouched k members are o row outs quiet_told =
-      let g = file_setting w.times k members in
+  untouched : (file : FileId) (members : List NodeId) → AreMembers (known w) file members → (o : OsdStep)
+      → lease_row_of (file_at awake o.osd.files file) ≡ lease_row_of (file_at awake s.files file)
+      → ((m : Msg) → Has m o.turned.outs → is_of file m ≡ true → ⊥)
+      → told file.number node.id.0 (w.entries ++ map (entry_of node.id) o.turned.marks) ≡ told file.number node.id.0 w.entries
+      → Shows (file_setting w.times file members) w was node s o
+  untouched file members are o row outs quiet_told =
+      let g = file_setting w.times file members in
       let view = lease_view g w was in
       record {
         step = seen_steps.no_step (view.node node.id.0);
-        reached = seen_steps.no_step_reached g view node.id (good k members are);
-        row = row ∙ sym (ap (λ (x : LeaseNode). x.row) (seen_is k members));
+        reached = seen_steps.no_step_reached g view node.id (good file members are);
+        row = row ∙ sym (ap (λ (x : LeaseNode). x.row) (seen_is file members));
         outs = λ m h is. absurd (outs m h is);
         told = quiet_told;
       }
 
   -- what is overdue expires
-  expiring : (k : ℕ) (members : List NodeId) → AreMembers w.files k members
-      → (let x = seen k members in IsReached (file_setting w.times k members) (row_stepped (lease_view (file_setting w.times k members) w was) node.id (row_expires x.clock x.row)))
-  expiring k members are =
-      let g = file_setting w.times k members in
+  expiring : (file : FileId) (members : List NodeId) → AreMembers (known w) file members
+      → (let x = seen file members in IsReached (file_setting w.times file members) (row_stepped (lease_view (file_setting w.times file members) w was) node.id (row_expires x.clock x.row)))
+  expiring file members are =
+      let g = file_setting w.times file members in
       let view = lease_view g w was in
-      subst (λ (x : LeaseNode). IsReached g (row_stepped view node.id (row_expires x.clock x.row))) (seen_is k members)
-      (moves view (lease_expires node.id) (good k members are) (ap (λ (x : LeaseNode). x.runs) (seen_is k members)))
+      subst (λ (x : LeaseNode). IsReached g (row_stepped view node.id (row_expires x.clock x.row))) (seen_is file members)
+      (moves view (lease_expires node.id) (good file members are) (ap (λ (x : LeaseNode). x.runs) (seen_is file members)))
 
   -- a round, or a renewal, is begun
-  asking_reached : (k : ℕ) (members : List NodeId) → AreMembers w.files k members
-      → IsReached (file_setting w.times k members) (row_stepped (lease_view (file_setting w.times k members) w was) node.id (node_asking (file_setting w.times k members) node.id (seen k members)))
-  asking_reached k members are =
-      let g = file_setting w.times k members in
+  asking_reached : (file : FileId) (members : List NodeId) → AreMembers (known w) file members
+      → IsReached (file_setting w.times file members) (row_stepped (lease_view (file_setting w.times file members) w was) node.id (node_asking (file_setting w.times file members) node.id (seen file members)))
+  asking_reached file members are =
+      let g = file_setting w.times file members in
       let view = lease_view g w was in
-      subst (λ (x : LeaseNode). IsReached g (row_stepped view node.id (node_asking g node.id x))) (seen_is k members)
-      (moves view (node_asks node.id) (good k members are) (ap (λ (x : LeaseNode). x.runs) (seen_is k members)))
+      subst (λ (x : LeaseNode). IsReached g (row_stepped view node.id (node_asking g node.id x))) (seen_is file members)
+      (moves view (node_asks node.id) (good file members are) (ap (λ (x : LeaseNode). x.runs) (seen_is file members)))
 
   -- the members of the stored list
-  asking_is : (k : ℕ) (members : List NodeId) → AreMembers w.files k members → (location : Option Location) → IsStored location → Listed w.files (declared_file k) location
-      → (let x = expired_row now (lease_row_of (file_at awake s.files (declared_file k))) in
-      row_asks (lease_setting site (declared_file k) location) site.node now x x.lease ≡ node_asking (file_setting w.times k members) node.id (seen k members))
-  asking_is k members are None stored is_listed = absurd stored
-  asking_is k members are (Some location) stored is_listed =
-      let row = lease_row_of (file_at awake s.files (declared_file k)) in
-      ap (λ (ms : List NodeId). let x = expired_row now row in row_asks (file_setting w.times k ms) s.started.node now x x.lease) (are location is_listed)
-      ∙ ap (λ (n : NodeId). let x = expired_row now row in row_asks (file_setting w.times k members) n now x x.lease) node_is
-      ∙ ap (λ (t : ℕ). let x = expired_row t row in row_asks (file_setting w.times k members) node.id t x x.lease) now_is
+  asking_is : (file : FileId) (members : List NodeId) → AreMembers (known w) file members → (location : Option Location) → IsStored location → Listed (known w) file location
+      → (let x = expired_row now (lease_row_of (file_at awake s.files file)) in
+      row_asks (lease_setting site file location) site.node now x x.lease ≡ node_asking (file_setting w.times file members) node.id (seen file members))
+  asking_is file members are None stored is_listed = absurd stored
+  asking_is file members are (Some location) stored is_listed =
+      let row = lease_row_of (file_at awake s.files file) in
+      ap (λ (ms : List NodeId). let x = expired_row now row in row_asks (file_setting w.times file ms) s.started.node now x x.lease) (are (record { file = file; location = location }) is_listed).1
+      ∙ ap (λ (n : NodeId). let x = expired_row now row in row_asks (file_setting w.times file members) n now x x.lease) node_is
+      ∙ ap (λ (t : ℕ). let x = expired_row t row in row_asks (file_setting w.times file members) node.id t x x.lease) now_is
 
-  -- a lease that is held once what is overdue has expired is held by the trace, and of a declared file
-  pub lease_holds : (file : FileId) (members : List NodeId) → AreMembers w.files file.number members → IsHeld (lease_expired (file_at awake s.files file).lease r.clock)
-      → (file ≡ declared_file file.number) × (holds w.entries node.id file.number ≡ true)
-  lease_holds file members are is = (same_file, holds_true g w.entries node.id y (stood k).at (ap (λ (t : TimeSettings). t.drift) times) (stood k).stands (stood k).clock refl (subst (IsHolding g) there_is holding))
+  -- a file with a round or a lease is known
+  known_busy : (file : FileId) → IsBusy (file_at awake s.files file).lease → (location : Location) × IsKnown (known w) file location
+  known_busy file busy =
+      subst (λ (f : FileId). (location : Location) × IsKnown (known w) f location) (osd_leases.at_file awake s.files file)
+      (busy_known (known w) (file_at awake s.files file) (at_fits (known w) awake s.files file fits.fits) busy)
+
+  -- and so its members are those of its list
+  known_members : (file : FileId) (location : Location) → IsKnown (known w) file location → AreMembers (known w) file location.members
+  known_members file location is k found =
+      let both : Some (let f : PlacedFile = record { file = file; location = location } in f) ≡ Some k = sym is ∙ found in
+      let same_place : (let f : PlacedFile = record { file = file; location = location } in f) ≡ k = cc in
+      (sym (ap (λ (f : PlacedFile). f.file) same_place), sym (ap (λ (f : PlacedFile). f.location.members) same_place))
+
+  -- a lease that is held once what is overdue has expired is held by the trace
+  pub lease_holds : (file : FileId) → IsHeld (lease_expired (file_at awake s.files file).lease r.clock) → holds w.entries node.id file.number ≡ true
+  lease_holds file is = holds_true g w.entries node.id y (stood file.number).at (ap (λ (t : TimeSettings). t.drift) times) (stood file.number).stands (stood file.number).clock refl (subst (IsHolding g) there_is holding)
     where
-      k : ℕ
-      k = file.number
+      its : (location : Location) × IsKnown (known w) file location
+      its = known_busy file (unbusy (file_at awake s.files file).lease r.clock (held_busy (lease_expired (file_at awake s.files file).lease r.clock) is))
+
+      members : List NodeId
+      members = its.0.members
 
       g : LeaseSetting
-      g = file_setting w.times k members
+      g = file_setting w.times file members
 
       x : LeaseNode
-      x = seen k members
+      x = seen file members
 
       view : LeaseWorld
       view = lease_view g w was
@@ -272,39 +255,34 @@ module _ (w : World) (was : List Msg) (node : Node) (r : Running) (s : OsdState)
       over : LeaseWorld
       over = row_stepped view node.id st
 
-      same_file : file ≡ declared_file k
-      same_file =
-          subst (λ (f : FileId). f ≡ declared_file f.number) (osd_leases.at_file awake s.files file)
-          ((at_fits w.files awake s.files file fits.fits).declared (unbusy (file_at awake s.files file).lease r.clock (held_busy (lease_expired (file_at awake s.files file).lease r.clock) is)))
-
       there_is : over.node node.id.0 ≡ y
-      there_is = put-same view.node node.id.0 node.id.0 (node_stepped (view.node node.id.0) st) refl ∙ ap (λ (z : LeaseNode). node_stepped z st) (seen_is k members)
+      there_is = put-same view.node node.id.0 node.id.0 (node_stepped (view.node node.id.0) st) refl ∙ ap (λ (z : LeaseNode). node_stepped z st) (seen_is file members)
 
       turn : HasTurn y y.row.lease
-      turn = expired_turn y (file_at awake s.files (declared_file k)).lease r.clock refl refl (subst (λ (f : FileId). IsHeld (lease_expired (file_at awake s.files f).lease r.clock)) same_file is)
+      turn = expired_turn y (file_at awake s.files file).lease r.clock refl refl is
 
       holding : IsHolding g (over.node node.id.0)
-      holding = turn_holds g over node.id.0 (expiring k members are) (subst (λ (z : LeaseNode). HasTurn z z.row.lease) (sym there_is) turn)
+      holding = turn_holds g over node.id.0 (expiring file members (known_members file its.0 its.1)) (subst (λ (z : LeaseNode). HasTurn z z.row.lease) (sym there_is) turn)
 
   -- ---- silence
 
-  pub silent : (k : ℕ) (members : List NodeId) → AreMembers w.files k members → Shows (file_setting w.times k members) w was node s (record { osd = s; turned = quiet })
-  silent k members are =
-      untouched k members are (record { osd = s; turned = quiet }) refl (λ m h is. h) (ap (told k node.id.0) (append-nil w.entries))
+  pub silent : (file : FileId) (members : List NodeId) → AreMembers (known w) file members → Shows (file_setting w.times file members) w was node s (record { osd = s; turned = quiet })
+  silent file members are =
+      untouched file members are (record { osd = s; turned = quiet }) refl (λ m h is. h) (ap (told file.number node.id.0) (append-nil w.entries))
 
   pub silent_fits : StepFits w node r s (record { osd = s; turned = quiet })
-  silent_fits = record { started = refl; fits = fits; asks = λ m h. absurd h; rec = λ rec is. no_rec is; marks = inert tt; kept = agrees }
+  silent_fits = record { started = refl; fits = fits; rec = λ rec is. no_rec is; marks = inert tt; kept = agrees }
 
   -- the clock alone
-  pub later_fits : OsdFits w.times w.files node.id r.boot r.clock (record { started = s.started; last = now; files = s.files })
+  pub later_fits : OsdFits w.times (known w) node.id r.boot r.clock (record { started = s.started; last = now; files = s.files })
   later_fits = record { started = fits.started; last = (let is = now_is in omega (arith, is)); fits = fits.fits; rises = fits.rises }
 
-  pub unconcerned : (k : ℕ) (members : List NodeId) → AreMembers w.files k members → Shows (file_setting w.times k members) w was node s (record { osd = record { started = s.started; last = now; files = s.files }; turned = quiet })
-  unconcerned k members are =
-      untouched k members are (record { osd = record { started = s.started; last = now; files = s.files }; turned = quiet }) refl (λ m h is. h) (ap (told k node.id.0) (append-nil w.entries))
+  pub unconcerned : (file : FileId) (members : List NodeId) → AreMembers (known w) file members → Shows (file_setting w.times file members) w was node s (record { osd = record { started = s.started; last = now; files = s.files }; turned = quiet })
+  unconcerned file members are =
+      untouched file members are (record { osd = record { started = s.started; last = now; files = s.files }; turned = quiet }) refl (λ m h is. h) (ap (told file.number node.id.0) (append-nil w.entries))
 
   pub unconcerned_fits : StepFits w node r s (record { osd = record { started = s.started; last = now; files = s.files }; turned = quiet })
-  unconcerned_fits = record { started = refl; fits = later_fits; asks = λ m h. absurd h; rec = λ rec is. no_rec is; marks = inert tt; kept = agrees }
+  unconcerned_fits = record { started = refl; fits = later_fits; rec = λ rec is. no_rec is; marks = inert tt; kept = agrees }
 
   -- ---- a Wake
 
@@ -344,23 +322,20 @@ module _ (w : World) (was : List Msg) (node : Node) (r : Running) (s : OsdState)
     woke_told : (k : ℕ) → told k node.id.0 (w.entries ++ map (entry_of node.id) woke.turned.marks) ≡ told k node.id.0 w.entries
     woke_told k = ap (λ (ms : List Mark). told k node.id.0 (w.entries ++ map (entry_of node.id) ms)) no_woke_marks ∙ ap (told k node.id.0) (append-nil w.entries)
 
-    pub wake_shows : (k : ℕ) (members : List NodeId) → AreMembers w.files k members → Shows (file_setting w.times k members) w was node s woke
-    wake_shows k members are = by_place (at_map (λ (f : FileState). (woke_of f).state) awake s.files file woke_file)
+    pub wake_shows : (file : FileId) (members : List NodeId) → AreMembers (known w) file members → Shows (file_setting w.times file members) w was node s woke
+    wake_shows file members are = by_place (at_map (λ (f : FileState). (woke_of f).state) awake s.files file woke_file)
       where
-        file : FileId
-        file = declared_file k
-
         g : LeaseSetting
-        g = file_setting w.times k members
+        g = file_setting w.times file members
 
         f : FileState
         f = file_at awake s.files file
 
         x : LeaseNode
-        x = seen k members
+        x = seen file members
 
-        f_fits : FileFits w.files f
-        f_fits = at_fits w.files awake s.files file fits.fits
+        f_fits : FileFits (known w) f
+        f_fits = at_fits (known w) awake s.files file fits.fits
 
         is_its : f.kept.file ≡ file
         is_its = osd_leases.at_file awake s.files file
@@ -376,7 +351,7 @@ module _ (w : World) (was : List Msg) (node : Node) (r : Running) (s : OsdState)
                   let same_file = about_same file sent.0.kept.file m about sent.3 in
                   let same_state = one_state awake s.files file sent.0 fits.rises sent.1 (ap (λ (a : FileId). is_file a file) same_file ∙ file-itself file) in
                   subst (Has m) p.outs (subst (λ (f : FileState). Has m (leases_and_asks (woke_of f).turned.outs)) same_state sent.2);
-              told = woke_told k ∙ sym (none_told st.end (told k node.id.0 w.entries) (sym p.ends ∙ ap held_ends (act_steps.wake_step_marks site f)));
+              told = woke_told file.number ∙ sym (none_told st.end (told file.number node.id.0 w.entries) (sym p.ends ∙ ap held_ends (act_steps.wake_step_marks site f)));
             }
 
         in_place : Wakes f.kept.file site (settled_row site f) (settled_row site f).lease (woke_of f) → file_at awake (map (λ (f : FileState). (woke_of f).state) s.files) file ≡ (woke_of f).state → Shows g w was node s woke
@@ -385,19 +360,19 @@ module _ (w : World) (was : List Msg) (node : Node) (r : Running) (s : OsdState)
             let location_is = ap (λ (row : FileRow). row.location) (act_steps.wake_step_kept site f) in
             let its = subst (λ (a : FileId). ShowsRow (woke_of f) (row_asks (lease_setting site a (woke_of f).state.kept.location) site.node now (settled_row site f) (settled_row site f).lease)) is_its p in
             let stored_is = subst (λ (l : Option Location). ShowsRow (woke_of f) (row_asks (lease_setting site file l) site.node now (settled_row site f) (settled_row site f).lease)) location_is its in
-            shown (node_asking g node.id x) (asking_reached k members are) is
-            (subst (ShowsRow (woke_of f)) (asking_is k members are f.kept.location stored (subst (λ (a : FileId). Listed w.files a f.kept.location) is_its f_fits.listed)) stored_is)
-        in_place (resting p) is = shown (row_expires x.clock x.row) (expiring k members are) is (subst (λ (t : ℕ). ShowsRow (woke_of f) (stays_so (expired_row t (lease_row_of f)))) now_is p)
+            shown (node_asking g node.id x) (asking_reached file members are) is
+            (subst (ShowsRow (woke_of f)) (asking_is file members are f.kept.location stored (subst (λ (a : FileId). Listed (known w) a f.kept.location) is_its f_fits.listed)) stored_is)
+        in_place (resting p) is = shown (row_expires x.clock x.row) (expiring file members are) is (subst (λ (t : ℕ). ShowsRow (woke_of f) (stays_so (expired_row t (lease_row_of f)))) now_is p)
 
         by_place : AtMap (λ (f : FileState). (woke_of f).state) awake s.files file → Shows g w was node s woke
         by_place (found_at has is) = in_place (woke_of_file f) is
         by_place (found_nowhere none is) =
-            untouched k members are woke (ap (λ (fs : List FileState). lease_row_of (file_at awake fs file)) shown_woken.files ∙ ap lease_row_of is)
+            untouched file members are woke (ap (λ (fs : List FileState). lease_row_of (file_at awake fs file)) shown_woken.files ∙ ap lease_row_of is)
             (λ m h about.
             let sent = woke_sends m h (about_lease file m about) in
             let same_file = about_same file sent.0.kept.file m about sent.3 in
             (let here : is_file sent.0.kept.file file ≡ true = ap (λ (a : FileId). is_file a file) same_file ∙ file-itself file in let nowhere = none sent.0 sent.1 in cc (here, nowhere)))
-            (woke_told k)
+            (woke_told file.number)
 
     woke_agrees : Agrees (one_more node.kept woke.turned.rec) woke.osd
     woke_agrees file =
@@ -420,10 +395,9 @@ module _ (w : World) (was : List Msg) (node : Node) (r : Running) (s : OsdState)
                 last = subst (λ (n : ℕ). n ≤ r.clock) (sym (ap (λ (o : OsdStep). o.osd.last) whole_wake)) later_fits.last;
                 fits = λ f h.
                     let from = has_map (λ (f : FileState). (woke_of f).state) s.files f (subst (Has f) shown_woken.files h) in
-                    subst (FileFits w.files) (sym from.2) (wake_fits w.files site from.0 (fits.fits from.0 from.1));
+                    subst (FileFits (known w)) (sym from.2) (wake_fits (known w) site from.0 (fits.fits from.0 from.1));
                 rises = subst (λ (fs : List FileState). Rises (files_of fs)) (sym shown_woken.files) (subst Rises (sym (mapped_files (λ (f : FileState). (woke_of f).state) s.files woke_file)) fits.rises);
               };
-          asks = λ m h. no_ask w.files m (λ is. let sent = woke_sends m h is in (sent.0.kept.file, sent.3));
           rec = λ rec is. no_rec (sym no_woke_rec ∙ is);
           marks = inert (subst AreInert (sym no_woke_marks) tt);
           kept = woke_agrees;
@@ -431,7 +405,7 @@ module _ (w : World) (was : List Msg) (node : Node) (r : Running) (s : OsdState)
 
   -- ---- a message
 
-  module _ (msg : Msg) (mine : msg.to ≡ node.id) (came : Has msg (was ++ messages w)) (wakes : s.started.start + (w.times.lease + w.times.drift) ≤ r.clock) (asked : AskFits w.files msg.payload) where
+  module _ (msg : Msg) (mine : msg.to ≡ node.id) (came : Has msg (was ++ messages w)) (wakes : s.started.start + (w.times.lease + w.times.drift) ≤ r.clock) (asked : PayloadFits (known w) msg.payload) where
     abbrev at_file : FileId → FileState
     at_file file = file_at awake s.files file
 
@@ -464,28 +438,21 @@ module _ (w : World) (was : List Msg) (node : Node) (r : Running) (s : OsdState)
     marks_are file =
         subst (λ (f : FileId). MarksAre f (settled_row site (at_file file)).lease (file_step file).turned.marks) (of_file file) (act_steps.step_marks site (at_file file) msg.from msg.payload)
 
-    file_fits : (file : FileId) → FileFits w.files (at_file file)
-    file_fits file = at_fits w.files awake s.files file fits.fits
-
-    -- the file of a round, or of a lease, is a declared one
-    declared : (file : FileId) → IsBusy (settled_row site (at_file file)).lease → file ≡ declared_file file.number
-    declared file busy = subst (λ (f : FileId). f ≡ declared_file f.number) (of_file file) ((file_fits file).declared (unbusy (at_file file).lease now busy))
+    file_fits : (file : FileId) → FileFits (known w) (at_file file)
+    file_fits file = at_fits (known w) awake s.files file fits.fits
 
     -- the file concerned: its own lease world
-    handled_here : (k : ℕ) (members : List NodeId) → AreMembers w.files k members → file_concerned msg.payload ≡ Some (declared_file k) → Shows (file_setting w.times k members) w was node s (stepped (declared_file k))
-    handled_here k members are concerns = by_case (follows file)
+    handled_here : (file : FileId) (members : List NodeId) → AreMembers (known w) file members → file_concerned msg.payload ≡ Some file → Shows (file_setting w.times file members) w was node s (stepped file)
+    handled_here file members are concerns = by_case (follows file)
       where
-        file : FileId
-        file = declared_file k
-
         g : LeaseSetting
-        g = file_setting w.times k members
+        g = file_setting w.times file members
 
         view : LeaseWorld
         view = lease_view g w was
 
         x : LeaseNode
-        x = seen k members
+        x = seen file members
 
         step : FileStep
         step = file_step file
@@ -493,8 +460,8 @@ module _ (w : World) (was : List Msg) (node : Node) (r : Running) (s : OsdState)
         row_of : (st : RowStep) → ShowsRow step st → lease_row_of (file_at awake (with_file s.files step.state) file) ≡ st.row
         row_of st p = ap lease_row_of (there file) ∙ p.row
 
-        told_of : (st : RowStep) → ShowsRow step st → told k node.id.0 (w.entries ++ map (entry_of node.id) step.turned.marks) ≡ told_now st.end (told k node.id.0 w.entries)
-        told_of st p = told_as k node.id w.entries (stood k).at file (settled_row site (at_file file)).lease step.turned.marks st.end refl (stood k).stands (marks_are file) p.ends
+        told_of : (st : RowStep) → ShowsRow step st → told file.number node.id.0 (w.entries ++ map (entry_of node.id) step.turned.marks) ≡ told_now st.end (told file.number node.id.0 w.entries)
+        told_of st p = told_as file.number node.id w.entries (stood file.number).at file (settled_row site (at_file file)).lease step.turned.marks st.end refl (stood file.number).stands (marks_are file) p.ends
 
         shown : (st : RowStep) → IsReached g (row_stepped view node.id st) → ShowsRow step st → Shows g w was node s (stepped file)
         shown st reached p =
@@ -508,13 +475,13 @@ module _ (w : World) (was : List Msg) (node : Node) (r : Running) (s : OsdState)
             ∙ ap (λ (t : ℕ). row_handles g msg.to t (expired_row t row) msg.from msg.payload) now_is
 
         seen_there : view.node msg.to.0 ≡ x
-        seen_there = ap (λ (n : NodeId). view.node n.0) mine ∙ seen_is k members
+        seen_there = ap (λ (n : NodeId). view.node n.0) mine ∙ seen_is file members
 
         by_handling : is_of file msg ≡ true → IsReached g (row_stepped view node.id (node_handling g x msg))
         by_handling is =
             subst (λ (n : NodeId). IsReached g (row_stepped view n (node_handling g x msg))) mine
             (subst (λ (y : LeaseNode). IsReached g (row_stepped view msg.to (node_handling g y msg))) seen_there
-            (moves view (message_comes msg) (good k members are)
+            (moves view (message_comes msg) (good file members are)
             (filter_has (is_of file) msg (was ++ messages w) came is, subst (IsAwake g) (sym seen_there) (record { runs = refl; awake = wakes }))))
 
         -- it is about this file's lease, or about none
@@ -522,50 +489,56 @@ module _ (w : World) (was : List Msg) (node : Node) (r : Running) (s : OsdState)
         by_lease (Some f) is p =
             let same_file : Some f ≡ Some file = sym (lease_concerns msg.payload f is) ∙ concerns in
             shown (node_handling g x msg) (by_handling (ap (is_about file) (is ∙ same_file) ∙ file-itself file)) p
-        by_lease None is p = shown (row_expires x.clock x.row) (expiring k members are) (subst (ShowsRow step) (unhandled g msg.to x.clock (expired_row x.clock x.row) msg.from msg.payload is) p)
+        by_lease None is p = shown (row_expires x.clock x.row) (expiring file members are) (subst (ShowsRow step) (unhandled g msg.to x.clock (expired_row x.clock x.row) msg.from msg.payload is) p)
 
-        kept_listed : Listed w.files file step.state.kept.location
+        kept_listed : Listed (known w) file step.state.kept.location
         kept_listed =
-            subst (λ (f : FileId). Listed w.files f step.state.kept.location) (osd_leases.step_keeps site (at_file file) msg.from msg.payload ∙ of_file file)
-            (step_fits w.files site (at_file file) msg.from msg.payload asked (concerns ∙ ap (λ f. Some f) (sym (of_file file))) (file_fits file)).listed
+            subst (λ (f : FileId). Listed (known w) f step.state.kept.location) (osd_leases.step_keeps site (at_file file) msg.from msg.payload ∙ of_file file)
+            (step_fits (known w) site (at_file file) msg.from msg.payload asked (concerns ∙ ap (λ f. Some f) (sym (of_file file))) (file_fits file)).listed
 
         by_case : Follows file site (settled_row site (at_file file)) (settled_row site (at_file file)).lease msg.from msg.payload step → Shows g w was node s (stepped file)
         by_case (handles p) = by_lease (lease_file msg.payload) refl (subst (ShowsRow step) (handling_is step.state.kept.location) p)
         by_case (asks is is_stored p) =
-            shown (node_asking g node.id x) (asking_reached k members are)
-            (subst (ShowsRow step) (asking_is k members are step.state.kept.location is_stored kept_listed) p)
-        by_case (stays p) = shown (row_expires x.clock x.row) (expiring k members are) (subst (λ (t : ℕ). ShowsRow step (stays_so (expired_row t (lease_row_of (at_file file))))) now_is p)
+            shown (node_asking g node.id x) (asking_reached file members are)
+            (subst (ShowsRow step) (asking_is file members are step.state.kept.location is_stored kept_listed) p)
+        by_case (stays p) = shown (row_expires x.clock x.row) (expiring file members are) (subst (λ (t : ℕ). ShowsRow step (stays_so (expired_row t (lease_row_of (at_file file))))) now_is p)
 
     -- another file: its lease stays
-    handled_there : (k : ℕ) (members : List NodeId) → AreMembers w.files k members → (file : FileId) → is_file file (declared_file k) ≡ false → Shows (file_setting w.times k members) w was node s (stepped file)
-    handled_there k members are file differ =
-        untouched k members are (stepped file) (ap lease_row_of (elsewhere file (declared_file k) differ))
+    handled_there : (other : FileId) (members : List NodeId) → AreMembers (known w) other members → (file : FileId) → is_file file other ≡ false → Shows (file_setting w.times other members) w was node s (stepped file)
+    handled_there other members are file differ =
+        untouched other members are (stepped file) (ap lease_row_of (elsewhere file other differ))
         (λ m h is.
         let shown = follows_of file site (settled_row site (at_file file)) (settled_row site (at_file file)).lease msg.from msg.payload (file_step file) (follows file) in
-        let is_its = shown.2 m (outs_shown (file_step file) shown.0 (declared_file k) m shown.1 h is) in
-        not_other file (declared_file k) differ (about_same (declared_file k) file m is is_its))
-        (told_of_other k node.id.0 node.id w.entries file (settled_row site (at_file file)).lease (file_step file).turned.marks
-        (λ busy same_number. not_other file (declared_file k) differ (declared file busy ∙ ap declared_file same_number)) (marks_are file))
+        let is_its = shown.2 m (outs_shown (file_step file) shown.0 other m shown.1 h is) in
+        not_other file other differ (about_same other file m is is_its))
+        (told_of_other other.number node.id.0 node.id w.entries file (settled_row site (at_file file)).lease (file_step file).turned.marks
+        (λ busy same_number. not_other file other differ (same_known busy same_number)) (marks_are file))
       where
         not_other : (a b : FileId) → is_file a b ≡ false → a ≡ b → ⊥
         not_other a b differ same_file = (let here : is_file a b ≡ true = ap (λ (f : FileId). is_file f b) same_file ∙ file-itself b in cc (here, differ))
 
-    pub message_shows : (k : ℕ) (members : List NodeId) → AreMembers w.files k members → (file : FileId) → file_concerned msg.payload ≡ Some file → Shows (file_setting w.times k members) w was node s (stepped file)
-    message_shows k members are file concerns = at (is_file file (declared_file k)) refl
+        -- a file with a round or a lease is known, and it alone has its number
+        same_known : IsBusy (settled_row site (at_file file)).lease → file.number ≡ other.number → file ≡ other
+        same_known busy same_number =
+            let its = known_busy file (unbusy (at_file file).lease now busy) in
+            (are (record { file = file; location = its.0 }) (ap (file_in (known w)) (sym same_number) ∙ its.1)).0
+
+    pub message_shows : (other : FileId) (members : List NodeId) → AreMembers (known w) other members → (file : FileId) → file_concerned msg.payload ≡ Some file → Shows (file_setting w.times other members) w was node s (stepped file)
+    message_shows other members are file concerns = at (is_file file other) refl
       where
-        at : (b : Bool) → is_file file (declared_file k) ≡ b → Shows (file_setting w.times k members) w was node s (stepped file)
+        at : (b : Bool) → is_file file other ≡ b → Shows (file_setting w.times other members) w was node s (stepped file)
         at true is =
-            let same_file = file-equal file (declared_file k) is in
-            subst (λ (f : FileId). file_concerned msg.payload ≡ Some f → Shows (file_setting w.times k members) w was node s (stepped f)) (sym same_file)
-            (handled_here k members are) concerns
-        at false differ = handled_there k members are file differ
+            let same_file = file-equal file other is in
+            subst (λ (f : FileId). file_concerned msg.payload ≡ Some f → Shows (file_setting w.times other members) w was node s (stepped f)) (sym same_file)
+            (handled_here other members are) concerns
+        at false differ = handled_there other members are file differ
 
     -- the marks of the step
-    acting_holds : (file : FileId) (members : List NodeId) → AreMembers w.files file.number members → IsHeld (settled_row site (at_file file)).lease → holds w.entries node.id file.number ≡ true
-    acting_holds file members are is = (lease_holds file members are (subst (λ (t : ℕ). IsHeld (lease_expired (at_file file).lease t)) now_is is)).1
+    acting_holds : (file : FileId) → IsHeld (settled_row site (at_file file)).lease → holds w.entries node.id file.number ≡ true
+    acting_holds file is = lease_holds file (subst (λ (t : ℕ). IsHeld (lease_expired (at_file file).lease t)) now_is is)
 
-    pub message_fits : (members : ℕ → List NodeId) → ((k : ℕ) → AreMembers w.files k (members k)) → (file : FileId) → file_concerned msg.payload ≡ Some file → StepFits w node r s (stepped file)
-    message_fits members are file concerns =
+    pub message_fits : (file : FileId) → file_concerned msg.payload ≡ Some file → StepFits w node r s (stepped file)
+    message_fits file concerns =
         let step = file_step file in
         let shown = follows_of file site (settled_row site (at_file file)) (settled_row site (at_file file)).lease msg.from msg.payload step (follows file) in
         let concerned = concerns ∙ ap (λ f. Some f) (sym (of_file file)) in
@@ -576,14 +549,13 @@ module _ (w : World) (was : List Msg) (node : Node) (r : Running) (s : OsdState)
                 started = fits.started;
                 last = later_fits.last;
                 fits = λ f h. elim (with_file_has s.files step.state f h) [
-                  | inl e ↦ subst (FileFits w.files) (sym e) (step_fits w.files site (at_file file) msg.from msg.payload asked concerned (file_fits file))
+                  | inl e ↦ subst (FileFits (known w)) (sym e) (step_fits (known w) site (at_file file) msg.from msg.payload asked concerned (file_fits file))
                   | inr old ↦ fits.fits f old
                 ];
                 rises = with_file_rises s.files step.state fits.rises;
               };
-          asks = λ m h. none_asked w.files file step shown.0 m shown.1 shown.2 h;
           rec = λ rec is. (
-            step_record w.files site (at_file file) msg.from msg.payload rec asked (λ ask. concerned) is,
+            step_record (known w) site (at_file file) msg.from msg.payload rec asked (λ ask. concerned) is,
             same_boot (at_file file).kept.file msg.payload rec node.kept (subst (RecordIs (at_file file).kept.file msg.payload) is (act_steps.step_rec site (at_file file) msg.from msg.payload)),
           );
           marks = by_marks (marks_are file);
@@ -596,7 +568,7 @@ module _ (w : World) (was : List Msg) (node : Node) (r : Running) (s : OsdState)
         by_marks : MarksAre file (settled_row site (at_file file)).lease (file_step file).turned.marks → MarksFit node.id w.entries (file_step file).turned.marks
         by_marks (no_marks none) = inert (subst AreInert (sym none) tt)
         by_marks (won end busy is) = wins file.number end is
-        by_marks (acting is are_acts) = acts file.number are_acts (acting_holds file (members file.number) (are file.number) is)
+        by_marks (acting is are_acts) = acts file.number are_acts (acting_holds file is)
 
   -- ---- any event
 
@@ -609,13 +581,13 @@ module _ (w : World) (was : List Msg) (node : Node) (r : Running) (s : OsdState)
   awake_after : is_silent s.started now ≡ false → s.started.start + (w.times.lease + w.times.drift) ≤ r.clock
   awake_after is = (let lease_is = ap (λ (t : Silent). t.times.lease) fits.started in let drift_is = ap (λ (t : Silent). t.times.drift) fits.started in let clock_is = now_is in grind (arith, nat_tests))
 
-  by_message : (members : ℕ → List NodeId) → ((k : ℕ) → AreMembers w.files k (members k)) → (msg : Msg) (o : Option FileId) → file_concerned msg.payload ≡ o → Comes w was node.id (event.Deliver msg) → is_silent s.started now ≡ false
+  by_message : (msg : Msg) (o : Option FileId) → file_concerned msg.payload ≡ o → Comes w was node.id (event.Deliver msg) → is_silent s.started now ≡ false
       → EventAt w was node r s (osd_leases.handled outside s now awake msg o)
-  by_message members are msg None concerns comes loud = at_later
-  by_message members are msg (Some file) concerns comes loud =
+  by_message msg None concerns comes loud = at_later
+  by_message msg (Some file) concerns comes loud =
       record {
-        shows = λ k ms are_ms. message_shows msg comes.0 comes.1 (awake_after loud) comes.2 k ms are_ms file concerns;
-        all_fits = message_fits msg comes.0 comes.1 (awake_after loud) comes.2 members are file concerns;
+        shows = λ other ms are_ms. message_shows msg comes.0 comes.1 (awake_after loud) comes.2 other ms are_ms file concerns;
+        all_fits = message_fits msg comes.0 comes.1 (awake_after loud) comes.2 file concerns;
       }
 
   whole : (happens : Event) (a : Option Awake) → awake_at s.started now ≡ a → step_of_osd outside s r.clock happens ≡ handled_awake outside s now happens a
@@ -623,14 +595,14 @@ module _ (w : World) (was : List Msg) (node : Node) (r : Running) (s : OsdState)
   whole happens a is = ap (λ (a : Option Awake). handled_awake outside s now happens a) is
 
   -- An event at a running OSD.
-  pub event_at : (members : ℕ → List NodeId) → ((k : ℕ) → AreMembers w.files k (members k)) → (happens : Event) → Comes w was node.id happens → EventAt w was node r s (step_of_osd outside s r.clock happens)
-  event_at members are happens comes = by_silence (is_silent s.started now) refl
+  pub event_at : (happens : Event) → Comes w was node.id happens → EventAt w was node r s (step_of_osd outside s r.clock happens)
+  event_at happens comes = by_silence (is_silent s.started now) refl
     where
       awake_is : (b : Bool) → is_silent s.started now ≡ b → awake_at s.started now ≡ cond b None (Some awake)
       awake_is b is = ap (λ (b : Bool). cond b None (Some awake)) is
 
       by_event : (e : Event) → Comes w was node.id e → is_silent s.started now ≡ false → awake_at s.started now ≡ Some awake → EventAt w was node r s (step_of_osd outside s r.clock e)
-      by_event (event.Deliver msg) comes loud is = subst (EventAt w was node r s) (sym (whole (event.Deliver msg) (Some awake) is)) (by_message members are msg (file_concerned msg.payload) refl comes loud)
+      by_event (event.Deliver msg) comes loud is = subst (EventAt w was node r s) (sym (whole (event.Deliver msg) (Some awake) is)) (by_message msg (file_concerned msg.payload) refl comes loud)
       by_event event.Wake comes loud is = record { shows = wake_shows is; all_fits = wake_fits_all is }
       by_event (event.Call call) comes loud is = subst (EventAt w was node r s) (sym (whole (event.Call call) (Some awake) is)) at_later
 

@@ -37,10 +37,12 @@ abbrev pub ReplySaid : (OpId → Type 0) → ℕ → List Mark → NodeId → �
 ReplySaid Q file marks to number (reply.Ok count size bytes) = Q (id_of to number) × Has (mark.Answer file (id_of to number) count bytes) marks
 ReplySaid Q file marks to number _ = Unit {0}
 
--- a message of an OSD: an OSD asks nothing
+-- a message of an OSD: an OSD asks nothing of clients' files or of the metadata server, and grants nothing
 abbrev pub Said : (OpId → Type 0) → ℕ → List Mark → NodeId → Payload → Type 0
 Said Q file marks to (payload.Reply number f answer) = ReplySaid Q file marks to number answer
 Said Q file marks to (payload.Ask number capability asked) = ⊥
+Said Q file marks to (payload.Meta number user group wanted) = ⊥
+Said Q file marks to (payload.MetaReply number told) = ⊥
 Said Q file marks to _ = Unit {0}
 
 abbrev pub AreSaid : (OpId → Type 0) → ℕ → List Mark → List Msg → Type 0
@@ -88,6 +90,8 @@ module _ (Q : OpId → Type 0) (file : ℕ) where
   pub one_more : (marks more : List Mark) (to : NodeId) (content : Payload) → ((k : Mark) → Has k marks → Has k more) → Said Q file marks to content → Said Q file more to content
   one_more marks more to (payload.Reply number f answer) within said = reply_more marks more to number answer within said
   one_more marks more to (payload.Ask number capability asked) within said = absurd said
+  one_more marks more to (payload.Meta number user group wanted) within said = absurd said
+  one_more marks more to (payload.MetaReply number answer) within said = absurd said
   one_more marks more to _ within said = tt
 
   pub said_more : (marks more : List Mark) (ms : List Msg) → ((k : Mark) → Has k marks → Has k more) → AreSaid Q file marks ms → AreSaid Q file more ms

@@ -54,6 +54,7 @@ other_held id other number file end before (inr ne) = grind (arith, nat_tests)
 
 -- a mark that says nothing of leases
 abbrev pub IsInert : Mark → Type 0
+IsInert (mark.File file location) = Unit {0}
 IsInert (mark.Begin number c) = Unit {0}
 IsInert (mark.Done number outcome) = Unit {0}
 IsInert _ = ⊥
@@ -70,7 +71,7 @@ pub inert_still : (node : NodeId) (ms : List Mark) → AreInert ms → StandStil
 inert_still node [] are id number before = refl
 inert_still node (mark.Begin k c ∷ ms) are id number before = inert_still node ms are.1 id number before
 inert_still node (mark.Done k outcome ∷ ms) are id number before = inert_still node ms are.1 id number before
-inert_still node (mark.File k location ∷ ms) are id number before = absurd are.0
+inert_still node (mark.File k location ∷ ms) are id number before = inert_still node ms are.1 id number before
 inert_still node (mark.Held k end ∷ ms) are id number before = absurd are.0
 inert_still node (mark.Active k count write ∷ ms) are id number before = absurd are.0
 inert_still node (mark.Issue k count write ∷ ms) are id number before = absurd are.0

@@ -3,7 +3,7 @@ use Rattle.std.proofs.Common.{◌≡◌, ℕ, ◌≤◌, ◌+◌, ◌⊎◌, inl
 use Rattle.std.specs.Prelude.{filter, not, is_some, ◌==◌, ◌&&◌}
 use Rattle.std.specs.Option.{option_or, option_map}
 use Rattle.std.proofs.lemmas.Bool.Decides.{nat_tests}
-use Rattle.std.proofs.lemmas.List.{append-nil, map-append}
+use Rattle.std.proofs.lemmas.List.{append-nil, append_assoc, map-append}
 use Rattle.xt_base.specs.TimeSettings.{TimeSettings}
 use Rattle.xt_messages.specs.Limits.{FitsOp}
 use Rattle.xt_base.specs.declared.ids.NodeId.{NodeId}
@@ -11,48 +11,74 @@ use Rattle.xt_base.specs.declared.ids.OpId.{OpId}
 use Rattle.xt_messages.specs.declared.file.Capability.{Capability}
 use Rattle.xt_messages.specs.declared.file.Kind.{Kind}
 use Rattle.xt_messages.specs.declared.file.Kind.TheVariants as kind
-use Rattle.xt_messages.specs.declared.file.Location.{Location}
 use Rattle.xt_messages.specs.declared.file.Op.{Op}
 use Rattle.xt_messages.specs.declared.file.Op.TheVariants as op
+use Rattle.xt_messages.specs.declared.meta.MetaReq.TheVariants as want
+use Rattle.xt_messages.specs.declared.meta.MetaAnswer.{MetaAnswer}
+use Rattle.xt_messages.specs.declared.meta.MetaAnswer.TheVariants as answer
 use Rattle.xt_messages.specs.declared.message.Msg.{Msg}
+use Rattle.xt_messages.specs.declared.message.Payload.{Payload}
+use Rattle.xt_messages.specs.declared.message.Payload.TheVariants as payload
+use Rattle.xt_messages.specs.declared.record.Record.{Record}
 use Rattle.xt_messages.specs.declared.event.Call.{Call}
 use Rattle.xt_messages.specs.declared.event.Call.TheVariants as call
 use Rattle.xt_messages.specs.declared.event.Event.{Event}
 use Rattle.xt_messages.specs.declared.event.Mark.{Mark}
-use Rattle.xt_messages.specs.declared.event.Mark.TheVariants as mark
 use Rattle.xt_protocol.specs.declared.turned.Turned.{Turned}
 use Rattle.lease_safety.specs.State.{Has}
 use Rattle.xt_protocol.specs.OsdSteps.{OsdState, step_of_osd}
 use Rattle.time_line.specs.declared.entry.Entry.{Entry}
 use Rattle.time_line.specs.declared.entry.Entry.TheVariants as entry
-use Rattle.world_spec.specs.declared.DeclaredFile.{DeclaredFile}
+use Rattle.world_spec.specs.declared.PlacedFile.{PlacedFile}
 use Rattle.world_spec.specs.declared.Sent.{Sent}
 use Rattle.client_rows.specs.declared.holding.HeldFile.{HeldFile}
 use Rattle.client_rows.specs.declared.requests.Request.{Request}
+use Rattle.client_rows.specs.declared.requests.Request.TheVariants as request
 use Rattle.client_rows.specs.Holding.{held_of}
-use Rattle.client_rows.specs.Requests.{on_file, under_held, request_of}
+use Rattle.client_rows.specs.Requests.{on_file, under_held, report_of, request_of}
 use Rattle.client_rows.specs.Rows.{WholeClient, passes, stepped, called, called_again}
 use Rattle.client_rows.specs.Steps.{Step}
-use Rattle.client_steps.specs.Asked.{AllHeld, Sends, sends_one, BeginsCall, CallStepIs, call_passes, call_begins}
-use Rattle.client_steps.proofs.Held.{held_found, holds_held, held_stays}
+use Rattle.client_steps.specs.Asked.{AllHeld, AnswerGrants, Sends, sends_one, BeginsCall, CallStepIs, call_passes, call_begins}
+use Rattle.client_steps.proofs.Held.{held_found, holds_held, held_after}
 use Rattle.client_steps.proofs.Steps.{stepped_is, called_is, called_again_is}
-use Rattle.time_line.specs.Bounds.{IsOnContent, FitsCall}
+use Rattle.time_line.specs.Bounds.{FitsCall}
 use Rattle.time_line.specs.TimeLine.{location_told, location_in, id_of, begun, call_begun, operation_on, operation_begun}
-use Rattle.world_spec.specs.World.{World, Node, Running, Core, osd, client, node_in, with_node, file_in}
-use Rattle.world_spec.specs.NodeSteps.{entry_of, pending, numbered, to_itself, after_turn, outside_of}
-use Rattle.world_spec.specs.Lines.{ticked, declared_file, declared_capability, epoch_of, about_to_use, ready_for}
+use Rattle.server_rows.specs.Metadata.{MrcState, catalogue_of, step_of_mrc}
+use Rattle.server_rows.specs.Directory.{DirState, step_of_dir}
+use Rattle.world_spec.specs.World.{World, Node, Running, Core, osd, client, mrc, dir, world_key, node_in, with_node, file_in, known}
+use Rattle.world_spec.specs.NodeSteps.{entry_of, files_marked, pending, numbered, to_itself, after_turn, outside_of}
+use Rattle.world_spec.specs.Lines.{ticked, declared_capability, epoch_of, about_to_use, ready_for, file_entry, files_in}
+use Rattle.world_runs.specs.Worlds.{AnswerFits, PayloadFits, AreDeclared}
 use Rattle.world_runs.specs.View.{node_id, messages}
 use Rattle.world_runs.proofs.Lists.{has_in, has_left, has_right, has_filter, map_same}
-use Rattle.world_runs.proofs.Tables.{same, node_in-id, node_in-new, node_in-other, node_in-last, node_in-before, node_in-ticked}
+use Rattle.world_runs.proofs.Tables.{same, node_in-id, node_in-new, node_in-other, node_in-last, node_in-before, node_in-ticked, file_in-id, file_in-stays}
+use Rattle.world_runs.proofs.Making.{IsServed, served_of, IsListing, mrc_serves, dir_serves, step_made, grants_known}
+use Rattle.world_runs.proofs.Fit.{IsFit}
 use Rattle.world_runs.proofs.Frame.{next_node}
 use Rattle.world_runs.proofs.Entries.{begun-append}
-use Rattle.world_runs.proofs.Places.{AreTold, NoPlaces, location-grown, no_places, next_places, one_place, told_more}
-use Rattle.world_runs.proofs.OsdIds.{FilesAre, NoneEnds, EventHasBegun, osd_step_is}
-use Rattle.world_runs.proofs.Calls.{AskIs, ContentIs, RequestIs, HeldIs, EventIs, Ending, silent, ended, sent_is, ending_is, made_on_file}
-use Rattle.world_runs.proofs.Growth.{EntriesAre, EntryIs, FreshFrom, Quiet, UpIs, CoreIs, CallerIs, EndsFit, entries-push, entries-marks, fresh-grown, quiet-none, quiet-one, quiet-marks, files-grown, calls-grown, held-grown, content-grown, core-grown, up-grown, told_is}
+use Rattle.world_runs.proofs.Places.{AreTold, place_of, location-grown, one_place, told_more, told_last, told_marks}
+use Rattle.world_runs.proofs.OsdIds.{FilesAre, EventHasBegun, osd_step_is}
+use Rattle.world_runs.proofs.Calls.{AskIs, ContentIs, RequestIs, HeldIs, EventIs, Ending, silent, ended, sent_is, ending_is, grant_is}
+use Rattle.world_runs.proofs.Growth.{EntriesAre, EntryIs, FreshFrom, Quiet, UpIs, CoreIs, CallerIs, EndsFit, entries-push, entries-marks, entries-files, fresh-grown, quiet-none, quiet-one, quiet-marks, files-grown, calls-grown, held-grown, content-grown, core-grown, up-grown, told_is}
 
-abbrev pub Fits : World → List Msg → Type 0
-Fits w own = EndsFit w.files w.nodes w.entries (own ++ messages w)
+-- what the trace of a world shows of its calls
+abbrev pub Ends : World → List Msg → Type 0
+Ends w own = EndsFit (known w) w.nodes w.entries (own ++ messages w)
+
+-- the same of a world in order
+pub record Fits (w : World) (own : List Msg) : Type 0 where
+  pub fit : IsFit w own
+  pub nodes_are : (n : ℕ) (node : Node) → node_in w.nodes n ≡ Some node → UpIs w.entries node.id node.up
+  pub strangers : (n : ℕ) → node_in w.nodes n ≡ None → FreshFrom w.entries (node_id n) 0
+  pub messages : (m : Msg) → Has m (own ++ messages w) → ContentIs w.entries m.from m.to m.payload
+  pub ends : EntriesAre w.entries
+  pub places : AreTold (known w) w.entries
+
+pub ends_of : (w : World) (own : List Msg) → Fits w own → Ends w own
+ends_of w own fit = record { nodes_are = fit.nodes_are; strangers = fit.strangers; messages = fit.messages; ends = fit.ends; places = fit.places }
+
+pub both_fit : (w : World) (own : List Msg) → IsFit w own → Ends w own → Fits w own
+both_fit w own fit ends = record { fit = fit; nodes_are = ends.nodes_are; strangers = ends.strangers; messages = ends.messages; ends = ends.ends; places = ends.places }
 
 none_some : {X : Type 0} (o : Option X) (x : X) → o ≡ None → o ≡ Some x → ⊥
 none_some o x a b = cc (a, b)
@@ -70,7 +96,7 @@ pub record IsInert (e : Entry) : Type 0 where
   pub ends : (es : List Entry) → EntryIs es e
   pub places : (number : ℕ) → location_told number e ≡ None
 
-pub told_fit : (files : List DeclaredFile) (nodes after : List Node) (es : List Entry) (sent : List Msg) (e : Entry) → IsInert e → NodesFit nodes after es → EndsFit files nodes es sent → EndsFit files after (es ++ e ∷ []) sent
+pub told_fit : (files : List PlacedFile) (nodes after : List Node) (es : List Entry) (sent : List Msg) (e : Entry) → IsInert e → NodesFit nodes after es → EndsFit files nodes es sent → EndsFit files after (es ++ e ∷ []) sent
 told_fit files nodes after es sent e inert fits fit =
     record {
       nodes_are = λ n x is. up-grown es (e ∷ []) x.id x.up (quiet-one e x.id (λ k. inert.begins (id_of x.id k))) (fits.each n x is);
@@ -80,14 +106,31 @@ told_fit files nodes after es sent e inert fits fit =
       places = told_more files es (e ∷ []) (one_place e inert.places) fit.places;
     }
 
-pub changed_fit : (files : List DeclaredFile) (nodes after : List Node) (es : List Entry) (sent : List Msg) → NodesFit nodes after es → EndsFit files nodes es sent → EndsFit files after es sent
+-- files more, each with its entry
+pub files_fit : (files : List PlacedFile) (nodes : List Node) (es : List Entry) (sent : List Msg) (left : List PlacedFile) → EndsFit files nodes es sent → EndsFit (files ++ left) nodes (es ++ map file_entry left) sent
+files_fit files nodes es sent [] fit =
+    subst (λ (fs : List PlacedFile). EndsFit fs nodes (es ++ []) sent) (sym (append-nil files)) (subst (λ (xs : List Entry). EndsFit files nodes xs sent) (sym (append-nil es)) fit)
+files_fit files nodes es sent (f ∷ left) fit =
+    let e = file_entry f in
+    subst (λ (fs : List PlacedFile). EndsFit fs nodes (es ++ map file_entry (f ∷ left)) sent) (append_assoc files (f ∷ []) left)
+    (subst (λ (xs : List Entry). EndsFit ((files ++ f ∷ []) ++ left) nodes xs sent) (append_assoc es (file_entry f ∷ []) (map file_entry left))
+    (files_fit (files ++ f ∷ []) nodes (es ++ file_entry f ∷ []) sent left
+    (record {
+      nodes_are = λ n x is. up-grown es (e ∷ []) x.id x.up (quiet-one e x.id (λ k. refl)) (fit.nodes_are n x is);
+      strangers = λ n none. fresh-grown es (e ∷ []) (node_id n) 0 (quiet-one e (node_id n) (λ k. refl)) (fit.strangers n none);
+      messages = λ m h. content-grown es (e ∷ []) m.from m.to m.payload (fit.messages m h);
+      ends = entries-push es e fit.ends tt;
+      places = told_last files es f fit.places;
+    })))
+
+pub changed_fit : (files : List PlacedFile) (nodes after : List Node) (es : List Entry) (sent : List Msg) → NodesFit nodes after es → EndsFit files nodes es sent → EndsFit files after es sent
 changed_fit files nodes after es sent fits fit = record { nodes_are = fits.each; strangers = fits.strangers; messages = fit.messages; ends = fit.ends; places = fit.places }
 
-pub same_nodes : (files : List DeclaredFile) (nodes : List Node) (es : List Entry) (sent : List Msg) → EndsFit files nodes es sent → NodesFit nodes nodes es
+pub same_nodes : (files : List PlacedFile) (nodes : List Node) (es : List Entry) (sent : List Msg) → EndsFit files nodes es sent → NodesFit nodes nodes es
 same_nodes files nodes es sent fit = record { each = fit.nodes_are; strangers = fit.strangers }
 
 -- a node in the place of the one of its id
-pub put_fit : (files : List DeclaredFile) (nodes : List Node) (es : List Entry) (sent : List Msg) (node old : Node) → node_in nodes node.id.0 ≡ Some old → UpIs es node.id node.up → EndsFit files nodes es sent → NodesFit nodes (with_node nodes node) es
+pub put_fit : (files : List PlacedFile) (nodes : List Node) (es : List Entry) (sent : List Msg) (node old : Node) → node_in nodes node.id.0 ≡ Some old → UpIs es node.id node.up → EndsFit files nodes es sent → NodesFit nodes (with_node nodes node) es
 put_fit files nodes es sent node old found up fit = record { each = each; strangers = strangers }
   where
     each : (n : ℕ) (x : Node) → node_in (with_node nodes node) n ≡ Some x → UpIs es x.id x.up
@@ -103,7 +146,7 @@ put_fit files nodes es sent node old found up fit = record { each = each; strang
     ]
 
 -- a node behind the others
-pub add_fit : (files : List DeclaredFile) (nodes : List Node) (es : List Entry) (sent : List Msg) (node : Node) → node_in nodes node.id.0 ≡ None → UpIs es node.id node.up → EndsFit files nodes es sent → NodesFit nodes (nodes ++ node ∷ []) es
+pub add_fit : (files : List PlacedFile) (nodes : List Node) (es : List Entry) (sent : List Msg) (node : Node) → node_in nodes node.id.0 ≡ None → UpIs es node.id node.up → EndsFit files nodes es sent → NodesFit nodes (nodes ++ node ∷ []) es
 add_fit files nodes es sent node free up fit = record { each = each; strangers = strangers }
   where
     each : (n : ℕ) (x : Node) → node_in (nodes ++ node ∷ []) n ≡ Some x → UpIs es x.id x.up
@@ -119,7 +162,7 @@ add_fit files nodes es sent node free up fit = record { each = each; strangers =
     ]
 
 -- all clocks advance
-pub tick_fit : (files : List DeclaredFile) (nodes : List Node) (es : List Entry) (sent : List Msg) (count : ℕ) → EndsFit files nodes es sent → NodesFit nodes (map (ticked count) nodes) es
+pub tick_fit : (files : List PlacedFile) (nodes : List Node) (es : List Entry) (sent : List Msg) (count : ℕ) → EndsFit files nodes es sent → NodesFit nodes (map (ticked count) nodes) es
 tick_fit files nodes es sent count fit = record { each = λ n x is. each n x (node_in nodes n) refl (sym (node_in-ticked nodes count n) ∙ is); strangers = λ n none. strangers n (node_in nodes n) refl (sym (node_in-ticked nodes count n) ∙ none) }
   where
     up : (o : Option Running) (node : NodeId) → UpIs es node o → UpIs es node (elim o [ None ↦ None | Some running ↦ Some (record running { clock = running.clock + count }) ])
@@ -141,7 +184,6 @@ pub record Owes (es : List Entry) (node : NodeId) (core : Core) (turned : Turned
   pub core_is : CoreIs (es ++ map (entry_of node) turned.marks) node core
   pub sent : (m : Msg) → Has m turned.outs → ContentIs (es ++ map (entry_of node) turned.marks) m.from m.to m.payload
   pub ends : EntriesAre (es ++ map (entry_of node) turned.marks)
-  pub places : NoPlaces (map (entry_of node) turned.marks)
 
 -- a message after a step is one of the step's, or was there
 pub came : (own was outs : List Msg) (w : World) (node : NodeId) (nodes : List Node) (m : Msg) → ((k : Msg) → Has k own → Has k was)
@@ -163,8 +205,8 @@ came own was outs w node nodes m within h =
     ]
 
 pub stepped_fits : (w : World) (was own : List Msg) (node : Node) (r : Running) (next : Core) (turned : Turned) (outs : List Msg) → ((m : Msg) → Has m own → Has m was) → ((m : Msg) → Has m outs → Has m turned.outs)
-    → node_in w.nodes node.id.0 ≡ Some node → Owes w.entries node.id next turned → Fits w was
-    → Fits (after_turn w node (record r { core = next }) (record turned { outs = outs })) (own ++ to_itself node.id outs)
+    → node_in w.nodes node.id.0 ≡ Some node → Owes w.entries node.id next turned → Ends w was
+    → Ends (after_turn w node (record r { core = next }) (record turned { outs = outs })) (own ++ to_itself node.id outs)
 stepped_fits w was own node r next turned outs within fewer found owes fit =
     record {
       nodes_are = each;
@@ -174,7 +216,9 @@ stepped_fits w was own node r next turned outs within fewer found owes fit =
         | inr old ↦ content-grown w.entries more m.from m.to m.payload (fit.messages m old)
       ];
       ends = owes.ends;
-      places = told_more w.files w.entries more owes.places fit.places;
+      places =
+          subst (λ (files : List PlacedFile). AreTold files (w.entries ++ map (entry_of node.id) turned.marks)) (append_assoc w.files w.made (files_marked turned.marks))
+          (told_marks (known w) w.entries node.id turned.marks fit.places);
     }
   where
     more : List Entry
@@ -199,18 +243,6 @@ stepped_fits w was own node r next turned outs within fewer found owes fit =
 
 -- ---- what each step owes
 
--- marks that make no file
-plain_places : (node : NodeId) (marks : List Mark) → NoneEnds marks → NoPlaces (map (entry_of node) marks)
-plain_places node [] none = no_places
-plain_places node (mark.Active k count write ∷ ms) none = next_places (entry.Active node k count write) (map (entry_of node) ms) (λ number. refl) (plain_places node ms none.1)
-plain_places node (mark.Issue k count write ∷ ms) none = next_places (entry.Issue node k count write) (map (entry_of node) ms) (λ number. refl) (plain_places node ms none.1)
-plain_places node (mark.Commit k count write ∷ ms) none = next_places (entry.Commit node k count write) (map (entry_of node) ms) (λ number. refl) (plain_places node ms none.1)
-plain_places node (mark.Answer k write count bytes ∷ ms) none = next_places (entry.Answer node k write count bytes) (map (entry_of node) ms) (λ number. refl) (plain_places node ms none.1)
-plain_places node (mark.Begin k c ∷ ms) none = next_places (entry.Begin node k c) (map (entry_of node) ms) (λ number. refl) (plain_places node ms none.1)
-plain_places node (mark.Done k how ∷ ms) none = absurd none.0
-plain_places node (mark.File k location ∷ ms) none = absurd none.0
-plain_places node (mark.Held k end ∷ ms) none = next_places (entry.Held node k end) (map (entry_of node) ms) (λ number. refl) (plain_places node ms none.1)
-
 pub osd_owes : (es : List Entry) (node : Node) (s : OsdState) (reading : ℕ) (happens : Event) → EntriesAre es → FilesAre es s.files → EventHasBegun es happens
     → Owes es node.id (osd (step_of_osd (outside_of node.kept) s reading happens).osd) (step_of_osd (outside_of node.kept) s reading happens).turned
 osd_owes es node s reading happens answered are begun =
@@ -220,7 +252,6 @@ osd_owes es node s reading happens answered are begun =
       core_is = files-grown es (map (entry_of node.id) step.turned.marks) step.osd.files is.files_are;
       sent = λ m h. told_is es node.id step.turned.marks m (is.told m h);
       ends = entries-marks is.marked.0 node.id es step.turned.marks answered is.plain is.marked.1;
-      places = plain_places node.id step.turned.marks is.plain;
     }
 
 -- what a client marks on an event begins no call
@@ -228,11 +259,6 @@ ending_quiet : (es : List Entry) (node : NodeId) (marks : List Mark) → Ending 
 ending_quiet es node marks (silent none) = subst (λ (ms : List Mark). Quiet (map (entry_of node) ms) node) (sym none) (quiet-none node)
 ending_quiet es node marks (ended number how is answered) =
     subst (λ (ms : List Mark). Quiet (map (entry_of node) ms) node) (sym is) (quiet-one (entry.Done node number how) node (λ k. refl))
-
-ending_places : (es : List Entry) (node : NodeId) (marks : List Mark) → Ending es node marks → NoPlaces (map (entry_of node) marks)
-ending_places es node marks (silent none) = subst (λ (ms : List Mark). NoPlaces (map (entry_of node) ms)) (sym none) no_places
-ending_places es node marks (ended number how is answered) =
-    subst (λ (ms : List Mark). NoPlaces (map (entry_of node) ms)) (sym is) (one_place (entry.Done node number how) (λ k. refl))
 
 ending_answered : (es : List Entry) (node : NodeId) (marks : List Mark) → EntriesAre es → Ending es node marks → EntriesAre (es ++ map (entry_of node) marks)
 ending_answered es node marks are (silent none) = subst (λ (ms : List Mark). EntriesAre (es ++ map (entry_of node) ms)) (sym none) (subst EntriesAre (sym (append-nil es)) are)
@@ -247,7 +273,6 @@ client_owes es node step answered caller ending sent =
       core_is = core-grown es (map (entry_of node) step.turned.marks) node (client step.state) (ending_quiet es node step.turned.marks ending) caller;
       sent = λ m h. content-grown es (map (entry_of node) step.turned.marks) m.from m.to m.payload (sent m h);
       ends = ending_answered es node step.turned.marks answered ending;
-      places = ending_places es node step.turned.marks ending;
     }
 
 -- its step on an event
@@ -259,7 +284,7 @@ event_owes es node times c reading happens answered is came =
     client_owes es node (stepped node times c reading happens) answered
     (record {
       calls = does.client;
-      held = held_stays (HeldIs es) node times c reading happens (made_on_file es node c.made is.calls.made) is.held;
+      held = held_after (HeldIs es) node times c reading happens (grant_is es node happens came) is.held;
       fresh = subst (FreshFrom es node) (sym does.number) is.fresh;
     })
     (ending_is es node happens step.turned.marks came does.tells) (sent_is es node step.turned.outs does.sends)
@@ -340,21 +365,30 @@ writes_itself file object at bytes = grind (arith, nat_tests)
 truncates_itself : (file size epoch : ℕ) → operation_on file (Some (call.Truncate file size epoch)) ≡ Some (op.Truncate size)
 truncates_itself file size epoch = grind (arith, nat_tests)
 
--- what a call on the content of a file asks is of that call, once it has begun
-asked_begins : (es : List Entry) (node : NodeId) (c : WholeClient) (k : Call) → CallerIs es node c → IsOnContent k × FitsCall k → (asked : Request) → request_of c.held k ≡ Some asked
+-- what a call reports under
+report_is : (es : List Entry) (node : NodeId) (number user group : ℕ) (o : Option HeldFile) (asked : Request) → report_of user group o ≡ Some asked → RequestIs es node number asked
+report_is es node number user group None asked wants = absurd (cc wants)
+report_is es node number user group (Some h) asked wants =
+    (let same : request.Meta user group (want.Report h.capability h.mark) ≡ asked = cc wants in subst (RequestIs es node number) same tt)
+
+-- what a call asks of a file's content is of that call, once it has begun
+asked_begins : (es : List Entry) (node : NodeId) (c : WholeClient) (k : Call) → CallerIs es node c → FitsCall k → (asked : Request) → request_of c.held k ≡ Some asked
     → RequestIs (with_begin es node c k) node c.replicas.next asked
 asked_begins es node c (call.Read file object at len) is fits asked wants =
-    under_is es node c (call.Read file object at len) is file (op.Read object at len) asked (held_of c.held file) refl (reads_itself file object at len) (fits.1.1, fits.1.2, fits.1.3, fits.1.4) wants
+    under_is es node c (call.Read file object at len) is file (op.Read object at len) asked (held_of c.held file) refl (reads_itself file object at len) (fits.1, fits.2, fits.3, fits.4) wants
 asked_begins es node c (call.Write file object at bytes) is fits asked wants =
-    under_is es node c (call.Write file object at bytes) is file (op.Write object at bytes) asked (held_of c.held file) refl (writes_itself file object at bytes) (fits.1.1, fits.1.2, fits.1.3, fits.1.4) wants
+    under_is es node c (call.Write file object at bytes) is file (op.Write object at bytes) asked (held_of c.held file) refl (writes_itself file object at bytes) (fits.1, fits.2, fits.3, fits.4) wants
 asked_begins es node c (call.Truncate file size epoch) is fits asked wants =
-    under_is es node c (call.Truncate file size epoch) is file (op.Truncate size) asked (held_of c.held file) refl (truncates_itself file size epoch) fits.1.1 wants
-asked_begins es node c (call.Report user group file) is fits asked wants = absurd fits.0
-asked_begins es node c (call.Meta user group request) is fits asked wants = absurd fits.0
-asked_begins es node c (call.Registry request) is fits asked wants = absurd fits.0
+    under_is es node c (call.Truncate file size epoch) is file (op.Truncate size) asked (held_of c.held file) refl (truncates_itself file size epoch) fits.1 wants
+asked_begins es node c (call.Report user group file) is fits asked wants =
+    report_is (with_begin es node c (call.Report user group file)) node c.replicas.next user group (held_of c.held file) asked wants
+asked_begins es node c (call.Meta user group wanted) is fits asked wants =
+    (let same : request.Meta user group wanted ≡ asked = cc wants in subst (RequestIs (with_begin es node c (call.Meta user group wanted)) node c.replicas.next) same tt)
+asked_begins es node c (call.Registry wanted) is fits asked wants =
+    (let same : request.Registry wanted ≡ asked = cc wants in subst (RequestIs (with_begin es node c (call.Registry wanted)) node c.replicas.next) same tt)
 
 -- a client is called
-pub call_owes : (es : List Entry) (node : NodeId) (times : TimeSettings) (c : WholeClient) (reading : ℕ) (k : Call) → EntriesAre es → CallerIs es node c → IsOnContent k × FitsCall k
+pub call_owes : (es : List Entry) (node : NodeId) (times : TimeSettings) (c : WholeClient) (reading : ℕ) (k : Call) → EntriesAre es → CallerIs es node c → FitsCall k
     → (let step = called node times c reading k in Owes es node (client step.state) step.turned)
 call_owes es node times c reading k answered is fits =
     so (called node times c reading k)
@@ -380,7 +414,6 @@ call_owes es node times c reading k answered is fits =
               (sent_is (with_begin es node c k) node step.turned.outs
               (subst (Sends (RequestIs (with_begin es node c k) node) node) (sym does.outs) (sends_one does.to c.replicas.next asked does.asked_so)) m h);
           ends = subst (λ (more : List Entry). EntriesAre (es ++ more)) told (entries-push es (entry.Begin node c.replicas.next k) answered tt);
-          places = subst NoPlaces told (one_place (entry.Begin node c.replicas.next k) (λ number. refl));
         }
 
     so : (step : Step WholeClient) → CallStepIs (RequestIs (with_begin es node c k) node) node c reading k step → Owes es node (client step.state) step.turned
@@ -390,16 +423,71 @@ call_owes es node times c reading k answered is fits =
 -- ---- a client that is about to use a file
 
 -- what it holds is of files that are told, and it has begun no more calls
-pub ready_is : (es : List Entry) (node : NodeId) (files : List DeclaredFile) (c : WholeClient) (k : Call) (file : Option ℕ) → AreTold files es → CallerIs es node c → CallerIs es node (ready_for files c k file)
-ready_is es node files c k None told is = is
-ready_is es node files c k (Some number) told is = at (file_in files number) refl
+pub ready_is : (es : List Entry) (node : NodeId) (files made : List PlacedFile) (c : WholeClient) (k : Call) (file : Option ℕ) → AreTold (files ++ made) es → CallerIs es node c → CallerIs es node (ready_for files c k file)
+ready_is es node files made c k None told is = is
+ready_is es node files made c k (Some number) told is = at (file_in files number) refl
   where
-    at : (o : Option Location) → file_in files number ≡ o → CallerIs es node (about_to_use c k number o)
+    at : (o : Option PlacedFile) → file_in files number ≡ o → CallerIs es node (about_to_use c k o)
     at None found = is
-    at (Some location) found =
-        let epoch = epoch_of c (declared_file number) k in
+    at (Some f) found =
+        let epoch = epoch_of c f.file k in
+        let there : location_in f.file.number es ≡ Some f.location
+        = told f.file.number ∙ ap place_of (ap (file_in (files ++ made)) (file_in-id files number f found) ∙ file_in-stays files made number f found) in
         record {
           calls = record { running = is.calls.running; made = is.calls.made };
-          held = holds_held (HeldIs es) c.held (declared_capability number location epoch) (record { epoch = 0; size = 0 }) (refl, told number ∙ found) is.held;
+          held = holds_held (HeldIs es) c.held (declared_capability f epoch) (record { epoch = 0; size = 0 }) (refl, there) is.held;
           fresh = is.fresh;
         }
+
+-- ---- the servers
+
+-- what is granted of known files is of files that are told
+content_known : (es : List Entry) (files : List PlacedFile) (from to : NodeId) (content : Payload) → AreTold files es → IsServed content → PayloadFits files content → ContentIs es from to content
+content_known es files from to (payload.MetaReply number told) told_so served fits = granted told fits
+  where
+    granted : (what : MetaAnswer) → AnswerFits files what → AnswerGrants (HeldIs es) what
+    granted (answer.Granted capability size) fits = (refl, told_so capability.file.number ∙ ap place_of fits)
+    granted answer.Done fits = tt
+    granted (answer.Refused why) fits = tt
+    granted (answer.Names names) fits = tt
+    granted (answer.Row how owner group mode size) fits = tt
+content_known es files from to (payload.Ask number capability asked) told_so served fits = absurd served
+content_known es files from to (payload.Reply number file said) told_so served fits = absurd served
+content_known es files from to _ told_so served fits = tt
+
+-- a step of the metadata server, whose records made what was told
+pub mrc_owes : (es : List Entry) (files made : List PlacedFile) (node : NodeId) (m : MrcState) (reading : ℕ) (happens : Event) (records : List Record) → EntriesAre es → AreTold (files ++ made) es → AreDeclared files
+    → m.catalogue ≡ catalogue_of world_key records → made ≡ files_in m.catalogue → (let step = step_of_mrc world_key m reading happens in Owes es node (mrc step.mrc) step.turned)
+mrc_owes es files made node m reading happens records answered told declared is made_is =
+    let step = step_of_mrc world_key m reading happens in
+    let serves = mrc_serves world_key m reading happens in
+    let all : (files ++ made) ++ files_marked step.turned.marks ≡ files ++ files_in step.mrc.catalogue
+    = append_assoc files made (files_marked step.turned.marks)
+    ∙ ap (λ (fs : List PlacedFile). files ++ fs)
+    (ap (λ (fs : List PlacedFile). fs ++ files_marked (step_of_mrc world_key m reading happens).turned.marks) made_is ∙ sym (step_made world_key m reading happens records is)) in
+    let later = subst (λ (fs : List PlacedFile). AreTold fs (es ++ map (entry_of node) (step_of_mrc world_key m reading happens).turned.marks)) all (told_marks (files ++ made) es node step.turned.marks told) in
+    record {
+      core_is = tt;
+      sent = λ x h.
+          content_known (es ++ map (entry_of node) step.turned.marks) (files ++ files_in step.mrc.catalogue) x.from x.to x.payload later (served_of step.turned.outs x serves.outs h)
+          (grants_known world_key files m reading happens records declared is x h);
+      ends = entries-files node es step.turned.marks answered serves.marks;
+    }
+
+listing_is : (es : List Entry) (from to : NodeId) (content : Payload) → IsListing content → ContentIs es from to content
+listing_is es from to (payload.RegistryReply number told) is = tt
+listing_is es from to (payload.Ask number capability asked) is = absurd is
+listing_is es from to (payload.Reply number file said) is = absurd is
+listing_is es from to (payload.MetaReply number told) is = absurd is
+listing_is es from to _ is = tt
+
+-- a step of the directory service
+pub dir_owes : (es : List Entry) (node : NodeId) (s : DirState) (happens : Event) → EntriesAre es → (let step = step_of_dir s happens in Owes es node (dir step.dir) step.turned)
+dir_owes es node s happens answered =
+    let step = step_of_dir s happens in
+    let serves = dir_serves s happens in
+    record {
+      core_is = tt;
+      sent = λ x h. listing_is (es ++ map (entry_of node) step.turned.marks) x.from x.to x.payload (serves.told x h);
+      ends = subst (λ (ms : List Mark). EntriesAre (es ++ map (entry_of node) ms)) (sym serves.marks) (subst EntriesAre (sym (append-nil es)) answered);
+    }

@@ -13,7 +13,7 @@ use Rattle.xt_messages.specs.declared.event.Call.{Call}
 use Rattle.xt_messages.specs.declared.event.Event.TheVariants as event
 use Rattle.xt_messages.specs.declared.status.Rule.{Rule}
 use Rattle.xt_messages.specs.declared.status.Limited.TheVariants as limited
-use Rattle.xt_base.specs.declared.TheConstants.{COUNTS}
+use Rattle.xt_base.specs.declared.TheConstants.{COUNTS, DIR_NODE, MRC_NODE}
 use Rattle.time_line.specs.declared.entry.Halt.TheVariants as halt
 use Rattle.lease_safety.specs.State.{Has}
 use Rattle.lease_runs.proofs.Tests.{same_node}
@@ -23,18 +23,20 @@ use Rattle.world_spec.specs.declared.TheConstants.{MESSAGES, MESSAGE_BYTES, NODE
 use Rattle.world_spec.specs.declared.Sent.{Sent}
 use Rattle.time_line.specs.declared.entry.Entry.{Entry}
 use Rattle.time_line.specs.declared.entry.Entry.TheVariants as entry
+use Rattle.world_spec.specs.declared.Role.{Role}
 use Rattle.world_spec.specs.declared.Role.TheVariants as role
-use Rattle.client_rows.specs.Clients.{knows, aimed}
+use Rattle.server_rows.specs.Metadata.{MrcState, step_of_mrc}
+use Rattle.server_rows.specs.Directory.{DirState, step_of_dir}
 use Rattle.client_rows.specs.Rows.{WholeClient, is_busy, may_repeat, called, called_again, stepped}
-use Rattle.world_spec.specs.World.{World, start_world, Node, Running, Core, osd, client, node_in, with_node, file_in, up_of, puts, loads}
-use Rattle.world_spec.specs.Rules.{refusal, if_so, no_osd, no_node, node_twice, runs_already, runs_not, drifts, drifts_inside, goes_back, clock_ends}
+use Rattle.world_spec.specs.World.{World, start_world, Node, Running, Core, osd, client, mrc, dir, world_key, node_in, with_node, file_in, is_server, up_of, puts, loads}
+use Rattle.world_spec.specs.Rules.{refusal, if_so, no_server, no_node, node_twice, usable, runs_already, runs_not, drifts, drifts_inside, goes_back, clock_ends}
 use Rattle.client_rows.specs.Called.{called_file}
-use Rattle.world_spec.specs.NodeSteps.{Room, Cause, came_to, has_no_room, Overflow, Doing, halted, client_steps, event_comes, forgets_at, forgets_in, forgets_if, rewritten_at}
-use Rattle.world_spec.specs.Lines.{does, tells, declares, runs, first_boot, next_boot, starts_as, starts, changed, stops, crashes, cuts, reads_clock, whole_client, ready_for, core_calls, calls, core_calls_again, calls_again, id_usable, aims_at, aims, no_longer_pending, delivers, least_pending, first_step, Next, finished, opens, goes_on, ends, begins, went, settles, works_on, next_step, steps, so_far}
+use Rattle.world_spec.specs.NodeSteps.{Room, Cause, came_to, has_no_room, Overflow, Doing, halted, client_steps, mrc_steps, dir_steps, event_comes, forgets_at, forgets_in, forgets_if, rewritten_at}
+use Rattle.world_spec.specs.Lines.{does, tells, declares, never_started, declared_file, runs, first_boot, next_boot, starts_as, starts, changed, stops, crashes, cuts, reads_clock, whole_client, ready_for, core_calls, calls, core_calls_again, calls_again, aimed_on, aims_at, aims, no_longer_pending, delivers, least_pending, first_step, Next, finished, opens, goes_on, ends, begins, went, settles, works_on, next_step, steps, so_far}
 use Rattle.world_runs.specs.View.{messages}
 use Rattle.world_runs.proofs.Lists.{set_same}
 use Rattle.world_runs.proofs.Tables.{node_in-new, node_in-id}
-use Rattle.world_runs.proofs.Clocks.{close_by}
+use Rattle.world_runs.proofs.Drifts.{close_by}
 use Rattle.std.specs.Prelude.{take, drop}
 use Rattle.std.proofs.lemmas.List.{append-nil, take-append-drop}
 use Rattle.xt_messages.specs.declared.event.Event.{Event}
@@ -51,7 +53,7 @@ use Rattle.world_spec.specs.Runs.{with_line, after, after_refusal, run_of}
 use Rattle.std.specs.Prelude.{◌<◌, ◌^◌}
 use Rattle.xt_base.specs.TimeSettings.{AreTimes}
 use Rattle.xt_messages.specs.Limits.{FitsNode, FitsLocation}
-use Rattle.time_line.specs.Bounds.{AreLines, FitsLine, FitsCall, IsOnContent, FitsLater}
+use Rattle.time_line.specs.Bounds.{AreLines, FitsLine, FitsCall, FitsLater}
 use Rattle.world_spec.specs.Rules.{has_call, busy, may_go_again, can_repeat, no_call, no_client, no_called_file}
 use Rattle.std.specs.List.{fold, AllByRecursion}
 use Rattle.world_spec.specs.Lines.{done, enough}
@@ -122,13 +124,17 @@ left_within own was (inr some) m h = subst (Has m) (sym some.1) (inr h)
 abbrev pub call_step : World → Node → Running → WholeClient → Call → Step WholeClient
 call_step w node r c k = called node.id w.times (ready_for w.files c k (called_file k)) r.clock k
 
--- a step of a running node: of an OSD or a client on an event, a client's call, or its last call once more
+-- a step of a running node: on an event, a client's call, or its last call once more
 pub data NodeStep (w : World) (was : List Msg) (node : Node) (r : Running) : Core → Turned → Type 0 where
   of_osd : (s : OsdState) (happens : Event) → r.core ≡ osd s → Reaches w was node.id happens
       → NodeStep w was node r (osd (step_of_osd (outside_of node.kept) s r.clock happens).osd) (step_of_osd (outside_of node.kept) s r.clock happens).turned
   of_client : (c : WholeClient) (happens : Event) → r.core ≡ client c → Reaches w was node.id happens
       → NodeStep w was node r (client (stepped node.id w.times c r.clock happens).state) (stepped node.id w.times c r.clock happens).turned
-  of_call : (c : WholeClient) (k : Call) → r.core ≡ client c → (is_busy c.made ≡ false) × (was ≡ []) → IsOnContent k × FitsCall k → no_called_file w node.id (called_file k) ≡ None
+  of_mrc : (m : MrcState) (happens : Event) → r.core ≡ mrc m → Reaches w was node.id happens
+      → NodeStep w was node r (mrc (step_of_mrc world_key m r.clock happens).mrc) (step_of_mrc world_key m r.clock happens).turned
+  of_dir : (s : DirState) (happens : Event) → r.core ≡ dir s → Reaches w was node.id happens
+      → NodeStep w was node r (dir (step_of_dir s happens).dir) (step_of_dir s happens).turned
+  of_call : (c : WholeClient) (k : Call) → r.core ≡ client c → (is_busy c.made ≡ false) × (was ≡ []) → FitsCall k → no_called_file w node.id (called_file k) ≡ None
       → NodeStep w was node r (client (call_step w node r c k).state) (call_step w node r c k).turned
   of_again : (c : WholeClient) → r.core ≡ client c → (is_busy c.made ≡ false) × (was ≡ []) → may_repeat c.made ≡ true
       → NodeStep w was node r (client (called_again node.id w.times c r.clock).state) (called_again node.id w.times c r.clock).turned
@@ -141,24 +147,31 @@ IsCloseToOthers w id clock = (n : ℕ) (other : Node) (q : Running) → n ≢ id
 abbrev pub StopsAs : Option Stop → Option Stop → Type 0
 StopsAs before after = (after ≡ before) ⊎ ((stop : Stop) × (after ≡ Some stop) × (1 ≤ stop.call) × (stop.call ≤ 4))
 
+-- the servers stand at nodes of their own
+abbrev pub StandsAt : NodeId → Role → Type 0
+StandsAt id role.Osd = Unit {0}
+StandsAt id role.Client = Unit {0}
+StandsAt id role.Mrc = id ≡ MRC_NODE
+StandsAt id role.Dir = id ≡ DIR_NODE
+
 -- What is to be shown of a property of worlds, each with the messages of a node to itself that it hasn't handled.
 pub record IsKept (P : World → List Msg → Type 0) : Type 0 where
   -- no line has come, or only the times
   pub begins : P start_world []
   pub times : (lease drift : ℕ) → AreTimes lease drift → P (tells (record start_world { times = record { lease = lease; drift = drift } }) (entry.Times lease drift ∷ [])) []
   -- declarations
-  pub osd_declared : (w : World) (id : NodeId) → FitsNode id → node_in w.nodes id.0 ≡ None → P w []
-      → P (tells (record w { nodes = w.nodes ++ record { id = id; role = role.Osd; kept = []; past = []; up = None } ∷ [] }) []) []
+  pub server_declared : (w : World) (id : NodeId) (its : Role) → is_server (Some (never_started id its)) ≡ true → StandsAt id its → FitsNode id → node_in w.nodes id.0 ≡ None → P w []
+      → P (tells (record w { nodes = w.nodes ++ never_started id its ∷ [] }) []) []
   pub client_declared : (w : World) (id : NodeId) (clock : ℕ) → FitsNode id × (clock < 2 ^ 62) → node_in w.nodes id.0 ≡ None → P w []
       → P (tells (record w { nodes = w.nodes ++ record { id = id; role = role.Client; kept = []; past = []; up = Some (runs first_boot clock (client (whole_client clock))) } ∷ [] }) (entry.Up id first_boot clock ∷ [])) []
   pub file_declared : (w : World) (number : ℕ) (location : Location) → (number < 1000000) × FitsLocation location → file_in w.files number ≡ None → P w []
-      → P (tells (record w { files = w.files ++ record { number = number; location = location } ∷ [] }) (entry.File number location ∷ [])) []
+      → P (tells (record w { files = w.files ++ record { file = declared_file number; location = location } ∷ [] }) (entry.File number location ∷ [])) []
   -- a node starts; it is changed in what no step of it reads; a client's first target is set; a node stops
-  pub started : (w : World) (node : Node) (clock : ℕ) → (clock < 2 ^ 62) × (nat_lt (next_boot node.kept).0 COUNTS ≡ true) → node_in w.nodes node.id.0 ≡ Some node → node.up ≡ None → IsCloseToOthers w node.id clock → P w [] → P (starts_as w node (next_boot node.kept) clock) []
+  pub started : (w : World) (node : Node) (clock : ℕ) → is_server (Some node) ≡ true → (clock < 2 ^ 62) × (nat_lt (next_boot node.kept).0 COUNTS ≡ true) → node_in w.nodes node.id.0 ≡ Some node → node.up ≡ None → IsCloseToOthers w node.id clock → P w [] → P (starts_as w node (next_boot node.kept) clock) []
   pub planned : (w : World) (node : Node) (r q : Running) → node_in w.nodes node.id.0 ≡ Some node → node.up ≡ Some r → (q.boot ≡ r.boot) × StopsAs r.crash q.crash → q.clock ≡ r.clock → q.core ≡ r.core → P w []
       → P (record w { nodes = with_node w.nodes (record node { up = Some q }) }) []
   pub aimed_at : (w : World) (node : Node) (r : Running) (c : WholeClient) (number : ℕ) (target : NodeId) → node_in w.nodes node.id.0 ≡ Some node → node.up ≡ Some r → r.core ≡ client c → P w []
-      → P (record w { nodes = with_node w.nodes (record node { up = Some (record r { core = client (record c { replicas = knows c.replicas (id_usable w.files c.held number) (aimed target) }) }) }) }) []
+      → P (record w { nodes = with_node w.nodes (record node { up = Some (record r { core = client (aimed_on c target (usable w.files c.held number)) }) }) }) []
   pub stopped : (w : World) (own : List Msg) (node : Node) (r : Running) (how : Halt) → node_in w.nodes node.id.0 ≡ Some node → node.up ≡ Some r → P w own → P (halted w node r how) []
   -- clocks
   pub clock_set : (w : World) (node : Node) (r : Running) (clock : ℕ) → clock < 2 ^ 62 → node_in w.nodes node.id.0 ≡ Some node → node.up ≡ Some r → r.clock ≤ clock → IsCloseToOthers w node.id clock → P w []
@@ -191,6 +204,8 @@ Opens w l = FitsLine l × OpensFirst w l
 later_first : (w : World) (l : Line) → FitsLater l → OpensFirst w l
 later_first w (line.Times lease drift) is = absurd (cc (is.1))
 later_first w (line.Osd node) is = tt
+later_first w line.Mrc is = tt
+later_first w line.Dir is = tt
 later_first w (line.Client node clock) is = tt
 later_first w (line.File number location) is = tt
 later_first w (line.Start node clock) is = tt
@@ -210,6 +225,8 @@ later_first w (line.Settle count) is = tt
 starting_first : (l : Line) → OpensFirst start_world l
 starting_first (line.Times lease drift) = refl
 starting_first (line.Osd node) = tt
+starting_first line.Mrc = tt
+starting_first line.Dir = tt
 starting_first (line.Client node clock) = tt
 starting_first (line.File number location) = tt
 starting_first (line.Start node clock) = tt
@@ -269,6 +286,8 @@ module _ (P : World → List Msg → Type 0) (keeps : IsKept P) where
     where
       by_core : (node : Node) (r : Running) (core : Core) → node_in d.world.nodes node.id.0 ≡ Some node → node.up ≡ Some r → r.core ≡ core → P (forgets_at room d.world node r core) d.own
       by_core node r (client c) found is_up is_core = p
+      by_core node r (mrc m) found is_up is_core = p
+      by_core node r (dir s) found is_up is_core = p
       by_core node r (osd s) found is_up is_core =
           at (room.rewrites_now node.past (keep_of s))
         where
@@ -313,6 +332,10 @@ module _ (P : World → List Msg → Type 0) (keeps : IsKept P) where
           end_kept room d was node r (osd_steps (step_of_osd (outside_of node.kept) s r.clock happens)) left found is_up (of_osd s happens is_core (subst (λ (n : NodeId). Reaches d.world was n happens) (sym mine) comes)) p
       by_core node r (client c) found mine is_up is_core =
           end_kept room d was node r (client_steps (stepped node.id d.world.times c r.clock happens)) left found is_up (of_client c happens is_core (subst (λ (n : NodeId). Reaches d.world was n happens) (sym mine) comes)) p
+      by_core node r (mrc m) found mine is_up is_core =
+          end_kept room d was node r (mrc_steps (step_of_mrc world_key m r.clock happens)) left found is_up (of_mrc m happens is_core (subst (λ (n : NodeId). Reaches d.world was n happens) (sym mine) comes)) p
+      by_core node r (dir s) found mine is_up is_core =
+          end_kept room d was node r (dir_steps (step_of_dir s happens)) left found is_up (of_dir s happens is_core (subst (λ (n : NodeId). Reaches d.world was n happens) (sym mine) comes)) p
 
       by_up : (node : Node) (up : Option Running) → node_in d.world.nodes node.id.0 ≡ Some node → node.id ≡ id → node.up ≡ up
           → ResultIs (elim up [
@@ -347,6 +370,8 @@ module _ (P : World → List Msg → Type 0) (keeps : IsKept P) where
       by_core : (node : Node) (r : Running) (core : Core) → node_in w.nodes node.id.0 ≡ Some node → node.up ≡ Some r → r.core ≡ core → P (record w { nodes = with_node w.nodes (record node { up = Some (record r { core = aims_at w.files number target core }) }) }) []
       by_core node r (osd s) found is_up is_core = keeps.planned w node r (record r { core = osd s }) found is_up (refl, inl refl) refl (sym is_core) p
       by_core node r (client c) found is_up is_core = keeps.aimed_at w node r c number target found is_up is_core p
+      by_core node r (mrc m) found is_up is_core = keeps.planned w node r (record r { core = mrc m }) found is_up (refl, inl refl) refl (sym is_core) p
+      by_core node r (dir s) found is_up is_core = keeps.planned w node r (record r { core = dir s }) found is_up (refl, inl refl) refl (sym is_core) p
 
       by_up : (node : Node) → node_in w.nodes node.id.0 ≡ Some node → (up : Option Running) → node.up ≡ up
           → P (elim up [ None ↦ w | Some running ↦ record w { nodes = with_node w.nodes (record node { up = Some (aims w.files number target running) }) } ]) []
@@ -391,7 +416,7 @@ module _ (P : World → List Msg → Type 0) (keeps : IsKept P) where
 
   -- ---- a client's call
 
-  calls_kept : (room : Room) (d : Doing) (id : NodeId) (k : Call) → IsOnContent k × FitsCall k → no_called_file d.world id (called_file k) ≡ None → busy d.world.nodes id ≡ None → d.own ≡ [] → P d.world [] → ResultIs (calls room d (node_in d.world.nodes id.0) k)
+  calls_kept : (room : Room) (d : Doing) (id : NodeId) (k : Call) → FitsCall k → no_called_file d.world id (called_file k) ≡ None → busy d.world.nodes id ≡ None → d.own ≡ [] → P d.world [] → ResultIs (calls room d (node_in d.world.nodes id.0) k)
   calls_kept room d id k bound may free idle fit = at (node_in d.world.nodes id.0) refl
     where
       idle_fit : P d.world d.own
@@ -405,6 +430,8 @@ module _ (P : World → List Msg → Type 0) (keeps : IsKept P) where
           end_kept room d [] node r (client_steps (call_step d.world node r c k)) (inl idle) found is_up
           (of_call c k is_core (sym (ap (λ (core : Core). has_call (Some (record r { core = core }))) is_core) ∙ still, refl) bound (subst (λ (n : NodeId). no_called_file d.world n (called_file k) ≡ None) (sym mine) may)) fit
       by_core node r (osd s) still found mine is_up is_core = idle_fit
+      by_core node r (mrc m) still found mine is_up is_core = idle_fit
+      by_core node r (dir s) still found mine is_up is_core = idle_fit
 
       by_up : (node : Node) → has_call node.up ≡ false → node_in d.world.nodes node.id.0 ≡ Some node → node.id ≡ id → (up : Option Running) → node.up ≡ up
           → ResultIs (elim up [ None ↦ Ok d | Some running ↦ core_calls room d node running running.core k ])
@@ -437,6 +464,8 @@ module _ (P : World → List Msg → Type 0) (keeps : IsKept P) where
           end_kept room d [] node r (client_steps (called_again node.id d.world.times c r.clock)) (inl idle) found is_up
           (of_again c is_core (sym (ap (λ (core : Core). has_call (Some (record r { core = core }))) is_core) ∙ still, refl) (not_not (may_repeat c.made) (sym (ap (λ (core : Core). not (can_repeat core)) is_core) ∙ may_be))) fit
       by_core node r (osd s) still may_be found is_up is_core = idle_fit
+      by_core node r (mrc m) still may_be found is_up is_core = idle_fit
+      by_core node r (dir s) still may_be found is_up is_core = idle_fit
 
       by_up : (node : Node) → has_call node.up ≡ false → not (may_go_again node.up) ≡ false → node_in d.world.nodes node.id.0 ≡ Some node → (up : Option Running) → node.up ≡ up
           → ResultIs (elim up [ None ↦ Ok d | Some running ↦ core_calls_again room d node running running.core ])
@@ -451,17 +480,24 @@ module _ (P : World → List Msg → Type 0) (keeps : IsKept P) where
 
   -- ---- starts and declarations
 
-  starts_kept : (room : Room) (d : Doing) (id : NodeId) (clock : ℕ) → clock < 2 ^ 62 → d.own ≡ [] → runs_already d.world.nodes id ≡ None → drifts d.world id clock ≡ None → P d.world [] → ResultIs (starts room d clock (node_in d.world.nodes id.0))
-  starts_kept room d id clock bound idle down close fit = at (node_in d.world.nodes id.0) refl
+  starts_kept : (room : Room) (d : Doing) (id : NodeId) (clock : ℕ) → clock < 2 ^ 62 → d.own ≡ [] → no_server d.world.nodes id ≡ None → runs_already d.world.nodes id ≡ None → drifts d.world id clock ≡ None → P d.world [] → ResultIs (starts room d clock (node_in d.world.nodes id.0))
+  starts_kept room d id clock bound idle server down close fit = at (node_in d.world.nodes id.0) refl
     where
       idle_fit : P d.world d.own
       idle_fit = subst (P d.world) (sym idle) fit
+
+      is_so : (b : Bool) → not b ≡ false → b ≡ true
+      is_so true h = refl
+      is_so false h = absurd (cc)
+
+      serves : (node : Node) → node_in d.world.nodes id.0 ≡ Some node → is_server (Some node) ≡ true
+      serves node is = sym (ap is_server is) ∙ is_so (is_server (node_in d.world.nodes id.0)) (not_so _ _ server)
 
       new : (node : Node) → node_in d.world.nodes id.0 ≡ Some node → nat_lt (next_boot node.kept).0 COUNTS ≡ true → P (starts_as d.world node (next_boot node.kept) clock) []
       new node is few =
           let its = node_in-id d.world.nodes id.0 node is in
           let off = none_there (up_of (node_in d.world.nodes id.0)) (not_so _ _ down) in
-          keeps.started d.world node clock (bound, few) (ap (node_in d.world.nodes) its ∙ is) (sym (ap up_of is) ∙ off)
+          keeps.started d.world node clock (serves node is) (bound, few) (ap (node_in d.world.nodes) its ∙ is) (sym (ap up_of is) ∙ off)
           (λ n other r ne there up. close_by d.world id clock n other r close (λ e. ne (e ∙ sym its)) there up) fit
 
       by_room : (node : Node) → node_in d.world.nodes id.0 ≡ Some node → nat_lt (next_boot node.kept).0 COUNTS ≡ true → (o : Option Overflow)
@@ -516,15 +552,17 @@ module _ (P : World → List Msg → Type 0) (keeps : IsKept P) where
   unfolding first_step refusal
   first_kept room w (line.Times lease drift) allowed first fit =
       subst (λ (w : World). P (tells (record w { times = record { lease = lease; drift = drift } }) (entry.Times lease drift ∷ [])) []) (sym first.1) (keeps.times lease drift first.0)
-  first_kept room w (line.Osd node) allowed first fit = declares_kept _ (record { id = node; role = role.Osd; kept = []; past = []; up = None }) [] refl (keeps.osd_declared w node first.0 (none_there _ (not_so _ _ allowed)) fit)
+  first_kept room w (line.Osd node) allowed first fit = declares_kept _ (never_started node role.Osd) [] refl (keeps.server_declared w node role.Osd refl tt first.0 (none_there _ (not_so _ _ allowed)) fit)
+  first_kept room w line.Mrc allowed first fit = declares_kept _ (never_started MRC_NODE role.Mrc) [] refl (keeps.server_declared w MRC_NODE role.Mrc refl refl (omega arith) (none_there _ (not_so _ _ allowed)) fit)
+  first_kept room w line.Dir allowed first fit = declares_kept _ (never_started DIR_NODE role.Dir) [] refl (keeps.server_declared w DIR_NODE role.Dir refl refl (omega arith) (none_there _ (not_so _ _ allowed)) fit)
   first_kept room w (line.Client node clock) allowed first fit =
       let free = (either_none (node_twice w.nodes node) (drifts_inside w node clock) allowed).0 in
       declares_kept _ (record { id = node; role = role.Client; kept = []; past = []; up = Some (runs first_boot clock (client (whole_client clock))) }) (entry.Up node first_boot clock ∷ []) refl (keeps.client_declared w node clock first.0 (none_there _ (not_so _ _ free)) fit)
   first_kept room w (line.File number location) allowed first fit = keeps.file_declared w number location first.0 (none_there _ (not_so _ _ (either_none (file_twice w.files number) (first_stranger w.nodes location.members) allowed).0)) fit
   first_kept room w (line.Start node clock) allowed first fit =
-      let later = (either_none (no_osd w.nodes node) (option_or (runs_already w.nodes node) (drifts w node clock)) allowed).1 in
-      let parts = either_none (runs_already w.nodes node) (drifts w node clock) later in
-      starts_kept room _ node clock first.0.1 refl parts.0 parts.1 fit
+      let both = either_none (no_server w.nodes node) (option_or (runs_already w.nodes node) (drifts w node clock)) allowed in
+      let parts = either_none (runs_already w.nodes node) (drifts w node clock) both.1 in
+      starts_kept room _ node clock first.0.1 refl both.0 parts.0 parts.1 fit
   first_kept room w (line.Stop node) allowed first fit = stops_kept w node fit
   first_kept room w (line.Crash node k fill) allowed first fit = plan_kept w node (crashes k fill) (λ r. (refl, inr (record { call = k; fill = fill }, refl, first.0.1, first.0.2))) (λ r. refl) (λ r. refl) fit
   first_kept room w (line.Cut node count) allowed first fit = plan_kept w node (cuts count) (λ r. (refl, inl refl)) (λ r. refl) (λ r. refl) fit
@@ -537,7 +575,7 @@ module _ (P : World → List Msg → Type 0) (keeps : IsKept P) where
   first_kept room w (line.Wake node) allowed first fit = event_kept room (record { world = w; own = []; left = 0 }) [] node event.Wake (inl refl) refl fit
   first_kept room w (line.Call id k) allowed first fit =
       let later = either_none (no_called_file w id (called_file k)) (busy w.nodes id) (either_none (no_client w.nodes id) (option_or (no_called_file w id (called_file k)) (busy w.nodes id)) allowed).1 in
-      calls_kept room (record { world = w; own = []; left = 0 }) id k (first.0.1, first.0.2) later.0 later.1 refl fit
+      calls_kept room (record { world = w; own = []; left = 0 }) id k first.0.1 later.0 later.1 refl fit
   first_kept room w (line.Again id) allowed first fit =
       let later = either_none (busy w.nodes id) (no_call w.nodes id) (either_none (no_client w.nodes id) (option_or (busy w.nodes id) (no_call w.nodes id)) allowed).1 in
       again_kept room (record { world = w; own = []; left = 0 }) id later.0 later.1 refl fit
@@ -605,6 +643,8 @@ module _ (P : World → List Msg → Type 0) (keeps : IsKept P) where
   begins_kept w (line.Settle count) allowed first fit = fit
   begins_kept w (line.Times lease drift) allowed first fit = (fit, allowed, first)
   begins_kept w (line.Osd node) allowed first fit = (fit, allowed, first)
+  begins_kept w line.Mrc allowed first fit = (fit, allowed, first)
+  begins_kept w line.Dir allowed first fit = (fit, allowed, first)
   begins_kept w (line.Client node clock) allowed first fit = (fit, allowed, first)
   begins_kept w (line.File number location) allowed first fit = (fit, allowed, first)
   begins_kept w (line.Start node clock) allowed first fit = (fit, allowed, first)
@@ -640,7 +680,7 @@ module _ (P : World → List Msg → Type 0) (keeps : IsKept P) where
   run_kept room [] are = keeps.begins
   run_kept room (l ∷ lines) are = later_kept room (after room start_world l) lines are.1 (after_kept room start_world l (are.0, starting_first l) keeps.begins)
 
-  -- and each step of a line behind a run.
+  -- and each step of a line after a run.
   pub steps_into : (room : Room) (lines : List Line) (l : Line) (k : ℕ) → AreLines (lines ++ l ∷ []) → refusal (run_of room lines) l ≡ None → NextIs (steps k room (begins (run_of room lines) l))
   unfolding run_of
   steps_into room [] l k are allowed = steps_kept k room (begins start_world l) (begins_kept start_world l allowed (are.0, starting_first l) keeps.begins)

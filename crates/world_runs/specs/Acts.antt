@@ -1,4 +1,4 @@
--- what stands in the trace behind the acts of a primary that name a call
+-- what stands in the trace before the acts of a primary that name a call
 use Rattle.std.specs.Prelude.{◌≡◌, ◌==◌, ℕ, if◌then◌else◌, Option, Some, None, List}
 use Rattle.xt_base.specs.declared.ids.OpId.{OpId}
 use Rattle.time_line.specs.declared.entry.Entry.{Entry}

@@ -1,4 +1,4 @@
--- what stands in the trace behind each ask that was ever sent
+-- what stands in the trace before each ask that was ever sent
 use Rattle.std.specs.Prelude.{◌≡◌, Some, List, [], ◌++◌}
 use Rattle.xt_messages.specs.Limits.{FitsOp}
 use Rattle.xt_base.specs.declared.ids.NodeId.{NodeId}

@@ -11,14 +11,15 @@ use Rattle.xt_protocol.specs.OsdSteps.{file_at}
 use Rattle.time_line.specs.declared.entry.Entry.{Entry}
 use Rattle.world_spec.specs.declared.Sent.{Sent}
 use Rattle.time_line.specs.TimeLine.{Standing, standing}
-use Rattle.world_spec.specs.World.{World, Node, Running, Core, osd, client, node_in}
-use Rattle.world_spec.specs.Lines.{declared_file}
+use Rattle.world_spec.specs.declared.Role.{Role}
+use Rattle.world_spec.specs.declared.Role.TheVariants as role
+use Rattle.world_spec.specs.World.{World, Node, Running, Core, osd, client, mrc, dir, node_in}
 use Rattle.lease_runs.specs.LeaseWorld.{LeaseSetting, fresh_row, LeaseNode, LeaseWorld, lease_file}
 use Rattle.lease_runs.specs.LeaseView.{lease_row_of, is_about}
 
--- the lease world of a declared file with these members
-abbrev pub file_setting : TimeSettings → ℕ → List NodeId → LeaseSetting
-file_setting times number members = record { file = declared_file number; list = 1; members = members; times = times }
+-- the lease world of a file with these members
+abbrev pub file_setting : TimeSettings → FileId → List NodeId → LeaseSetting
+file_setting times file members = record { file = file; list = 1; members = members; times = times }
 
 abbrev pub node_id : ℕ → NodeId
 node_id n = record { 0 = n }
@@ -39,7 +40,7 @@ awake_as s = record { node = s.node; boot = s.boot; times = s.times }
 abbrev pub unseen : LeaseSetting → ℕ → List Record → LeaseNode
 unseen g n kept = record { runs = false; boot = (fold_of kept).boot.0; clock = 0; started = 0; row = fresh_row g (node_id n) (record { 0 = 0 }); told = None }
 
--- a running node: clients are as if they didn't run
+-- a running node: only OSDs are seen
 abbrev pub core_seen : LeaseSetting → ℕ → Option ℕ → List Record → Running → Core → LeaseNode
 core_seen g n end kept r (osd s) =
     record {
@@ -51,14 +52,21 @@ core_seen g n end kept r (osd s) =
       told = end;
     }
 core_seen g n end kept r (client c) = unseen g n kept
+core_seen g n end kept r (mrc m) = unseen g n kept
+core_seen g n end kept r (dir s) = unseen g n kept
 
 abbrev pub up_seen : LeaseSetting → ℕ → Option ℕ → List Record → Option Running → LeaseNode
 up_seen g n end kept None = unseen g n kept
 up_seen g n end kept (Some r) = core_seen g n end kept r r.core
 
+-- a declared node: one that isn't declared as an OSD is unseen, and without records
+abbrev pub role_seen : LeaseSetting → ℕ → Option ℕ → Node → Role → LeaseNode
+role_seen g n end node role.Osd = up_seen g n end node.kept node.up
+role_seen g n end node _ = unseen g n []
+
 abbrev pub node_seen : LeaseSetting → ℕ → Option ℕ → Option Node → LeaseNode
 node_seen g n end None = unseen g n []
-node_seen g n end (Some node) = up_seen g n end node.kept node.up
+node_seen g n end (Some node) = role_seen g n end node node.role
 
 -- the messages that were ever sent
 abbrev pub messages : World → List Msg

@@ -21,7 +21,7 @@ ghost use Rattle.world_spec.specs.Examples.{node, trace_of, vanished};
 ghost use Rattle.world_runs.specs.Acts.{ActsHaveBegun};
 ghost use Rattle.world_runs.specs.Asks.{AsksHaveBegun, NextHasBegun};
 
-/// At no moment of a run of any lines do two nodes hold a file; nor behind some steps of a line more.
+/// At no moment of a run of any lines do two nodes hold a file; nor after some steps of a line more.
 pub fn nodes_are_apart()
     ensures whole { (room : Room) (lines : List Line) (file : ℕ) → AreLines lines →
         AreApart file (run_of room lines).entries }
@@ -40,8 +40,9 @@ pub fn holders_act()
 {}
 
 /// What holds of the world at every moment of a run, also in the midst of a line: what an OSD has of a file is what its records
-/// say, and is sound; lists, asks and what clients hold are those that are declared; nodes stand in the trace as they run; who has
-/// a lease holds its file by the trace; and no two nodes lead a file.
+/// say, and is sound; what the servers know is what their records say, and the files that the metadata server made are told in the
+/// order of making; lists, asks, grants, reports and what clients hold are of files that are declared or made; nodes stand in the
+/// trace as they run; who has a lease holds its file by the trace; and no two nodes lead a file.
 pub fn worlds_are_in_order()
     ensures whole { (room : Room) (lines : List Line) → AreLines lines →
         IsInOrder (run_of room lines) [] }
@@ -58,7 +59,7 @@ pub fn a_lease_passes_on()
 {}
 
 /// Every ask that was ever sent is of a call that has begun on its file: it asks what that call does, within its limits. So it is in
-/// every run of any lines, and behind each step of a line more.
+/// every run of any lines, and after each step of a line more.
 pub fn asks_have_begun()
     ensures whole { (room : Room) (lines : List Line) → AreLines lines →
         AsksHaveBegun (run_of room lines) [] }
@@ -68,7 +69,7 @@ pub fn asks_have_begun()
 {}
 
 /// A write that is issued or committed on a file, and a call that is answered on it, had begun on that file before: in every run of any
-/// lines, and behind some steps of a line more.
+/// lines, and after some steps of a line more.
 pub fn acts_have_begun()
     ensures whole { (room : Room) (lines : List Line) (file : ℕ) → AreLines lines →
         ActsHaveBegun file (run_of room lines).entries }
@@ -78,7 +79,7 @@ pub fn acts_have_begun()
 {}
 
 /// A call on a replicated file that ends well, with a count and bytes, was answered so on that file before, and had begun on it before
-/// that answer: in every run of any lines, and behind some steps of a line more.
+/// that answer: in every run of any lines, and after some steps of a line more.
 pub fn ends_are_answered()
     ensures whole { (room : Room) (lines : List Line) (file : ℕ) → AreLines lines →
         is_replicated file (run_of room lines).entries ≡ true →

@@ -37,7 +37,10 @@ use Rattle.xt_protocol.specs.PlainRows.{plain_step}
 use Rattle.client_rows.specs.Again.{again_of_client}
 use Rattle.client_rows.specs.Clients.{outcome_in, call_of_client, step_of_client}
 use Rattle.client_rows.specs.Rows.{called, called_again, stepped}
+use Rattle.server_rows.specs.Metadata.{step_of_mrc}
+use Rattle.server_rows.specs.Directory.{step_of_dir}
 use Rattle.world_spec.specs.Tagging.{tags}
+use Rattle.world_spec.specs.Digests.{digests}
 use Rattle.world_spec.specs.World.{World, Deed, puts, node_in, with_node, file_in}
 use Rattle.world_spec.specs.Rules.{refusal, first_stranger, least_where}
 use Rattle.world_spec.specs.NodeSteps.{Room, event_comes}
@@ -66,7 +69,7 @@ room_for count = record {
 
 -- the world after these lines
 unfoldable pub world_in : Room → List Line → World
-unfolding tags run_of after refusal first_stranger least_where done steps next_step first_step least_pending event_comes node_in with_node file_in outcome_in called called_again stepped again_of_client call_of_client step_of_client plain_step striped_refusal striped_handled step_of_osd step_of_file wake_of_file expired ask_handled refusal_of read_comes write_comes answer_comes serves_all epoch_drawn hears reads writes wakes peer_in with_peer fed chosen_of difference gathered fetched_from staged headed updated standing file_at with_file each_file body_kept fold_of logged_of row_in with_row with_held keep_of osd_without rewritten
+unfolding tags digests run_of after refusal first_stranger least_where done steps next_step first_step least_pending event_comes node_in with_node file_in outcome_in called called_again stepped again_of_client call_of_client step_of_client step_of_mrc step_of_dir plain_step striped_refusal striped_handled step_of_osd step_of_file wake_of_file expired ask_handled refusal_of read_comes write_comes answer_comes serves_all epoch_drawn hears reads writes wakes peer_in with_peer fed chosen_of difference gathered fetched_from staged headed updated standing file_at with_file each_file body_kept fold_of logged_of row_in with_row with_held keep_of osd_without rewritten
 world_in room lines = run_of room lines
 
 -- the trace of these lines

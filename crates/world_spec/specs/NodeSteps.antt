@@ -1,5 +1,6 @@
 -- the step of a node in a world, and how it ends
 use Rattle.std.specs.Prelude.{ℕ, Bool, true, not, ◌&&◌, ◌==◌, nat_le, nat_lt, if◌then◌else◌, is_some, Option, Some, None, Result, Ok, Err, List, [], ◌∷◌, ◌++◌, length, map, filter, sum_by, take}
+use Rattle.std.specs.List.{filter_map}
 use Rattle.disk_model.specs.Gate.{open_gate}
 use Rattle.disk_model.specs.declared.plan.Stop.{Stop}
 use Rattle.xt_base.specs.TimeSettings.{TimeSettings}
@@ -22,11 +23,14 @@ use Rattle.xt_protocol.specs.OsdSteps.{OsdState, OsdStep, Outside, step_of_osd}
 use Rattle.time_line.specs.declared.entry.Entry.{Entry}
 use Rattle.time_line.specs.declared.entry.Entry.TheVariants as entry
 use Rattle.world_spec.specs.declared.TheConstants.{MESSAGES, MESSAGE_BYTES}
+use Rattle.world_spec.specs.declared.PlacedFile.{PlacedFile}
 use Rattle.world_spec.specs.declared.Sent.{Sent}
 use Rattle.client_rows.specs.Steps.{Step}
 use Rattle.client_rows.specs.Rows.{WholeClient, stepped}
+use Rattle.server_rows.specs.Metadata.{MrcStep, step_of_mrc}
+use Rattle.server_rows.specs.Directory.{DirStep, step_of_dir}
 use Rattle.capabilities.specs.Tags.{is_sealed}
-use Rattle.world_spec.specs.World.{World, Node, Deed, puts, rewrites, Running, Core, osd, client, world_key, node_in, with_node}
+use Rattle.world_spec.specs.World.{World, Node, Deed, puts, rewrites, Running, Core, osd, client, mrc, dir, world_key, node_in, with_node}
 
 -- a record that has no room: how long its node's journal would have to be, and how long it may be, in bytes
 pub record Overflow : Type 0 where
@@ -56,15 +60,23 @@ osd_steps step = record { state = osd step.osd; turned = step.turned }
 abbrev pub client_steps : Step WholeClient → Step Core
 client_steps step = record { state = client step.state; turned = step.turned }
 
+abbrev pub mrc_steps : MrcStep → Step Core
+mrc_steps step = record { state = mrc step.mrc; turned = step.turned }
+
+abbrev pub dir_steps : DirStep → Step Core
+dir_steps step = record { state = dir step.dir; turned = step.turned }
+
 abbrev pub core_step : TimeSettings → Node → Core → ℕ → Event → Step Core
 core_step times node (osd state) clock happens = osd_steps (step_of_osd (outside_of node.kept) state clock happens)
 core_step times node (client state) clock happens = client_steps (stepped node.id times state clock happens)
+core_step times node (mrc state) clock happens = mrc_steps (step_of_mrc world_key state clock happens)
+core_step times node (dir state) clock happens = dir_steps (step_of_dir state happens)
 
 -- What comes of a step.
 
 -- the line of the trace for a mark of a node
 abbrev pub entry_of : NodeId → Mark → Entry
-entry_of node (mark.File file location) = entry.File file location
+entry_of node (mark.File file location) = entry.File file.number location
 entry_of node (mark.Begin number c) = entry.Begin node number c
 entry_of node (mark.Held file end) = entry.Held node file end
 entry_of node (mark.Active file count id) = entry.Active node file count id
@@ -72,6 +84,14 @@ entry_of node (mark.Issue file count id) = entry.Issue node file count id
 entry_of node (mark.Commit file count id) = entry.Commit node file count id
 entry_of node (mark.Answer file id count bytes) = entry.Answer node file id count bytes
 entry_of node (mark.Done number outcome) = entry.Done node number outcome
+
+-- the files of marks, in order
+abbrev pub file_marked : Mark → Option PlacedFile
+file_marked (mark.File file location) = Some (record { file = file; location = location })
+file_marked _ = None
+
+abbrev pub files_marked : List Mark → List PlacedFile
+files_marked marks = filter_map file_marked marks
 
 -- a message that has just been sent
 abbrev pub pending : Msg → Sent
@@ -93,11 +113,12 @@ abbrev pub one_put : List Deed → Option Record → List Deed
 one_put past None = past
 one_put past (Some rec) = past ++ puts rec ∷ []
 
--- the record of a step is kept, its marks become entries, its messages are numbered
+-- the record of a step is kept, its marks become entries, the files among them are made, its messages are numbered
 abbrev pub after_turn : World → Node → Running → Turned → World
 after_turn w node running turned =
     record w {
       nodes = with_node w.nodes (record node { kept = one_more node.kept turned.rec; past = one_put node.past turned.rec; up = Some running });
+      made = w.made ++ files_marked turned.marks;
       entries = w.entries ++ map (entry_of node.id) turned.marks;
       sent = w.sent ++ numbered w.nodes node.id turned.outs;
     }
@@ -179,6 +200,8 @@ rewritten_at node running s =
 -- a running OSD forgets where its hull rewrites its records now
 abbrev pub forgets_at : Room → World → Node → Running → Core → World
 forgets_at room w node running (client c) = w
+forgets_at room w node running (mrc m) = w
+forgets_at room w node running (dir s) = w
 forgets_at room w node running (osd s) =
     if room.rewrites_now node.past (keep_of s) then record w { nodes = with_node w.nodes (rewritten_at node running s) } else w
 

@@ -1,10 +1,10 @@
-//! A run of a world of nodes, as definitions, for replicated files with leases and failover and for striped files: what each line of
-//! a schedule does, step by step, and the entries that it adds to the trace.
+//! A run of a world of nodes of all roles, as definitions: OSDs with replicated and striped files, clients, the metadata server and
+//! the directory service; what each line of a schedule does, step by step, and the entries that it adds to the trace.
 //!
 //! The types here are the parts of a world that hold no lease; a type that holds an OSD's state stands in `specs/`.
 #![tactic(auto)]
 
-use xt_base::NodeId;
+use xt_base::FileId;
 use xt_messages::{Location, Msg};
 
 /// How many nodes a schedule may declare.
@@ -21,12 +21,14 @@ pub const MESSAGE_BYTES: u64 = 1_073_741_824;
 pub enum Role {
     Osd,
     Client,
+    Mrc,
+    Dir,
 }
 
-/// A declared file.
+/// A file that a schedule declares or that the metadata server made, and where it is.
 #[derive(Clone, Copy)]
-pub struct DeclaredFile {
-    pub number: u64,
+pub struct PlacedFile {
+    pub file: FileId,
     pub location: Location,
 }
 
@@ -45,6 +47,7 @@ ghost use Rattle.world_spec.specs.World.{World};
 ghost use Rattle.world_spec.specs.NodeSteps.{Room};
 ghost use Rattle.world_spec.specs.Runs.{IsPartOf, IsEnough, IsRun, IsRunInto, AreRunsSafe};
 ghost use Rattle.time_line.specs.Verdicts.{IsSafe, IsBroken, Break};
+ghost use Rattle.world_spec.specs.ServerExamples.{granted, granted_trace, left_out, left_out_trace, metadata, metadata_trace, registry, registry_trace};
 ghost use Rattle.world_spec.specs.Examples.{missing_in, ample, trace_of, trace_in, rule_behind, room_for, eager, taught, taught_trace, full, full_trace, fuller_trace, alone, alone_trace, turns_edge, turns_edge_trace, silence, silence_trace, drifting, clock_set, repeats, repeats_trace, vanished, vanished_trace, found, found_trace, third_answers, third_answers_trace, none_answers, none_answers_trace, node, made_again, made_again_trace, goes_again, striped, striped_trace, cut_short, cut_short_trace, fed_again, fed_again_trace, held_in_turn, held_in_turn_trace};
 
 /// The definitions are read.
@@ -86,4 +89,8 @@ pub fn examples()
     ensures no_call { rule_behind made_again goes_again ≡ Some (rule.NoCall (node 10)) }
     ensures striped { trace_of striped ≡ striped_trace }
     ensures cut_short { trace_of cut_short ≡ cut_short_trace }
+    ensures granted { trace_of granted ≡ granted_trace }
+    ensures left_out { trace_of left_out ≡ left_out_trace }
+    ensures metadata { trace_of metadata ≡ metadata_trace }
+    ensures registry { trace_of registry ≡ registry_trace }
 {}

@@ -17,10 +17,10 @@ one_byte b is = record { all = λ i. at i; few = omega (arith) }
     at (suc i) = omega (arith)
 
 writes : (b : ℕ) → b < 256 → FitsLater (write_at 10 0 (b ∷ []))
-writes b is = ((omega arith, tt, (omega arith, omega arith, omega arith, one_byte b is, omega arith)), refl)
+writes b is = ((omega arith, (omega arith, omega arith, omega arith, one_byte b is, omega arith)), refl)
 
 reads : FitsLater (read_byte 11)
-reads = ((omega arith, tt, (omega arith, omega arith, omega arith, omega arith, omega arith)), refl)
+reads = ((omega arith, (omega arith, omega arith, omega arith, omega arith, omega arith)), refl)
 
 the_file : FitsLater (file_on trio)
 the_file = (
