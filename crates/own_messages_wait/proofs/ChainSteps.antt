@@ -28,6 +28,7 @@ use Rattle.own_messages_wait.proofs.FileSteps.{step_given}
 use Rattle.own_messages_wait.proofs.FileSizes.{FileSmall}
 use Rattle.own_messages_wait.proofs.Osds.{FileHolds, OwnFits, apart_of}
 use Rattle.own_messages_wait.proofs.OsdEvents.{fit_at, stands_at}
+use Rattle.own_messages_wait.proofs.OneFile.{AreAbout, tokens_about}
 use Rattle.own_messages_wait.proofs.Chains.{Chain, Falls, idle_falls, placed, primary_about, list_of, own_sum, about-append, both_about, both_sum}
 
 module _ (outside : Outside) (s : OsdState) (now : ℕ)
@@ -140,14 +141,26 @@ module _ (outside : Outside) (s : OsdState) (now : ℕ)
       pub falls : Falls (awake_as s.started) s.started.node (with_file s.files (next file).state) (rest ++ to_itself s.started.node (next file).turned.outs) k
       falls = subst (λ (outs : List Msg). Falls (awake_as s.started) s.started.node (with_file s.files (next file).state) (rest ++ outs) k) (sym comes.gives.outs) (by_kind (is_lease m.payload) refl (comes.less mine))
 
+      -- and what it sends itself is about the file
+      pub outs_about : AreAbout file (to_itself s.started.node (next file).turned.outs)
+      outs_about = subst (AreAbout file) (sym comes.gives.outs) (tokens_about s.started.node file comes.gives.sent comes.gives.told about_sent about_told)
+
+    its_comes : (file : FileId) → file_concerned m.payload ≡ Some file → OwnFits (awake_as s.started) s.files m.payload
+        → Comes s.started.node m.from m.payload (file_at (awake_as s.started) s.files file) (step_of_file (site_of outside (awake_as s.started) now) (file_at (awake_as s.started) s.files file) m.from m.payload)
+    its_comes file concerns own =
+        let f = file_at (awake_as s.started) s.files file in
+        let fit = fit_at outside s now fits stands rises file in
+        step_given (site_of outside (awake_as s.started) now) m.from f (stands_at outside s now fits stands rises file).0 fit.sound
+        (apart_of (site_of outside (awake_as s.started) now) (awake_as s.started) s.files fits stands f fit) m.payload own.no_ask (λ from primary. own.stands file concerns primary)
+
     -- any message
     pub handled_falls : (o : Option FileId) → file_concerned m.payload ≡ o → m.from.0 ≡ s.started.node.0 → OwnFits (awake_as s.started) s.files m.payload
         → (let step = message_handled (site_of outside (awake_as s.started) now) (awake_as s.started) s.files m o in Falls (awake_as s.started) s.started.node step.files (rest ++ to_itself s.started.node step.turned.outs) k)
     handled_falls None concerns mine own =
         subst (λ (ms : List Msg). Falls (awake_as s.started) s.started.node s.files ms k) (sym (append-nil rest)) (idle_falls (awake_as s.started) s.started.node s.files rises m rest k c concerns)
-    handled_falls (Some file) concerns mine own =
-        let f = file_at (awake_as s.started) s.files file in
-        let fit = fit_at outside s now fits stands rises file in
-        let comes = step_given (site_of outside (awake_as s.started) now) m.from f (stands_at outside s now fits stands rises file).0 fit.sound
-        (apart_of (site_of outside (awake_as s.started) now) (awake_as s.started) s.files fits stands f fit) m.payload own.no_ask (λ from primary. own.stands file concerns primary) in
-        falls file concerns comes mine
+    handled_falls (Some file) concerns mine own = falls file concerns (its_comes file concerns own) mine
+
+    -- what the step on a message about a file sends itself is about that file
+    pub handled_about : (file : FileId) → file_concerned m.payload ≡ Some file → m.from.0 ≡ s.started.node.0 → OwnFits (awake_as s.started) s.files m.payload
+        → AreAbout file (to_itself s.started.node (message_handled (site_of outside (awake_as s.started) now) (awake_as s.started) s.files m (Some file)).turned.outs)
+    handled_about file concerns mine own = outs_about file concerns (its_comes file concerns own) mine

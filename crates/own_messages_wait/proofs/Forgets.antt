@@ -36,6 +36,7 @@ use Rattle.own_messages_wait.proofs.Tests.{false_true}
 use Rattle.own_messages_wait.proofs.Files.{IfLed, chain_weight}
 use Rattle.own_messages_wait.proofs.Keeping.{stands_then}
 use Rattle.own_messages_wait.proofs.Chains.{Chain, total, has_file}
+use Rattle.own_messages_wait.proofs.OneFile.{IsAlone, no_message}
 
 -- ---- lists
 
@@ -186,4 +187,17 @@ chain_then s own k c = record {
   led = λ g. subst (λ (x : FileState). IfLed (c.sent g) x) (sym (at_without (awake_as s.started) (keep_of s) s.files g)) (led_then (keep_of s) (c.sent g) (file_at (awake_as s.started) s.files g) (c.led g));
   known = λ g none. c.known g (sym (has_then (keep_of s) s.files g) ∙ none);
   low = (let same = total_then s c.sent s.files (λ f has. has) in let low = c.low in omega (arith, same, low));
+}
+
+-- and so do those about one file
+pub alone_then : (s : OsdState) (own : List Msg) (g : FileId) (K k : ℕ) → IsAlone (awake_as s.started) s.started.node s.files own g K k
+    → IsAlone (awake_as (osd_without (keep_of s) s).started) (osd_without (keep_of s) s).started.node (osd_without (keep_of s) s).files own g K k
+unfolding osd_without
+alone_then s own g K k alone = record {
+  about = alone.about;
+  bound =
+      let bound = alone.bound in
+      let all = total_then s no_message s.files (λ f has. has) in
+      let its = ap (λ (x : FileState). chain_weight s.started.node x None) (at_without (awake_as s.started) (keep_of s) s.files g) in
+      omega (arith, bound, all, its);
 }

@@ -21,8 +21,10 @@ pub mod Bounds
 pub mod Osds
 pub mod OsdEvents
 pub mod Clients
+pub mod Servers
 pub mod Keeping
 pub mod Chains
+pub mod OneFile
 pub mod ChainSteps
 pub mod Forgets
 pub mod Starts

@@ -8,7 +8,7 @@ use Rattle.xt_protocol.specs.LeaseRows.{is_silent}
 use Rattle.lease_safety.specs.State.{Has}
 use Rattle.xt_protocol.specs.FileStates.{FileState}
 use Rattle.xt_protocol.specs.OsdSteps.{OsdState, OsdStep, step_of_osd}
-use Rattle.world_spec.specs.World.{World, Node, Running, osd, node_in}
+use Rattle.world_spec.specs.World.{World, Node, Running, osd, known, node_in}
 use Rattle.world_spec.specs.NodeSteps.{to_itself, after_turn, outside_of}
 use Rattle.world_runs.proofs.Frame.{next_node}
 use Rattle.world_runs.proofs.Tables.{node_in-new}
@@ -18,31 +18,92 @@ use Rattle.own_messages_wait.proofs.FileSizes.{FileSmall}
 use Rattle.std.proofs.Common.{◌*◌}
 use Rattle.world_spec.specs.Lines.{OWN}
 use Rattle.world_runs.specs.View.{awake_as}
-use Rattle.own_messages_wait.proofs.Starts.{event_starts, room_of, IsOutside, busy_low, count_busy, loosen}
-use Rattle.own_messages_wait.proofs.Keeping.{Stood, stood_kept, fits, files_stand, node_is, arrives, holds_of}
-use Rattle.own_messages_wait.proofs.Running.{InChain, awake_step, awake_is, osd_chain}
+use Rattle.own_messages_wait.proofs.Starts.{event_starts, heard_alone, Behind, busy_low, count_busy, loosen}
+use Rattle.own_messages_wait.proofs.Keeping.{Stood, stood_kept, fits, files_stand, node_is, arrives, holds_of, lists}
+use Rattle.own_messages_wait.proofs.OneFile.{IsAlone}
+use Rattle.own_messages_wait.proofs.Osds.{FileHolds}
+use Rattle.world_runs.proofs.OsdSilence.{osd_makes_none}
+use Rattle.world_spec.specs.declared.PlacedFile.{PlacedFile}
+use Rattle.world_spec.specs.NodeSteps.{files_marked}
+use Rattle.xt_base.specs.declared.ids.FileId.{FileId}
+use Rattle.xt_messages.specs.declared.message.Msg.{Msg}
+use Rattle.lease_runs.specs.OsdView.{site_of}
+use Rattle.xt_protocol.specs.OsdSteps.{FilesStep, file_concerned, message_handled}
+use Rattle.std.proofs.Common.{ℕ, List, Option, None, length-append, ◌≤◌}
+use Rattle.own_messages_wait.proofs.Running.{InChain, no_own, of_an_osd, of_one_file, awake_step, awake_is, osd_left, osd_chain, osd_chain_by}
+
+-- what an event brings at most: a message is about one file, a Wake about all, and it may ask the DIR, which may be the OSD itself
+abbrev pub bound_of : World → Event → ℕ
+bound_of w event.Wake = 1 + OWN * (length w.files + length w.made)
+bound_of w _ = OWN
 
 -- an OSD that is awake, after an event from outside
-pub outside_chain : (w : World) (node : Node) (r : Running) (s : OsdState) (happens : Event) (found : node_in w.nodes node.id.0 ≡ Some node) (up : node.up ≡ Some r) (core : r.core ≡ osd s) → Stood w [] → Reaches w [] node.id happens
-    → is_silent s.started (max r.clock s.last) ≡ false
-    → (let step = awake_step (outside_of node.kept) s r.clock happens in InChain (after_turn w node (record r { core = osd step.osd }) step.turned) ([] ++ to_itself node.id step.turned.outs) (room_of happens + OWN * length w.files))
-outside_chain w node r s happens found up core stood comes awake =
-    let its = fits w [] node r found up stood s core in
-    let mine = node_is w [] node r found up stood s core in
-    let then = subst (λ (step : OsdStep). Stood (after_turn w node (record r { core = osd step.osd }) (record step.turned { outs = step.turned.outs })) ([] ++ to_itself node.id step.turned.outs)) (awake_is (outside_of node.kept) s r.clock happens awake)
-    (stood_kept.stepped w [] [] node r (osd (step_of_osd (outside_of node.kept) s r.clock happens).osd) (step_of_osd (outside_of node.kept) s r.clock happens).turned (step_of_osd (outside_of node.kept) s r.clock happens).turned.outs [] (inl refl) found up
-    (of_osd s happens core comes) (sym (append-nil (step_of_osd (outside_of node.kept) s r.clock happens).turned.outs)) stood) in
-    let there = node_in-new w.nodes (next_node node r (osd (awake_step (outside_of node.kept) s r.clock happens).osd) (awake_step (outside_of node.kept) s r.clock happens).turned) node found in
-    let fit = (then.fit.shape.nodes node.id.0 (next_node node r (osd (awake_step (outside_of node.kept) s r.clock happens).osd) (awake_step (outside_of node.kept) s r.clock happens).turned) there).up in
-    let stand = (then.mine.nodes_stand node.id.0 (next_node node r (osd (awake_step (outside_of node.kept) s r.clock happens).osd) (awake_step (outside_of node.kept) s r.clock happens).turned) there).up in
-    let chain = event_starts (outside_of node.kept) s (max r.clock s.last) (λ f h. holds_of w.files stood.mine.lists f (its.0.fits f h)) (files_stand w [] node r found up stood s core) its.0.rises happens
-    (arrives w [] node r found up stood s core happens comes) (is_outside mine happens comes)
-    (record { all_stand = subst (λ (n : NodeId). (f : FileState) → Has f (awake_step (outside_of node.kept) s r.clock happens).osd.files → FileStands n f × FileSmall f) (sym mine) stand; all_rise = fit.0.rises }) in
-    osd_chain (record { world = w; own = []; left = 0 }) node r s happens (room_of happens + OWN * length w.files) found mine awake (λ m h. absurd h)
-    (loosen (awake_as s.started) s.started.node (awake_step (outside_of node.kept) s r.clock happens).osd.files (to_itself s.started.node (awake_step (outside_of node.kept) s r.clock happens).turned.outs)
-    (room_of happens + OWN * count_busy (awake_step (outside_of node.kept) s r.clock happens).osd.files) (room_of happens + OWN * length w.files) (let few = busy_low w.files (awake_step (outside_of node.kept) s r.clock happens).osd.files fit.0.fits fit.0.rises in omega (arith, few)) chain)
-  where
-    is_outside : s.started.node ≡ node.id → (happens : Event) → Reaches w [] node.id happens → IsOutside s.started.node happens
-    is_outside mine (event.Deliver m) comes = ap (λ (n : NodeId). m.from.0 == n.0) (mine ∙ sym comes.0) ∙ (stood.mine.others m comes.1).0
-    is_outside mine event.Wake comes = tt
-    is_outside mine (event.Call call) comes = tt
+module _ (w : World) (node : Node) (r : Running) (s : OsdState) (found : node_in w.nodes node.id.0 ≡ Some node) (up : node.up ≡ Some r) (core : r.core ≡ osd s) (stood : Stood w [])
+    (awake : is_silent s.started (max r.clock s.last) ≡ false) where
+  is_mine : s.started.node ≡ node.id
+  is_mine = node_is w [] node r found up stood s core
+
+  all_hold : (f : FileState) → Has f s.files → FileHolds f
+  all_hold f h = holds_of (known w) (lists w [] stood) f ((fits w [] node r found up stood s core).0.fits f h)
+
+  module _ (happens : Event) (comes : Reaches w [] node.id happens) where
+    abbrev Step : OsdStep
+    Step = awake_step (outside_of node.kept) s r.clock happens
+
+    abbrev After : OsdStep → World
+    After step = after_turn w node (record r { core = osd step.osd }) step.turned
+
+    then_stood : Stood (After Step) (to_itself node.id Step.turned.outs)
+    then_stood =
+        subst (λ (step : OsdStep). Stood (after_turn w node (record r { core = osd step.osd }) step.turned) (to_itself node.id step.turned.outs)) (awake_is (outside_of node.kept) s r.clock happens awake)
+        (stood_kept.stepped w [] [] node r (osd (step_of_osd (outside_of node.kept) s r.clock happens).osd) (step_of_osd (outside_of node.kept) s r.clock happens).turned (step_of_osd (outside_of node.kept) s r.clock happens).turned.outs [] (inl refl) found up
+        (of_osd s happens core comes) (sym (append-nil (step_of_osd (outside_of node.kept) s r.clock happens).turned.outs)) stood)
+
+    there : node_in (After Step).nodes node.id.0 ≡ Some (next_node node r (osd Step.osd) Step.turned)
+    there = node_in-new w.nodes (next_node node r (osd Step.osd) Step.turned) node found
+
+    behind : Behind s.started.node Step.osd.files
+    behind = record {
+      all_stand = subst (λ (n : NodeId). (f : FileState) → Has f Step.osd.files → FileStands n f × FileSmall f) (sym is_mine) (then_stood.mine.nodes_stand node.id.0 (next_node node r (osd Step.osd) Step.turned) there).up;
+      all_rise = (then_stood.stage.fit.shape.nodes node.id.0 (next_node node r (osd Step.osd) Step.turned) there).up.0.rises;
+    }
+
+    -- no more files are busy than are known
+    few_busy : count_busy Step.osd.files ≤ length w.files + length w.made
+    few_busy =
+        let fit = (then_stood.stage.fit.shape.nodes node.id.0 (next_node node r (osd Step.osd) Step.turned) there).up in
+        let few = busy_low (known (After Step)) Step.osd.files fit.0.fits fit.0.rises in
+        let none : files_marked Step.turned.marks ≡ [] = subst (λ (step : OsdStep). files_marked step.turned.marks ≡ []) (awake_is (outside_of node.kept) s r.clock happens awake) (osd_makes_none (outside_of node.kept) s r.clock happens) in
+        let all = length-append w.files (w.made ++ files_marked Step.turned.marks) in
+        let made = length-append w.made (files_marked Step.turned.marks) in
+        let no_more = ap (λ (fs : List PlacedFile). length fs) none in
+        omega (arith, few, all, made, no_more)
+
+  abbrev hears : Msg → Option FileId → FilesStep
+  hears m o = message_handled (site_of (outside_of node.kept) (awake_as s.started) (max r.clock s.last)) (awake_as s.started) s.files m o
+
+  message_chain : (m : Msg) (comes : Reaches w [] node.id (event.Deliver m)) → (let step = awake_step (outside_of node.kept) s r.clock (event.Deliver m) in InChain (after_turn w node (record r { core = osd step.osd }) step.turned) (to_itself node.id step.turned.outs) OWN)
+  message_chain m comes = at (file_concerned m.payload) refl (behind (event.Deliver m) comes)
+    where
+      from_other : (m.from.0 == s.started.node.0) ≡ false
+      from_other = ap (λ (n : NodeId). m.from.0 == n.0) (is_mine ∙ sym comes.0) ∙ (stood.mine.others m comes.1).0
+
+      at : (o : Option FileId) → file_concerned m.payload ≡ o → Behind s.started.node (hears m o).files
+          → InChain (after_turn w node (record r { core = osd (osd_left s (max r.clock s.last) (hears m o)).osd }) (hears m o).turned) (to_itself node.id (hears m o).turned.outs) OWN
+      at None is stand = no_own refl
+      at (Some file) is stand =
+          let alone = heard_alone (outside_of node.kept) s (max r.clock s.last) all_hold (files_stand w [] node r found up stood s core) (fits w [] node r found up stood s core).0.rises m file is
+          (arrives w [] node r found up stood s core (event.Deliver m) comes) from_other stand.all_stand stand.all_rise in
+          of_one_file alone.0
+          (osd_chain_by (record { world = w; own = []; left = 0 }) node r s (hears m (Some file)) alone.0 found is_mine awake (λ x h. absurd h) alone.1) file
+          (subst (λ (id : NodeId). IsAlone (awake_as s.started) s.started.node (hears m (Some file)).files (to_itself id (hears m (Some file)).turned.outs) file alone.0 OWN) is_mine alone.2)
+
+  pub outside_chain : (happens : Event) (comes : Reaches w [] node.id happens) → (let step = awake_step (outside_of node.kept) s r.clock happens in InChain (after_turn w node (record r { core = osd step.osd }) step.turned) (to_itself node.id step.turned.outs) (bound_of w happens))
+  outside_chain (event.Deliver m) comes = message_chain m comes
+  outside_chain (event.Call call) comes = no_own refl
+  outside_chain event.Wake comes =
+      let chain = event_starts (outside_of node.kept) s (max r.clock s.last) all_hold (files_stand w [] node r found up stood s core) (fits w [] node r found up stood s core).0.rises event.Wake
+      (arrives w [] node r found up stood s core event.Wake comes) tt (behind event.Wake comes) in
+      of_an_osd (osd_chain (record { world = w; own = []; left = 0 }) node r s event.Wake (1 + OWN * (length w.files + length w.made)) found is_mine awake (λ m h. absurd h)
+      (loosen (awake_as s.started) s.started.node (awake_step (outside_of node.kept) s r.clock event.Wake).osd.files (to_itself s.started.node (awake_step (outside_of node.kept) s r.clock event.Wake).turned.outs)
+      (1 + OWN * count_busy (awake_step (outside_of node.kept) s r.clock event.Wake).osd.files) (1 + OWN * (length w.files + length w.made)) (let few = few_busy event.Wake comes in omega (arith, few)) chain))

@@ -18,11 +18,11 @@ use Rattle.xt_protocol.specs.FileSteps.{step_of_file}
 use Rattle.xt_protocol.specs.OsdSteps.{Outside, OsdState, FilesStep, file_at, with_file, file_concerned, message_handled, event_handled}
 use Rattle.lease_runs.specs.OsdView.{site_of}
 use Rattle.lease_runs.proofs.OsdLeases.{file_at-with_file, at_file}
-use Rattle.world_spec.specs.declared.DeclaredFile.{DeclaredFile}
+use Rattle.world_spec.specs.declared.PlacedFile.{PlacedFile}
 use Rattle.world_spec.specs.World.{file_in}
 use Rattle.world_spec.specs.NodeSteps.{to_itself}
 use Rattle.world_runs.specs.View.{awake_as}
-use Rattle.world_runs.specs.Worlds.{AreBehind, FileFits, Rises, files_of}
+use Rattle.world_runs.specs.Worlds.{AreBehind, FileFits, IsKnown, Rises, files_of}
 use Rattle.own_messages_wait.proofs.Osds.{FileHolds}
 use Rattle.world_runs.proofs.Rising.{before_itself}
 use Rattle.own_messages_wait.proofs.Weights.{is_lease, tenure_left}
@@ -34,7 +34,7 @@ use Rattle.own_messages_wait.proofs.Files.{FileStands, IfLed, IsLed, chain_weigh
 use Rattle.own_messages_wait.proofs.Messages.{Gives, lease_of}
 use Rattle.own_messages_wait.proofs.FileSizes.{FileSmall}
 use Rattle.own_messages_wait.proofs.OsdEvents.{same_file}
-use Rattle.own_messages_wait.proofs.Chains.{Chain, primary_about, list_of, own_sum, total, has_file, about-append, sum-append, both_about, both_sum, stands_primary, behind_absent, has_with}
+use Rattle.own_messages_wait.proofs.Chains.{Chain, primary_about, list_of, own_sum, put, total, total_with, has_file, about-append, sum-append, both_about, both_sum, stands_primary, behind_absent, has_with}
 use Rattle.std.proofs.Common.{◌*◌, length, is_some}
 use Rattle.std.proofs.lemmas.Bool.Decides.{nat_tests}
 use Rattle.std.proofs.lemmas.Bool.{and_parts}
@@ -45,12 +45,13 @@ use Rattle.lease_runs.specs.OsdView.{wake_step}
 use Rattle.xt_protocol.specs.FileSteps.{wake_of_file}
 use Rattle.xt_protocol.specs.Overdue.{expired}
 use Rattle.xt_protocol.specs.OsdSteps.{asks_dir, each_file, woken}
-use Rattle.world_spec.specs.Lines.{OWN, declared_file}
+use Rattle.world_spec.specs.Lines.{OWN}
 use Rattle.world_runs.specs.Worlds.{Listed}
 use Rattle.own_messages_wait.proofs.Rows.{one_if}
 use Rattle.own_messages_wait.proofs.Leases.{IsFree}
 use Rattle.own_messages_wait.proofs.Bounds.{file_low}
-use Rattle.own_messages_wait.proofs.OsdEvents.{Arrives, gives_at, gives_woken, WokenTo, none_woken, one_woken, wakes_to, woken_files, woken_to, woke_file}
+use Rattle.own_messages_wait.proofs.OneFile.{AreAbout, IsAlone, idle, idle_with, no_message, tokens_about}
+use Rattle.own_messages_wait.proofs.OsdEvents.{Arrives, stands_now, gives_at, gives_woken, WokenTo, none_woken, one_woken, wakes_to, woken_files, woken_to, woke_file}
 
 -- ---- busy files
 
@@ -90,28 +91,28 @@ load n f told sent its lease idle = at f.lease refl
     at (writing r) is = busy true (ap is_busy is) refl
     at (held h) is = busy true (ap is_busy is) refl
 
--- ---- in a world there are no more of them than declared files
+-- ---- in a world there are no more of them than known files
 
-abbrev pub hits : DeclaredFile → FileState → Bool
-hits d f = is_busy f.lease && (d.number == f.kept.file.number)
+abbrev pub hits : PlacedFile → FileState → Bool
+hits d f = is_busy f.lease && (d.file.number == f.kept.file.number)
 
-abbrev pub count_hits : DeclaredFile → List FileState → ℕ
+abbrev pub count_hits : PlacedFile → List FileState → ℕ
 count_hits d [] = 0
 count_hits d (f ∷ fs) = one_if (hits d f) + count_hits d fs
 
-abbrev pub count_in : List DeclaredFile → List FileState → ℕ
+abbrev pub count_in : List PlacedFile → List FileState → ℕ
 count_in ds [] = 0
 count_in ds (f ∷ fs) = one_if (is_busy f.lease && is_some (file_in ds f.kept.file.number)) + count_in ds fs
 
-in_more : (d : DeclaredFile) (ds : List DeclaredFile) (fs : List FileState) → count_in (d ∷ ds) fs ≤ count_hits d fs + count_in ds fs
+in_more : (d : PlacedFile) (ds : List PlacedFile) (fs : List FileState) → count_in (d ∷ ds) fs ≤ count_hits d fs + count_in ds fs
 unfolding file_in
 in_more d ds [] = omega arith
 in_more d ds (f ∷ fs) =
     let rest = in_more d ds fs in
-    let here = at (is_busy f.lease) (d.number == f.kept.file.number) in
+    let here = at (is_busy f.lease) (d.file.number == f.kept.file.number) in
     omega (arith, rest, here)
   where
-    at : (a b : Bool) → one_if (a && is_some (cond b (Some d.location) (file_in ds f.kept.file.number))) ≤ one_if (a && b) + one_if (a && is_some (file_in ds f.kept.file.number))
+    at : (a b : Bool) → one_if (a && is_some (cond b (Some d) (file_in ds f.kept.file.number))) ≤ one_if (a && b) + one_if (a && is_some (file_in ds f.kept.file.number))
     at true true = omega arith
     at true false = omega arith
     at false b = omega arith
@@ -125,10 +126,11 @@ in_none (f ∷ fs) = at (is_busy f.lease) (in_none fs)
     at true rest = omega (arith, rest)
     at false rest = omega (arith, rest)
 
-abbrev pub AreDeclared : List FileState → Type 0
-AreDeclared fs = (f : FileState) → Has f fs → IsBusy f.lease → f.kept.file ≡ declared_file f.kept.file.number
+-- the busy ones are known
+abbrev pub AreKnown : List PlacedFile → List FileState → Type 0
+AreKnown known fs = (f : FileState) → Has f fs → IsBusy f.lease → (location : Location) × IsKnown known f.kept.file location
 
-none_hit : (d : DeclaredFile) (fs : List FileState) → ((f : FileState) → Has f fs → hits d f ≡ false) → count_hits d fs ≡ 0
+none_hit : (d : PlacedFile) (fs : List FileState) → ((f : FileState) → Has f fs → hits d f ≡ false) → count_hits d fs ≡ 0
 none_hit d [] none = refl
 none_hit d (f ∷ fs) none = (let rest = none_hit d fs (λ g h. none g (inr h)) in let here = ap one_if (none f (inl refl)) in omega (arith, rest, here))
 
@@ -137,9 +139,14 @@ has_id [] g h = absurd h
 has_id (f ∷ fs) g (inl e) = inl (ap (λ (x : FileState). x.kept.file) e)
 has_id (f ∷ fs) g (inr h) = inr (has_id fs g h)
 
-hit_once : (d : DeclaredFile) (fs : List FileState) → Rises (files_of fs) → AreDeclared fs → count_hits d fs ≤ 1
-hit_once d [] rises are = omega arith
-hit_once d (f ∷ fs) rises are = at (hits d f) refl (hit_once d fs rises.1 (λ g h. are g (inr h)))
+same_known : (known : List PlacedFile) (a b : FileId) (x y : Location) → IsKnown known a x → IsKnown known b y → a.number ≡ b.number → a ≡ b
+same_known known a b x y one two e =
+    let same : Some (let k : PlacedFile = record { file = a; location = x } in k) ≡ Some (record { file = b; location = y }) = sym one ∙ ap (file_in known) e ∙ two in
+    ap (λ (o : Option PlacedFile). elim o [ None ↦ a | Some k ↦ k.file ]) same
+
+hit_once : (known : List PlacedFile) (d : PlacedFile) (fs : List FileState) → Rises (files_of fs) → AreKnown known fs → count_hits d fs ≤ 1
+hit_once known d [] rises are = omega arith
+hit_once known d (f ∷ fs) rises are = at (hits d f) refl (hit_once known d fs rises.1 (λ g h. are g (inr h)))
   where
     numbers : (a b c : ℕ) → (a == b) ≡ true → (a == c) ≡ true → b ≡ c
     numbers a b c one two = grind (arith, nat_tests)
@@ -147,45 +154,52 @@ hit_once d (f ∷ fs) rises are = at (hits d f) refl (hit_once d fs rises.1 (λ 
     again : hits d f ≡ true → (g : FileState) → Has g fs → (b : Bool) → hits d g ≡ b → b ≡ false
     again one g h false is = refl
     again one g h true is =
-        let p = and_parts (is_busy f.lease) (d.number == f.kept.file.number) one in
-        let q = and_parts (is_busy g.lease) (d.number == g.kept.file.number) is in
-        let same : f.kept.file ≡ g.kept.file = are f (inl refl) (busy_so f.lease p.0) ∙ ap declared_file (numbers d.number f.kept.file.number g.kept.file.number p.1 q.1) ∙ sym (are g (inr h) (busy_so g.lease q.0)) in
+        let p = and_parts (is_busy f.lease) (d.file.number == f.kept.file.number) one in
+        let q = and_parts (is_busy g.lease) (d.file.number == g.kept.file.number) is in
+        let first = are f (inl refl) (busy_so f.lease p.0) in
+        let other = are g (inr h) (busy_so g.lease q.0) in
+        let same : f.kept.file ≡ g.kept.file = same_known known f.kept.file g.kept.file first.0 other.0 first.1 other.1 (numbers d.file.number f.kept.file.number g.kept.file.number p.1 q.1) in
         absurd (before_itself f.kept.file g.kept.file (ap (is_file f.kept.file) (sym same) ∙ file-itself f.kept.file) (rises.0 g.kept.file (has_id fs g h)))
 
     at : (b : Bool) → hits d f ≡ b → count_hits d fs ≤ 1 → one_if (hits d f) + count_hits d fs ≤ 1
     at true is rest = (let none = none_hit d fs (λ g h. again is g h (hits d g) refl) in let one = ap one_if is in omega (arith, none, one))
     at false is rest = (let one = ap one_if is in omega (arith, rest, one))
 
-in_low : (ds : List DeclaredFile) (fs : List FileState) → Rises (files_of fs) → AreDeclared fs → count_in ds fs ≤ length ds
-in_low [] fs rises are = (let none = in_none fs in omega (arith, none))
-in_low (d ∷ ds) fs rises are =
+in_low : (known ds : List PlacedFile) (fs : List FileState) → Rises (files_of fs) → AreKnown known fs → count_in ds fs ≤ length ds
+in_low known [] fs rises are = (let none = in_none fs in omega (arith, none))
+in_low known (d ∷ ds) fs rises are =
     let more = in_more d ds fs in
-    let once = hit_once d fs rises are in
-    let rest = in_low ds fs rises are in
+    let once = hit_once known d fs rises are in
+    let rest = in_low known ds fs rises are in
     omega (arith, more, once, rest)
 
-busy_in : (declared : List DeclaredFile) (fs : List FileState) → ((f : FileState) → Has f fs → FileFits declared f) → count_busy fs ≤ count_in declared fs
-busy_in declared [] fits = omega arith
-busy_in declared (f ∷ fs) fits =
-    let rest = busy_in declared fs (λ g h. fits g (inr h)) in
+-- where a list is stored it is that of a known file
+listed_known : (known : List PlacedFile) (file : FileId) (o : Option Location) → Listed known file o → IsStored o → (location : Location) × IsKnown known file location
+listed_known known file None listed stored = absurd stored
+listed_known known file (Some location) listed stored = (location, listed)
+
+all_known : (known : List PlacedFile) (fs : List FileState) → ((f : FileState) → Has f fs → FileFits known f) → AreKnown known fs
+all_known known fs fits f h busy = listed_known known f.kept.file f.kept.location (fits f h).listed ((fits f h).stored busy)
+
+busy_in : (known : List PlacedFile) (fs : List FileState) → AreKnown known fs → count_busy fs ≤ count_in known fs
+busy_in known [] are = omega arith
+busy_in known (f ∷ fs) are =
+    let rest = busy_in known fs (λ g h. are g (inr h)) in
     let here = at (is_busy f.lease) refl in
     omega (arith, rest, here)
   where
-    its : FileFits declared f
-    its = fits f (inl refl)
-
-    there : (o : Option Location) → Listed declared f.kept.file o → IsStored o → is_some (file_in declared f.kept.file.number) ≡ true
-    there None listed stored = absurd stored
-    there (Some location) listed stored = ap (λ (l : Option Location). is_some l) listed
-
-    at : (b : Bool) → is_busy f.lease ≡ b → one_if b ≤ one_if (b && is_some (file_in declared f.kept.file.number))
+    at : (b : Bool) → is_busy f.lease ≡ b → one_if b ≤ one_if (b && is_some (file_in known f.kept.file.number))
     at false is = omega arith
-    at true is = (let one = ap one_if (there f.kept.location its.listed (its.stored (busy_so f.lease is))) in omega (arith, one))
+    at true is =
+        let found = (are f (inl refl) (busy_so f.lease is)).1 in
+        let one = ap one_if (ap (λ (o : Option PlacedFile). is_some o) found) in
+        omega (arith, one)
 
-pub busy_low : (declared : List DeclaredFile) (fs : List FileState) → ((f : FileState) → Has f fs → FileFits declared f) → Rises (files_of fs) → count_busy fs ≤ length declared
-busy_low declared fs fits rises =
-    let one = busy_in declared fs fits in
-    let two = in_low declared fs rises (λ f h. (fits f h).declared) in
+pub busy_low : (known : List PlacedFile) (fs : List FileState) → ((f : FileState) → Has f fs → FileFits known f) → Rises (files_of fs) → count_busy fs ≤ length known
+busy_low known fs fits rises =
+    let are = all_known known fs fits in
+    let one = busy_in known fs are in
+    let two = in_low known known fs rises are in
     omega (arith, one, two)
 
 -- ---- the state of a file in the list
@@ -327,21 +341,17 @@ module _ (outside : Outside) (s : OsdState) (now : ℕ)
         equal : (a b : ℕ) → a ≡ b → (a == b) ≡ true
         equal a b is = grind (arith, nat_tests)
 
-    pub heard_starts : Chain (awake_as s.started) s.started.node files_then (to_itself s.started.node new.turned.outs) (OWN * count_busy files_then)
-    heard_starts =
-        subst (λ (ms : List Msg). Chain (awake_as s.started) s.started.node files_then ms (OWN * count_busy files_then)) (sym gives.outs)
+    -- what it sends itself, within what that weighs
+    heard_within : (k : ℕ) → lease_of gives.told + total s.started.node sent_for files_then ≤ k → Chain (awake_as s.started) s.started.node files_then (to_itself s.started.node new.turned.outs) k
+    heard_within k within =
+        subst (λ (ms : List Msg). Chain (awake_as s.started) s.started.node files_then ms k) (sym gives.outs)
         (record {
           sent = sent_for;
           is = λ g. both_about s.started.node new.state.kept file g gives.sent gives.told about_sent gives.stands gives.told_is ∙ only (is_file file g) gives.sent;
           stands = λ g. subst (λ (x : FileState). IfWaits x.kept x.primary.tenure (sent_for g)) (sym (at_then g)) (stands_at_then g (is_file file g));
           led = λ g. subst (λ (x : FileState). IfLed (sent_for g) x) (sym (at_then g)) (led_at_then g (is_file file g));
           known = λ g none. known_at g (is_file file g) refl (sym (has_with s.files new.state g ∙ ap (λ (k : FileId). is_file k g || has_file s.files g) same) ∙ none);
-          low =
-              let sum = both_sum s.started.node new.state.kept file gives.sent gives.told about_sent gives.stands about_told in
-              let all = all_low s.started.node sent_for told_for files_then each_low in
-              let here = ap (λ (b : Bool). cond b (lease_of gives.told) 0) (file-itself file) in
-              let part = extra_in told_for files_then file (has_with s.files new.state file ∙ ap (λ (k : FileId). is_file k file || has_file s.files file) same ∙ ap (λ (b : Bool). b || has_file s.files file) (file-itself file)) in
-              omega (arith, sum, all, here, part);
+          low = (let sum = both_sum s.started.node new.state.kept file gives.sent gives.told about_sent gives.stands about_told in omega (arith, sum, within));
         })
       where
         stands_at_then : (g : FileId) (b : Bool) → IfWaits (cond b new.state (file_at (awake_as s.started) s.files g)).kept (cond b new.state (file_at (awake_as s.started) s.files g)).primary.tenure (cond b gives.sent None)
@@ -355,6 +365,41 @@ module _ (outside : Outside) (s : OsdState) (now : ℕ)
         known_at : (g : FileId) (b : Bool) → is_file file g ≡ b → (is_file file g || has_file s.files g) ≡ false → cond b gives.sent None ≡ None
         known_at g true is none = absurd (false_true (sym none ∙ ap (λ (b : Bool). b || has_file s.files g) is))
         known_at g false is none = refl
+
+    pub heard_starts : Chain (awake_as s.started) s.started.node files_then (to_itself s.started.node new.turned.outs) (OWN * count_busy files_then)
+    heard_starts =
+        let all = all_low s.started.node sent_for told_for files_then each_low in
+        let here = ap (λ (b : Bool). cond b (lease_of gives.told) 0) (file-itself file) in
+        let part = extra_in told_for files_then file (has_with s.files new.state file ∙ ap (λ (k : FileId). is_file k file || has_file s.files file) same ∙ ap (λ (b : Bool). b || has_file s.files file) (file-itself file)) in
+        heard_within (OWN * count_busy files_then) (omega (arith, all, here, part))
+
+    one_low : (b : Bool) → OWN * one_if b ≤ OWN
+    one_low true = omega arith
+    one_low false = omega arith
+
+    -- it is all about that file
+    pub heard_alone : (whole : ℕ) × Chain (awake_as s.started) s.started.node files_then (to_itself s.started.node new.turned.outs) whole
+        × IsAlone (awake_as s.started) s.started.node files_then (to_itself s.started.node new.turned.outs) file whole OWN
+    heard_alone = (
+      lease_of gives.told + total s.started.node sent_for files_then,
+      heard_within (lease_of gives.told + total s.started.node sent_for files_then) (same_le (lease_of gives.told + total s.started.node sent_for files_then)),
+      record {
+        about = subst (AreAbout file) (sym gives.outs) (tokens_about s.started.node file gives.sent gives.told about_sent about_told);
+        bound =
+            let its = stands_now outside s now fits stands rises m file concerns arrives in
+            let most = load s.started.node new.state gives.told gives.sent its gives.told_is (λ free. gives.idle other free) in
+            let one = one_low (is_busy new.state.lease) in
+            let sums = subst (λ (k : FileId). total s.started.node (put k gives.sent no_message) files_then + chain_weight s.started.node (file_at (awake_as s.started) s.files k) None ≡ idle s.started.node s.files + chain_weight s.started.node new.state gives.sent) same
+            (total_with (awake_as s.started) s.started.node no_message gives.sent new.state s.files rises (λ known. refl)) in
+            let moved = subst (λ (k : FileId). idle s.started.node files_then + chain_weight s.started.node (file_at (awake_as s.started) s.files k) None ≡ idle s.started.node s.files + chain_weight s.started.node new.state None) same
+            (idle_with (awake_as s.started) s.started.node new.state s.files rises) in
+            let now_is = ap (λ (x : FileState). chain_weight s.started.node x None) (at_then file ∙ ap (λ (b : Bool). cond b new.state (file_at (awake_as s.started) s.files file)) (file-itself file)) in
+            omega (arith, most, one, sums, moved, now_is);
+      },
+    )
+      where
+        same_le : (a : ℕ) → a ≤ a
+        same_le a = omega arith
 
   -- ---- nothing
 

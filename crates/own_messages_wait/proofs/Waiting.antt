@@ -1,5 +1,5 @@
 -- In every run a node's messages to itself wait in a chain; so a status that an OSD tells itself is of the head that it has.
-use Rattle.std.proofs.Common.{◌≡◌, ℕ, ◌≤◌, ◌+◌, ◌⊎◌, inl, inr, Bool, true, false, List, [], ◌∷◌, ◌++◌, length, ◌*◌, refl, sym, ap, ap₂, subst, ◌∙◌, arith, Option, Some, None, append-nil, append_assoc}
+use Rattle.std.proofs.Common.{◌≡◌, ℕ, ◌≤◌, ◌+◌, ◌⊎◌, inl, inr, Bool, true, false, List, [], ◌∷◌, ◌++◌, refl, sym, ap, ap₂, subst, ◌∙◌, arith, Option, Some, None, append-nil, append_assoc}
 use Rattle.std.specs.Prelude.{cond, ◌==◌, ◌&&◌, max, not}
 use Rattle.std.proofs.lemmas.Bool.{eqb-true}
 use Rattle.std.proofs.lemmas.Bool.Decides.{nat_tests}
@@ -19,24 +19,25 @@ use Rattle.xt_protocol.specs.OsdSteps.{OsdState, OsdStep, file_at, file_concerne
 use Rattle.lease_safety.specs.State.{Has}
 use Rattle.lease_runs.specs.LeaseView.{is_about}
 use Rattle.lease_runs.proofs.Tests.{same_node}
-use Rattle.client_rows.specs.Rows.{WholeClient, stepped, called_again}
-use Rattle.world_spec.specs.Lines.{OWN, no_longer_pending}
-use Rattle.world_spec.specs.World.{World, Node, Running, Core, osd, client, node_in, with_node}
+use Rattle.client_rows.specs.Rows.{stepped, called_again}
+use Rattle.server_rows.specs.Metadata.{step_of_mrc}
+use Rattle.server_rows.specs.Directory.{step_of_dir}
+use Rattle.world_spec.specs.Lines.{no_longer_pending}
+use Rattle.world_spec.specs.World.{World, Node, Running, Core, osd, client, mrc, dir, world_key, node_in, with_node}
 use Rattle.world_spec.specs.NodeSteps.{to_itself, after_turn, outside_of, rewritten_at}
 use Rattle.world_runs.specs.View.{awake_as, messages}
 use Rattle.world_runs.proofs.Frame.{next_node}
 use Rattle.world_runs.proofs.Lists.{has_in, has_left, has_right, has_filter}
 use Rattle.world_runs.proofs.Tables.{same, node_in-new, node_in-other}
-use Rattle.world_runs.proofs.Walk.{IsKept, NodeStep, of_osd, of_client, of_call, of_again, Reaches, AreLeft, left_within, call_step}
+use Rattle.world_runs.proofs.Walk.{IsKept, NodeStep, of_osd, of_client, of_mrc, of_dir, of_call, of_again, Reaches, AreLeft, left_within, call_step}
 use Rattle.own_messages_wait.proofs.Mine.{mine-append}
 use Rattle.own_messages_wait.proofs.Standing.{IfWaits}
 use Rattle.own_messages_wait.proofs.Chains.{Chain, about-append, list_of, own_sum, primary_about, total}
-use Rattle.own_messages_wait.proofs.Starts.{room_of}
-use Rattle.own_messages_wait.proofs.Outside.{outside_chain}
+use Rattle.own_messages_wait.proofs.Outside.{bound_of, outside_chain}
 use Rattle.own_messages_wait.proofs.Weights.{is_lease}
 use Rattle.own_messages_wait.proofs.Files.{IfLed}
 use Rattle.own_messages_wait.proofs.Keeping.{Stood, stood_kept, node_is}
-use Rattle.own_messages_wait.proofs.Running.{InChain, OsdChain, no_own, of_an_osd, of_a_client, awake_is, silent_is, own_chain, forgotten_chain}
+use Rattle.own_messages_wait.proofs.Running.{InChain, OsdChain, no_own, of_an_osd, of_one_file, of_another, EndsAt, awake_is, silent_is, own_chain, forgotten_chain}
 use Rattle.own_messages_wait.proofs.Tests.{false_true}
 
 -- ---- fewer messages
@@ -109,21 +110,24 @@ middle_few xs ys zs o is = elim (rest_few xs (ys ++ zs) o is) [
 
 -- ---- what waits
 
--- messages of a client to itself
-pub record AtClient (w : World) (own : List Msg) : Type 0 where
+abbrev pub IsNoOsd : Core → Type 0
+IsNoOsd (osd s) = ⊥
+IsNoOsd _ = Unit {0}
+
+-- messages to itself of a node that isn't an OSD
+pub record AtAnother (w : World) (own : List Msg) : Type 0 where
   pub node : Node
   pub running : Running
-  pub state : WholeClient
   pub found : node_in w.nodes node.id.0 ≡ Some node
   pub up : node.up ≡ Some running
-  pub core : running.core ≡ client state
+  pub no_osd : IsNoOsd running.core
   pub to : (m : Msg) → Has m own → m.to ≡ node.id
 
--- A node's messages to itself wait in a chain, or at a client.
+-- A node's messages to itself wait in a chain, or at a node that isn't an OSD.
 pub data IsWaiting (w : World) (own : List Msg) : Type 0 where
   none_waits : own ≡ [] → IsWaiting w own
   at_an_osd : (k : ℕ) → OsdChain w own k → IsWaiting w own
-  at_a_client : AtClient w own → IsWaiting w own
+  at_another : AtAnother w own → IsWaiting w own
 
 pub record Waiting (w : World) (own : List Msg) : Type 0 where
   pub stood : Stood w own
@@ -132,7 +136,18 @@ pub record Waiting (w : World) (own : List Msg) : Type 0 where
 chain_waits : (w : World) (own : List Msg) (k : ℕ) → InChain w own k → IsWaiting w own
 chain_waits w own k (no_own none) = none_waits none
 chain_waits w own k (of_an_osd c) = at_an_osd k c
-chain_waits w own k (of_a_client c) = at_a_client (record { node = c.node; running = c.running; state = c.state; found = c.found; up = c.up; core = c.core; to = c.to })
+chain_waits w own k (of_one_file whole c file alone) = at_an_osd whole c
+chain_waits w own k (of_another c) = another own c.to c.ends
+  where
+    no_osd : (core : Core) (m : Msg) → EndsAt c.node.id core m → IsNoOsd core
+    no_osd (osd s) m ends = ends
+    no_osd (client s) m ends = tt
+    no_osd (mrc s) m ends = tt
+    no_osd (dir s) m ends = tt
+
+    another : (own : List Msg) → ((m : Msg) → Has m own → m.to ≡ c.node.id) → ((m : Msg) → Has m own → EndsAt c.node.id c.running.core m) → IsWaiting w own
+    another [] to ends = none_waits refl
+    another (m ∷ ms) to ends = at_another (record { node = c.node; running = c.running; found = c.found; up = c.up; no_osd = no_osd c.running.core m (ends m (inl refl)); to = to })
 
 -- a part of what waits, with the same nodes
 part_waits : (w v : World) (own xs ys zs : List Msg) → own ≡ xs ++ (ys ++ zs) → v.nodes ≡ w.nodes → IsWaiting w own → IsWaiting v ys
@@ -164,7 +179,7 @@ part_waits w v own xs ys zs split nodes waiting = at waiting
       to = λ m h. c.to m (within m h);
       chain = fewer_chain (awake_as c.state.started) c.state.started.node c.state.files own ys k c.chain (fewer c.chain.sent c.chain.is);
     })
-    at (at_a_client c) = at_a_client (record { node = c.node; running = c.running; state = c.state; found = ap (λ (ns : List Node). node_in ns c.node.id.0) nodes ∙ c.found; up = c.up; core = c.core; to = λ m h. c.to m (within m h) })
+    at (at_another c) = at_another (record { node = c.node; running = c.running; found = ap (λ (ns : List Node). node_in ns c.node.id.0) nodes ∙ c.found; up = c.up; no_osd = c.no_osd; to = λ m h. c.to m (within m h) })
 
 -- ---- a step of an OSD
 
@@ -177,8 +192,8 @@ some_running a b e = cc e
 same_state : (a b : OsdState) → osd a ≡ osd b → a ≡ b
 same_state a b e = cc e
 
-other_core : (c : WholeClient) (s : OsdState) → client c ≡ osd s → ⊥
-other_core c s e = cc e
+other_core : (core : Core) (s : OsdState) → core ≡ osd s → IsNoOsd core → ⊥
+other_core core s e no_osd = subst IsNoOsd e no_osd
 
 not_empty : (m : Msg) (rest : List Msg) → m ∷ rest ≡ [] → ⊥
 not_empty m rest e = cc e
@@ -196,10 +211,10 @@ pub record OfOsd (node : Node) (r : Running) (s : OsdState) (own : List Msg) : T
 module _ (w : World) (node : Node) (r : Running) (s : OsdState) (found : node_in w.nodes node.id.0 ≡ Some node) (is_up : node.up ≡ Some r) (is_osd : r.core ≡ osd s) where
   pub of_osd_here : (m : Msg) (rest : List Msg) → m.to ≡ node.id → IsWaiting w (m ∷ rest) → OfOsd node r s (m ∷ rest)
   of_osd_here m rest here (none_waits none) = absurd (not_empty m rest none)
-  of_osd_here m rest here (at_a_client c) =
+  of_osd_here m rest here (at_another c) =
       let is_node = some_node c.node node (sym c.found ∙ ap (λ (n : NodeId). node_in w.nodes n.0) (sym (c.to m (inl refl)) ∙ here) ∙ found) in
       let is_running = some_running c.running r (sym c.up ∙ ap (λ (n : Node). n.up) is_node ∙ is_up) in
-      absurd (other_core c.state s (sym c.core ∙ ap (λ (q : Running). q.core) is_running ∙ is_osd))
+      absurd (other_core c.running.core s (ap (λ (q : Running). q.core) is_running ∙ is_osd) c.no_osd)
   of_osd_here m rest here (at_an_osd k c) =
       let is_node = some_node c.node node (sym c.found ∙ ap (λ (n : NodeId). node_in w.nodes n.0) (sym (c.to m (inl refl)) ∙ here) ∙ found) in
       let is_running = some_running c.running r (sym c.up ∙ ap (λ (n : Node). n.up) is_node ∙ is_up) in
@@ -251,17 +266,17 @@ module _ (w : World) (node : Node) (r : Running) (s : OsdState) (found : node_in
       at : (b : Bool) → is_silent s.started (max r.clock s.last) ≡ b → IsWaiting (Behind happens outs) (own ++ to_itself node.id outs)
       at true silent = none_waits (ap₂ (λ (a b : List Msg). a ++ to_itself node.id b) none (no_front outs rest (sym split ∙ silent_is (outside_of node.kept) s r.clock happens silent)))
       at false awake =
-          let k = room_of happens + OWN * length w.files in
+          let k = bound_of w happens in
           cut_short happens [] own outs rest k split (inl none)
           (subst (λ (step : OsdStep). InChain (after_turn w node (record r { core = osd step.osd }) step.turned) ([] ++ to_itself node.id step.turned.outs) k) (sym (awake_is (outside_of node.kept) s r.clock happens awake))
-          (outside_chain w node r s happens found is_up is_osd stood reaches awake))
+          (outside_chain w node r s found is_up is_osd stood awake happens reaches))
 
   -- the first of its messages to itself
   own_waits : (m : Msg) (left own outs rest : List Msg) → (own ≡ []) ⊎ (own ≡ left) → m.to ≡ node.id → (step_of_osd (outside_of node.kept) s r.clock (event.Deliver m)).turned.outs ≡ outs ++ rest → Stood w (m ∷ left) → IsWaiting w (m ∷ left)
       → IsWaiting (Behind (event.Deliver m) outs) (own ++ to_itself node.id outs)
   own_waits m left own outs rest is_left here split stood waiting =
       let c = of_osd_here m left here waiting in
-      let next = own_chain w node r s found is_up is_osd m left c.k here c.awake (λ x h. c.to x (inr h)) stood c.chain in
+      let next = own_chain w node r s found is_up is_osd m left here c.awake (λ x h. c.to x (inr h)) stood c.k c.chain in
       cut_short (event.Deliver m) left own outs rest next.0 split is_left
       (subst (λ (step : OsdStep). InChain (after_turn w node (record r { core = osd step.osd }) step.turned) (left ++ to_itself node.id step.turned.outs) next.0) (sym (awake_is (outside_of node.kept) s r.clock (event.Deliver m) c.awake)) next.2)
 
@@ -286,36 +301,32 @@ module _ (w : World) (node : Node) (r : Running) (s : OsdState) (found : node_in
         own_waits m first.0 own outs rest (all_or_none m first.0 own (subst (AreLeft own) first.1 left)) reaches.0 split (subst (Stood w) first.1 p.stood) (subst (IsWaiting w) first.1 p.waits)
   ]
 
--- ---- a step of a client
+-- ---- a step of another node
 
-client_waits : (w : World) (was own : List Msg) (node : Node) (r : Running) (c next : WholeClient) (turned : Turned) (outs : List Msg) → AreLeft own was → node_in w.nodes node.id.0 ≡ Some node → node.up ≡ Some r → r.core ≡ client c
+other_waits : (w : World) (was own : List Msg) (node : Node) (r : Running) (next : Core) (turned : Turned) (outs : List Msg) → AreLeft own was → node_in w.nodes node.id.0 ≡ Some node → node.up ≡ Some r → IsNoOsd r.core → IsNoOsd next
     → ((m : Msg) (rest : List Msg) → was ≡ m ∷ rest → m.to ≡ node.id) → IsWaiting w was
-    → IsWaiting (after_turn w node (record r { core = client next }) (record turned { outs = outs })) (own ++ to_itself node.id outs)
-client_waits w was own node r c next turned outs left found is_up is_client first waiting =
-    at_a_client (record {
-      node = next_node node r (client next) turned;
-      running = record r { core = client next };
-      state = next;
-      found = node_in-new w.nodes (next_node node r (client next) turned) node found;
+    → IsWaiting (after_turn w node (record r { core = next }) (record turned { outs = outs })) (own ++ to_itself node.id outs)
+other_waits w was own node r next turned outs left found is_up no_osd no_osd_then first waiting =
+    at_another (record {
+      node = next_node node r next turned;
+      running = record r { core = next };
+      found = node_in-new w.nodes (next_node node r next turned) node found;
       up = refl;
-      core = refl;
+      no_osd = no_osd_then;
       to = λ m h. elim (has_in m own (to_itself node.id outs) h) [
         | inl old ↦ old_to was waiting first m (left_within own was left m old)
         | inr new ↦ same_node m.to node.id (eqb-true m.to.0 node.id.0 (has_filter (λ (k : Msg). k.to.0 == node.id.0) m outs new).1)
       ];
     })
   where
-    not_osd : (s : OsdState) → osd s ≡ client c → ⊥
-    not_osd s e = cc e
-
     old_to : (was : List Msg) → IsWaiting w was → ((m : Msg) (rest : List Msg) → was ≡ m ∷ rest → m.to ≡ node.id) → (m : Msg) → Has m was → m.to ≡ node.id
     old_to [] waiting first m h = absurd h
     old_to (x ∷ xs) (none_waits none) first m h = absurd (not_empty x xs none)
-    old_to (x ∷ xs) (at_a_client d) first m h = d.to m h ∙ sym (d.to x (inl refl)) ∙ first x xs refl
+    old_to (x ∷ xs) (at_another d) first m h = d.to m h ∙ sym (d.to x (inl refl)) ∙ first x xs refl
     old_to (x ∷ xs) (at_an_osd k d) first m h =
         let is_node = some_node d.node node (sym d.found ∙ ap (λ (n : NodeId). node_in w.nodes n.0) (sym (d.to x (inl refl)) ∙ first x xs refl) ∙ found) in
         let is_running = some_running d.running r (sym d.up ∙ ap (λ (n : Node). n.up) is_node ∙ is_up) in
-        absurd (not_osd d.state (sym d.core ∙ ap (λ (q : Running). q.core) is_running ∙ is_client))
+        absurd (other_core r.core d.state (sym (ap (λ (q : Running). q.core) is_running) ∙ d.core) no_osd)
 
 -- with no message left there is no first one
 none_first : (was : List Msg) → was ≡ [] → (node : NodeId) (m : Msg) (rest : List Msg) → was ≡ m ∷ rest → m.to ≡ node
@@ -338,26 +349,32 @@ step_waits : (w : World) (was own : List Msg) (node : Node) (r : Running) (next 
 step_waits w was own node r _ _ outs rest left found is_up (of_osd s happens is_osd reaches) split p = osd_waits w node r s found is_up is_osd was own outs rest happens left reaches split p
 step_waits w was own node r _ _ outs rest left found is_up (of_client c happens is_client reaches) split p =
     let step = stepped node.id w.times c r.clock happens in
-    client_waits w was own node r c step.state step.turned outs left found is_up is_client (first_to w was node.id happens reaches) p.waits
+    other_waits w was own node r (client step.state) step.turned outs left found is_up (subst IsNoOsd (sym is_client) tt) tt (first_to w was node.id happens reaches) p.waits
+step_waits w was own node r _ _ outs rest left found is_up (of_mrc m happens is_mrc reaches) split p =
+    let step = step_of_mrc world_key m r.clock happens in
+    other_waits w was own node r (mrc step.mrc) step.turned outs left found is_up (subst IsNoOsd (sym is_mrc) tt) tt (first_to w was node.id happens reaches) p.waits
+step_waits w was own node r _ _ outs rest left found is_up (of_dir s happens is_dir reaches) split p =
+    let step = step_of_dir s happens in
+    other_waits w was own node r (dir step.dir) step.turned outs left found is_up (subst IsNoOsd (sym is_dir) tt) tt (first_to w was node.id happens reaches) p.waits
 step_waits w was own node r _ _ outs rest left found is_up (of_call c k is_client resting may called) split p =
     let step = call_step w node r c k in
-    client_waits w was own node r c step.state step.turned outs left found is_up is_client (none_first was resting.1 node.id) p.waits
+    other_waits w was own node r (client step.state) step.turned outs left found is_up (subst IsNoOsd (sym is_client) tt) tt (none_first was resting.1 node.id) p.waits
 step_waits w was own node r _ _ outs rest left found is_up (of_again c is_client resting may) split p =
     let step = called_again node.id w.times c r.clock in
-    client_waits w was own node r c step.state step.turned outs left found is_up is_client (none_first was resting.1 node.id) p.waits
+    other_waits w was own node r (client step.state) step.turned outs left found is_up (subst IsNoOsd (sym is_client) tt) tt (none_first was resting.1 node.id) p.waits
 
 -- ---- an OSD forgets
 
 forgotten_waits : (w : World) (own : List Msg) (node : Node) (r : Running) (s : OsdState) → node_in w.nodes node.id.0 ≡ Some node → node.up ≡ Some r → r.core ≡ osd s → IsWaiting w own
     → IsWaiting (record w { nodes = with_node w.nodes (rewritten_at node r s) }) own
 forgotten_waits w own node r s found is_up is_osd (none_waits none) = none_waits none
-forgotten_waits w own node r s found is_up is_osd (at_an_osd k c) = chain_waits _ own k (forgotten_chain w own k node r s found is_up is_osd (of_an_osd c))
-forgotten_waits w own node r s found is_up is_osd (at_a_client c) = elim (same c.node.id.0 node.id.0) [
+forgotten_waits w own node r s found is_up is_osd (at_an_osd k c) = chain_waits _ own k (forgotten_chain w own node r s found is_up is_osd k (of_an_osd c))
+forgotten_waits w own node r s found is_up is_osd (at_another c) = elim (same c.node.id.0 node.id.0) [
   | inl e ↦
       (let is_node = some_node c.node node (sym c.found ∙ ap (node_in w.nodes) e ∙ found) in
       let is_running = some_running c.running r (sym c.up ∙ ap (λ (n : Node). n.up) is_node ∙ is_up) in
-      absurd (other_core c.state s (sym c.core ∙ ap (λ (q : Running). q.core) is_running ∙ is_osd)))
-  | inr ne ↦ at_a_client (record { node = c.node; running = c.running; state = c.state; found = node_in-other w.nodes (rewritten_at node r s) c.node.id.0 ne ∙ c.found; up = c.up; core = c.core; to = c.to })
+      absurd (other_core c.running.core s (ap (λ (q : Running). q.core) is_running ∙ is_osd) c.no_osd))
+  | inr ne ↦ at_another (record { node = c.node; running = c.running; found = node_in-other w.nodes (rewritten_at node r s) c.node.id.0 ne ∙ c.found; up = c.up; no_osd = c.no_osd; to = c.to })
 ]
 
 -- ---- every run
@@ -370,10 +387,10 @@ pub waiting_kept : IsKept Waiting
 waiting_kept = record {
   begins = record { stood = stood_kept.begins; waits = none_waits refl };
   times = λ lease drift bound. record { stood = stood_kept.times lease drift bound; waits = none_waits refl };
-  osd_declared = λ w id bound free p. record { stood = stood_kept.osd_declared w id bound free p.stood; waits = none_waits refl };
+  server_declared = λ w id its serves stands bound free p. record { stood = stood_kept.server_declared w id its serves stands bound free p.stood; waits = none_waits refl };
   client_declared = λ w id clock bound free p. record { stood = stood_kept.client_declared w id clock bound free p.stood; waits = none_waits refl };
   file_declared = λ w number location bound free p. record { stood = stood_kept.file_declared w number location bound free p.stood; waits = none_waits refl };
-  started = λ w node clock bound found down close p. record { stood = stood_kept.started w node clock bound found down close p.stood; waits = none_waits refl };
+  started = λ w node clock serves bound found down close p. record { stood = stood_kept.started w node clock serves bound found down close p.stood; waits = none_waits refl };
   planned = λ w node r q found is_up boot clock core p. record { stood = stood_kept.planned w node r q found is_up boot clock core p.stood; waits = none_waits refl };
   aimed_at = λ w node r c number target found is_up is_client p. record { stood = stood_kept.aimed_at w node r c number target found is_up is_client p.stood; waits = none_waits refl };
   stopped = λ w own node r how found is_up p. record { stood = stood_kept.stopped w own node r how found is_up p.stood; waits = none_waits refl };

@@ -3,7 +3,8 @@
 //! For each file of an OSD there is at most one between its primary and its own replica, and while it waits the file's row stays as
 //! it is. What may still come of those that wait is weighed for each file: by its lease's messages, by that one message, by its
 //! asks, and by what it lacks. Each that is handled leaves less, and an event brings `OWN` for a file at most. A node that forgets
-//! bodies between two of them changes neither. Definitions and theorems alone; nothing runs here.
+//! bodies between two of them changes neither. Of what a client or a server tells itself no message comes. Definitions and theorems
+//! alone; nothing runs here.
 #![tactic(auto)]
 
 ghost use Rattle.world_spec.specs.NodeSteps.{Room};

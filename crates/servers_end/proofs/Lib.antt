@@ -1,1 +1,1 @@
-mod Servers
+pub mod Servers

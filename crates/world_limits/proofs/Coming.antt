@@ -13,7 +13,7 @@ use Rattle.lease_safety.specs.State.{Has}
 use Rattle.lease_runs.proofs.Tests.{same_node}
 use Rattle.world_spec.specs.declared.Sent.{Sent}
 use Rattle.world_spec.specs.World.{World, Node, Running, node_in}
-use Rattle.time_line.specs.Bounds.{IsOnContent, FitsCall}
+use Rattle.time_line.specs.Bounds.{FitsCall}
 use Rattle.world_runs.specs.View.{messages}
 use Rattle.world_runs.proofs.Tables.{node_in-id}
 use Rattle.world_limits.specs.Fits.{FitsKept, FitsRunning, FitsComing, FitsCalling, FitsCallingAgain, FitsDelivery, FitsWorld, Comes}
@@ -79,7 +79,7 @@ pub delivered : (w : World) (own : List Msg) (number : ℕ) → FitsWorld w own 
 delivered w own number fits = λ s is. coming w own s.message.to (event.Deliver s.message) fits (refl, behind own s.message (messages w) (got w.sent (number - 1) s is))
 
 -- a client's call
-pub calling : (w : World) (own : List Msg) (id : NodeId) (k : Call) → FitsWorld w own → IsOnContent k × FitsCall k → FitsCalling w id k
+pub calling : (w : World) (own : List Msg) (id : NodeId) (k : Call) → FitsWorld w own → FitsCall k → FitsCalling w id k
 calling w own id k fits bound =
     λ node running is up. (runs_fit w own id node running fits is up, λ c is_core. fits.called node running c k (found_by w id node is) up is_core bound)
 

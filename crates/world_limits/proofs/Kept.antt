@@ -160,6 +160,11 @@ pub kept_so : (records : List Record) → FitsKept records → KeptIs records
 unfolding fold_of
 kept_so records fits = record { limits = fits.limits; places = fits.places; rows = all_rows records nothing_kept tt fits.limits fits.places }
 
+-- A record more that may be kept after these, of a file or not.
+pub follows_is : (records : List Record) (rec : Record) → KeptIs records → FitsRecord rec × IsInPlace (fold_of records) rec → KeptIs (records ++ rec ∷ [])
+follows_is records rec is next =
+    kept_so (records ++ rec ∷ []) (record { limits = all_append FitsRecord records (rec ∷ []) is.limits (next.0, tt); places = in_place records rec is.places next.1 })
+
 -- ---- bodies
 
 puts_is : (file : FileId) (object : ℕ) (version : Stamp) (rec : Record) → FitsRecord rec → IfSome (body_put file object version rec) FitsBytes

@@ -16,13 +16,13 @@ use Rattle.xt_protocol.specs.Forgetting.{keep_of, rewritten}
 use Rattle.time_line.specs.declared.line.Line.{Line}
 use Rattle.world_spec.specs.declared.Sent.{Sent}
 use Rattle.client_rows.specs.Steps.{Step}
-use Rattle.world_spec.specs.World.{World, Node, Running, Core, osd, client, node_in}
+use Rattle.world_spec.specs.World.{World, Node, Running, Core, osd, client, mrc, dir, node_in}
 use Rattle.client_rows.specs.Rows.{WholeClient, called, called_again}
 use Rattle.world_spec.specs.Rules.{refusal}
 use Rattle.client_rows.specs.Called.{called_file}
 use Rattle.world_spec.specs.NodeSteps.{Room, one_more, core_step, client_steps}
 use Rattle.world_spec.specs.Lines.{Next, finished, opens, goes_on, ends, begins, steps, ready_for}
-use Rattle.time_line.specs.Bounds.{AreLines, IsOnContent, FitsCall}
+use Rattle.time_line.specs.Bounds.{AreLines, FitsCall}
 use Rattle.world_spec.specs.Runs.{run_of}
 use Rattle.lease_safety.specs.State.{Has}
 use Rattle.world_runs.specs.View.{messages}
@@ -62,6 +62,8 @@ pub record FitsTurned (kept : List Record) (turned : Turned) : Type 0 where
 abbrev pub MayForget : List Record → Core → Type 0
 MayForget kept (osd state) = FitsKept (rewritten (keep_of state) kept)
 MayForget kept (client state) = Unit {0}
+MayForget kept (mrc state) = Unit {0}
+MayForget kept (dir state) = Unit {0}
 
 -- what the step of a node that keeps these records gives can be kept and sent; and then it may forget
 pub record FitsStep (kept : List Record) (step : Step Core) : Type 0 where
@@ -97,9 +99,9 @@ pub record FitsWorld (w : World) (own : List Msg) : Type 0 where
   -- every step that may come next gives what can be kept and sent, and an OSD may forget then
   pub handled : (node : Node) (running : Running) (happens : Event) → node_in w.nodes node.id.0 ≡ Some node → node.up ≡ Some running
       → Comes w own node.id happens → FitsStep node.kept (core_step w.times node running.core running.clock happens)
-  -- and so does a client's call on the content of a file, and its last call made again
+  -- and so does a client's call, and its last call made again
   pub called : (node : Node) (running : Running) (c : WholeClient) (k : Call) → node_in w.nodes node.id.0 ≡ Some node → node.up ≡ Some running
-      → running.core ≡ client c → IsOnContent k × FitsCall k → FitsTurned node.kept (call_of w node running c k).turned
+      → running.core ≡ client c → FitsCall k → FitsTurned node.kept (call_of w node running c k).turned
   pub called_again : (node : Node) (running : Running) (c : WholeClient) → node_in w.nodes node.id.0 ≡ Some node → node.up ≡ Some running
       → running.core ≡ client c → FitsTurned node.kept (again_of w node running c).turned
 
