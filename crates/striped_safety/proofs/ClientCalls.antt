@@ -1,5 +1,5 @@
 -- a client's call, and its last call once more, in a world that shows a striped file
-use Rattle.std.proofs.Common.{◌≡◌, ◌≢◌, ℕ, ◌+◌, ◌⊎◌, inl, inr, List, [], ◌∷◌, ◌++◌, map, refl, ap, sym, ◌∙◌, subst, arith, Option, Some, None, true, false}
+use Rattle.std.proofs.Common.{◌≡◌, ◌≢◌, ℕ, ◌+◌, ◌⊎◌, inl, inr, List, [], ◌∷◌, ◌++◌, map, refl, ap, sym, ◌∙◌, subst, arith, Option, Some, None, false}
 use Rattle.std.proofs.lemmas.List.{append-nil, map-append}
 use Rattle.xt_base.specs.declared.ids.NodeId.{NodeId}
 use Rattle.xt_base.specs.declared.ids.FileId.{FileId}
@@ -14,7 +14,6 @@ use Rattle.xt_messages.specs.declared.message.Msg.{Msg}
 use Rattle.xt_messages.specs.declared.message.Payload.TheVariants as payload
 use Rattle.xt_protocol.specs.Turns.{message}
 use Rattle.lease_safety.specs.State.{Has}
-use Rattle.lease_runs.specs.LeaseView.{is_ask}
 use Rattle.lease_runs.proofs.Tests.{same_node}
 use Rattle.client_rows.specs.declared.RunningCall.{RunningCall}
 use Rattle.client_rows.specs.declared.requests.MadeCall.{MadeCall}
@@ -25,40 +24,42 @@ use Rattle.client_rows.specs.Requests.{file_of, payload_of, request_of, first_as
 use Rattle.client_rows.specs.Steps.{Step}
 use Rattle.client_rows.specs.Rows as rows
 use Rattle.client_rows.specs.Rows.{WholeClient, is_busy, may_repeat, passes, called, called_again}
-use Rattle.client_steps.specs.Asked.{ClientIs, RunningIs, MadeIs}
-use Rattle.time_line.specs.Bounds.{IsOnContent, FitsCall}
+use Rattle.client_steps.specs.Asked.{IsOnFile, AllHeld, ClientIs, RunningIs, MadeIs}
+use Rattle.time_line.specs.Bounds.{FitsCall}
 use Rattle.time_line.specs.declared.entry.Entry.{Entry}
 use Rattle.time_line.specs.declared.entry.Entry.TheVariants as entry
 use Rattle.time_line.specs.TimeLine.{id_of, begun, operation_on, operation_begun}
 use Rattle.time_line.specs.Clauses.{IsBefore, HasBegunOn, ok_entry}
-use Rattle.world_spec.specs.World.{World, Node, Running, client, node_in, file_in}
+use Rattle.world_spec.specs.World.{World, Node, Running, client, node_in, known}
 use Rattle.world_spec.specs.NodeSteps.{entry_of, to_itself, after_turn}
-use Rattle.world_spec.specs.Lines.{declared_file, ready_for}
-use Rattle.world_runs.specs.Worlds.{ClientFits, RequestFits}
+use Rattle.world_spec.specs.Lines.{ready_for}
+use Rattle.world_runs.specs.Worlds.{IsOfKnown, HeldFits}
 use Rattle.world_runs.proofs.Calls.{RequestIs}
 use Rattle.world_runs.proofs.Entries.{one_file, begun_on-grown}
 use Rattle.world_runs.proofs.Fit.{IsFit}
 use Rattle.world_runs.proofs.Growth.{CallerIs}
 use Rattle.world_runs.proofs.Lists.{has_in}
-use Rattle.world_runs.proofs.NodeEvents.{call_fits, ready_fits, asked_fits}
 use Rattle.world_runs.proofs.Steps.{Fits, Owes, call_owes, ready_is}
 use Rattle.world_runs.proofs.Tables.{same}
 use Rattle.world_runs.proofs.Walk.{call_step}
 use Rattle.striped_safety.specs.StripedFiles.{operations_on}
 use Rattle.striped_safety.specs.StripedWorld.{Setting, Asked, StripedWorld, IsSetting, ops_of, begins}
 use Rattle.striped_safety.specs.StripedWorld as striped
-use Rattle.striped_safety.proofs.ClientEvents.{replicated_not_here, ask_begun, caller_is, client_fits, rests_then, follows_so}
-use Rattle.striped_safety.proofs.ClientMoves.{AreAside, none_aside, one_aside, client_quiet, client_follows, lost_stays, caller_then}
-use Rattle.striped_safety.proofs.Follows.{setting_of, IsListed, AreToldReads, Goes, CallAt, not_yet, elsewhere, goes, has_ended, ClientAt, Runs, Follows, IsLost, strange, given_up, FileFollows}
+use Rattle.striped_safety.proofs.ClientEvents.{replicated_not_here, caller_is, client_fits, rests_then, follows_so}
+use Rattle.striped_safety.proofs.ClientMoves.{AreAside, none_aside, one_aside, aside_begun, client_quiet, client_follows, lost_stays, caller_then}
+use Rattle.striped_safety.proofs.ClientRepeats.{first_fits}
+use Rattle.striped_safety.proofs.ClientSends.{IsRequest, call_asks}
+use Rattle.striped_safety.proofs.Follows.{id_in, setting_of, AreToldReads, IsAway, Goes, CallAt, not_yet, elsewhere, goes, has_ended, ClientAt, Runs, Follows, IsLost, strange, given_up, FileFollows}
 use Rattle.striped_safety.proofs.Moves.{step_stands}
-use Rattle.striped_safety.proofs.Ready.{CallIs, nothing_called, begins_so, call_is, Begun, starts_begun, ready_client, held_by_request, first_at}
+use Rattle.striped_safety.proofs.Ready.{IsUnder, CallIs, nothing_called, begins_so, call_is, Begun, starts_begun, ready_client, ready_held, held_by_request, known_by_request, server_call, where_is, first_at}
 use Rattle.striped_safety.proofs.Ready as ready
+use Rattle.striped_safety.proofs.TheFile.{IsTheFile}
 use Rattle.striped_safety.proofs.Trace.{BeginOnce, before_last, begun_there, begun_new, begun_last, operations_begun, ok_begun}
 
-module _ (number : ℕ) (location : Location) (who : NodeId) (of_kind : location.kind ≡ kind.Striped) (setting : IsSetting (setting_of number location who)) (w : World) (was own : List Msg) (fit : IsFit w was) (ends_fit : Fits w was) (once : BeginOnce w.entries)
-    (listed : IsListed w.files number location) (node : Node) (r : Running) (c : WholeClient) (outs : List Msg) (found : node_in w.nodes node.id.0 ≡ Some node) (up : node.up ≡ Some r) (core : r.core ≡ client c) (within : (k : Msg) → Has k own → Has k was) where
+module _ (vol : List ℕ) (number : ℕ) (location : Location) (who : NodeId) (of_kind : location.kind ≡ kind.Striped) (setting : IsSetting (setting_of vol number location who)) (w : World) (was own : List Msg) (fit : IsFit w was) (ends_fit : Fits w was) (once : BeginOnce w.entries)
+    (listed : IsTheFile vol number location w) (node : Node) (r : Running) (c : WholeClient) (outs : List Msg) (found : node_in w.nodes node.id.0 ≡ Some node) (up : node.up ≡ Some r) (core : r.core ≡ client c) (within : (k : Msg) → Has k own → Has k was) where
   abbrev s : Setting
-  s = setting_of number location who
+  s = setting_of vol number location who
 
   runs_as : node.id.0 ≡ who.0 → Runs w who.0 node r c
   runs_as mine = record { found = ap (node_in w.nodes) (sym mine) ∙ found; up = up; core = core }
@@ -68,13 +69,13 @@ module _ (number : ℕ) (location : Location) (who : NodeId) (of_kind : location
 
   abbrev pub FaresAfter : Step WholeClient → Type 0
   FaresAfter step =
-      step.turned.rec ≡ None → ((k : Msg) → Has k outs → is_ask k.payload ≡ true) → ((k : Msg) → Has k outs → Has k step.turned.outs)
-      → IsLost (setting_of number location who) (after_turn w node (record r { core = client step.state }) (record step.turned { outs = outs }))
-      ⊎ ((n : StripedWorld) × Follows (setting_of number location who) (after_turn w node (record r { core = client step.state }) (record step.turned { outs = outs })) (own ++ to_itself node.id outs) n)
+      step.turned.rec ≡ None → ((k : Msg) → Has k outs → IsRequest k.payload) → ((k : Msg) → Has k outs → Has k step.turned.outs)
+      → IsLost (setting_of vol number location who) (after_turn w node (record r { core = client step.state }) (record step.turned { outs = outs }))
+      ⊎ ((n : StripedWorld) × Follows (setting_of vol number location who) (after_turn w node (record r { core = client step.state }) (record step.turned { outs = outs })) (own ++ to_itself node.id outs) n)
 
   -- ---- a call
 
-  module _ (k : Call) (on : IsOnContent k × FitsCall k) (idle : is_busy c.made ≡ false) where
+  module _ (k : Call) (bound : FitsCall k) (idle : is_busy c.made ≡ false) where
     abbrev d : WholeClient
     d = ready_for w.files c k (called_file k)
 
@@ -82,10 +83,11 @@ module _ (number : ℕ) (location : Location) (who : NodeId) (of_kind : location
     ready_so = ready.ready_is w.files number c k (called_file k)
 
     caller : CallerIs w.entries node.id (ready_for w.files c k (called_file k))
-    caller = ready_is w.entries node.id w.files c k (called_file k) ends_fit.places (caller_is w was node r c ends_fit found up core)
+    caller = ready_is w.entries node.id w.files w.made c k (called_file k) ends_fit.places (caller_is w was node r c ends_fit found up core)
 
-    fits : ClientFits w.files (ready_for w.files c k (called_file k))
-    fits = ready_fits w.files c k (called_file k) (client_fits w was node r c fit found up core)
+    -- what it holds is of known files
+    holds_known : AllHeld (HeldFits (known w)) (ready_for w.files c k (called_file k)).held
+    holds_known = ready_held w.files w.made c k (called_file k) (client_fits w was node r c fit found up core).held
 
     next : ℕ
     next = (ready_for w.files c k (called_file k)).replicas.next
@@ -98,16 +100,16 @@ module _ (number : ℕ) (location : Location) (who : NodeId) (of_kind : location
     never file has = let none : None ≡ Some has.0 = sym (ap (operation_on file) fresh) ∙ has.1 in cc none
 
     -- nothing comes of it
-    nothing_follows : (m : StripedWorld) → Follows (setting_of number location who) w was m → FaresAfter (passes (ready_for w.files c k (called_file k)) r.clock)
+    nothing_follows : (m : StripedWorld) → Follows (setting_of vol number location who) w was m → FaresAfter (passes (ready_for w.files c k (called_file k)) r.clock)
     nothing_follows m follows rec asks fewer =
         let step = passes (ready_for w.files c k (called_file k)) r.clock in
         inr (
           m,
-          follows_so number location who of_kind w was own ends_fit once listed node r c step outs found up core rec within fewer asks m m follows
-              (rests_then number location who of_kind w was own ends_fit once listed node r c step outs found up core rec within fewer asks m follows (none_aside number w.entries) (λ x h. absurd h)
+          follows_so vol number location who of_kind w was own ends_fit once listed node r c step outs found up core rec within fewer asks m m follows
+              (rests_then vol number location who of_kind w was own ends_fit once listed node r c step outs found up core rec within fewer asks m follows (none_aside number w.entries) (λ x h. absurd h)
               (λ mine.
-              let at = ready_client (setting_of number location who) w.entries m c (ready_for w.files c k (called_file k)) ready_so (follows.caller node r c (runs_as mine)) in
-              subst (λ (es : List Entry). ClientAt (setting_of number location who) es m step.state) (sym (append-nil w.entries)) (record { numbers = at.numbers; mark = at.mark; holds = at.holds; call = at.call }))),
+              let at = ready_client (setting_of vol number location who) w.entries m c (ready_for w.files c k (called_file k)) ready_so (follows.caller node r c (runs_as mine)) in
+              subst (λ (es : List Entry). ClientAt (setting_of vol number location who) es m step.state) (sym (append-nil w.entries)) (record { numbers = at.numbers; mark = at.mark; holds = at.holds; call = at.call }))),
         )
 
     -- it begins
@@ -128,53 +130,75 @@ module _ (number : ℕ) (location : Location) (who : NodeId) (of_kind : location
         has_begun = begun_new w.entries node.id (ready_for w.files c k (called_file k)).replicas.next k fresh
 
         -- on which file it begins
-        begins_there : (q : Request) → RequestIs (w.entries ++ entry.Begin node.id (ready_for w.files c k (called_file k)).replicas.next k ∷ []) node.id (ready_for w.files c k (called_file k)).replicas.next q
+        begins_there : (q : Request) → IsOnFile q → RequestIs (w.entries ++ entry.Begin node.id (ready_for w.files c k (called_file k)).replicas.next k ∷ []) node.id (ready_for w.files c k (called_file k)).replicas.next q
             → HasBegunOn (file_of q) (w.entries ++ entry.Begin node.id (ready_for w.files c k (called_file k)).replicas.next k ∷ []) (id_of node.id (ready_for w.files c k (called_file k)).replicas.next)
-        begins_there (request.Replicated capability asked) is = (asked, is.0.0)
-        begins_there (request.Striped capability asked) is = (asked, is.0.0)
-        begins_there (request.Meta user group asked) is = absurd is
-        begins_there (request.Registry asked) is = absurd is
+        begins_there (request.Replicated capability asked) on is = (asked, is.0.0)
+        begins_there (request.Striped capability asked) on is = (asked, is.0.0)
+        begins_there (request.Meta user group asked) on is = absurd on
+        begins_there (request.Registry asked) on is = absurd on
 
-        not_on : file_of asked ≢ number → operation_on number (Some k) ≡ None
-        not_on other = at (operation_on number (Some k)) refl
+        -- what is on another file isn't on this one
+        not_on_file : IsOnFile asked → file_of asked ≢ number → operation_on number (Some k) ≡ None
+        not_on_file on other = at (operation_on number (Some k)) refl
           where
             at : (o : Option Op) → operation_on number (Some k) ≡ o → operation_on number (Some k) ≡ None
             at None is = is
             at (Some o) is =
-                absurd (other (one_file (file_of asked) number (w.entries ++ entry.Begin node.id (ready_for w.files c k (called_file k)).replicas.next k ∷ []) (id_of node.id (ready_for w.files c k (called_file k)).replicas.next) (begins_there asked request_is) (o, ap (operation_on number) has_begun ∙ is)))
+                absurd (other (one_file (file_of asked) number (w.entries ++ entry.Begin node.id (ready_for w.files c k (called_file k)).replicas.next k ∷ []) (id_of node.id (ready_for w.files c k (called_file k)).replicas.next) (begins_there asked on request_is) (o, ap (operation_on number) has_begun ∙ is)))
 
-        call_asides : file_of asked ≢ number → AreAside number w.entries (map (entry_of node.id) (rows.request_begins node.id w.times (ready_for w.files c k (called_file k)) r.clock k asked).turned.marks)
-        call_asides other = subst (AreAside number w.entries) (sym marks_are) (one_aside number w.entries (entry.Begin node.id (ready_for w.files c k (called_file k)).replicas.next k) (not_on other))
+        not_on : IsAway number asked → operation_on number (Some k) ≡ None
+        not_on away = at asked refl away
+          where
+            on_it : (q : Request) → asked ≡ q → IsOnFile q → file_of q ≢ number → operation_on number (Some k) ≡ None
+            on_it q is on other = not_on_file (subst IsOnFile (sym is) on) (λ e. other (sym (ap file_of is) ∙ e))
+
+            beside : (q : Request) → asked ≡ q → (IsOnFile q → ⊥) → operation_on number (Some k) ≡ None
+            beside q is off = server_call (ready_for w.files c k (called_file k)).held k asked (λ on. off (subst IsOnFile is on)) wants number
+
+            at : (q : Request) → asked ≡ q → IsAway number q → operation_on number (Some k) ≡ None
+            at (request.Replicated capability operation) is other = on_it (request.Replicated capability operation) is tt other
+            at (request.Striped capability operation) is other = on_it (request.Striped capability operation) is tt other
+            at (request.Meta user group wanted) is away = beside (request.Meta user group wanted) is (λ on. on)
+            at (request.Registry wanted) is away = beside (request.Registry wanted) is (λ on. on)
+
+        call_asides : IsAway number asked → AreAside number w.entries (map (entry_of node.id) (rows.request_begins node.id w.times (ready_for w.files c k (called_file k)) r.clock k asked).turned.marks)
+        call_asides away = subst (AreAside number w.entries) (sym marks_are) (one_aside number w.entries (entry.Begin node.id (ready_for w.files c k (called_file k)).replicas.next k) (not_on away))
 
         -- no ask of it is on the file
-        none_asked : file_of asked ≢ number → (m : StripedWorld) (x : Msg) → Has x (rows.request_begins node.id w.times (ready_for w.files c k (called_file k)) r.clock k asked).turned.outs → (n : ℕ) (capability : Capability) (o : Op) → x.payload ≡ payload.Ask n capability o → capability.file ≡ declared_file number
+        away_ask : (q : Request) (n j : ℕ) (capability : Capability) (o : Op) → IsAway number q → payload_of n q ≡ payload.Ask j capability o → capability.file.number ≢ number
+        away_ask (request.Replicated other operation) n j capability o away is = (let same_capability : other ≡ capability = cc is in subst (λ (x : Capability). x.file.number ≢ number) same_capability away)
+        away_ask (request.Striped other operation) n j capability o away is = (let same_capability : other ≡ capability = cc is in subst (λ (x : Capability). x.file.number ≢ number) same_capability away)
+        away_ask (request.Meta user group wanted) n j capability o away is = absurd (cc is)
+        away_ask (request.Registry wanted) n j capability o away is = absurd (cc is)
+
+        none_asked : IsAway number asked → (m : StripedWorld) (x : Msg) → Has x (rows.request_begins node.id w.times (ready_for w.files c k (called_file k)) r.clock k asked).turned.outs → (n : ℕ) (capability : Capability) (o : Op) → x.payload ≡ payload.Ask n capability o → capability.file ≡ id_in vol number
             → Has (record { number = n; epoch = capability.epoch; op = o }) m.asks
-        none_asked other m x h n capability o content file = absurd (at (subst (Has x) starts.outs h))
+        none_asked away m x h n capability o content file = absurd (at (subst (Has x) starts.outs h))
           where
             at : Has x (message node.id starts.to (payload_of (ready_for w.files c k (called_file k)).replicas.next asked) ∷ []) → ⊥
             at (inr none) = none
             at (inl e) =
-                let begun_so = ask_begun (w.entries ++ entry.Begin node.id (ready_for w.files c k (called_file k)).replicas.next k ∷ []) node.id starts.to (ready_for w.files c k (called_file k)).replicas.next asked n capability o request_is (sym (ap (λ (y : Msg). y.payload) e) ∙ content) in
-                other (one_file (file_of asked) number (w.entries ++ entry.Begin node.id (ready_for w.files c k (called_file k)).replicas.next k ∷ []) (id_of node.id (ready_for w.files c k (called_file k)).replicas.next) (begins_there asked request_is)
-                (subst (λ (f : FileId). HasBegunOn f.number (w.entries ++ entry.Begin node.id (ready_for w.files c k (called_file k)).replicas.next k ∷ []) (id_of node.id (ready_for w.files c k (called_file k)).replicas.next)) file begun_so.1))
+                away_ask asked (ready_for w.files c k (called_file k)).replicas.next n capability o away (sym (ap (λ (y : Msg). y.payload) e) ∙ content) (ap (λ (f : FileId). f.number) file)
 
-        -- on another file, where none runs on this one
-        elsewhere_follows : (m : StripedWorld) → Follows (setting_of number location who) w was m → file_of asked ≢ number → (node.id.0 ≡ who.0 → m.runs ≡ None) → FaresAfter (rows.request_begins node.id w.times (ready_for w.files c k (called_file k)) r.clock k asked)
-        elsewhere_follows m follows other none rec asks fewer =
+        -- it isn't on the file, where none runs on this one
+        elsewhere_follows : (m : StripedWorld) → Follows (setting_of vol number location who) w was m → IsAway number asked → (node.id.0 ≡ who.0 → m.runs ≡ None) → FaresAfter (rows.request_begins node.id w.times (ready_for w.files c k (called_file k)) r.clock k asked)
+        elsewhere_follows m follows away none rec asks fewer =
             let step = rows.request_begins node.id w.times (ready_for w.files c k (called_file k)) r.clock k asked in
             inr (
               m,
-              follows_so number location who of_kind w was own ends_fit once listed node r c step outs found up core rec within fewer asks m m follows
-                  (rests_then number location who of_kind w was own ends_fit once listed node r c step outs found up core rec within fewer asks m follows (call_asides other) (none_asked other m)
+              follows_so vol number location who of_kind w was own ends_fit once listed node r c step outs found up core rec within fewer asks m m follows
+                  (rests_then vol number location who of_kind w was own ends_fit once listed node r c step outs found up core rec within fewer asks m follows (call_asides away) (none_asked away m)
                   (λ mine.
-                  let at = ready_client (setting_of number location who) w.entries m c (ready_for w.files c k (called_file k)) ready_so (follows.caller node r c (runs_as mine)) in
+                  let at = ready_client (setting_of vol number location who) w.entries m c (ready_for w.files c k (called_file k)) ready_so (follows.caller node r c (runs_as mine)) in
                   let more = at.numbers in
                   let next_is = starts.next in
                   record {
                     numbers = omega (arith, more, next_is);
                     mark = at.mark;
                     holds = at.holds;
-                    call = elsewhere _ other (none mine);
+                    call = elsewhere _ away (first_fits (rows.clock_of (ready_for w.files c k (called_file k)) r.clock + w.times.lease) asked)
+                        (λ begun. never number (subst (λ (x : NodeId). HasBegunOn number w.entries (id_of x (ready_for w.files c k (called_file k)).replicas.next)) (sym (same_node node.id who mine))
+                        (aside_begun number w.entries _ (call_asides away) (id_of who (ready_for w.files c k (called_file k)).replicas.next) begun))) (none mine);
                   })),
             )
 
@@ -199,14 +223,14 @@ module _ (number : ℕ) (location : Location) (who : NodeId) (of_kind : location
             at (inl same_running) = subst (RunningIs (λ n q. n ≡ g → ⊥)) (sym same_running) running
             at (inr one) = subst (RunningIs (λ n q. n ≡ g → ⊥)) (sym one.1) (λ e. new (sym one.2 ∙ e))
 
-        lost_follows : IsLost (setting_of number location who) w → FaresAfter (rows.request_begins node.id w.times (ready_for w.files c k (called_file k)) r.clock k asked)
+        lost_follows : IsLost (setting_of vol number location who) w → FaresAfter (rows.request_begins node.id w.times (ready_for w.files c k (called_file k)) r.clock k asked)
         lost_follows lost rec asks fewer =
-            inl (lost_stays (setting_of number location who) w was own node r c (rows.request_begins node.id w.times (ready_for w.files c k (called_file k)) r.clock k asked) outs found up core rec within asks
+            inl (lost_stays (setting_of vol number location who) w was own node r c (rows.request_begins node.id w.times (ready_for w.files c k (called_file k)) r.clock k asked) outs found up core rec within asks
             (λ g count bytes h. no_ok g.number count bytes h)
             (λ g mine. gone_so g.number g.begun mine (subst (RunningIs (λ n q. n ≡ g.number → ⊥)) (sym ready_so.running) (g.gone node r c (runs_as mine)).running)) lost)
 
         -- the call before hadn't ended well
-        gives_up : (m : StripedWorld) (made : MadeCall) (capability : Capability) (operation : Op) → node.id.0 ≡ who.0 → Goes (setting_of number location who) w.entries m made capability operation → FaresAfter (rows.request_begins node.id w.times (ready_for w.files c k (called_file k)) r.clock k asked)
+        gives_up : (m : StripedWorld) (made : MadeCall) (capability : Capability) (operation : Op) → node.id.0 ≡ who.0 → Goes (setting_of vol number location who) w.entries m made capability operation → FaresAfter (rows.request_begins node.id w.times (ready_for w.files c k (called_file k)) r.clock k asked)
         gives_up m made capability operation mine so rec asks fewer =
             inl (given_up (record {
               number = made.number;
@@ -215,7 +239,7 @@ module _ (number : ℕ) (location : Location) (who : NodeId) (of_kind : location
                 | inl old ↦ so.unheard count bytes old
                 | inr new ↦ no_ok made.number count bytes new
               ];
-              gone = λ x q e runs. elim (caller_then (setting_of number location who) w was own node r c (rows.request_begins node.id w.times (ready_for w.files c k (called_file k)) r.clock k asked) outs found up core rec within asks who.0 x q e runs) [
+              gone = λ x q e runs. elim (caller_then (setting_of vol number location who) w was own node r c (rows.request_begins node.id w.times (ready_for w.files c k (called_file k)) r.clock k asked) outs found up core rec within asks who.0 x q e runs) [
                 | inl own_one ↦ subst (ClientIs (λ n p. n ≡ made.number → ⊥)) (sym own_one.1) (gone_so made.number (operation, so.begun) mine (running_else (ready_for w.files c k (called_file k)).replicas.running caller.calls.running))
                 | inr old ↦ absurd (old.1 mine)
               ];
@@ -223,11 +247,11 @@ module _ (number : ℕ) (location : Location) (who : NodeId) (of_kind : location
           where
             running_else : (o : Option RunningCall) → RunningIs (RequestIs w.entries node.id) o → RunningIs (λ n q. n ≡ made.number → ⊥) o
             running_else None is = tt
-            running_else (Some x) is = λ e. replicated_not_here number location of_kind w was ends_fit listed node.id x.number x.capability x.op is
+            running_else (Some x) is = λ e. replicated_not_here vol number location of_kind w was ends_fit listed node.id x.number x.capability x.op is
                 (subst (λ (y : NodeId). HasBegunOn number w.entries (id_of y x.number)) (sym (same_node node.id who mine)) (subst (λ (n : ℕ). HasBegunOn number w.entries (id_of who n)) (sym e) (operation, so.begun)))
 
     -- a call of the file's client on the file, where none runs
-    module _ (capability : Capability) (operation : Op) (its_file : capability.file ≡ declared_file number) (its_list : capability.location ≡ location)
+    module _ (capability : Capability) (operation : Op) (its_file : capability.file ≡ id_in vol number) (its_list : capability.location ≡ location)
         (wants : request_of (ready_for w.files c k (called_file k)).held k ≡ Some (request.Striped capability operation)) (mine : node.id.0 ≡ who.0)
         (request_is : RequestIs (w.entries ++ entry.Begin node.id (ready_for w.files c k (called_file k)).replicas.next k ∷ []) node.id (ready_for w.files c k (called_file k)).replicas.next (request.Striped capability operation)) where
       abbrev a : Asked
@@ -264,14 +288,14 @@ module _ (number : ℕ) (location : Location) (who : NodeId) (of_kind : location
           let none : begun (id_of who (ready_for w.files c k (called_file k)).replicas.next) w.entries ≡ None = subst (λ (x : NodeId). begun (id_of x (ready_for w.files c k (called_file k)).replicas.next) w.entries ≡ None) same_id fresh in
           let both = sym none ∙ some in cc both
 
-      begins_follow : (m : StripedWorld) → Follows (setting_of number location who) w was m → m.runs ≡ None → FaresAfter (rows.request_begins node.id w.times (ready_for w.files c k (called_file k)) r.clock k (request.Striped capability operation))
+      begins_follow : (m : StripedWorld) → Follows (setting_of vol number location who) w was m → m.runs ≡ None → FaresAfter (rows.request_begins node.id w.times (ready_for w.files c k (called_file k)) r.clock k (request.Striped capability operation))
       begins_follow m follows none rec asks fewer =
           let step = rows.request_begins node.id w.times (ready_for w.files c k (called_file k)) r.clock k (request.Striped capability operation) in
           inr (
-            striped.after (setting_of number location who) m (begins (record { number = (ready_for w.files c k (called_file k)).replicas.next; epoch = capability.epoch; op = operation })),
-            client_follows (setting_of number location who) w was own node r c step outs found up core rec within asks m _
+            striped.after (setting_of vol number location who) m (begins (record { number = (ready_for w.files c k (called_file k)).replicas.next; epoch = capability.epoch; op = operation })),
+            client_follows (setting_of vol number location who) w was own node r c step outs found up core rec within asks m _
                 (record {
-                  stands = step_stands (setting_of number location who) setting m (begins (record { number = (ready_for w.files c k (called_file k)).replicas.next; epoch = capability.epoch; op = operation })) (record { rests = none; above = at.numbers; fits = request_is.0.1 }) follows.stands;
+                  stands = step_stands (setting_of vol number location who) setting m (begins (record { number = (ready_for w.files c k (called_file k)).replicas.next; epoch = capability.epoch; op = operation })) (record { rests = none; above = at.numbers; fits = request_is.0.1 }) follows.stands;
                   members = refl;
                   asks = λ x h. inr h;
                   replies = refl;
@@ -291,8 +315,8 @@ module _ (number : ℕ) (location : Location) (who : NodeId) (of_kind : location
                 follows,
           )
         where
-          at : ClientAt (setting_of number location who) w.entries m (ready_for w.files c k (called_file k))
-          at = ready_client (setting_of number location who) w.entries m c (ready_for w.files c k (called_file k)) ready_so (follows.caller node r c (runs_as mine))
+          at : ClientAt (setting_of vol number location who) w.entries m (ready_for w.files c k (called_file k))
+          at = ready_client (setting_of vol number location who) w.entries m c (ready_for w.files c k (called_file k)) ready_so (follows.caller node r c (runs_as mine))
 
           asked_so : (x : Msg) → Has x (message node.id (first_asked (request.Striped capability operation)) (payload.Ask (ready_for w.files c k (called_file k)).replicas.next capability operation) ∷ []) → (n : ℕ) (other : Capability) (o : Op) → x.payload ≡ payload.Ask n other o
               → (let z : Asked = record { number = n; epoch = other.epoch; op = o } in let y : Asked = record { number = (ready_for w.files c k (called_file k)).replicas.next; epoch = capability.epoch; op = operation } in z ≡ y)
@@ -315,14 +339,14 @@ module _ (number : ℕ) (location : Location) (who : NodeId) (of_kind : location
                     no_ok_yet count bytes (subst (λ (n : ℕ). Has (ok_entry (id_of who n) count bytes) w.entries) its_number was_ok))
               ]
 
-          client_then : ClientAt (setting_of number location who) (w.entries ++ entry.Begin node.id (ready_for w.files c k (called_file k)).replicas.next k ∷ [])
-              (striped.after (setting_of number location who) m (begins (record { number = (ready_for w.files c k (called_file k)).replicas.next; epoch = capability.epoch; op = operation })))
+          client_then : ClientAt (setting_of vol number location who) (w.entries ++ entry.Begin node.id (ready_for w.files c k (called_file k)).replicas.next k ∷ [])
+              (striped.after (setting_of vol number location who) m (begins (record { number = (ready_for w.files c k (called_file k)).replicas.next; epoch = capability.epoch; op = operation })))
               (rows.request_begins node.id w.times (ready_for w.files c k (called_file k)) r.clock k (request.Striped capability operation)).state
           client_then =
               record {
                 numbers = omega arith;
                 mark = at.mark;
-                holds = λ b runs. held_by_request w.files (ready_for w.files c k (called_file k)).held k (request.Striped capability operation) number fits.held on.0 wants file_number;
+                holds = λ b runs. held_by_request (known w) (ready_for w.files c k (called_file k)).held k (request.Striped capability operation) capability number holds_known tt wants refl file_number;
                 call = goes _ capability operation refl its_file its_list
                     (record {
                       runs = refl;
@@ -334,17 +358,17 @@ module _ (number : ℕ) (location : Location) (who : NodeId) (of_kind : location
                         | inl old ↦ absurd (no_begin_yet before object from len old)
                         | inr new ↦ ap (operations_on number) new.0 ∙ (follows.begun ∙ ap (λ (o : Option Asked). ops_of (striped.done_with m.done o)) none)
                       ];
-                      at = first_at (setting_of number location who) setting (striped.after (setting_of number location who) m (begins (record { number = (ready_for w.files c k (called_file k)).replicas.next; epoch = capability.epoch; op = operation }))) capability operation
+                      at = first_at (setting_of vol number location who) setting (striped.after (setting_of vol number location who) m (begins (record { number = (ready_for w.files c k (called_file k)).replicas.next; epoch = capability.epoch; op = operation }))) capability operation
                           (rows.clock_of (ready_for w.files c k (called_file k)) r.clock + w.times.lease) its_list;
                     });
               }
 
     -- ---- any call
 
-    no_runs : (m : StripedWorld) (o : Option MadeCall) → CallAt (setting_of number location who) w.entries m o
-        → (m.runs ≡ None) ⊎ ((made : MadeCall) × (capability : Capability) × (operation : Op) × Goes (setting_of number location who) w.entries m made capability operation)
+    no_runs : (m : StripedWorld) (o : Option MadeCall) → CallAt (setting_of vol number location who) w.entries m o
+        → (m.runs ≡ None) ⊎ ((made : MadeCall) × (capability : Capability) × (operation : Op) × Goes (setting_of vol number location who) w.entries m made capability operation)
     no_runs m _ (not_yet none) = inl none
-    no_runs m _ (elsewhere made other none) = inl none
+    no_runs m _ (elsewhere made away fits never none) = inl none
     no_runs m _ (goes made capability operation is file at_list so) = inr (made, capability, operation, so)
     no_runs m _ (has_ended made capability operation count size bytes is ended none) = inl none
 
@@ -352,64 +376,60 @@ module _ (number : ℕ) (location : Location) (who : NodeId) (of_kind : location
         (starts : Begun node.id (ready_for w.files c k (called_file k)).replicas k asked (rows.starts node.id w.times (ready_for w.files c k (called_file k)).replicas r.clock k asked))
         (request_is : RequestIs (w.entries ++ entry.Begin node.id (ready_for w.files c k (called_file k)).replicas.next k ∷ []) node.id (ready_for w.files c k (called_file k)).replicas.next asked) where
       -- a call on the file is on a striped one
-      on_it : (m : StripedWorld) → Follows (setting_of number location who) w was m → node.id.0 ≡ who.0 → m.runs ≡ None → file_of asked ≡ number → FaresAfter (rows.request_begins node.id w.times (ready_for w.files c k (called_file k)) r.clock k asked)
-      on_it m follows mine none its = at asked refl
+      on_it : (m : StripedWorld) → Follows (setting_of vol number location who) w was m → node.id.0 ≡ who.0 → m.runs ≡ None → IsOnFile asked → file_of asked ≡ number → FaresAfter (rows.request_begins node.id w.times (ready_for w.files c k (called_file k)) r.clock k asked)
+      on_it m follows mine none on its = at asked refl
         where
-          fits_so : RequestFits w.files (ready_for w.files c k (called_file k)).replicas.next asked
-          fits_so = asked_fits w.files (ready_for w.files c k (called_file k)) k (ready_for w.files c k (called_file k)).replicas.next asked on.0 fits wants
-
-          list_is : (capability : Capability) → capability.file.number ≡ number → (capability.file ≡ declared_file capability.file.number) × (file_in w.files capability.file.number ≡ Some capability.location) → (capability.file ≡ declared_file number) × (capability.location ≡ location)
-          list_is capability same_number declared = (declared.0 ∙ ap declared_file same_number, listed capability.location (ap (file_in w.files) (sym same_number) ∙ declared.1))
+          known_so : (capability : Capability) → IsUnder capability asked → IsOfKnown (known w) capability
+          known_so capability under = known_by_request (known w) (ready_for w.files c k (called_file k)).held k asked capability holds_known on wants under
 
           at : (q : Request) → asked ≡ q → FaresAfter (rows.request_begins node.id w.times (ready_for w.files c k (called_file k)) r.clock k asked)
           at (request.Replicated capability operation) is =
-              let so = subst (RequestFits w.files (ready_for w.files c k (called_file k)).replicas.next) is fits_so in
-              let its_list = (list_is capability (sym (ap file_of is) ∙ its) so.0).1 in
-              absurd (let clash : kind.Replicated ≡ kind.Striped = sym so.1 ∙ (ap (λ (l : Location). l.kind) its_list ∙ of_kind) in cc clash)
+              let its_list = (listed.known capability.file capability.location (known_so capability (subst (IsUnder capability) (sym is) refl)) (sym (ap file_of is) ∙ its)).1 in
+              let kind_is = subst (RequestIs (w.entries ++ entry.Begin node.id (ready_for w.files c k (called_file k)).replicas.next k ∷ []) node.id (ready_for w.files c k (called_file k)).replicas.next) is request_is in
+              absurd (let clash : kind.Replicated ≡ kind.Striped = sym kind_is.1 ∙ (ap (λ (l : Location). l.kind) its_list ∙ of_kind) in cc clash)
           at (request.Striped capability operation) is =
-              let so = subst (RequestFits w.files (ready_for w.files c k (called_file k)).replicas.next) is fits_so in
-              let its_own = list_is capability (sym (ap file_of is) ∙ its) so.0 in
+              let its_own = listed.known capability.file capability.location (known_so capability (subst (IsUnder capability) (sym is) refl)) (sym (ap file_of is) ∙ its) in
               subst (λ (q : Request). FaresAfter (rows.request_begins node.id w.times (ready_for w.files c k (called_file k)) r.clock k q)) (sym is)
               (begins_follow capability operation its_own.0 its_own.1 (wants ∙ ap (λ (q : Request). Some q) is) mine
               (subst (RequestIs (w.entries ++ entry.Begin node.id (ready_for w.files c k (called_file k)).replicas.next k ∷ []) node.id (ready_for w.files c k (called_file k)).replicas.next) is request_is) m follows none)
-          at (request.Meta user group wish) is = absurd (subst (RequestFits w.files (ready_for w.files c k (called_file k)).replicas.next) is fits_so)
-          at (request.Registry wish) is = absurd (subst (RequestFits w.files (ready_for w.files c k (called_file k)).replicas.next) is fits_so)
+          at (request.Meta user group wish) is = absurd (subst IsOnFile is on)
+          at (request.Registry wish) is = absurd (subst IsOnFile is on)
 
       -- another client's call on the file
-      strange_call : node.id.0 ≢ who.0 → file_of asked ≡ number → FaresAfter (rows.request_begins node.id w.times (ready_for w.files c k (called_file k)) r.clock k asked)
-      strange_call other its rec asks fewer =
+      strange_call : node.id.0 ≢ who.0 → IsOnFile asked → file_of asked ≡ number → FaresAfter (rows.request_begins node.id w.times (ready_for w.files c k (called_file k)) r.clock k asked)
+      strange_call other on its rec asks fewer =
           inl (strange (id_of node.id (ready_for w.files c k (called_file k)).replicas.next)
           (subst (λ (es : List Entry). HasBegunOn number es (id_of node.id (ready_for w.files c k (called_file k)).replicas.next)) (ap (λ (more : List Entry). w.entries ++ more) (sym (marks_are asked wants starts)))
-          (subst (λ (f : ℕ). HasBegunOn f (w.entries ++ entry.Begin node.id (ready_for w.files c k (called_file k)).replicas.next k ∷ []) (id_of node.id (ready_for w.files c k (called_file k)).replicas.next)) its (begins_there asked wants starts request_is asked request_is)))
+          (subst (λ (f : ℕ). HasBegunOn f (w.entries ++ entry.Begin node.id (ready_for w.files c k (called_file k)).replicas.next k ∷ []) (id_of node.id (ready_for w.files c k (called_file k)).replicas.next)) its (begins_there asked wants starts request_is asked on request_is)))
           (λ e. other (ap (λ (x : NodeId). x.0) e)))
 
-      begins_fares : IsLost (setting_of number location who) w ⊎ ((m : StripedWorld) × Follows (setting_of number location who) w was m) → FaresAfter (rows.request_begins node.id w.times (ready_for w.files c k (called_file k)) r.clock k asked)
+      begins_fares : IsLost (setting_of vol number location who) w ⊎ ((m : StripedWorld) × Follows (setting_of vol number location who) w was m) → FaresAfter (rows.request_begins node.id w.times (ready_for w.files c k (called_file k)) r.clock k asked)
       begins_fares (inl lost) = lost_follows asked wants starts request_is lost
-      begins_fares (inr (m, follows)) = by_client (same node.id.0 who.0) (same (file_of asked) number)
+      begins_fares (inr (m, follows)) = by_client (same node.id.0 who.0) (where_is number asked)
         where
-          by_call : node.id.0 ≡ who.0 → (file_of asked ≡ number) ⊎ (file_of asked ≢ number) → (m.runs ≡ None) ⊎ ((made : MadeCall) × (capability : Capability) × (operation : Op) × Goes (setting_of number location who) w.entries m made capability operation)
+          by_call : node.id.0 ≡ who.0 → (IsOnFile asked × (file_of asked ≡ number)) ⊎ IsAway number asked → (m.runs ≡ None) ⊎ ((made : MadeCall) × (capability : Capability) × (operation : Op) × Goes (setting_of vol number location who) w.entries m made capability operation)
               → FaresAfter (rows.request_begins node.id w.times (ready_for w.files c k (called_file k)) r.clock k asked)
           by_call mine file (inr so) = gives_up asked wants starts request_is m so.0 so.1 so.2 mine so.3
-          by_call mine (inl here) (inl none) = on_it m follows mine none here
-          by_call mine (inr other) (inl none) = elsewhere_follows asked wants starts request_is m follows other (λ _. none)
+          by_call mine (inl here) (inl none) = on_it m follows mine none here.0 here.1
+          by_call mine (inr away) (inl none) = elsewhere_follows asked wants starts request_is m follows away (λ _. none)
 
-          by_client : (node.id.0 ≡ who.0) ⊎ (node.id.0 ≢ who.0) → (file_of asked ≡ number) ⊎ (file_of asked ≢ number) → FaresAfter (rows.request_begins node.id w.times (ready_for w.files c k (called_file k)) r.clock k asked)
+          by_client : (node.id.0 ≡ who.0) ⊎ (node.id.0 ≢ who.0) → (IsOnFile asked × (file_of asked ≡ number)) ⊎ IsAway number asked → FaresAfter (rows.request_begins node.id w.times (ready_for w.files c k (called_file k)) r.clock k asked)
           by_client (inl mine) file = by_call mine file (no_runs m c.made (follows.caller node r c (runs_as mine)).call)
-          by_client (inr other) (inl here) = strange_call other here
+          by_client (inr other) (inl here) = strange_call other here.0 here.1
           by_client (inr other) (inr away) = elsewhere_follows asked wants starts request_is m follows away (λ mine. absurd (other mine))
 
     -- what was lost stays so, where nothing comes of the call
-    passes_lost : IsLost (setting_of number location who) w → FaresAfter (passes (ready_for w.files c k (called_file k)) r.clock)
+    passes_lost : IsLost (setting_of vol number location who) w → FaresAfter (passes (ready_for w.files c k (called_file k)) r.clock)
     passes_lost lost rec asks fewer =
-        inl (lost_stays (setting_of number location who) w was own node r c (passes (ready_for w.files c k (called_file k)) r.clock) outs found up core rec within asks (λ g count bytes h. h)
+        inl (lost_stays (setting_of vol number location who) w was own node r c (passes (ready_for w.files c k (called_file k)) r.clock) outs found up core rec within asks (λ g count bytes h. h)
         (λ g mine.
         let was_gone = g.gone node r c (runs_as mine) in
         record { running = subst (RunningIs (λ n q. n ≡ g.number → ⊥)) (sym ready_so.running) was_gone.running; made = subst (MadeIs (λ n q. n ≡ g.number → ⊥)) (sym ready_so.made) was_gone.made }) lost)
 
-    call_fares : IsLost (setting_of number location who) w ⊎ ((m : StripedWorld) × Follows (setting_of number location who) w was m) → FaresAfter (call_step w node r c k)
+    call_fares : IsLost (setting_of vol number location who) w ⊎ ((m : StripedWorld) × Follows (setting_of vol number location who) w was m) → FaresAfter (call_step w node r c k)
     call_fares fares =
         at (call_is node.id w.times (ready_for w.files c k (called_file k)) r.clock k)
-        (call_owes w.entries node.id w.times (ready_for w.files c k (called_file k)) r.clock k ends_fit.ends caller on)
+        (call_owes w.entries node.id w.times (ready_for w.files c k (called_file k)) r.clock k ends_fit.ends caller bound)
       where
         at : {step : Step WholeClient} → CallIs node.id w.times (ready_for w.files c k (called_file k)) r.clock k step → Owes w.entries node.id (client step.state) step.turned → FaresAfter step
         at nothing_called owes = elim fares as (λ _. FaresAfter (passes (ready_for w.files c k (called_file k)) r.clock)) [
@@ -421,13 +441,13 @@ module _ (number : ℕ) (location : Location) (who : NodeId) (of_kind : location
             begins_fares asked wants starts
             (subst (λ (more : List Entry). RequestIs (w.entries ++ more) node.id (ready_for w.files c k (called_file k)).replicas.next asked) (marks_are asked wants starts) owes.core_is.calls.made) fares
 
-    pub call_follows : FileFollows number location who w was → ((x : Msg) → Has x outs → Has x (call_step w node r c k).turned.outs)
-        → (let step = call_step w node r c k in FileFollows number location who (after_turn w node (record r { core = client step.state }) (record step.turned { outs = outs })) (own ++ to_itself node.id outs))
+    pub call_follows : FileFollows vol number location who w was → ((x : Msg) → Has x outs → Has x (call_step w node r c k).turned.outs)
+        → (let step = call_step w node r c k in FileFollows vol number location who (after_turn w node (record r { core = client step.state }) (record step.turned { outs = outs })) (own ++ to_itself node.id outs))
     call_follows is fewer =
         let step = call_step w node r c k in
-        let step_fits = call_fits w.files node.id w.times c r.clock k on.0 (client_fits w was node r c fit found up core) in
-        let asks : (x : Msg) → Has x outs → is_ask x.payload ≡ true = λ x h. (step_fits.asks x (fewer x h)).2 in
+        let gives = call_asks node.id w.times (ready_for w.files c k (called_file k)) r.clock k in
+        let asks : (x : Msg) → Has x outs → IsRequest x.payload = λ x h. gives.asks x (fewer x h) in
         record {
-          quiet = client_quiet (setting_of number location who) w was own node r c step outs found up core step_fits.rec within asks is.quiet;
-          fares = call_fares is.fares step_fits.rec asks fewer;
+          quiet = client_quiet (setting_of vol number location who) w was own node r c step outs found up core gives.rec within asks is.quiet;
+          fares = call_fares is.fares gives.rec asks fewer;
         }

@@ -4,12 +4,10 @@ use Rattle.std.specs.Option.{option_or}
 use Rattle.std.specs.List.{filter_map, cons_option}
 use Rattle.std.proofs.lemmas.Bool.Decides.{nat_tests}
 use Rattle.xt_base.specs.declared.ids.NodeId.{NodeId}
-use Rattle.xt_base.specs.declared.ids.FileId.{FileId}
 use Rattle.xt_base.specs.declared.ids.OpId.{OpId}
 use Rattle.xt_messages.specs.declared.file.Capability.{Capability}
 use Rattle.xt_messages.specs.declared.file.Op.{Op}
 use Rattle.xt_messages.specs.declared.file.Op.TheVariants as op
-use Rattle.xt_messages.specs.declared.reply.Reply.{Reply}
 use Rattle.xt_messages.specs.declared.reply.Reply.TheVariants as reply
 use Rattle.xt_messages.specs.declared.event.Call.{Call}
 use Rattle.xt_messages.specs.declared.event.Call.TheVariants as call
@@ -19,7 +17,7 @@ use Rattle.xt_messages.specs.declared.message.Msg.{Msg}
 use Rattle.xt_messages.specs.declared.message.Payload.{Payload}
 use Rattle.xt_messages.specs.declared.message.Payload.TheVariants as payload
 use Rattle.lease_safety.specs.State.{Has}
-use Rattle.lease_runs.specs.LeaseView.{is_ask}
+use Rattle.xt_protocol.specs.OsdSteps.{file_concerned}
 use Rattle.client_rows.specs.declared.requests.MadeCall.{MadeCall}
 use Rattle.client_rows.specs.Rows.{WholeClient}
 use Rattle.client_rows.specs.Steps.{Step}
@@ -42,6 +40,7 @@ use Rattle.striped_safety.specs.Members.{Member}
 use Rattle.striped_safety.specs.StripedWorld.{Setting, Asked, ReadShown, StripedWorld, node_at, ops_of, done_with}
 use Rattle.striped_safety.specs.After.{Stands}
 use Rattle.striped_safety.proofs.Callers.{put_absent}
+use Rattle.striped_safety.proofs.ClientSends.{IsRequest, no_reply}
 use Rattle.striped_safety.proofs.Follows.{member_seen, IsAskOrReply, IsQuiet, AreToldReads, Goes, CallAt, not_yet, elsewhere, goes, has_ended, ClientAt, Runs, IsUnborn, Follows, IsGivenUp, IsLost, strange, given_up}
 use Rattle.striped_safety.proofs.Named.{IsMembers}
 use Rattle.striped_safety.proofs.OsdMoves.{view}
@@ -170,14 +169,14 @@ goes_aside s es more m made capability asked aside is =
 
 pub call_aside : (s : Setting) (es more : List Entry) (m : StripedWorld) (o : Option MadeCall) → AreAside s.file.number es more → CallAt s es m o → CallAt s (es ++ more) m o
 call_aside s es more m _ aside (not_yet none) = not_yet none
-call_aside s es more m _ aside (elsewhere made other none) = elsewhere made other none
+call_aside s es more m _ aside (elsewhere made away fits never none) = elsewhere made away fits (λ begun. never (aside_begun s.file.number es more aside (id_of s.client made.number) begun)) none
 call_aside s es more m _ aside (goes made capability asked is file location so) = goes made capability asked is file location (goes_aside s es more m made capability asked aside so)
 call_aside s es more m _ aside (has_ended made capability asked count size bytes is ended none) = has_ended made capability asked count size bytes is ended none
 
 -- ---- a client's step in a world
 
 module _ (s : Setting) (w : World) (was own : List Msg) (node : Node) (r : Running) (c : WholeClient) (step : Step WholeClient) (outs : List Msg) (found : node_in w.nodes node.id.0 ≡ Some node) (up : node.up ≡ Some r) (core : r.core ≡ client c) (rec : step.turned.rec ≡ None)
-    (within : (k : Msg) → Has k own → Has k was) (all_asks : (k : Msg) → Has k outs → is_ask k.payload ≡ true) where
+    (within : (k : Msg) → Has k own → Has k was) (all_asks : (k : Msg) → Has k outs → IsRequest k.payload) where
   abbrev pub later : World
   later = after_turn w node (record r { core = client step.state }) (record step.turned { outs = outs })
 
@@ -210,20 +209,19 @@ module _ (s : Setting) (w : World) (was own : List Msg) (node : Node) (r : Runni
       one_client : (a b : WholeClient) → client a ≡ client b → a ≡ b
       one_client a b is = cc is
 
-  ask_or_reply : (content : Payload) → is_ask content ≡ true → IsAskOrReply content
-  ask_or_reply (payload.Ask k capability asked) is = tt
-  ask_or_reply (payload.Reply k file answer) is = tt
-  ask_or_reply _ is = absurd (cc is)
-
-  no_reply : (content : Payload) (k : ℕ) (file : FileId) (answer : Reply) → is_ask content ≡ true → content ≡ payload.Reply k file answer → ⊥
-  no_reply content k file answer is same = let clash = sym (ap is_ask same) ∙ is in cc clash
+  -- the only request that concerns a file is an ask
+  ask_or_reply : (content : Payload) → IsRequest content → file_concerned content ≡ Some s.file → IsAskOrReply content
+  ask_or_reply (payload.Ask k capability asked) is about = tt
+  ask_or_reply (payload.Meta k user group wanted) is about = absurd (let none : None ≡ Some s.file = about in cc none)
+  ask_or_reply (payload.Registry k asked) is about = absurd (let none : None ≡ Some s.file = about in cc none)
+  ask_or_reply _ is about = absurd is
 
   pub client_quiet : IsQuiet s.file w was → IsQuiet s.file (after_turn w node (record r { core = client step.state }) (record step.turned { outs = outs })) (own ++ to_itself node.id outs)
   client_quiet is =
       record {
         members = λ n. subst (λ (f : ℕ → FileNode). IsMembers (f n).kept) seen (is.members n);
         asked = λ k h about. elim (came own was outs w node.id w.nodes k within h) [
-          | inl mine ↦ ask_or_reply k.payload (all_asks k mine)
+          | inl mine ↦ ask_or_reply k.payload (all_asks k mine) about
           | inr old ↦ is.asked k old about
         ];
       }

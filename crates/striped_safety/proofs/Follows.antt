@@ -1,5 +1,5 @@
 -- A world of a striped file and its client that a world shows, and what leaves it so.
-use Rattle.std.proofs.Common.{◌≡◌, ℕ, ◌<◌, ◌≤◌, ◌⊎◌, inl, inr, List, ◌++◌, ap, sym, ◌∙◌, subst, Option, Some, None, true}
+use Rattle.std.proofs.Common.{◌≡◌, ◌≢◌, ℕ, ◌<◌, ◌≤◌, ◌⊎◌, inl, inr, List, ◌++◌, ap, sym, ◌∙◌, subst, Option, Some, None, true}
 use Rattle.xt_base.specs.declared.ids.NodeId.{NodeId}
 use Rattle.xt_base.specs.declared.ids.FileId.{FileId}
 use Rattle.xt_base.specs.declared.ids.OpId.{OpId}
@@ -26,7 +26,6 @@ use Rattle.client_rows.specs.declared.requests.Request.TheVariants as request
 use Rattle.client_rows.specs.declared.requests.Stage.{Stage}
 use Rattle.client_rows.specs.declared.requests.Stage.TheVariants as stage
 use Rattle.client_rows.specs.Holding.{held_of}
-use Rattle.client_rows.specs.Requests.{file_of}
 use Rattle.client_rows.specs.Rows.{WholeClient}
 use Rattle.client_steps.specs.Asked.{ClientIs, RunningIs, MadeIs}
 use Rattle.time_line.specs.declared.entry.Entry.{Entry}
@@ -34,9 +33,8 @@ use Rattle.time_line.specs.declared.entry.Entry.TheVariants as entry
 use Rattle.time_line.specs.TimeLine.{id_of, begun, operation_on, operation_begun}
 use Rattle.time_line.specs.Clauses.{IsBefore, HasBegunOn, ok_entry}
 use Rattle.file_runs.specs.FileRuns.{FileNode}
-use Rattle.world_spec.specs.declared.DeclaredFile.{DeclaredFile}
+use Rattle.world_spec.specs.declared.PlacedFile.{PlacedFile}
 use Rattle.world_spec.specs.World.{World, Node, Running, client, node_in, file_in}
-use Rattle.world_spec.specs.Lines.{declared_file}
 use Rattle.world_runs.specs.View.{messages}
 use Rattle.world_runs.proofs.Entries.{begun_on-grown, operation-grown}
 use Rattle.world_runs.proofs.Lists.{has_in}
@@ -50,13 +48,16 @@ use Rattle.striped_safety.proofs.Trace.{AreStill, has_before, split_before, stil
 
 -- ---- what is followed
 
--- a declared file and a client
-abbrev pub setting_of : ℕ → Location → NodeId → Setting
-setting_of number location who = record { file = declared_file number; location = location; client = who }
+-- a file by its volume and number, and a client
+abbrev pub id_in : List ℕ → ℕ → FileId
+id_in vol number = record { volume = vol; number = number }
 
--- the declared list of the file, where there is one
-abbrev pub IsListed : List DeclaredFile → ℕ → Location → Type 0
-IsListed files number location = (l : Location) → file_in files number ≡ Some l → l ≡ location
+abbrev pub setting_of : List ℕ → ℕ → Location → NodeId → Setting
+setting_of vol number location who = record { file = id_in vol number; location = location; client = who }
+
+-- where a file of this number is known, it is this one, at this place
+abbrev pub IsListed : List PlacedFile → List ℕ → ℕ → Location → Type 0
+IsListed files vol number location = (f : PlacedFile) → file_in files number ≡ Some f → f ≡ record { file = id_in vol number; location = location }
 
 -- what a node shows as a member
 abbrev pub member_seen : FileNode → Member
@@ -111,10 +112,27 @@ pub record Goes (s : Setting) (es : List Entry) (m : StripedWorld) (made : MadeC
   pub before : (before : List Entry) (object at len : ℕ) → IsBefore before (entry.Begin s.client made.number (call.Read s.file.number object at len)) es → operations_on s.file.number before ≡ ops_of m.done
   pub at : IsAt s m asked made.stage
 
--- how far the client's last call is: there is none, or it is on another file; it runs or hasn't ended well; or it has
+-- a request that isn't on the file of this number: on another one, or to a server
+abbrev pub IsAway : ℕ → Request → Type 0
+IsAway file (request.Replicated capability asked) = capability.file.number ≢ file
+IsAway file (request.Striped capability asked) = capability.file.number ≢ file
+IsAway file (request.Meta user group wanted) = Unit {0}
+IsAway file (request.Registry asked) = Unit {0}
+
+-- a request to a server never is among the calls on replicated files
+abbrev pub IsBeside : Stage → Type 0
+IsBeside stage.OnReplicas = ⊥
+IsBeside _ = Unit {0}
+
+abbrev pub StageFits : Stage → Request → Type 0
+StageFits s (request.Meta user group wanted) = IsBeside s
+StageFits s (request.Registry asked) = IsBeside s
+StageFits s _ = Unit {0}
+
+-- how far the client's last call is: there is none, or it isn't on the file; it runs or hasn't ended well; or it has
 pub data CallAt (s : Setting) (es : List Entry) (m : StripedWorld) : Option MadeCall → Type 0 where
   not_yet : m.runs ≡ None → CallAt s es m None
-  elsewhere : (made : MadeCall) → (file_of made.request ≡ s.file.number → ⊥) → m.runs ≡ None → CallAt s es m (Some made)
+  elsewhere : (made : MadeCall) → IsAway s.file.number made.request → StageFits made.stage made.request → (HasBegunOn s.file.number es (id_of s.client made.number) → ⊥) → m.runs ≡ None → CallAt s es m (Some made)
   goes : (made : MadeCall) (capability : Capability) (asked : Op) → made.request ≡ request.Striped capability asked → capability.file ≡ s.file → capability.location ≡ s.location
       → Goes s es m made capability asked → CallAt s es m (Some made)
   has_ended : (made : MadeCall) (capability : Capability) (asked : Op) (count : ℕ) (size : SizeMark) (bytes : List ℕ) → made.request ≡ request.Striped capability asked
@@ -168,9 +186,9 @@ pub data IsLost (s : Setting) (w : World) : Type 0 where
   strange : (id : OpId) → HasBegunOn s.file.number w.entries id → (id.client ≡ s.client → ⊥) → IsLost s w
   given_up : IsGivenUp s w → IsLost s w
 
-pub record FileFollows (number : ℕ) (location : Location) (who : NodeId) (w : World) (own : List Msg) : Type 0 where
-  pub quiet : IsQuiet (declared_file number) w own
-  pub fares : IsLost (setting_of number location who) w ⊎ ((m : StripedWorld) × Follows (setting_of number location who) w own m)
+pub record FileFollows (vol : List ℕ) (number : ℕ) (location : Location) (who : NodeId) (w : World) (own : List Msg) : Type 0 where
+  pub quiet : IsQuiet (id_in vol number) w own
+  pub fares : IsLost (setting_of vol number location who) w ⊎ ((m : StripedWorld) × Follows (setting_of vol number location who) w own m)
 
 -- ---- what leaves it so
 
@@ -239,7 +257,7 @@ goes_rests s es more m made capability asked still is =
 
 call_rests : (s : Setting) (es more : List Entry) (m : StripedWorld) (o : Option MadeCall) → AreStill more → CallAt s es m o → CallAt s (es ++ more) m o
 call_rests s es more m _ still (not_yet none) = not_yet none
-call_rests s es more m _ still (elsewhere made other none) = elsewhere made other none
+call_rests s es more m _ still (elsewhere made away fits never none) = elsewhere made away fits (λ begun. never (begun_before s.file.number es more (id_of s.client made.number) still begun)) none
 call_rests s es more m _ still (goes made capability asked is file location so) = goes made capability asked is file location (goes_rests s es more m made capability asked still so)
 call_rests s es more m _ still (has_ended made capability asked count size bytes is ended none) = has_ended made capability asked count size bytes is ended none
 
@@ -326,10 +344,10 @@ quiet_rests s w after own own_after rests is =
       ];
     }
 
-pub file_rests : (number : ℕ) (location : Location) (who : NodeId) (w after : World) (own own_after : List Msg) → Rests (setting_of number location who) w after own own_after → FileFollows number location who w own
-    → FileFollows number location who after own_after
-file_rests number location who w after own own_after rests is =
-    let s = setting_of number location who in
+pub file_rests : (vol : List ℕ) (number : ℕ) (location : Location) (who : NodeId) (w after : World) (own own_after : List Msg) → Rests (setting_of vol number location who) w after own own_after → FileFollows vol number location who w own
+    → FileFollows vol number location who after own_after
+file_rests vol number location who w after own own_after rests is =
+    let s = setting_of vol number location who in
     record {
       quiet = quiet_rests s w after own own_after rests is.quiet;
       fares = elim is.fares [
@@ -354,7 +372,7 @@ module _ (s : Setting) (es : List Entry) (m : StripedWorld) (members : ℕ → M
 
   call_moved : (o : Option MadeCall) → CallAt s es m o → CallAt s es (record m { members = members; replies = replies }) o
   call_moved _ (not_yet none) = not_yet none
-  call_moved _ (elsewhere made other none) = elsewhere made other none
+  call_moved _ (elsewhere made away fits never none) = elsewhere made away fits never none
   call_moved _ (goes made capability asked is file location so) = goes made capability asked is file location (goes_moved made capability asked so)
   call_moved _ (has_ended made capability asked count size bytes is ended none) = has_ended made capability asked count size bytes is ended none
 

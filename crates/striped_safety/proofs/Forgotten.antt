@@ -115,10 +115,10 @@ module _ (s : Setting) (setting : IsSetting s) (w : World) (own : List Msg) (nod
             subst (HasSame (nodes_seen s.file (record w { nodes = with_node w.nodes (rewritten_at node r o) }) (node_at s place).0).body) (sym (is.members place low))
             (has_still (quiet.members node.id.0).1 (node_at s place).0).1
 
-pub forgotten_follows : (number : ℕ) (location : Location) (who : NodeId) → IsSetting (setting_of number location who) → (w : World) (own : List Msg) (node : Node) (r : Running) (o : OsdState) → IsInOrder w own → RunsAs w node r o
-    → FileFollows number location who w own → FileFollows number location who (record w { nodes = with_node w.nodes (rewritten_at node r o) }) own
-forgotten_follows number location who setting w own node r o order its is =
-    let s = setting_of number location who in
+pub forgotten_follows : (vol : List ℕ) (number : ℕ) (location : Location) (who : NodeId) → IsSetting (setting_of vol number location who) → (w : World) (own : List Msg) (node : Node) (r : Running) (o : OsdState) → IsInOrder w own → RunsAs w node r o
+    → FileFollows vol number location who w own → FileFollows vol number location who (record w { nodes = with_node w.nodes (rewritten_at node r o) }) own
+forgotten_follows vol number location who setting w own node r o order its is =
+    let s = setting_of vol number location who in
     let v = view s.file w in
     let held = held_then s.file w own node r o order its v refl in
     let body = body_then s.file w own node r o order its v refl in

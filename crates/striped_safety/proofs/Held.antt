@@ -1,73 +1,13 @@
 -- what is held of a file once a mark is joined, or the capability of a declared file is held
-use Rattle.std.proofs.Common.{◌≡◌, ◌≢◌, ℕ, Bool, true, false, cond, [], ◌∷◌, refl, ap, sym, ◌∙◌, subst, arith, Option, Some, None}
-use Rattle.std.specs.Prelude.{◌==◌, nat_lt}
-use Rattle.std.specs.Ordering.{nat_cmp, is_eq, match_ordering}
-use Rattle.std.specs.declared.cmp.Ordering.{Ordering}
-use Rattle.std.specs.declared.cmp.Ordering.TheVariants.{Less, Equal, Greater}
-use Rattle.std.specs.BTreeMap.{insert_entry}
-use Rattle.std.proofs.lemmas.Bool.{eqb-true}
+use Rattle.std.proofs.Common.{◌≡◌, ◌≢◌, ℕ, Bool, true, false, cond, refl, ap, sym, ◌∙◌, subst, arith, Option, Some, None}
 use Rattle.std.proofs.lemmas.Bool.Decides.{nat_tests}
 use Rattle.xt_base.specs.declared.ids.SizeMark.{SizeMark}
 use Rattle.xt_messages.specs.declared.file.Capability.{Capability}
 use Rattle.truncate_epochs.specs.SizeMarks.{is_smaller, merged}
 use Rattle.client_rows.specs.declared.holding.HeldFile.{HeldFile}
 use Rattle.client_rows.specs.Holding.{Held, held_of, joined_with, mark_with, holds, marked, joins}
+use Rattle.client_steps.proofs.Held.{put_found, put_others}
 use Rattle.striped_safety.proofs.Follows.{MarkIs}
-
--- ---- by number
-
-eq_is : (a b : ℕ) → is_eq (nat_cmp a b) ≡ true → a ≡ b
-eq_is a b is = go (nat_lt a b) (a == b) refl is
-  where
-    go : (less same : Bool) → (a == b) ≡ same → is_eq (cond less Less (cond same Equal Greater)) ≡ true → a ≡ b
-    go true same at h = absurd (cc)
-    go false true at h = eqb-true a b at
-    go false false at h = absurd (cc)
-
-apart : (a b : ℕ) → a ≢ b → is_eq (nat_cmp a b) ≡ false
-apart a b other = go (is_eq (nat_cmp a b)) refl
-  where
-    go : (same : Bool) → is_eq (nat_cmp a b) ≡ same → same ≡ false
-    go true is = absurd (other (eq_is a b is))
-    go false is = refl
-
-one : (a : ℕ) → is_eq (nat_cmp a a) ≡ true
-one a = go (nat_lt a a) (a == a) (not_less a) (is_same a)
-  where
-    not_less : (n : ℕ) → nat_lt n n ≡ false
-    not_less n = grind (arith, nat_tests)
-
-    is_same : (n : ℕ) → (n == n) ≡ true
-    is_same n = grind (arith, nat_tests)
-
-    go : (less same : Bool) → less ≡ false → same ≡ true → is_eq (cond less Less (cond same Equal Greater)) ≡ true
-    go false true l s = refl
-    go true same l s = absurd (cc)
-    go false false l s = absurd (cc)
-
--- an entry that is put is found under its number
-put_found : (held : Held) (file : ℕ) (h : HeldFile) → held_of (insert_entry nat_cmp held file h) file ≡ Some h
-put_found [] file h = ap (λ (b : Bool). cond b (Some h) None) (one file)
-put_found (e ∷ es) file h = go (nat_cmp file e.0) refl (put_found es file h)
-  where
-    go : (o : Ordering) → nat_cmp file e.0 ≡ o → held_of (insert_entry nat_cmp es file h) file ≡ Some h
-        → held_of (match_ordering o ((file, h) ∷ e ∷ es) ((e.0, h) ∷ es) (e ∷ insert_entry nat_cmp es file h)) file ≡ Some h
-    go Less is later = ap (λ (b : Bool). cond b (Some h) (held_of (e ∷ es) file)) (one file)
-    go Equal is later = ap (λ (b : Bool). cond b (Some h) (held_of es file)) (ap is_eq is)
-    go Greater is later = ap (λ (b : Bool). cond b (Some e.1) (held_of (insert_entry nat_cmp es file h) file)) (ap is_eq is) ∙ later
-
--- and what is held under other numbers stays
-put_others : (held : Held) (file : ℕ) (h : HeldFile) (n : ℕ) → n ≢ file → held_of (insert_entry nat_cmp held file h) n ≡ held_of held n
-put_others [] file h n other = ap (λ (b : Bool). cond b (Some h) None) (apart n file other)
-put_others (e ∷ es) file h n other = go (nat_cmp file e.0) refl (put_others es file h n other)
-  where
-    go : (o : Ordering) → nat_cmp file e.0 ≡ o → held_of (insert_entry nat_cmp es file h) n ≡ held_of es n
-        → held_of (match_ordering o ((file, h) ∷ e ∷ es) ((e.0, h) ∷ es) (e ∷ insert_entry nat_cmp es file h)) n ≡ held_of (e ∷ es) n
-    go Less is later = ap (λ (b : Bool). cond b (Some h) (held_of (e ∷ es) n)) (apart n file other)
-    go Equal is later =
-        let strange : is_eq (nat_cmp n e.0) ≡ false = subst (λ (k : ℕ). is_eq (nat_cmp n k) ≡ false) (eq_is file e.0 (ap is_eq is)) (apart n file other) in
-        ap (λ (b : Bool). cond b (Some h) (held_of es n)) strange ∙ sym (ap (λ (b : Bool). cond b (Some e.1) (held_of es n)) strange)
-    go Greater is later = ap (λ (o : Option HeldFile). cond (is_eq (nat_cmp n e.0)) (Some e.1) o) later
 
 -- ---- marks
 

@@ -1,6 +1,6 @@
 -- what a step of an OSD is, and what it tells: it begins no call, and ends none
-use Rattle.std.proofs.Common.{◌≡◌, ℕ, inl, inr, List, [], ◌∷◌, map, refl, ap, sym, ◌∙◌, subst, Option, Some, None, Bool, true, false}
-use Rattle.std.specs.Prelude.{◌⊎◌, max, cond}
+use Rattle.std.proofs.Common.{◌≡◌, ℕ, inl, inr, List, [], ◌∷◌, map, refl, ap, sym, ◌∙◌, subst, Option, Some, None}
+use Rattle.std.specs.Prelude.{◌⊎◌, max}
 use Rattle.xt_base.specs.declared.ids.NodeId.{NodeId}
 use Rattle.xt_base.specs.declared.ids.FileId.{FileId}
 use Rattle.xt_messages.specs.declared.message.Msg.{Msg}
@@ -9,7 +9,7 @@ use Rattle.xt_messages.specs.declared.event.Event.{Event}
 use Rattle.xt_messages.specs.declared.event.Event.TheVariants as event
 use Rattle.xt_messages.specs.declared.event.Mark.{Mark}
 use Rattle.xt_messages.specs.declared.event.Mark.TheVariants as mark
-use Rattle.xt_protocol.specs.LeaseRows.{Awake, LeaseState, awake_at, is_silent}
+use Rattle.xt_protocol.specs.LeaseRows.{Awake, LeaseState, awake_at}
 use Rattle.xt_protocol.specs.Turns.{quiet}
 use Rattle.xt_protocol.specs.declared.turned.Turned.{Turned}
 use Rattle.xt_protocol.specs.OsdSteps.{OsdState, OsdStep, file_concerned, handled_awake, step_of_osd}
@@ -25,6 +25,7 @@ use Rattle.world_runs.specs.View.{awake_as}
 use Rattle.world_safety.specs.Seen.{file_seen}
 use Rattle.world_safety.specs.Events.{IsAwake, site_at, step_at}
 use Rattle.world_safety.proofs.Events.{is_whole}
+use Rattle.world_safety.proofs.OsdFiles.{awake_or_not}
 use Rattle.striped_safety.proofs.Trace.{IsStill, AreStill, none_still, one_still}
 
 -- Nothing comes of the event; or the OSD is past its silence, and it is a message about a file, or a Wake.
@@ -34,13 +35,6 @@ pub data OsdStepIs (node : Node) (r : Running) (s : OsdState) : Event → Type 0
   woke : IsAwake r s → OsdStepIs node r s event.Wake
 
 module _ (node : Node) (r : Running) (s : OsdState) where
-  awake_or_not : (awake_at s.started (max r.clock s.last) ≡ None) ⊎ IsAwake r s
-  awake_or_not = at (is_silent s.started (max r.clock s.last))
-    where
-      at : (b : Bool) → (cond b None (Some (awake_as s.started)) ≡ None) ⊎ (cond b None (Some (awake_as s.started)) ≡ Some (awake_as s.started))
-      at true = inl refl
-      at false = inr refl
-
   silent : (happens : Event) → awake_at s.started (max r.clock s.last) ≡ None → (step_at node r s happens).turned ≡ quiet
   unfolding step_of_osd
   silent happens is = ap (λ (a : Option Awake). (handled_awake (outside_of node.kept) s (max r.clock s.last) happens a).turned) is
@@ -56,7 +50,7 @@ module _ (node : Node) (r : Running) (s : OsdState) where
   called call awake = ap (λ (a : Option Awake). (handled_awake (outside_of node.kept) s (max r.clock s.last) (event.Call call) a).turned) awake
 
   pub osd_step_is : (happens : Event) → OsdStepIs node r s happens
-  osd_step_is happens = at awake_or_not
+  osd_step_is happens = at (awake_or_not node r s)
     where
       by_file : (msg : Msg) → IsAwake r s → (o : Option FileId) → file_concerned msg.payload ≡ o → OsdStepIs node r s (event.Deliver msg)
       by_file msg awake None is = rests (event.Deliver msg) (unconcerned msg awake is)

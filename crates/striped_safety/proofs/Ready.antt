@@ -1,11 +1,12 @@
 -- a client that is about to use a file, and what its call asks
-use Rattle.std.proofs.Common.{◌≡◌, ℕ, ◌<◌, ◌≤◌, ◌+◌, ◌⊎◌, inl, inr, List, [], ◌∷◌, refl, ap, sym, ◌∙◌, subst, arith, Option, Some, None, Bool, true, false, cond}
+use Rattle.std.proofs.Common.{◌≡◌, ℕ, ◌<◌, ◌≤◌, ◌+◌, ◌⊎◌, inl, inr, List, [], ◌∷◌, ◌++◌, refl, ap, sym, ◌∙◌, subst, arith, Option, Some, None, Bool, true, false, cond}
 use Rattle.std.specs.Prelude.{nat_lt, max, ◌%◌}
 use Rattle.xt_base.specs.TimeSettings.{TimeSettings}
 use Rattle.xt_base.specs.declared.TheConstants.{COUNTS}
 use Rattle.xt_base.specs.declared.ids.NodeId.{NodeId}
-use Rattle.xt_base.specs.declared.ids.FileId.{FileId}
 use Rattle.xt_base.specs.declared.ids.SizeMark.{SizeMark}
+use Rattle.xt_messages.specs.declared.meta.MetaReq.{MetaReq}
+use Rattle.xt_messages.specs.declared.meta.MetaReq.TheVariants as want
 use Rattle.xt_messages.specs.declared.event.Call.{Call}
 use Rattle.xt_messages.specs.declared.event.Call.TheVariants as call
 use Rattle.xt_messages.specs.declared.event.Mark.TheVariants as mark
@@ -24,21 +25,21 @@ use Rattle.client_rows.specs.declared.requests.Request.TheVariants as request
 use Rattle.client_rows.specs.declared.requests.Stage.TheVariants as stage
 use Rattle.client_rows.specs.Holding.{Held, held_of, holds}
 use Rattle.client_rows.specs.Clients.{call_of_client, begins_call}
-use Rattle.client_rows.specs.Requests.{on_file, under_held, request_of, file_of, first_of, first_asked, payload_of}
+use Rattle.client_rows.specs.Requests.{on_file, under_held, report_of, request_of, file_of, first_of, first_asked, payload_of}
 use Rattle.client_rows.specs.Rows as rows
 use Rattle.client_rows.specs.Rows.{WholeClient, passes, called}
 use Rattle.client_rows.specs.Steps.{Step, stays}
-use Rattle.client_steps.specs.Asked.{AllHeld}
-use Rattle.client_steps.proofs.Held.{ready_holds, ready_others, held_found}
-use Rattle.time_line.specs.Bounds.{IsOnContent}
+use Rattle.client_steps.specs.Asked.{IsOnFile, AllHeld}
+use Rattle.client_steps.proofs.Held.{ready_holds, ready_others, held_found, holds_held}
 use Rattle.time_line.specs.declared.entry.Entry.{Entry}
-use Rattle.world_spec.specs.declared.DeclaredFile.{DeclaredFile}
+use Rattle.time_line.specs.TimeLine.{operation_on}
+use Rattle.world_spec.specs.declared.PlacedFile.{PlacedFile}
 use Rattle.world_spec.specs.World.{file_in}
-use Rattle.world_spec.specs.Lines.{declared_file, declared_capability, epoch_of, about_to_use, ready_for}
-use Rattle.world_runs.specs.Worlds.{HeldFits}
-use Rattle.world_runs.proofs.Tables.{same}
+use Rattle.world_spec.specs.Lines.{declared_capability, epoch_of, about_to_use, ready_for}
+use Rattle.world_runs.specs.Worlds.{HeldFits, IsOfKnown}
+use Rattle.world_runs.proofs.Tables.{same, file_in-id, file_in-stays}
 use Rattle.striped_safety.specs.StripedWorld.{Setting, StripedWorld, IsSetting, width_of}
-use Rattle.striped_safety.proofs.Follows.{MarkIs, CallAt, ClientAt, IsAt}
+use Rattle.striped_safety.proofs.Follows.{MarkIs, IsAway, CallAt, ClientAt, IsAt}
 use Rattle.striped_safety.proofs.Held.{holds_mark}
 use Rattle.striped_safety.proofs.MemberRows.{some_of}
 use Rattle.striped_safety.proofs.Places.{owner_is, first_is}
@@ -56,15 +57,15 @@ pub record IsReady (file : ℕ) (a b : WholeClient) : Type 0 where
 ready_itself : (file : ℕ) (a : WholeClient) → IsReady file a a
 ready_itself file a = record { next = refl; running = refl; made = refl; mark = λ m is. is; holds = λ h is. (h, is) }
 
-pub ready_is : (files : List DeclaredFile) (file : ℕ) (c : WholeClient) (k : Call) (o : Option ℕ) → IsReady file c (ready_for files c k o)
+pub ready_is : (files : List PlacedFile) (file : ℕ) (c : WholeClient) (k : Call) (o : Option ℕ) → IsReady file c (ready_for files c k o)
 ready_is files file c k None = ready_itself file c
 ready_is files file c k (Some n) = at (file_in files n)
   where
-    at : (o : Option Location) → IsReady file c (about_to_use c k n o)
+    at : (o : Option PlacedFile) → IsReady file c (about_to_use c k o)
     at None = ready_itself file c
-    at (Some location) =
-        let capability = declared_capability n location (epoch_of c (declared_file n) k) in
-        elim (same file n) as (λ _. IsReady file c (about_to_use c k n (Some location))) [
+    at (Some f) =
+        let capability = declared_capability f (epoch_of c f.file k) in
+        elim (same file f.file.number) as (λ _. IsReady file c (about_to_use c k (Some f))) [
           | inl e ↦
               record {
                 next = refl;
@@ -90,35 +91,101 @@ ready_client s es m c d ready is =
 
 -- ---- what is asked
 
--- what is asked is of a file that is held
-pub asked_held : (held : Held) (k : Call) (asked : Request) → IsOnContent k → request_of held k ≡ Some asked → (f : ℕ) × (h : HeldFile) × (held_of held f ≡ Some h) × (file_of asked ≡ h.capability.file.number)
-asked_held held k asked on is = by_call k on is
-  where
-    kind_file : (what : Kind) (capability : Capability) (o : Op) → file_of (on_file what capability o) ≡ capability.file.number
-    kind_file kind.Replicated capability o = refl
-    kind_file kind.Striped capability o = refl
+-- a request under this capability
+abbrev pub IsUnder : Capability → Request → Type 0
+IsUnder capability (request.Replicated other asked) = other ≡ capability
+IsUnder capability (request.Striped other asked) = other ≡ capability
+IsUnder capability _ = ⊥
 
-    under : (f : ℕ) (o : Op) (found : Option HeldFile) → held_of held f ≡ found → under_held o found ≡ Some asked → (f : ℕ) × (h : HeldFile) × (held_of held f ≡ Some h) × (file_of asked ≡ h.capability.file.number)
+one_under : (q : Request) (a b : Capability) → IsOnFile q → IsUnder a q → IsUnder b q → a ≡ b
+one_under (request.Replicated other asked) a b on one same = sym one ∙ same
+one_under (request.Striped other asked) a b on one same = sym one ∙ same
+one_under (request.Meta user group wanted) a b on one same = absurd on
+one_under (request.Registry asked) a b on one same = absurd on
+
+-- what is asked on a file is under the capability that is held of it
+pub asked_held : (held : Held) (k : Call) (asked : Request) → IsOnFile asked → request_of held k ≡ Some asked → (f : ℕ) × (h : HeldFile) × (held_of held f ≡ Some h) × IsUnder h.capability asked
+asked_held held k asked on is = by_call k is
+  where
+    kind_under : (what : Kind) (capability : Capability) (o : Op) → IsUnder capability (on_file what capability o)
+    kind_under kind.Replicated capability o = refl
+    kind_under kind.Striped capability o = refl
+
+    under : (f : ℕ) (o : Op) (found : Option HeldFile) → held_of held f ≡ found → under_held o found ≡ Some asked → (f : ℕ) × (h : HeldFile) × (held_of held f ≡ Some h) × IsUnder h.capability asked
     under f o None found wants = absurd (cc wants)
     under f o (Some h) found wants =
         let same_request : on_file h.capability.location.kind h.capability o ≡ asked = cc wants in
-        (f, h, found, sym (ap file_of same_request) ∙ kind_file h.capability.location.kind h.capability o)
+        (f, h, found, subst (IsUnder h.capability) same_request (kind_under h.capability.location.kind h.capability o))
 
-    by_call : (k : Call) → IsOnContent k → request_of held k ≡ Some asked → (f : ℕ) × (h : HeldFile) × (held_of held f ≡ Some h) × (file_of asked ≡ h.capability.file.number)
-    by_call (call.Read f object from len) on is = under f (op.Read object from len) (held_of held f) refl is
-    by_call (call.Write f object from bytes) on is = under f (op.Write object from bytes) (held_of held f) refl is
-    by_call (call.Truncate f size epoch) on is = under f (op.Truncate size) (held_of held f) refl is
-    by_call (call.Meta user group wish) on is = absurd on
-    by_call (call.Report user group f) on is = absurd on
-    by_call (call.Registry wish) on is = absurd on
+    to_server : (user group : ℕ) (wanted : MetaReq) → Some (request.Meta user group wanted) ≡ Some asked → (f : ℕ) × (h : HeldFile) × (held_of held f ≡ Some h) × IsUnder h.capability asked
+    to_server user group wanted is = absurd (let same_request : request.Meta user group wanted ≡ asked = cc is in subst IsOnFile (sym same_request) on)
 
--- the file is held then
-pub held_by_request : (files : List DeclaredFile) (held : Held) (k : Call) (asked : Request) (file : ℕ) → AllHeld (HeldFits files) held → IsOnContent k → request_of held k ≡ Some asked → file_of asked ≡ file → (h : HeldFile) × (held_of held file ≡ Some h)
-held_by_request files held k asked file all on is its =
+    reports : (user group : ℕ) (found : Option HeldFile) → report_of user group found ≡ Some asked → (f : ℕ) × (h : HeldFile) × (held_of held f ≡ Some h) × IsUnder h.capability asked
+    reports user group None is = absurd (cc is)
+    reports user group (Some h) is = to_server user group (want.Report h.capability h.mark) is
+
+    by_call : (k : Call) → request_of held k ≡ Some asked → (f : ℕ) × (h : HeldFile) × (held_of held f ≡ Some h) × IsUnder h.capability asked
+    by_call (call.Read f object from len) is = under f (op.Read object from len) (held_of held f) refl is
+    by_call (call.Write f object from bytes) is = under f (op.Write object from bytes) (held_of held f) refl is
+    by_call (call.Truncate f size epoch) is = under f (op.Truncate size) (held_of held f) refl is
+    by_call (call.Meta user group wish) is = to_server user group wish is
+    by_call (call.Report user group f) is = reports user group (held_of held f) is
+    by_call (call.Registry wish) is = absurd (let same_request : request.Registry wish ≡ asked = cc is in subst IsOnFile (sym same_request) on)
+
+-- a request is on the file, or isn't
+pub where_is : (file : ℕ) (q : Request) → (IsOnFile q × (file_of q ≡ file)) ⊎ IsAway file q
+where_is file (request.Replicated capability asked) = elim (same capability.file.number file) [ inl e ↦ inl (tt, e) | inr ne ↦ inr ne ]
+where_is file (request.Striped capability asked) = elim (same capability.file.number file) [ inl e ↦ inl (tt, e) | inr ne ↦ inr ne ]
+where_is file (request.Meta user group wanted) = inr tt
+where_is file (request.Registry asked) = inr tt
+
+-- it is of a known file,
+pub known_by_request : (files : List PlacedFile) (held : Held) (k : Call) (asked : Request) (capability : Capability) → AllHeld (HeldFits files) held → IsOnFile asked → request_of held k ≡ Some asked → IsUnder capability asked → IsOfKnown files capability
+known_by_request files held k asked capability all on is under =
     let at = asked_held held k asked on is in
     let fits = held_found (HeldFits files) held at.0 at.1 at.2 all in
-    let same_file : at.0 ≡ file = sym (ap (λ (f : FileId). f.number) fits.0) ∙ (sym at.3 ∙ its) in
+    subst (IsOfKnown files) (one_under asked at.1.capability capability on at.3 under) fits.1
+
+-- and the file is held then
+pub held_by_request : (files : List PlacedFile) (held : Held) (k : Call) (asked : Request) (capability : Capability) (file : ℕ) → AllHeld (HeldFits files) held → IsOnFile asked → request_of held k ≡ Some asked → IsUnder capability asked → capability.file.number ≡ file
+    → (h : HeldFile) × (held_of held file ≡ Some h)
+held_by_request files held k asked capability file all on is under its =
+    let at = asked_held held k asked on is in
+    let fits = held_found (HeldFits files) held at.0 at.1 at.2 all in
+    let same_file : at.0 ≡ file = sym fits.0 ∙ (ap (λ (c : Capability). c.file.number) (one_under asked at.1.capability capability on at.3 under) ∙ its) in
     (at.1, subst (λ (f : ℕ). held_of held f ≡ Some at.1) same_file at.2)
+
+-- a call that asks a server does nothing on any file
+pub server_call : (held : Held) (k : Call) (asked : Request) → (IsOnFile asked → ⊥) → request_of held k ≡ Some asked → (file : ℕ) → operation_on file (Some k) ≡ None
+server_call held k asked off is file = by_call k is
+  where
+    on_kind : (what : Kind) (capability : Capability) (o : Op) → IsOnFile (on_file what capability o)
+    on_kind kind.Replicated capability o = tt
+    on_kind kind.Striped capability o = tt
+
+    under : (o : Op) (found : Option HeldFile) → under_held o found ≡ Some asked → ⊥
+    under o None wants = cc wants
+    under o (Some h) wants = (let same_request : on_file h.capability.location.kind h.capability o ≡ asked = cc wants in off (subst IsOnFile same_request (on_kind h.capability.location.kind h.capability o)))
+
+    by_call : (k : Call) → request_of held k ≡ Some asked → operation_on file (Some k) ≡ None
+    by_call (call.Read f object from len) is = absurd (under (op.Read object from len) (held_of held f) is)
+    by_call (call.Write f object from bytes) is = absurd (under (op.Write object from bytes) (held_of held f) is)
+    by_call (call.Truncate f size epoch) is = absurd (under (op.Truncate size) (held_of held f) is)
+    by_call (call.Meta user group wish) is = refl
+    by_call (call.Report user group f) is = refl
+    by_call (call.Registry wish) is = refl
+
+-- what a client holds that is about to use a declared file is of known files
+pub ready_held : (files made : List PlacedFile) (c : WholeClient) (k : Call) (o : Option ℕ) → AllHeld (HeldFits (files ++ made)) c.held → AllHeld (HeldFits (files ++ made)) (ready_for files c k o).held
+ready_held files made c k None all = all
+ready_held files made c k (Some n) all = at (file_in files n) refl
+  where
+    at : (o : Option PlacedFile) → file_in files n ≡ o → AllHeld (HeldFits (files ++ made)) (about_to_use c k o).held
+    at None found = all
+    at (Some f) found =
+        let there = file_in-stays files made n f found in
+        holds_held (HeldFits (files ++ made)) c.held (declared_capability f (epoch_of c f.file k)) (record { epoch = 0; size = 0 })
+        (refl, ap (file_in (files ++ made)) (file_in-id files n f found) ∙ there) all
 
 -- ---- a call
 

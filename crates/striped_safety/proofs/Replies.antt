@@ -1,6 +1,6 @@
--- An Ok that an OSD tells is of a declared file, and of a call that has begun on it
+-- An Ok that an OSD tells is of a known file, and of a call that has begun on it
 use Rattle.std.proofs.Common.{◌≡◌, ℕ, inl, inr, List, [], ◌∷◌, ◌++◌, refl, ap, sym, ◌∙◌, subst, Some, Bool, true, false}
-use Rattle.std.specs.Prelude.{◌⊎◌, cond}
+use Rattle.std.specs.Prelude.{◌⊎◌, cond, Option, None}
 use Rattle.xt_base.specs.declared.ids.NodeId.{NodeId}
 use Rattle.xt_base.specs.declared.ids.FileId.{FileId}
 use Rattle.xt_base.specs.declared.ids.OpId.{OpId}
@@ -23,7 +23,7 @@ use Rattle.xt_protocol.specs.FileStates.{FileState, Site}
 use Rattle.xt_protocol.specs.FileSteps.{step_of_file, wake_of_file}
 use Rattle.xt_protocol.specs.Overdue.{expired}
 use Rattle.xt_protocol.specs.OsdSteps.{OsdState, OsdStep, file_at, file_concerned}
-use Rattle.osd_invariants.specs.Sound.{IsHeld}
+use Rattle.osd_invariants.specs.Sound.{IsHeld, IsStored}
 use Rattle.lease_runs.specs.ActsView.{MarksAre, no_marks, won, acting}
 use Rattle.lease_runs.specs.LeaseView.{settled_row}
 use Rattle.lease_runs.specs.OsdView.{wake_step}
@@ -32,10 +32,12 @@ use Rattle.lease_runs.proofs.OsdLeases.{at_file}
 use Rattle.time_line.specs.declared.entry.Entry.{Entry}
 use Rattle.time_line.specs.Clauses.{HasBegunOn}
 use Rattle.time_line.specs.TimeLine.{id_of}
-use Rattle.world_spec.specs.World.{World, Node, Running, osd}
-use Rattle.world_spec.specs.Lines.{declared_file}
+use Rattle.world_spec.specs.World.{World, Node, Running, osd, known}
+use Rattle.world_spec.specs.declared.PlacedFile.{PlacedFile}
 use Rattle.world_runs.specs.View.{awake_as, messages}
-use Rattle.world_runs.specs.Worlds.{AskFits, CoreFits, UpFits}
+use Rattle.xt_messages.specs.declared.file.Location.{Location}
+use Rattle.world_runs.specs.Worlds.{IsKnown, Listed, PayloadFits, CoreFits, UpFits}
+use Rattle.world_runs.proofs.Tables.{AllStay}
 use Rattle.world_runs.proofs.Calls.{ContentIs}
 use Rattle.world_runs.proofs.Entries.{begun_on-grown}
 use Rattle.world_runs.proofs.FileIds.{FileIs, HasCome, IsStripedReply, expired_is, step_is, wake_is}
@@ -53,33 +55,39 @@ use Rattle.world_safety.proofs.OsdFiles.{woken_about}
 use Rattle.world_safety.proofs.Senders.{one_of, message_from}
 use Rattle.striped_safety.proofs.OsdSteps.{OsdStepIs, rests, heard, woke, osd_step_is}
 
--- an Ok is of the declared file that its call has begun on
-abbrev pub OkIs : List Entry → NodeId → ℕ → FileId → Reply → Type 0
-OkIs es to number file (reply.Ok count size bytes) = (file ≡ declared_file file.number) × HasBegunOn file.number es (id_of to number)
-OkIs es to number file _ = Unit {0}
+-- an Ok is of a known file, which its call has begun on
+abbrev pub OkIs : List PlacedFile → List Entry → NodeId → ℕ → FileId → Reply → Type 0
+OkIs files es to number file (reply.Ok count size bytes) = ((l : Location) × IsKnown files file l) × HasBegunOn file.number es (id_of to number)
+OkIs files es to number file _ = Unit {0}
 
-abbrev pub ReplyIs : List Entry → NodeId → Payload → Type 0
-ReplyIs es to (payload.Reply number file answer) = OkIs es to number file answer
-ReplyIs es to _ = Unit {0}
+abbrev pub ReplyIs : List PlacedFile → List Entry → NodeId → Payload → Type 0
+ReplyIs files es to (payload.Reply number file answer) = OkIs files es to number file answer
+ReplyIs files es to _ = Unit {0}
 
 -- So are all that were sent.
 abbrev pub RepliesAre : World → List Msg → Type 0
-RepliesAre w own = (m : Msg) → Has m (own ++ messages w) → ReplyIs w.entries m.to m.payload
+RepliesAre w own = (m : Msg) → Has m (own ++ messages w) → ReplyIs (known w) w.entries m.to m.payload
 
-ok_grown : (es more : List Entry) (to : NodeId) (number : ℕ) (file : FileId) (answer : Reply) → OkIs es to number file answer → OkIs (es ++ more) to number file answer
-ok_grown es more to number file (reply.Ok count size bytes) is = (is.0, begun_on-grown file.number es more (id_of to number) is.1)
-ok_grown es more to number file (reply.NoLease end) is = tt
-ok_grown es more to number file (reply.NoMajority have need) is = tt
-ok_grown es more to number file (reply.Elsewhere node end) is = tt
-ok_grown es more to number file (reply.Denied why) is = tt
-ok_grown es more to number file (reply.OldList version) is = tt
-ok_grown es more to number file (reply.OldEpoch epoch) is = tt
-ok_grown es more to number file (reply.TooFar object) is = tt
-ok_grown es more to number file reply.ClientsFull is = tt
+ok_grown : (files later : List PlacedFile) (es more : List Entry) (to : NodeId) (number : ℕ) (file : FileId) (answer : Reply) → AllStay files later → OkIs files es to number file answer → OkIs later (es ++ more) to number file answer
+ok_grown files later es more to number file (reply.Ok count size bytes) stay is =
+    ((is.0.0, stay file.number (record { file = file; location = is.0.0 }) is.0.1), begun_on-grown file.number es more (id_of to number) is.1)
+ok_grown files later es more to number file (reply.NoLease end) stay is = tt
+ok_grown files later es more to number file (reply.NoMajority have need) stay is = tt
+ok_grown files later es more to number file (reply.Elsewhere node end) stay is = tt
+ok_grown files later es more to number file (reply.Denied why) stay is = tt
+ok_grown files later es more to number file (reply.OldList version) stay is = tt
+ok_grown files later es more to number file (reply.OldEpoch epoch) stay is = tt
+ok_grown files later es more to number file (reply.TooFar object) stay is = tt
+ok_grown files later es more to number file reply.ClientsFull stay is = tt
 
-pub reply_grown : (es more : List Entry) (to : NodeId) (content : Payload) → ReplyIs es to content → ReplyIs (es ++ more) to content
-reply_grown es more to (payload.Reply number file answer) is = ok_grown es more to number file answer is
-reply_grown es more to _ is = tt
+pub reply_grown : (files later : List PlacedFile) (es more : List Entry) (to : NodeId) (content : Payload) → AllStay files later → ReplyIs files es to content → ReplyIs later (es ++ more) to content
+reply_grown files later es more to (payload.Reply number file answer) stay is = ok_grown files later es more to number file answer stay is
+reply_grown files later es more to _ stay is = tt
+
+-- a stored list is that of a known file
+stored_known : (files : List PlacedFile) (file : FileId) (o : Option Location) → IsStored o → Listed files file o → (l : Location) × IsKnown files file l
+stored_known files file None stored listed = absurd stored
+stored_known files file (Some l) stored listed = (l, listed)
 
 -- ---- marks
 
@@ -115,9 +123,9 @@ has_come es site file f from to _ concerns same is = tt
 some_file : (a b : FileId) → Some a ≡ Some b → a ≡ b
 some_file a b is = cc
 
-pub core_fits : (w : World) (was : List Msg) (node : Node) (r : Running) (s : OsdState) → IsFit w was → RunsAs w node r s → CoreFits w.times w.files node.id node.kept r (osd s)
+pub core_fits : (w : World) (was : List Msg) (node : Node) (r : Running) (s : OsdState) → IsFit w was → RunsAs w node r s → CoreFits w.times (known w) node.id node.kept r (osd s)
 core_fits w was node r s fit its =
-    subst (CoreFits w.times w.files node.id node.kept r) its.core (subst (UpFits w.times w.files node.id node.kept) its.up (fit.shape.nodes node.id.0 node its.found).up)
+    subst (CoreFits w.times (known w) node.id node.kept r) its.core (subst (UpFits w.times (known w) node.id node.kept) its.up (fit.shape.nodes node.id.0 node its.found).up)
 
 core_is : (w : World) (was : List Msg) (node : Node) (r : Running) (s : OsdState) → Fits w was → RunsAs w node r s → CoreIs w.entries node.id (osd s)
 core_is w was node r s ends its = subst (CoreIs w.entries node.id) its.core (subst (UpIs w.entries node.id) its.up (ends.nodes_are node.id.0 node its.found))
@@ -126,31 +134,31 @@ module _ (w : World) (was : List Msg) (node : Node) (r : Running) (s : OsdState)
   -- an Ok of a step of a file on a message
   said_ok : (msg : Msg) (g : FileId) → Has msg (was ++ messages w) → file_concerned msg.payload ≡ Some g → (m : Msg) (number : ℕ) (file : FileId) (count : ℕ) (bytes : List ℕ) → file ≡ (file_seen g s).kept.file
       → Said (λ (id : OpId). HasBegunOn (file_seen g s).kept.file.number w.entries id) (file_seen g s).kept.file.number (step_of_file (site_at node r s) (file_seen g s) msg.from msg.payload).turned.marks m.to (payload.Reply number file (reply.Ok count (record { epoch = 0; size = 0 }) bytes))
-      → (file ≡ declared_file file.number) × HasBegunOn file.number w.entries (id_of m.to number)
+      → ((l : Location) × IsKnown (known w) file l) × HasBegunOn file.number w.entries (id_of m.to number)
   said_ok msg g has concerns m number file count bytes same said =
       let f = file_seen g s in
       let site = site_at node r s in
-      let fits = at_fits w.files (awake_as s.started) s.files g (core_fits w was node r s fit its).0.fits in
+      let fits = at_fits (known w) (awake_as s.started) s.files g (core_fits w was node r s fit its).0.fits in
       let held = act_held f.kept.file (settled_row site f).lease (step_of_file site f msg.from msg.payload).turned.marks f.kept.file.number (id_of m.to number) count bytes (step_marks site f msg.from msg.payload) said.1 in
-      let declared = fits.declared (unbusy f.lease site.now (held_busy (settled_row site f).lease held)) in (
-        subst (λ (k : FileId). k ≡ declared_file k.number) (sym same) declared,
+      let declared = stored_known (known w) f.kept.file f.kept.location (fits.stored (unbusy f.lease site.now (held_busy (settled_row site f).lease held))) fits.listed in (
+        subst (λ (k : FileId). (l : Location) × IsKnown (known w) k l) (sym same) declared,
         subst (λ (k : FileId). HasBegunOn k.number w.entries (id_of m.to number)) (sym same) said.0,
       )
 
   -- an Ok to the client of an ask on a striped file
   striped_ok : (msg : Msg) (g : FileId) → Has msg (was ++ messages w) → file_concerned msg.payload ≡ Some g → (m : Msg) (number : ℕ) (file : FileId) (answer : Reply) → file ≡ g → m.payload ≡ payload.Reply number file answer
-      → IsStripedReply msg.from msg.payload m → (file ≡ declared_file file.number) × HasBegunOn file.number w.entries (id_of m.to number)
-  striped_ok msg g has concerns m number file answer same is replies = at msg.payload refl replies concerns (fit.shape.asks msg has) (ends.messages msg has)
+      → IsStripedReply msg.from msg.payload m → ((l : Location) × IsKnown (known w) file l) × HasBegunOn file.number w.entries (id_of m.to number)
+  striped_ok msg g has concerns m number file answer same is replies = at msg.payload refl replies concerns (fit.shape.payloads msg has) (ends.messages msg has)
     where
       same_number : (a b : ℕ) (x y : FileId) (p q : Reply) → payload.Reply a x p ≡ payload.Reply b y q → a ≡ b
       same_number a b x y p q e = cc e
 
-      at : (content : Payload) → msg.payload ≡ content → IsStripedReply msg.from content m → file_concerned content ≡ Some g → AskFits w.files content → ContentIs w.entries msg.from msg.to content
-          → (file ≡ declared_file file.number) × HasBegunOn file.number w.entries (id_of m.to number)
+      at : (content : Payload) → msg.payload ≡ content → IsStripedReply msg.from content m → file_concerned content ≡ Some g → PayloadFits (known w) content → ContentIs w.entries msg.from msg.to content
+          → ((l : Location) × IsKnown (known w) file l) × HasBegunOn file.number w.entries (id_of m.to number)
       at (payload.Ask k capability asked) e told about declared begun =
           let its : capability.file ≡ file = some_file capability.file g about ∙ sym same in
           let its_number : k ≡ number = same_number k number told.2 file told.3 answer (sym told.4 ∙ is) in (
-            subst (λ (x : FileId). x ≡ declared_file x.number) its declared.0,
+            subst (λ (x : FileId). (l : Location) × IsKnown (known w) x l) its (capability.location, declared),
             subst (λ (x : FileId). HasBegunOn x.number w.entries (id_of m.to number)) its
                 (subst (λ (to : NodeId). HasBegunOn capability.file.number w.entries (id_of to number)) (sym told.1)
                 (subst (λ (n : ℕ). HasBegunOn capability.file.number w.entries (id_of msg.from n)) its_number (asked, begun.0))),
@@ -162,7 +170,7 @@ module _ (w : World) (was : List Msg) (node : Node) (r : Running) (s : OsdState)
 
   -- any message of a step on a message
   message_reply : (msg : Msg) (g : FileId) → IsAwake r s → Has msg (was ++ messages w) → file_concerned msg.payload ≡ Some g → (m : Msg) → Has m (step_at node r s (event.Deliver msg)).turned.outs
-      → ReplyIs w.entries m.to m.payload
+      → ReplyIs (known w) w.entries m.to m.payload
   message_reply msg g awake has concerns m h = by_payload m.payload refl
     where
       f : FileState
@@ -184,7 +192,7 @@ module _ (w : World) (was : List Msg) (node : Node) (r : Running) (s : OsdState)
           (at_is w.entries (awake_as s.started) s.files g (core_is w was node r s ends its))
           (has_come w.entries (site_at node r s) g (file_seen g s).kept.file msg.from msg.to msg.payload concerns (at_file (awake_as s.started) s.files g) (ends.messages msg has))).said m out
 
-      ok : (number : ℕ) (file : FileId) (count : ℕ) (size : SizeMark) (bytes : List ℕ) → m.payload ≡ payload.Reply number file (reply.Ok count size bytes) → (file ≡ declared_file file.number) × HasBegunOn file.number w.entries (id_of m.to number)
+      ok : (number : ℕ) (file : FileId) (count : ℕ) (size : SizeMark) (bytes : List ℕ) → m.payload ≡ payload.Reply number file (reply.Ok count size bytes) → ((l : Location) × IsKnown (known w) file l) × HasBegunOn file.number w.entries (id_of m.to number)
       ok number file count size bytes is =
           let same = reply_file number file (reply.Ok count size bytes) (file_seen g s).kept.file m.payload is about in
           elim told [
@@ -193,7 +201,7 @@ module _ (w : World) (was : List Msg) (node : Node) (r : Running) (s : OsdState)
             | inr striped ↦ striped_ok msg g has concerns m number file (reply.Ok count size bytes) (same ∙ its_file) is striped
           ]
 
-      by_answer : (number : ℕ) (file : FileId) (answer : Reply) → m.payload ≡ payload.Reply number file answer → OkIs w.entries m.to number file answer
+      by_answer : (number : ℕ) (file : FileId) (answer : Reply) → m.payload ≡ payload.Reply number file answer → OkIs (known w) w.entries m.to number file answer
       by_answer number file (reply.Ok count size bytes) is = ok number file count size bytes is
       by_answer number file (reply.NoLease end) is = tt
       by_answer number file (reply.NoMajority have need) is = tt
@@ -204,7 +212,7 @@ module _ (w : World) (was : List Msg) (node : Node) (r : Running) (s : OsdState)
       by_answer number file (reply.TooFar object) is = tt
       by_answer number file reply.ClientsFull is = tt
 
-      by_payload : (content : Payload) → m.payload ≡ content → ReplyIs w.entries m.to content
+      by_payload : (content : Payload) → m.payload ≡ content → ReplyIs (known w) w.entries m.to content
       by_payload (payload.Reply number file answer) is = by_answer number file answer is
       by_payload _ is = tt
 
@@ -225,18 +233,18 @@ module _ (w : World) (was : List Msg) (node : Node) (r : Running) (s : OsdState)
       subst (Has (mark.Answer f.kept.file.number (id_of m.to number) count bytes)) (wake_step_marks site f) marked
 
   -- So is what an OSD tells in any step.
-  pub osd_replies : (happens : Event) → Reaches w was node.id happens → (m : Msg) → Has m (step_at node r s happens).turned.outs → ReplyIs w.entries m.to m.payload
+  pub osd_replies : (happens : Event) → Reaches w was node.id happens → (m : Msg) → Has m (step_at node r s happens).turned.outs → ReplyIs (known w) w.entries m.to m.payload
   osd_replies happens reaches m h = by_payload m.payload refl
     where
-      ok : (number : ℕ) (file : FileId) (count : ℕ) (size : SizeMark) (bytes : List ℕ) → m.payload ≡ payload.Reply number file (reply.Ok count size bytes) → (file ≡ declared_file file.number) × HasBegunOn file.number w.entries (id_of m.to number)
+      ok : (number : ℕ) (file : FileId) (count : ℕ) (size : SizeMark) (bytes : List ℕ) → m.payload ≡ payload.Reply number file (reply.Ok count size bytes) → ((l : Location) × IsKnown (known w) file l) × HasBegunOn file.number w.entries (id_of m.to number)
       ok number file count size bytes is = at (osd_step_is node r s happens) reaches h
         where
-          at : {e : Event} → OsdStepIs node r s e → Reaches w was node.id e → Has m (step_at node r s e).turned.outs → (file ≡ declared_file file.number) × HasBegunOn file.number w.entries (id_of m.to number)
+          at : {e : Event} → OsdStepIs node r s e → Reaches w was node.id e → Has m (step_at node r s e).turned.outs → ((l : Location) × IsKnown (known w) file l) × HasBegunOn file.number w.entries (id_of m.to number)
           at (rests e quiet) reaches h = absurd (subst (λ (t : Turned). Has m t.outs) quiet h)
-          at (heard msg g awake concerns) reaches h = subst (ReplyIs w.entries m.to) is (message_reply msg g awake reaches.1 concerns m h)
+          at (heard msg g awake concerns) reaches h = subst (ReplyIs (known w) w.entries m.to) is (message_reply msg g awake reaches.1 concerns m h)
           at (woke awake) reaches h = absurd (wake_silent awake m h number file count size bytes is)
 
-      by_answer : (number : ℕ) (file : FileId) (answer : Reply) → m.payload ≡ payload.Reply number file answer → OkIs w.entries m.to number file answer
+      by_answer : (number : ℕ) (file : FileId) (answer : Reply) → m.payload ≡ payload.Reply number file answer → OkIs (known w) w.entries m.to number file answer
       by_answer number file (reply.Ok count size bytes) is = ok number file count size bytes is
       by_answer number file (reply.NoLease end) is = tt
       by_answer number file (reply.NoMajority have need) is = tt
@@ -247,6 +255,6 @@ module _ (w : World) (was : List Msg) (node : Node) (r : Running) (s : OsdState)
       by_answer number file (reply.TooFar object) is = tt
       by_answer number file reply.ClientsFull is = tt
 
-      by_payload : (content : Payload) → m.payload ≡ content → ReplyIs w.entries m.to content
+      by_payload : (content : Payload) → m.payload ≡ content → ReplyIs (known w) w.entries m.to content
       by_payload (payload.Reply number file answer) is = by_answer number file answer is
       by_payload _ is = tt

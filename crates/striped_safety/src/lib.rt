@@ -5,7 +5,8 @@
 //! far the client is. A member may get any ask at any time, as often as it comes, may stop after its record or before it, and may forget
 //! bodies that its head doesn't name. That reads show the content is shown there, over every list of moves. Each step of a run is then shown
 //! to be such moves, or none, for every striped file and every client; or the client hasn't the file to itself, or a call of it never ends
-//! well. Theorems alone; nothing runs here.
+//! well. A step of the metadata server or the directory service is none. A grant brings a mark of the file, but none that is above the
+//! client's own: marks come from replies alone, and no other client has any. Theorems alone; nothing runs here.
 #![tactic(auto)]
 
 ghost use Rattle.std.specs.Prelude.{◌≡◌, None, List, [], ◌∷◌, ◌++◌};
@@ -23,7 +24,7 @@ ghost use Rattle.striped_safety.specs.StripedWorld.{Setting, Move, ReadShown, Is
 
 /// The trace of every run of any lines is safe for striped files, and so it is after some steps of a line more: where one client alone
 /// has begun calls on a striped file, and each of these has ended well, each read shows the asked range of what the operations begun before
-/// it made, in their order.
+/// it made, in their order. The client may do anything else between: calls on other files, and to the servers.
 pub fn striped_files_are_safe()
     ensures whole { (room : Room) (lines : List Line) → AreLines lines →
         IsStripedSafe (run_of room lines).entries }

@@ -32,15 +32,15 @@ use Rattle.xt_protocol.specs.Overdue.{expired}
 use Rattle.replica_runs.specs.FileView.{IsList, AskComes}
 use Rattle.replica_runs.proofs.Files.{expired_none}
 use Rattle.replica_runs.specs.HeadWorld.{shown}
-use Rattle.world_spec.specs.declared.DeclaredFile.{DeclaredFile}
+use Rattle.world_spec.specs.declared.PlacedFile.{PlacedFile}
 use Rattle.time_line.specs.declared.entry.Entry.{Entry}
 use Rattle.time_line.specs.TimeLine.{id_of, operation_begun}
 use Rattle.world_spec.specs.World.{file_in}
-use Rattle.world_runs.specs.Worlds.{AskFits}
+use Rattle.world_runs.specs.Worlds.{PayloadFits}
 use Rattle.world_runs.proofs.Lists.{has_in, has_left}
 use Rattle.world_runs.specs.Asks.{HasBegunSo}
 use Rattle.world_runs.proofs.Entries.{operation-grown}
-use Rattle.world_safety.specs.Asks.{operation_or_none, operations_of, AreOperations, IsOutside, DeclaredList, IsSameButSent}
+use Rattle.world_safety.specs.Asks.{operation_or_none, operations_of, AreOperations, IsOutside, KnownList, IsSameButSent}
 
 same_file : (a b : FileId) → Some a ≡ Some b → a ≡ b
 same_file a b is = cc
@@ -48,16 +48,16 @@ same_file a b is = cc
 true_false : true ≡ false → ⊥
 true_false e = cc e
 
-pub messages_come : (stripe : ℕ) (ops : ℕ × ℕ → Op) (members : List ℕ) (files : List DeclaredFile) (entries : List Entry) (file : FileId) (from : NodeId) (content : Payload)
-    → file_concerned content ≡ Some file → AskFits files content → HasBegunSo entries from content → AreOperations ops file.number entries
-    → DeclaredList files file.number stripe members → AskComes stripe ops members from content ⊎ IsOutside content
+pub messages_come : (stripe : ℕ) (ops : ℕ × ℕ → Op) (members : List ℕ) (files : List PlacedFile) (entries : List Entry) (file : FileId) (from : NodeId) (content : Payload)
+    → file_concerned content ≡ Some file → PayloadFits files content → HasBegunSo entries from content → AreOperations ops file.number entries
+    → KnownList files file stripe members → AskComes stripe ops members from content ⊎ IsOutside content
 messages_come stripe ops members files entries file from (payload.Ask number capability asked) concerns fits begun are lists = at (leaves_object capability.location.stripe asked) refl
   where
     its_file : capability.file.number ≡ file.number
     its_file = ap (λ (f : FileId). f.number) (same_file capability.file file concerns)
 
     list : IsList stripe members capability.location
-    list = lists capability.location (sym (ap (file_in files) its_file) ∙ fits.1)
+    list = (lists (record { file = capability.file; location = capability.location }) (sym (ap (file_in files) its_file) ∙ fits)).1
 
     asked_so : ops (from.0, number) ≡ asked
     asked_so = are (id_of from number) asked (sym (ap (λ (k : ℕ). operation_begun k entries (id_of from number)) its_file) ∙ begun.0)

@@ -12,7 +12,7 @@ use Rattle.osd_invariants.specs.Sound.{IsHeld}
 use Rattle.file_runs.specs.FileRuns.{FileWorld, Sent, Tale, Event, Happening, message, wake, Ending, stops_kept, stops_lost, acts, step_on, Comes, OwnComes, MayEnd, May, after, after_all}
 use Rattle.time_line.specs.declared.entry.Entry.TheVariants as entry
 use Rattle.time_line.specs.Clauses.{AreApart}
-use Rattle.world_spec.specs.World.{World, Node, Running, osd, puts}
+use Rattle.world_spec.specs.World.{World, Node, Running, osd, puts, known}
 use Rattle.world_spec.specs.NodeSteps.{halted, one_more, one_put}
 use Rattle.world_runs.specs.View.{messages}
 use Rattle.world_runs.specs.Worlds.{IsInOrder, Leads, CoreFits, UpFits}
@@ -72,8 +72,8 @@ module _ (stripe : ℕ) (ops : ℕ × ℕ → Op) (members : List ℕ) (file : F
   -- nobody else leads where a Wake leaves the lease held
   wake_alone : AreApart file.number w.entries → IsHeld (step_on (site_at node r s) (file_seen file s) wake).state.lease → (m : ℕ) → Leads w file m → m ≡ node.id.0
   wake_alone apart is m lead =
-      let fits : CoreFits w.times w.files node.id node.kept r (osd s)
-      = subst (CoreFits w.times w.files node.id node.kept r) its.core (subst (UpFits w.times w.files node.id node.kept) its.up (order.nodes node.id.0 node its.found).up) in
+      let fits : CoreFits w.times (known w) node.id node.kept r (osd s)
+      = subst (CoreFits w.times (known w) node.id node.kept r) its.core (subst (UpFits w.times (known w) node.id node.kept) its.up (order.nodes node.id.0 node its.found).up) in
       winners_are_alone file w own node r s order apart its
       (subst (λ (c : ℕ). IsHeld (lease_expired (file_seen file s).lease c)) (later r.clock s.last fits.0.last) (wake_found (site_at node r s) (file_seen file s) is)) m lead
 

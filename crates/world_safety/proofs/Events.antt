@@ -1,6 +1,8 @@
 -- what the nodes of a file do where a node of the world steps, stops or starts
-use Rattle.std.proofs.Common.{◌≡◌, ℕ, inl, inr, List, [], ◌∷◌, ◌++◌, map, refl, ap, sym, ◌∙◌, subst, Option, Some, None, Bool, true, false}
+use Rattle.std.proofs.Common.{◌≡◌, ◌≢◌, ℕ, inl, inr, List, [], ◌∷◌, ◌++◌, map, refl, ap, sym, ◌∙◌, subst, Option, Some, None, Bool, true, false}
 use Rattle.std.specs.Prelude.{cond, max, ◌⊎◌}
+use Rattle.xt_base.specs.TimeSettings.{TimeSettings}
+use Rattle.xt_base.specs.declared.ids.Boot.{Boot}
 use Rattle.xt_base.specs.declared.ids.FileId.{FileId}
 use Rattle.xt_messages.specs.declared.event.Event.{Event}
 use Rattle.xt_messages.specs.declared.event.Event.TheVariants as event
@@ -25,15 +27,17 @@ use Rattle.lease_runs.specs.OsdView.{wake_step}
 use Rattle.lease_runs.proofs.OsdLeases.{file_at-with_file, at_file, step_keeps, message_step, put_here, put_there, woken_step, wake_shows, handled, woke_all}
 use Rattle.lease_runs.proofs.ActSteps.{step_rec, wake_step_rec, wake_step_kept, woken_quiet}
 use Rattle.file_runs.specs.FileRuns.{FileNode, FileWorld, Happening, wake, goes_on, stops_kept, stops_lost, acts, starts, after, acted, keeping}
+use Rattle.world_spec.specs.declared.Role.{Role}
+use Rattle.world_spec.specs.declared.Role.TheVariants as role
 use Rattle.world_spec.specs.World.{World, Node, Running, osd, node_in, loads, puts}
 use Rattle.world_spec.specs.NodeSteps.{outside_of, after_turn, halted, one_more, one_put}
-use Rattle.world_spec.specs.Lines.{starts_as, next_boot, osd_starting, runs}
+use Rattle.world_spec.specs.Lines.{starts_as, next_boot, core_starting, runs}
 use Rattle.world_runs.specs.View.{awake_as}
 use Rattle.world_runs.proofs.Woken.{AtMap, found_at, found_nowhere, at_map}
-use Rattle.world_safety.specs.Seen.{file_seen, core_state, up_state, kept_seen, nodes_seen, Sees, IsOf, IsElsewhere, IsNotOf}
+use Rattle.world_safety.specs.Seen.{file_seen, core_state, up_state, kept_seen, node_seen, nodes_seen, Sees, IsOf, IsElsewhere, IsNotOf}
 use Rattle.world_safety.specs.Events.{RunsAs, IsAwake, site_at, step_at, stepped, ShowsMessage, ShowsOthers}
 use Rattle.world_safety.proofs.Records.{keeps_other}
-use Rattle.world_safety.proofs.Nodes.{put, put_seen, here, own, other, lost}
+use Rattle.world_safety.proofs.Nodes.{put, put_seen, at_node-same, here, own, other, lost}
 
 -- ---- whose record it is
 
@@ -245,13 +249,17 @@ started_at awake (x ∷ xs) file = at (is_file x.file file) (started_at awake xs
     at true rest = refl
     at false rest = rest
 
-pub starts_show : (file : FileId) (w : World) (node : Node) (clock : ℕ) (v : FileWorld) → node_in w.nodes node.id.0 ≡ Some node → node.up ≡ None → Sees file w v
+-- the node that has started
+abbrev pub begun_as : World → Node → Boot → ℕ → Node
+begun_as w node boot clock =
+    record node { kept = node.kept ++ kept.Boot boot ∷ []; past = node.past ++ loads ∷ puts (kept.Boot boot) ∷ []; up = Some (runs boot clock (core_starting w.times node boot clock node.role)) }
+
+pub starts_show : (file : FileId) (w : World) (node : Node) (clock : ℕ) (v : FileWorld) → node_in w.nodes node.id.0 ≡ Some node → node.up ≡ None → node.role ≡ role.Osd → Sees file w v
     → Sees file (starts_as w node (next_boot node.kept) clock) (after v (starts node.id.0 (record { node = node.id; boot = next_boot node.kept; times = w.times })))
-starts_show file w node clock v found down sees =
+starts_show file w node clock v found down is_osd sees =
     let n = node.id.0 in
     let boot = next_boot node.kept in
     let awake : Awake = record { node = node.id; boot = boot; times = w.times } in
-    let up : Option Running = Some (runs boot clock (osd (osd_starting w.times node boot clock))) in
     let there = here file w node found v sees in
     let row = row_in (fold_of node.kept).files file in
     let begun : Option FileState = Some (file_from awake row) in
@@ -259,4 +267,25 @@ starts_show file w node clock v found down sees =
     ∙ (ap (λ (nodes : ℕ → FileNode). at_node n (kept_seen file node.kept begun) nodes) sees
     ∙ (ap (λ (x : FileNode). at_node n x (nodes_seen file w)) (sym (keeps_other file node.kept begun (Some (kept.Boot boot)) tt))
     ∙ (ap (λ (x : FileState). at_node n (kept_seen file (one_more node.kept (Some (kept.Boot boot))) (Some x)) (nodes_seen file w)) (sym (started_at awake (fold_of node.kept).files file))
-    ∙ sym (put_seen file w (record node { kept = node.kept ++ kept.Boot boot ∷ []; past = node.past ++ loads ∷ puts (kept.Boot boot) ∷ []; up = up }) node found))))
+    ∙ (ap (λ (its : Role). at_node n (kept_seen file (one_more node.kept (Some (kept.Boot boot))) (core_state file (core_starting w.times node boot clock its))) (nodes_seen file w)) (sym is_osd)
+    ∙ sym (put_seen file w (begun_as w node boot clock) node found)))))
+
+-- what starts at a node that isn't an OSD has no files
+no_state : (file : FileId) (times : TimeSettings) (node : Node) (boot : Boot) (clock : ℕ) (its : Role) → its ≢ role.Osd → core_state file (core_starting times node boot clock its) ≡ None
+no_state file times node boot clock role.Osd ne = absurd (ne refl)
+no_state file times node boot clock role.Client ne = refl
+no_state file times node boot clock role.Mrc ne = refl
+no_state file times node boot clock role.Dir ne = refl
+
+pub servers_rest : (file : FileId) (w : World) (node : Node) (clock : ℕ) (v : FileWorld) → node_in w.nodes node.id.0 ≡ Some node → node.up ≡ None → node.role ≢ role.Osd → Sees file w v
+    → Sees file (starts_as w node (next_boot node.kept) clock) v
+servers_rest file w node clock v found down no_osd sees =
+    let n = node.id.0 in
+    let boot = next_boot node.kept in
+    let none = no_state file w.times node boot clock node.role no_osd in
+    sees
+    ∙ (sym (at_node-same (nodes_seen file w) n)
+    ∙ (ap (λ (x : FileNode). at_node n x (nodes_seen file w))
+    (ap (node_seen file) found ∙ (ap (λ (u : Option Running). kept_seen file node.kept (up_state file u)) down
+    ∙ (sym (keeps_other file node.kept None (Some (kept.Boot boot)) tt) ∙ ap (kept_seen file (one_more node.kept (Some (kept.Boot boot)))) (sym none))))
+    ∙ sym (put_seen file w (begun_as w node boot clock) node found)))

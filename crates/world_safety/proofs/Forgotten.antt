@@ -21,8 +21,7 @@ use Rattle.lease_runs.specs.OsdView.{site_of}
 use Rattle.replica_safety.specs.Lists.{Has}
 use Rattle.replica_safety.specs.Epochs.{at_node}
 use Rattle.file_runs.specs.FileRuns.{FileNode, FileWorld, forgets, MayForget}
-use Rattle.world_spec.specs.World.{World, Node, Running, osd, node_in, with_node}
-use Rattle.world_spec.specs.Lines.{declared_file}
+use Rattle.world_spec.specs.World.{World, Node, Running, osd, node_in, with_node, known}
 use Rattle.world_spec.specs.NodeSteps.{outside_of, rewritten_at}
 use Rattle.world_runs.specs.View.{awake_as}
 use Rattle.world_runs.specs.Worlds.{IsInOrder, Leads, CoreFits, UpFits}
@@ -32,7 +31,7 @@ use Rattle.forgetting.proofs.Bodies as bodies
 use Rattle.forgetting.proofs.Held.{met, was_there}
 use Rattle.forgetting.proofs.Named as named
 use Rattle.forgetting.proofs.Named.{or_right}
-use Rattle.world_safety.specs.Asks.{AreOperations, DeclaredList}
+use Rattle.world_safety.specs.Asks.{AreOperations, KnownList}
 use Rattle.world_safety.specs.Seen.{file_seen, up_state, kept_seen, nodes_seen, Sees}
 use Rattle.world_safety.specs.Events.{RunsAs}
 use Rattle.world_safety.specs.Runs.{IsShownBy, LeadsTo, FilesAreRuns}
@@ -60,8 +59,8 @@ module _ (file : FileId) (w : World) (own : List Msg) (node : Node) (r : Running
   abbrev pub row : FileRow
   row = row_in (fold_of node.kept).files file
 
-  fits : CoreFits w.times w.files node.id node.kept r (osd s)
-  fits = subst (CoreFits w.times w.files node.id node.kept r) its.core (subst (UpFits w.times w.files node.id node.kept) its.up (order.nodes node.id.0 node its.found).up)
+  fits : CoreFits w.times (known w) node.id node.kept r (osd s)
+  fits = subst (CoreFits w.times (known w) node.id node.kept r) its.core (subst (UpFits w.times (known w) node.id node.kept) its.up (order.nodes node.id.0 node its.found).up)
 
   agrees : f.kept ≡ row
   agrees = fits.2 file
@@ -192,12 +191,11 @@ pub forgotten_runs : (w : World) (own : List Msg) (node : Node) (r : Running) (s
     → IsInOrder (record w { nodes = with_node w.nodes (rewritten_at node r s) }) own → FilesAreRuns w own → FilesAreRuns (record w { nodes = with_node w.nodes (rewritten_at node r s) }) own
 forgotten_runs w own node r s its order order_after fit =
     let after : World = record w { nodes = with_node w.nodes (rewritten_at node r s) } in
-    carried w after own own [] (sym (append-nil w.entries)) (λ number stripe members listed. listed) each fit
+    carried w after own own [] (sym (append-nil w.entries)) (λ file stripe members listed. listed) each fit
   where
-    each : (number stripe : ℕ) (ops : ℕ × ℕ → Op) (members : List ℕ) → DeclaredList w.files number stripe members → AreOperations ops number w.entries
-        → (v : FileWorld) → IsShownBy stripe ops (declared_file number) w own v → LeadsTo stripe ops members (declared_file number) (record w { nodes = with_node w.nodes (rewritten_at node r s) }) own v
-    each number stripe ops members declared are v is =
-        let file = declared_file number in
+    each : (file : FileId) (stripe : ℕ) (ops : ℕ × ℕ → Op) (members : List ℕ) → KnownList (known w) file stripe members → AreOperations ops file.number w.entries
+        → (v : FileWorld) → IsShownBy stripe ops file w own v → LeadsTo stripe ops members file (record w { nodes = with_node w.nodes (rewritten_at node r s) }) own v
+    each file stripe ops members listed are v is =
         record {
           events = forgets node.id.0 (file_seen file s) (held_then file w own node r s order its v is.sees) (body_then file w own node r s order its v is.sees) ∷ [];
           may = (may_forget file w own node r s order its v is.sees, tt);

@@ -15,8 +15,7 @@ use Rattle.xt_protocol.specs.OsdSteps.{OsdState}
 use Rattle.xt_protocol.specs.Overdue.{expired, lease_became, deadlines_under}
 use Rattle.xt_protocol.specs.declared.states.Tenure.{Tenure}
 use Rattle.replica_runs.specs.FileView.{settled}
-use Rattle.client_rows.specs.Rows.{WholeClient}
-use Rattle.world_spec.specs.World.{World, Node, Running, osd, client, node_in, with_node}
+use Rattle.world_spec.specs.World.{World, Node, Running, Core, osd, client, mrc, dir, node_in, with_node}
 use Rattle.world_spec.specs.Lines.{osd_starting, ticked}
 use Rattle.world_spec.specs.NodeSteps.{outside_of}
 use Rattle.world_runs.specs.View.{awake_as}
@@ -112,19 +111,23 @@ pub leads_in : (file : FileId) (w : World) (n : ℕ) (lead : Leads w file n) (no
 leads_in file w n lead node r s found is_up is_osd =
     same_state lead.state s (sym lead.core ∙ (ap (λ (q : Running). q.core) (leads_as file w n lead node r found is_up) ∙ is_osd))
 
--- who doesn't run, or is a client, doesn't lead
+-- who doesn't run, or is no OSD, doesn't lead
 pub down_leads_not : (file : FileId) (w : World) (n : ℕ) (node : Node) → node_in w.nodes n ≡ Some node → node.up ≡ None → Leads w file n → ⊥
 down_leads_not file w n node found down lead =
     let is_node = same_node lead.node node (sym lead.found ∙ found) in
     let none : None ≡ Some lead.running = sym down ∙ (ap (λ (x : Node). x.up) (sym is_node) ∙ lead.up) in
     cc (none)
 
-no_osd : (c : WholeClient) (s : OsdState) → client c ≡ osd s → ⊥
-no_osd c s is = cc
+-- a client, or a server that is no OSD
+abbrev pub IsOther : Core → Type 0
+IsOther (osd s) = ⊥
+IsOther (client c) = Unit {0}
+IsOther (mrc m) = Unit {0}
+IsOther (dir s) = Unit {0}
 
-pub client_leads_not : (file : FileId) (w : World) (n : ℕ) (node : Node) (r : Running) (c : WholeClient) → node_in w.nodes n ≡ Some node → node.up ≡ Some r → r.core ≡ client c → Leads w file n → ⊥
-client_leads_not file w n node r c found is_up is_client lead =
-    no_osd c lead.state (sym is_client ∙ (ap (λ (q : Running). q.core) (sym (leads_as file w n lead node r found is_up)) ∙ lead.core))
+pub other_leads_not : (file : FileId) (w : World) (n : ℕ) (node : Node) (r : Running) → node_in w.nodes n ≡ Some node → node.up ≡ Some r → IsOther r.core → Leads w file n → ⊥
+other_leads_not file w n node r found is_up other lead =
+    subst IsOther (ap (λ (q : Running). q.core) (sym (leads_as file w n lead node r found is_up)) ∙ lead.core) other
 
 -- ---- one node is another now
 

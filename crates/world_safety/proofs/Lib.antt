@@ -15,10 +15,11 @@ pub mod Steps
 pub mod Senders
 pub mod Leading
 pub mod Shown
+pub mod Others
 pub mod OsdFiles
 pub mod Endings
-pub mod Places
 pub mod Forgotten
 pub mod OsdRuns
 pub mod Walk
+pub mod Placed
 pub mod Runs

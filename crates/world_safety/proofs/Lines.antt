@@ -18,10 +18,10 @@ one_byte b is = record { all = λ i. at i; few = omega (arith) }
     at (suc i) = omega (arith)
 
 writes : (at b : ℕ) → at < 2 ^ 32 → b < 256 → FitsLater (write_at 10 at (b ∷ []))
-writes at b low is = ((omega arith, tt, (omega arith, omega arith, low, one_byte b is, omega arith)), refl)
+writes at b low is = ((omega arith, (omega arith, omega arith, low, one_byte b is, omega arith)), refl)
 
 reads : (id : ℕ) → id < 256 → FitsLater (read_byte id)
-reads id is = ((omega (arith, is), tt, (omega arith, omega arith, omega arith, omega arith, omega arith)), refl)
+reads id is = ((omega (arith, is), (omega arith, omega arith, omega arith, omega arith, omega arith)), refl)
 
 the_file : FitsLater (file_on trio)
 the_file = (

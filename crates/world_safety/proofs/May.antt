@@ -13,7 +13,7 @@ use Rattle.lease_runs.proofs.OsdLeases.{at_file}
 use Rattle.replica_runs.specs.FileView.{IsFree}
 use Rattle.replica_runs.specs.Steps.{without}
 use Rattle.file_runs.specs.FileRuns.{FileNode, FileWorld, lapses}
-use Rattle.world_spec.specs.World.{World, Node, Running, osd}
+use Rattle.world_spec.specs.World.{World, Node, Running, osd, known}
 use Rattle.xt_protocol.specs.SeenBodies.{body_by}
 use Rattle.world_spec.specs.NodeSteps.{outside_of}
 use Rattle.world_runs.specs.View.{awake_as}
@@ -46,8 +46,8 @@ steps_stand file w own node r s v order its sees =
       };
     }
   where
-    fits : CoreFits w.times w.files node.id node.kept r (osd s)
-    fits = subst (CoreFits w.times w.files node.id node.kept r) its.core (subst (UpFits w.times w.files node.id node.kept) its.up (order.nodes node.id.0 node its.found).up)
+    fits : CoreFits w.times (known w) node.id node.kept r (osd s)
+    fits = subst (CoreFits w.times (known w) node.id node.kept r) its.core (subst (UpFits w.times (known w) node.id node.kept) its.up (order.nodes node.id.0 node its.found).up)
 
 -- ---- who holds
 

@@ -1,11 +1,12 @@
 -- what an event at an OSD is for one file: the file's step, or nothing
-use Rattle.std.proofs.Common.{◌≡◌, ℕ, inl, inr, List, [], ◌∷◌, map, refl, ap, sym, ◌∙◌, subst, Option, Some, None, Bool, true, false}
+use Rattle.std.proofs.Common.{◌≡◌, inl, inr, List, [], ◌∷◌, map, refl, ap, sym, ◌∙◌, subst, Option, Some, None, Bool, true, false}
 use Rattle.std.specs.Prelude.{◌⊎◌, ◌==◌, cond, max}
 use Rattle.xt_base.specs.declared.ids.FileId.{FileId}
 use Rattle.xt_messages.specs.declared.event.Event as NodeEvent
 use Rattle.xt_messages.specs.declared.event.Event.TheVariants as event
 use Rattle.xt_messages.specs.declared.event.Call.{Call}
 use Rattle.xt_messages.specs.declared.event.Mark.{Mark}
+use Rattle.xt_messages.specs.declared.file.Location.{Location}
 use Rattle.xt_messages.specs.declared.message.Msg.{Msg}
 use Rattle.xt_messages.specs.declared.record.FileRow.{FileRow}
 use Rattle.xt_protocol.specs.FileIds.{is_file}
@@ -18,17 +19,16 @@ use Rattle.xt_protocol.specs.FileSteps.{step_of_file, wake_of_file}
 use Rattle.xt_protocol.specs.OsdSteps.{OsdState, OsdStep, file_at, each_file, woken, asks_dir, file_concerned, handled_awake, step_of_osd}
 use Rattle.xt_protocol.specs.Overdue.{expired}
 use Rattle.xt_protocol.specs.Turns.{quiet}
-use Rattle.osd_invariants.specs.Sound.{IsHeld}
+use Rattle.osd_invariants.specs.Sound.{IsHeld, IsStored}
 use Rattle.lease_runs.specs.LeaseView.{settled_row}
 use Rattle.lease_runs.specs.OsdView.{wake_step}
 use Rattle.lease_runs.proofs.OsdLeases.{at_file, handled, woken_step, woke_all, wake_shows}
 use Rattle.lease_runs.proofs.ActSteps.{step_marks, wake_step_kept, woken_quiet}
-use Rattle.world_spec.specs.World.{Node, Running}
-use Rattle.world_spec.specs.Lines.{declared_file}
 use Rattle.world_spec.specs.NodeSteps.{entry_of, outside_of}
-use Rattle.world_spec.specs.declared.DeclaredFile.{DeclaredFile}
+use Rattle.world_spec.specs.declared.PlacedFile.{PlacedFile}
+use Rattle.world_spec.specs.World.{Node, Running, file_in}
 use Rattle.world_runs.specs.View.{awake_as}
-use Rattle.world_runs.specs.Worlds.{FileFits, Rises, files_of}
+use Rattle.world_runs.specs.Worlds.{Listed, FileFits, Rises, files_of}
 use Rattle.world_runs.proofs.Files.{at_fits, held_busy, unbusy}
 use Rattle.world_runs.proofs.Lists.{has_in, has_left, has_right}
 use Rattle.world_runs.proofs.Woken.{AtMap, found_at, found_nowhere, at_map, one_state}
@@ -42,7 +42,7 @@ use Rattle.world_safety.proofs.Shown.{SaysNothing, none_says, others_say}
 -- ---- steps that come to nothing
 
 -- an OSD is silent, or awake
-awake_or_not : (node : Node) (r : Running) (s : OsdState) → (awake_at s.started (max r.clock s.last) ≡ None) ⊎ IsAwake r s
+pub awake_or_not : (node : Node) (r : Running) (s : OsdState) → (awake_at s.started (max r.clock s.last) ≡ None) ⊎ IsAwake r s
 awake_or_not node r s = at (is_silent s.started (max r.clock s.last))
   where
     at : (b : Bool) → (cond b None (Some (awake_as s.started)) ≡ None) ⊎ (cond b None (Some (awake_as s.started)) ≡ Some (awake_as s.started))
@@ -93,33 +93,40 @@ nothing_comes file node r s happens o is same none =
 
 -- ---- a message about another file
 
--- its marks say nothing of the declared file of this number
-of_other : (files : List DeclaredFile) (number : ℕ) (site : Site) (f : FileState) → is_file f.kept.file (declared_file number) ≡ false → FileFits files f → IsHeld (settled_row site f).lease → (f.kept.file.number == number) ≡ false
-of_other files number site f differ fits is = at (f.kept.file.number == number) refl
+-- where a file of this number is known, it is this one
+abbrev pub KnownAs : List PlacedFile → FileId → Type 0
+KnownAs files file = (k : PlacedFile) → file_in files file.number ≡ Some k → k.file ≡ file
+
+-- its marks say nothing of this file: a file whose lease is held has its list, which is that of a known one
+of_other : (files : List PlacedFile) (file : FileId) (site : Site) (f : FileState) → KnownAs files file → is_file f.kept.file file ≡ false → FileFits files f → IsHeld (settled_row site f).lease → (f.kept.file.number == file.number) ≡ false
+of_other files file site f known differ fits is = at (f.kept.file.number == file.number) refl
   where
-    at : (b : Bool) → (f.kept.file.number == number) ≡ b → (f.kept.file.number == number) ≡ false
+    its : f.kept.file.number ≡ file.number → (o : Option Location) → IsStored o → Listed files f.kept.file o → f.kept.file ≡ file
+    its same None stored listed = absurd stored
+    its same (Some location) stored listed = known (record { file = f.kept.file; location = location }) (sym (ap (file_in files) same) ∙ listed)
+
+    at : (b : Bool) → (f.kept.file.number == file.number) ≡ b → (f.kept.file.number == file.number) ≡ false
     at false is_not = is_not
     at true same =
-        let its : f.kept.file ≡ declared_file number
-        = fits.declared (unbusy f.lease site.now (held_busy (settled_row site f).lease is)) ∙ ap declared_file (same_number f.kept.file.number number same) in
-        absurd (let itself : is_file f.kept.file (declared_file number) ≡ true = ap (λ (k : FileId). is_file k (declared_file number)) its ∙ file-itself (declared_file number) in cc (itself, differ))
+        let e = its (same_number f.kept.file.number file.number same) f.kept.location (fits.stored (unbusy f.lease site.now (held_busy (settled_row site f).lease is))) fits.listed in
+        absurd (let itself : is_file f.kept.file file ≡ true = ap (λ (k : FileId). is_file k file) e ∙ file-itself file in cc (itself, differ))
 
 some_file : (a b : FileId) → Some a ≡ Some b → a ≡ b
 some_file a b is = cc
 
-other_message : (files : List DeclaredFile) (number : ℕ) (node : Node) (r : Running) (s : OsdState) (msg : Msg) (other : FileId) → IsAwake r s → file_concerned msg.payload ≡ Some other
-    → is_file other (declared_file number) ≡ false → ((f : FileState) → Has f s.files → FileFits files f) → Leaves (declared_file number) node s (step_at node r s (event.Deliver msg))
-other_message files number node r s msg other awake concerns differ each =
+other_message : (files : List PlacedFile) (file : FileId) (node : Node) (r : Running) (s : OsdState) (msg : Msg) (other : FileId) → KnownAs files file → IsAwake r s → file_concerned msg.payload ≡ Some other
+    → is_file other file ≡ false → ((f : FileState) → Has f s.files → FileFits files f) → Leaves file node s (step_at node r s (event.Deliver msg))
+other_message files file node r s msg other known awake concerns differ each =
     record {
-      state = other_stays other node r s msg awake concerns (declared_file number) differ;
-      rec = not_its other node r s msg awake concerns (declared_file number) differ;
+      state = other_stays other node r s msg awake concerns file differ;
+      rec = not_its other node r s msg awake concerns file differ;
       outs = λ m h about.
           let from = one_of site.node f.kept.file step.turned.outs m (message_from site f msg.from msg.payload) (subst (λ (o : OsdStep). Has m o.turned.outs) whole h) in
-          let same : other ≡ declared_file number = some_file other (declared_file number) (ap (λ (k : FileId). Some k) (sym its) ∙ (sym from.1 ∙ about)) in
-          clash (ap (λ (k : FileId). is_file k (declared_file number)) same ∙ file-itself (declared_file number));
-      marks = subst (λ (o : OsdStep). SaysNothing number (map (entry_of node.id) o.turned.marks)) (sym whole)
-          (others_say number node.id f.kept.file (settled_row site f).lease step.turned.marks
-          (of_other files number site f (ap (λ (k : FileId). is_file k (declared_file number)) its ∙ differ) (at_fits files (awake_as s.started) s.files other each)) (step_marks site f msg.from msg.payload));
+          let same : other ≡ file = some_file other file (ap (λ (k : FileId). Some k) (sym its) ∙ (sym from.1 ∙ about)) in
+          clash (ap (λ (k : FileId). is_file k file) same ∙ file-itself file);
+      marks = subst (λ (o : OsdStep). SaysNothing file.number (map (entry_of node.id) o.turned.marks)) (sym whole)
+          (others_say file.number node.id f.kept.file (settled_row site f).lease step.turned.marks
+          (of_other files file site f known (ap (λ (k : FileId). is_file k file) its ∙ differ) (at_fits files (awake_as s.started) s.files other each)) (step_marks site f msg.from msg.payload));
     }
   where
     site : Site
@@ -137,7 +144,7 @@ other_message files number node r s msg other awake concerns differ each =
     its : f.kept.file ≡ other
     its = at_file (awake_as s.started) s.files other
 
-    clash : is_file other (declared_file number) ≡ true → ⊥
+    clash : is_file other file ≡ true → ⊥
     clash same = cc (same, differ)
 
 -- ---- a Wake
@@ -225,26 +232,23 @@ wake_at file node r s awake rises = at (at_map (λ (x : FileState). (wake_step s
 
 -- ---- any event
 
-pub at_file_of : (files : List DeclaredFile) (number : ℕ) (node : Node) (r : Running) (s : OsdState) (happens : NodeEvent.Event) → ((f : FileState) → Has f s.files → FileFits files f) → Rises (files_of s.files)
-    → AtFile (declared_file number) node r s happens
-at_file_of files number node r s happens each rises = by_silence (awake_or_not node r s)
+pub at_file_of : (files : List PlacedFile) (file : FileId) (node : Node) (r : Running) (s : OsdState) (happens : NodeEvent.Event) → KnownAs files file → ((f : FileState) → Has f s.files → FileFits files f) → Rises (files_of s.files)
+    → AtFile file node r s happens
+at_file_of files file node r s happens known each rises = by_silence (awake_or_not node r s)
   where
-    file : FileId
-    file = declared_file number
+    by_file : (msg : Msg) (other : FileId) → IsAwake r s → file_concerned msg.payload ≡ Some other → (b : Bool) → is_file other file ≡ b → AtFile file node r s (event.Deliver msg)
+    by_file msg other awake concerns true same = messaged msg awake (concerns ∙ ap (λ (k : FileId). Some k) (file-equal other file same))
+    by_file msg other awake concerns false differ = left (event.Deliver msg) (other_message files file node r s msg other known awake concerns differ each)
 
-    by_file : (msg : Msg) (other : FileId) → IsAwake r s → file_concerned msg.payload ≡ Some other → (b : Bool) → is_file other (declared_file number) ≡ b → AtFile (declared_file number) node r s (event.Deliver msg)
-    by_file msg other awake concerns true same = messaged msg awake (concerns ∙ ap (λ (k : FileId). Some k) (file-equal other (declared_file number) same))
-    by_file msg other awake concerns false differ = left (event.Deliver msg) (other_message files number node r s msg other awake concerns differ each)
+    by_message : (msg : Msg) (o : Option FileId) → IsAwake r s → file_concerned msg.payload ≡ o → AtFile file node r s (event.Deliver msg)
+    by_message msg None awake concerns = nothing_comes file node r s (event.Deliver msg) (idle_step r s) (unconcerned_step node r s msg awake concerns) refl refl
+    by_message msg (Some other) awake concerns = by_file msg other awake concerns (is_file other file) refl
 
-    by_message : (msg : Msg) (o : Option FileId) → IsAwake r s → file_concerned msg.payload ≡ o → AtFile (declared_file number) node r s (event.Deliver msg)
-    by_message msg None awake concerns = nothing_comes (declared_file number) node r s (event.Deliver msg) (idle_step r s) (unconcerned_step node r s msg awake concerns) refl refl
-    by_message msg (Some other) awake concerns = by_file msg other awake concerns (is_file other (declared_file number)) refl
-
-    by_event : (e : NodeEvent.Event) → IsAwake r s → AtFile (declared_file number) node r s e
+    by_event : (e : NodeEvent.Event) → IsAwake r s → AtFile file node r s e
     by_event (event.Deliver msg) awake = by_message msg (file_concerned msg.payload) awake refl
-    by_event event.Wake awake = wake_at (declared_file number) node r s awake rises
-    by_event (event.Call call) awake = nothing_comes (declared_file number) node r s (event.Call call) (idle_step r s) (called_step node r s call awake) refl refl
+    by_event event.Wake awake = wake_at file node r s awake rises
+    by_event (event.Call call) awake = nothing_comes file node r s (event.Call call) (idle_step r s) (called_step node r s call awake) refl refl
 
-    by_silence : (awake_at s.started (max r.clock s.last) ≡ None) ⊎ IsAwake r s → AtFile (declared_file number) node r s happens
-    by_silence (inl silent) = nothing_comes (declared_file number) node r s happens (record { osd = s; turned = quiet }) (silent_step node r s happens silent) refl refl
+    by_silence : (awake_at s.started (max r.clock s.last) ≡ None) ⊎ IsAwake r s → AtFile file node r s happens
+    by_silence (inl silent) = nothing_comes file node r s happens (record { osd = s; turned = quiet }) (silent_step node r s happens silent) refl refl
     by_silence (inr awake) = by_event happens awake

@@ -24,14 +24,18 @@ use Rattle.time_line.specs.declared.line.Line.{Line}
 use Rattle.time_line.specs.Bounds.{AreLines}
 use Rattle.world_spec.specs.Rules.{refusal}
 use Rattle.time_line.specs.TimeLine.{location_in, is_replicated_at, stripe_at}
-use Rattle.world_spec.specs.World.{World, file_in}
-use Rattle.world_spec.specs.Lines.{declared_file, Next, finished, opens, goes_on, ends, begins, steps, so_far}
+use Rattle.world_spec.specs.declared.PlacedFile.{PlacedFile}
+use Rattle.world_spec.specs.World.{World, file_in, known}
+use Rattle.world_spec.specs.Lines.{Next, finished, opens, goes_on, ends, begins, steps, so_far}
 use Rattle.world_spec.specs.NodeSteps.{Room}
 use Rattle.world_spec.specs.Runs.{run_of, IsPartOf, IsRunInto}
+use Rattle.world_runs.proofs.Tables.{file_in-id}
 use Rattle.world_runs.proofs.Walk.{NextIs, run_kept, steps_into, so_far_kept}
-use Rattle.world_safety.specs.Asks.{operations_of, DeclaredList}
-use Rattle.world_safety.specs.Runs.{IsRunOfFile, FilesAreRuns, NextAreRuns, ArePlaced, HasOneOrder, FilesAreSafe}
+use Rattle.world_safety.specs.Asks.{operations_of, KnownList}
+use Rattle.world_safety.specs.Runs.{IsRunOfFile, FilesAreRuns, NextAreRuns, place_of, ArePlaced, HasOneOrder, FilesAreSafe}
+use Rattle.world_limits.proofs.Worlds as limits
 use Rattle.world_safety.proofs.Asks.{operations_are}
+use Rattle.world_safety.proofs.Placed.{are_placed}
 use Rattle.world_safety.proofs.Tellings.{telling_is_safe}
 use Rattle.world_safety.proofs.Walk.{Stage, stage_kept}
 
@@ -113,57 +117,78 @@ placed_at (Some location) is = (location, refl, at location.kind is)
     at kind.Replicated is = refl
     at kind.Striped is = absurd (cc)
 
-some_place : (a b : Location) → Some a ≡ Some b → a ≡ b
-some_place a b is = cc
+some_file : (a b : PlacedFile) → Some a ≡ Some b → a ≡ b
+some_file a b is = cc
+
+-- a place that is told is that of a file
+placed_file : (o : Option PlacedFile) (location : Location) → place_of o ≡ Some location → (f : PlacedFile) × (o ≡ Some f) × (location ≡ f.location)
+placed_file None location is = absurd (cc)
+placed_file (Some f) location is = (f, refl, (let same : f.location ≡ location = cc in sym same))
 
 -- what the trace of a stage tells of it
-pub was_told : (w : World) → Stage w [] → FilesAreSafe w.entries
-was_told w stage file is =
-    let place = placed_at (location_in file w.entries) is in
-    subst (λ (o : Option Location). HasOneOrder (stripe_at o) (operations_of file w.entries) file w.entries) (sym place.1) (ordered place.0 (sym (stage.placed.told file) ∙ place.1) place.2)
+pub was_told : (w : World) → ArePlaced w → Stage w [] → FilesAreSafe w.entries
+was_told w placed stage number is =
+    let place = placed_at (location_in number w.entries) is in
+    let found = placed_file (file_in (known w) number) place.0 (sym (placed.told number) ∙ place.1) in
+    subst (λ (o : Option Location). HasOneOrder (stripe_at o) (operations_of number w.entries) number w.entries) (sym (place.1 ∙ ap (λ (l : Location). Some l) found.2))
+    (subst (λ (n : ℕ). HasOneOrder found.0.location.stripe (operations_of n w.entries) n w.entries) (file_in-id (known w) number found.0 found.1)
+    (ordered found.0 (placed.fit number found.0 found.1) (ap (file_in (known w)) (file_in-id (known w) number found.0 found.1) ∙ found.1) (ap (λ (l : Location). l.kind) (sym found.2) ∙ place.2)))
   where
-    ordered : (location : Location) → file_in w.files file ≡ Some location → location.kind ≡ kind.Replicated → HasOneOrder location.stripe (operations_of file w.entries) file w.entries
-    ordered location declared replicated =
+    ordered : (f : PlacedFile) → FitsLocation f.location → file_in (known w) f.file.number ≡ Some f → f.location.kind ≡ kind.Replicated
+        → HasOneOrder f.location.stripe (operations_of f.file.number w.entries) f.file.number w.entries
+    ordered f bound found replicated =
         record {
           told = fits.entries;
           tells = run.is.told fits.entries fits.told;
           fit = fits.fit;
           changes = fits.changes;
           issued = fits.issued;
-          safe = telling_is_safe location.stripe (operations_of file w.entries) file (map (λ (m : NodeId). m.0) location.members) first_start (first_world (declared_file file)) run.events w.entries some distinct begun refl begins_so run.may run.is.told;
+          safe = telling_is_safe stripe ops f.file.number members first_start (first_world f.file) run.events w.entries some distinct begun refl begins_so run.may run.is.told;
         }
       where
-        bound : FitsLocation location
-        bound = stage.placed.fit file location declared
+        stripe : ℕ
+        stripe = f.location.stripe
 
-        tests : ((nat_le 1 (length location.members) && nat_le (length location.members) 9) ≡ true) × (are_distinct location.members ≡ true)
-        tests = both_true (nat_le 1 (length location.members) && nat_le (length location.members) 9) (are_distinct location.members) bound.nodes.different
+        ops : ℕ × ℕ → Op
+        ops = operations_of f.file.number w.entries
 
-        some : 1 ≤ location.stripe
+        members : List ℕ
+        members = map (λ (m : NodeId). m.0) f.location.members
+
+        tests : ((nat_le 1 (length f.location.members) && nat_le (length f.location.members) 9) ≡ true) × (are_distinct f.location.members ≡ true)
+        tests = both_true (nat_le 1 (length f.location.members) && nat_le (length f.location.members) 9) (are_distinct f.location.members) bound.nodes.different
+
+        some : 1 ≤ stripe
         some = (let least = bound.size.least in omega (arith, least))
 
-        distinct : AreDistinct (map (λ (m : NodeId). m.0) location.members)
-        distinct = distinct_members location.members tests.1
+        distinct : AreDistinct members
+        distinct = distinct_members f.location.members tests.1
 
-        several : 1 ≤ length (map (λ (m : NodeId). m.0) location.members)
-        several = subst (λ (n : ℕ). 1 ≤ n) (sym (length_mapped (λ (m : NodeId). m.0) location.members)) (at_least 1 (length location.members) (both_true (nat_le 1 (length location.members)) (nat_le (length location.members) 9) tests.0).0)
+        several : 1 ≤ length members
+        several = subst (λ (n : ℕ). 1 ≤ n) (sym (length_mapped (λ (m : NodeId). m.0) f.location.members)) (at_least 1 (length f.location.members) (both_true (nat_le 1 (length f.location.members)) (nat_le (length f.location.members) 9) tests.0).0)
 
-        begun : Begins (IsMade location.stripe (operations_of file w.entries)) (map (λ (m : NodeId). m.0) location.members) first_start
-        begun = first_begins location.stripe (operations_of file w.entries) (map (λ (m : NodeId). m.0) location.members) several
+        begun : Begins (IsMade stripe ops) members first_start
+        begun = first_begins stripe ops members several
 
-        begins_so : BeginsFile location.stripe (map (λ (m : NodeId). m.0) location.members) first_start (first_world (declared_file file))
-        begins_so = first_file location.stripe (map (λ (m : NodeId). m.0) location.members) (declared_file file)
+        begins_so : BeginsFile stripe members first_start (first_world f.file)
+        begins_so = first_file stripe members f.file
 
-        listed : DeclaredList w.files file location.stripe (map (λ (m : NodeId). m.0) location.members)
+        listed : KnownList (known w) f.file stripe members
         listed other there =
-            let same = some_place location other (sym declared ∙ there) in
-            (ap (λ (l : Location). l.stripe) (sym same), ap (λ (l : Location). map (λ (m : NodeId). m.0) l.members) (sym same), ap (λ (l : Location). l.kind) (sym same) ∙ replicated)
+            let same = some_file f other (sym found ∙ there) in (
+              ap (λ (k : PlacedFile). k.file) (sym same),
+              (
+                ap (λ (k : PlacedFile). k.location.stripe) (sym same),
+                ap (λ (k : PlacedFile). map (λ (m : NodeId). m.0) k.location.members) (sym same),
+                ap (λ (k : PlacedFile). k.location.kind) (sym same) ∙ replicated,
+              ),
+            )
 
-        run : IsRunOfFile location.stripe (operations_of file w.entries) (map (λ (m : NodeId). m.0) location.members) (declared_file file) w []
-        run = stage.runs file location.stripe (operations_of file w.entries) (map (λ (m : NodeId). m.0) location.members) listed (operations_are file w.entries w.entries [] (sym (append-nil w.entries)))
+        run : IsRunOfFile stripe ops members f.file w []
+        run = stage.runs f.file stripe ops members listed (operations_are f.file.number w.entries w.entries [] (sym (append-nil w.entries)))
 
-        fits : IsOnOneOrder location.stripe (operations_of file w.entries) first_start (after_all (first_world (declared_file file)) run.events)
-        fits = on_one_order location.stripe some (operations_of file w.entries) (map (λ (m : NodeId). m.0) location.members) distinct first_start (first_world (declared_file file)) run.events begun begins_so run.may
+        fits : IsOnOneOrder stripe ops first_start (after_all (first_world f.file) run.events)
+        fits = on_one_order stripe some ops members distinct first_start (first_world f.file) run.events begun begins_so run.may
 
 -- ---- every run
 
@@ -186,14 +211,21 @@ pub steps_are_runs : (room : Room) (lines : List Line) (l : Line) (k : ℕ) → 
 steps_are_runs room lines l k are allowed = next_runs (steps k room (begins (run_of room lines) l)) (steps_into Stage stage_kept room lines l k are allowed)
 
 pub runs_are_placed : (room : Room) (lines : List Line) → AreLines lines → ArePlaced (run_of room lines)
-runs_are_placed room lines are = (run_stage room lines are).placed
+runs_are_placed room lines are = are_placed (run_of room lines) [] (run_kept limits.Stage limits.stage_kept room lines are).is (run_stage room lines are).ends
+
+part_placed : (room : Room) (lines : List Line) (l : Line) (k : ℕ) → AreLines (lines ++ l ∷ []) → refusal (run_of room lines) l ≡ None → ArePlaced (so_far (steps k room (begins (run_of room lines) l)))
+part_placed room lines l k are allowed =
+    let part = steps k room (begins (run_of room lines) l) in
+    are_placed (so_far part) [] (so_far_kept limits.Stage limits.stage_kept part (steps_into limits.Stage limits.stage_kept room lines l k are allowed)).is (part_stage room lines l k are allowed).ends
 
 pub parts_are_placed : (room : Room) (lines : List Line) (l : Line) (part : World) → AreLines (lines ++ l ∷ []) → refusal (run_of room lines) l ≡ None → IsPartOf room (run_of room lines) l part → ArePlaced part
-parts_are_placed room lines l part are allowed is = subst ArePlaced is.2 (part_stage room lines l is.0 are allowed).placed
+parts_are_placed room lines l part are allowed is = subst ArePlaced is.2 (part_placed room lines l is.0 are allowed)
 
 pub runs_are_safe : (room : Room) (lines : List Line) → AreLines lines → FilesAreSafe (run_of room lines).entries
-runs_are_safe room lines are = was_told (run_of room lines) (run_stage room lines are)
+runs_are_safe room lines are = was_told (run_of room lines) (runs_are_placed room lines are) (run_stage room lines are)
 
 pub parts_are_safe : (room : Room) (lines : List Line) (l : Line) (entries : List Entry) → AreLines (lines ++ l ∷ []) → refusal (run_of room lines) l ≡ None → IsRunInto room lines l entries → FilesAreSafe entries
 parts_are_safe room lines l entries are allowed into =
-    subst FilesAreSafe into.2 (subst (λ (part : World). FilesAreSafe part.entries) into.1.2 (was_told (so_far (steps into.1.0 room (begins (run_of room lines) l))) (part_stage room lines l into.1.0 are allowed)))
+    subst FilesAreSafe into.2
+    (subst (λ (part : World). FilesAreSafe part.entries) into.1.2
+    (was_told (so_far (steps into.1.0 room (begins (run_of room lines) l))) (part_placed room lines l into.1.0 are allowed) (part_stage room lines l into.1.0 are allowed)))

@@ -19,8 +19,7 @@ use Rattle.time_line.specs.declared.entry.Entry.{Entry}
 use Rattle.time_line.specs.declared.entry.Entry.TheVariants as entry
 use Rattle.time_line.specs.TimeLine.{operation_begun}
 use Rattle.time_line.specs.Clauses.{acts_on}
-use Rattle.world_spec.specs.World.{World}
-use Rattle.world_spec.specs.Lines.{declared_file}
+use Rattle.world_spec.specs.World.{World, known}
 use Rattle.world_spec.specs.NodeSteps.{entry_of}
 use Rattle.world_runs.specs.View.{messages}
 use Rattle.world_runs.specs.Worlds.{Leads}
@@ -28,7 +27,7 @@ use Rattle.world_runs.proofs.Standings.{AreInert}
 use Rattle.world_runs.proofs.Entries.{operation-grown}
 use Rattle.world_safety.specs.Seen.{Sees}
 use Rattle.world_safety.specs.Tellings.{TellsAs}
-use Rattle.world_safety.specs.Asks.{AreOperations, DeclaredList}
+use Rattle.world_safety.specs.Asks.{AreOperations, KnownList}
 use Rattle.world_safety.specs.Runs.{IsShownBy, LeadsTo, FilesAreRuns}
 use Rattle.world_safety.proofs.Rooms.{may_append, after_append}
 use Rattle.world_safety.proofs.Tellings.{telling}
@@ -45,16 +44,16 @@ none_says number stripe ops entries tales so = subst (λ (es : List Entry). Tell
 pub one_says : (number : ℕ) (e : Entry) → acts_on number e ≡ None → SaysNothing number (e ∷ [])
 one_says number e none stripe ops entries tales so = (telling stripe ops number).entry entries tales e none so
 
-next_says : (number : ℕ) (e : Entry) (more : List Entry) → acts_on number e ≡ None → SaysNothing number more → SaysNothing number (e ∷ more)
+pub next_says : (number : ℕ) (e : Entry) (more : List Entry) → acts_on number e ≡ None → SaysNothing number more → SaysNothing number (e ∷ more)
 next_says number e more none rest stripe ops entries tales so =
     subst (λ (es : List Entry). TellsAs stripe ops number es tales) (append_assoc entries (e ∷ []) more) (rest stripe ops (entries ++ e ∷ []) tales (one_says number e none stripe ops entries tales so))
 
--- what a client marks
+-- what a client or a server marks
 pub inert_says : (number : ℕ) (node : NodeId) (marks : List Mark) → AreInert marks → SaysNothing number (map (entry_of node) marks)
 inert_says number node [] are = none_says number
 inert_says number node (mark.Begin k c ∷ ms) are = next_says number (entry.Begin node k c) (map (entry_of node) ms) refl (inert_says number node ms are.1)
 inert_says number node (mark.Done k outcome ∷ ms) are = next_says number (entry.Done node k outcome) (map (entry_of node) ms) refl (inert_says number node ms are.1)
-inert_says number node (mark.File k location ∷ ms) are = absurd are.0
+inert_says number node (mark.File k location ∷ ms) are = next_says number (entry.File k.number location) (map (entry_of node) ms) refl (inert_says number node ms are.1)
 inert_says number node (mark.Held k end ∷ ms) are = absurd are.0
 inert_says number node (mark.Active k count write ∷ ms) are = absurd are.0
 inert_says number node (mark.Issue k count write ∷ ms) are = absurd are.0
@@ -111,18 +110,18 @@ begun_before ops number before after more split are id asked is =
     are id asked (ap (λ (es : List Entry). operation_begun number es id) split ∙ operation-grown number before more id asked is)
 
 abbrev pub ListsWere : World → World → Type 0
-ListsWere w after = (number stripe : ℕ) (members : List ℕ) → DeclaredList after.files number stripe members → DeclaredList w.files number stripe members
+ListsWere w after = (file : FileId) (stripe : ℕ) (members : List ℕ) → KnownList (known after) file stripe members → KnownList (known w) file stripe members
 
 -- each file's world leads on
 pub carried : (w after : World) (own own_after : List Msg) (more : List Entry) → after.entries ≡ w.entries ++ more → ListsWere w after
-    → ((number stripe : ℕ) (ops : ℕ × ℕ → Op) (members : List ℕ) → DeclaredList w.files number stripe members → AreOperations ops number w.entries
-    → (v : FileWorld) → IsShownBy stripe ops (declared_file number) w own v → LeadsTo stripe ops members (declared_file number) after own_after v)
+    → ((file : FileId) (stripe : ℕ) (ops : ℕ × ℕ → Op) (members : List ℕ) → KnownList (known w) file stripe members → AreOperations ops file.number w.entries
+    → (v : FileWorld) → IsShownBy stripe ops file w own v → LeadsTo stripe ops members file after own_after v)
     → FilesAreRuns w own → FilesAreRuns after own_after
-carried w after own own_after more split lists each runs number stripe ops members listed are =
-    let listed_then = lists number stripe members listed in
-    let are_then = begun_before ops number w.entries after.entries more split are in
-    onward stripe ops members (declared_file number) w after own own_after (first_world (declared_file number)) (runs number stripe ops members listed_then are_then)
-    (each number stripe ops members listed_then are_then)
+carried w after own own_after more split lists each runs file stripe ops members listed are =
+    let listed_then = lists file stripe members listed in
+    let are_then = begun_before ops file.number w.entries after.entries more split are in
+    onward stripe ops members file w after own own_after (first_world file) (runs file stripe ops members listed_then are_then)
+    (each file stripe ops members listed_then are_then)
 
 -- or rests
 pub all_rest : (w after : World) (own own_after : List Msg) (more : List Entry) → after.entries ≡ w.entries ++ more → ListsWere w after → ((number : ℕ) → SaysNothing number more)
@@ -131,4 +130,4 @@ pub all_rest : (w after : World) (own own_after : List Msg) (more : List Entry) 
     → FilesAreRuns w own → FilesAreRuns after own_after
 all_rest w after own own_after more split lists quiet sees led sent =
     carried w after own own_after more split lists
-    (λ number stripe ops members listed are. rests stripe ops members (declared_file number) w after own own_after more split (quiet number) (sees (declared_file number)) (led (declared_file number)) (λ m h about. sent m h))
+    (λ file stripe ops members listed are. rests stripe ops members file w after own own_after more split (quiet file.number) (sees file) (led file) (λ m h about. sent m h))

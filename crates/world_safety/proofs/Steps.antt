@@ -28,7 +28,7 @@ use Rattle.xt_protocol.specs.declared.states.Tenure.{Tenure}
 use Rattle.replica_runs.specs.FileView.{IsFree}
 use Rattle.file_runs.specs.FileRuns.{FileWorld, Event, Happening, Sent, Tale, message, wake, goes_on, acts, step_on, sent_by, Comes, OwnComes, May, after, after_all}
 use Rattle.time_line.specs.Clauses.{AreApart}
-use Rattle.world_spec.specs.World.{World, Node, Running, osd}
+use Rattle.world_spec.specs.World.{World, Node, Running, osd, known}
 use Rattle.world_spec.specs.NodeSteps.{one_more, one_put}
 use Rattle.world_runs.specs.View.{awake_as}
 use Rattle.world_runs.specs.Worlds.{IsInOrder, Leads, CoreFits, UpFits}
@@ -76,8 +76,8 @@ module _ (stripe : ℕ) (ops : ℕ × ℕ → Op) (members : List ℕ) (file : F
   its_after : RunsAs behind node_after running next
   its_after = record { found = node_in-new w.nodes node_after node its.found; up = refl; core = refl }
 
-  fits : CoreFits w.times w.files node.id node.kept r (osd s)
-  fits = subst (CoreFits w.times w.files node.id node.kept r) its.core (subst (UpFits w.times w.files node.id node.kept) its.up (order.nodes n node its.found).up)
+  fits : CoreFits w.times (known w) node.id node.kept r (osd s)
+  fits = subst (CoreFits w.times (known w) node.id node.kept r) its.core (subst (UpFits w.times (known w) node.id node.kept) its.up (order.nodes n node its.found).up)
 
   now_is : max r.clock s.last ≡ r.clock
   now_is = later r.clock s.last fits.0.last
@@ -102,7 +102,7 @@ module _ (stripe : ℕ) (ops : ℕ × ℕ → Op) (members : List ℕ) (file : F
   alone_behind t is m lead = at (m == n) refl
     where
       sound : IsSound step.state
-      sound = stays_sound (at_fits w.files (awake_as s.started) s.files file fits.0.fits).sound
+      sound = stays_sound (at_fits (known w) (awake_as s.started) s.files file fits.0.fits).sound
 
       at : (b : Bool) → (m == n) ≡ b → m ≡ n
       at true same = same_number m n same

@@ -26,7 +26,7 @@ use Rattle.xt_protocol.specs.declared.states.Tenure.{Tenure}
 use Rattle.file_runs.specs.FileRuns.{Happening, message, wake, step_on}
 use Rattle.time_line.specs.Clauses.{AreApart}
 use Rattle.time_line.specs.TimeLine.{holds}
-use Rattle.world_spec.specs.World.{World, Node, Running}
+use Rattle.world_spec.specs.World.{World, Node, Running, known}
 use Rattle.world_spec.specs.NodeSteps.{outside_of}
 use Rattle.world_runs.specs.View.{node_id, awake_as}
 use Rattle.world_runs.specs.Worlds.{IsInOrder, Leads, CoreFits, UpFits}
@@ -138,8 +138,8 @@ leader_held w own file n order lead =
     let r = lead.running in
     let site = site_of (outside_of node.kept) (awake_as s.started) r.clock in
     let f = file_at (awake_as s.started) s.files file in
-    let core = subst (CoreFits w.times w.files node.id node.kept r) lead.core (subst (UpFits w.times w.files node.id node.kept) lead.up (order.nodes n node lead.found).up) in
-    let sound = SoundSteps.expired_so site f (at_fits w.files (awake_as s.started) s.files file core.0.fits).sound in
+    let core = subst (CoreFits w.times (known w) node.id node.kept r) lead.core (subst (UpFits w.times (known w) node.id node.kept) lead.up (order.nodes n node lead.found).up) in
+    let sound = SoundSteps.expired_so site f (at_fits (known w) (awake_as s.started) s.files file core.0.fits).sound in
     let held_now = led_held (expired site f).state.lease (expired site f).state.primary.tenure lead.tenure lead.leads sound.led in
     subst (λ (x : LeaseRow). IsHeld x.lease) (expired_shows site f).row held_now
 
@@ -147,11 +147,11 @@ leader_held w own file n order lead =
 leader_holds : (w : World) (own : List Msg) (file : FileId) (n : ℕ) → IsInOrder w own → Leads w file n → holds w.entries (node_id n) file.number ≡ true
 leader_holds w own file n order lead =
     subst (λ (id : NodeId). holds w.entries id file.number ≡ true) (same_node lead.node.id (node_id n) (node_in-id w.nodes n lead.node lead.found))
-    (order.leases n lead.node lead.running lead.state file lead.found lead.up lead.core (leader_held w own file n order lead)).1
+    (order.leases n lead.node lead.running lead.state file lead.found lead.up lead.core (leader_held w own file n order lead))
 
 pub winners_are_alone : (file : FileId) (w : World) (own : List Msg) (node : Node) (r : Running) (s : OsdState) → IsInOrder w own → AreApart file.number w.entries → RunsAs w node r s
     → IsHeld (lease_expired (file_seen file s).lease r.clock) → (m : ℕ) → Leads w file m → m ≡ node.id.0
 winners_are_alone file w own node r s order apart its held_so m lead =
-    let mine = (order.leases node.id.0 node r s file its.found its.up its.core held_so).1 in
+    let mine = order.leases node.id.0 node r s file its.found its.up its.core held_so in
     let theirs = leader_holds w own file m order lead in
     ap (λ (id : NodeId). id.0) (apart w.entries (node_id m) node.id ([], sym (append-nil w.entries)) theirs mine)

@@ -5,7 +5,6 @@ use Rattle.xt_base.specs.declared.ids.FileId.{FileId}
 use Rattle.xt_base.specs.declared.ids.OpId.{OpId}
 use Rattle.xt_base.specs.declared.ids.Stamp.{Stamp}
 use Rattle.xt_base.specs.declared.ids.Epoch.{Epoch}
-use Rattle.xt_messages.specs.declared.file.Location.{Location}
 use Rattle.xt_messages.specs.declared.file.Op.{Op}
 use Rattle.xt_messages.specs.declared.file.Op.TheVariants as op
 use Rattle.xt_messages.specs.declared.message.Payload.{Payload}
@@ -16,11 +15,11 @@ use Rattle.xt_protocol.specs.FileSteps.{step_of_file}
 use Rattle.xt_protocol.specs.OsdSteps.{file_concerned}
 use Rattle.replica_runs.specs.FileView.{IsList, AskComes}
 use Rattle.replica_runs.specs.Seen.{name_of}
-use Rattle.world_spec.specs.declared.DeclaredFile.{DeclaredFile}
+use Rattle.world_spec.specs.declared.PlacedFile.{PlacedFile}
 use Rattle.time_line.specs.declared.entry.Entry.{Entry}
 use Rattle.time_line.specs.TimeLine.{operation_begun}
 use Rattle.world_spec.specs.World.{file_in}
-use Rattle.world_runs.specs.Worlds.{AskFits}
+use Rattle.world_runs.specs.Worlds.{PayloadFits}
 use Rattle.world_runs.specs.Asks.{HasBegunSo}
 
 -- the id of this name
@@ -44,17 +43,17 @@ abbrev pub IsOutside : Payload → Type 0
 IsOutside (payload.Ask number capability asked) = leaves_object capability.location.stripe asked ≡ true
 IsOutside _ = ⊥
 
--- the declared list of the file, where there is one
-abbrev pub DeclaredList : List DeclaredFile → ℕ → ℕ → List ℕ → Type 0
-DeclaredList files number stripe members = (location : Location) → file_in files number ≡ Some location → IsList stripe members location
+-- Where a file of this number is known, it is this file, replicated on this list.
+abbrev pub KnownList : List PlacedFile → FileId → ℕ → List ℕ → Type 0
+KnownList files file stripe members = (k : PlacedFile) → file_in files file.number ≡ Some k → (k.file ≡ file) × IsList stripe members k.location
 
--- A message that concerns the file: an ask on the declared list, of a call that has begun so, may come to the file, or it asks for what
+-- A message that concerns the file: an ask on the known list, of a call that has begun so, may come to the file, or it asks for what
 -- leaves the object; every other message may come.
 abbrev pub MessagesCome : Type 0
 MessagesCome =
-    (stripe : ℕ) (ops : ℕ × ℕ → Op) (members : List ℕ) (files : List DeclaredFile) (entries : List Entry) (file : FileId) (from : NodeId) (content : Payload)
-    → file_concerned content ≡ Some file → AskFits files content → HasBegunSo entries from content → AreOperations ops file.number entries
-    → DeclaredList files file.number stripe members → AskComes stripe ops members from content ⊎ IsOutside content
+    (stripe : ℕ) (ops : ℕ × ℕ → Op) (members : List ℕ) (files : List PlacedFile) (entries : List Entry) (file : FileId) (from : NodeId) (content : Payload)
+    → file_concerned content ≡ Some file → PayloadFits files content → HasBegunSo entries from content → AreOperations ops file.number entries
+    → KnownList files file stripe members → AskComes stripe ops members from content ⊎ IsOutside content
 
 -- the same state, record and marks
 pub record IsSameButSent (a b : FileStep) : Type 0 where

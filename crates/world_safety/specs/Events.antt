@@ -1,5 +1,5 @@
 -- what the nodes of a file do where a node of the world steps, stops or starts
-use Rattle.std.specs.Prelude.{◌≡◌, ◌⊎◌, false, ℕ, Some, None, List, ◌∷◌, [], ◌++◌, max, map}
+use Rattle.std.specs.Prelude.{◌≡◌, ◌≢◌, ◌⊎◌, false, ℕ, Some, None, List, ◌∷◌, [], ◌++◌, max, map}
 use Rattle.xt_base.specs.declared.ids.FileId.{FileId}
 use Rattle.xt_messages.specs.declared.event.Event.{Event}
 use Rattle.xt_messages.specs.declared.event.Event.TheVariants as event
@@ -12,6 +12,7 @@ use Rattle.xt_protocol.specs.FileStates.{FileState, Site}
 use Rattle.xt_protocol.specs.OsdSteps.{OsdState, OsdStep, step_of_osd, file_concerned}
 use Rattle.lease_runs.specs.OsdView.{site_of}
 use Rattle.file_runs.specs.FileRuns.{FileWorld, Happening, message, wake, goes_on, stops_kept, stops_lost, acts, starts, after}
+use Rattle.world_spec.specs.declared.Role.TheVariants as role
 use Rattle.world_spec.specs.World.{World, Node, Running, osd, node_in, with_node, puts}
 use Rattle.world_spec.specs.NodeSteps.{outside_of, after_turn, halted}
 use Rattle.world_spec.specs.Lines.{starts_as, next_boot, ticked}
@@ -90,9 +91,15 @@ StopsShow =
 -- An OSD that starts has of every file what its records say.
 abbrev pub StartsShow : Type 0
 StartsShow =
-    (file : FileId) (w : World) (node : Node) (clock : ℕ) (v : FileWorld) → node_in w.nodes node.id.0 ≡ Some node → node.up ≡ None → Sees file w v
+    (file : FileId) (w : World) (node : Node) (clock : ℕ) (v : FileWorld) → node_in w.nodes node.id.0 ≡ Some node → node.up ≡ None → node.role ≡ role.Osd → Sees file w v
     → Sees file (starts_as w node (next_boot node.kept) clock)
     (after v (starts node.id.0 (record { node = node.id; boot = next_boot node.kept; times = w.times })))
+
+-- Where another node starts, nothing shows.
+abbrev pub ServersRest : Type 0
+ServersRest =
+    (file : FileId) (w : World) (node : Node) (clock : ℕ) (v : FileWorld) → node_in w.nodes node.id.0 ≡ Some node → node.up ≡ None → node.role ≢ role.Osd → Sees file w v
+    → Sees file (starts_as w node (next_boot node.kept) clock) v
 
 -- What no step of an OSD reads of a node doesn't show: its clock, and where it is to stop; nor does what a client has.
 abbrev pub PlansRest : Type 0
@@ -103,7 +110,7 @@ PlansRest =
 abbrev pub TicksRest : Type 0
 TicksRest = (file : FileId) (w : World) (count : ℕ) (v : FileWorld) → Sees file w v → Sees file (record w { nodes = map (ticked count) w.nodes }) v
 
--- Nor does a node that is declared: an OSD doesn't run yet, and a client never is one.
+-- Nor does a node that is declared: a server doesn't run yet, and a client never is an OSD.
 abbrev pub DeclaredRest : Type 0
 DeclaredRest =
     (file : FileId) (w : World) (node : Node) (v : FileWorld) → node_in w.nodes node.id.0 ≡ None → node_seen file (Some node) ≡ node_seen file None

@@ -1,5 +1,5 @@
 -- Each file of a world is a run of that file among OSDs.
-use Rattle.std.specs.Prelude.{◌≡◌, ◌⊎◌, ℕ, true, Some, List, [], ◌++◌}
+use Rattle.std.specs.Prelude.{◌≡◌, ◌⊎◌, ℕ, true, Option, Some, None, List, [], ◌++◌}
 use Rattle.xt_messages.specs.Limits.{FitsLocation}
 use Rattle.xt_base.specs.declared.ids.FileId.{FileId}
 use Rattle.xt_messages.specs.declared.file.Location.{Location}
@@ -15,13 +15,14 @@ use Rattle.file_runs.specs.Traces.{Tells}
 use Rattle.file_runs.specs.TraceRuns.{IsSafe}
 use Rattle.time_line.specs.declared.entry.Entry.{Entry}
 use Rattle.time_line.specs.TimeLine.{location_in, is_replicated, stripe_of}
-use Rattle.world_spec.specs.World.{World, file_in}
-use Rattle.world_spec.specs.Lines.{declared_file, Next, finished, opens, goes_on, ends}
+use Rattle.world_spec.specs.declared.PlacedFile.{PlacedFile}
+use Rattle.world_spec.specs.World.{World, file_in, known}
+use Rattle.world_spec.specs.Lines.{Next, finished, opens, goes_on, ends}
 use Rattle.world_runs.specs.View.{messages}
 use Rattle.world_safety.specs.Seen.{Sees}
 use Rattle.world_safety.specs.May.{LeadersHold}
 use Rattle.world_safety.specs.Tellings.{TellsAs}
-use Rattle.world_safety.specs.Asks.{operations_of, AreOperations, DeclaredList}
+use Rattle.world_safety.specs.Asks.{operations_of, AreOperations, KnownList}
 
 -- ---- a file's world and the world
 
@@ -49,11 +50,11 @@ pub record LeadsTo (stripe : ℕ) (ops : ℕ × ℕ → Op) (members : List ℕ)
 abbrev pub IsRunOfFile : ℕ → (ℕ × ℕ → Op) → List ℕ → FileId → World → List Msg → Type 0
 IsRunOfFile stripe ops members file w own = LeadsTo stripe ops members file w own (first_world file)
 
--- So it is of each file, whatever list and operations agree with what is declared and with the calls that have begun.
+-- So it is of each file, whatever list and operations agree with what is known of it and with the calls that have begun.
 abbrev pub FilesAreRuns : World → List Msg → Type 0
 FilesAreRuns w own =
-    (number stripe : ℕ) (ops : ℕ × ℕ → Op) (members : List ℕ) → DeclaredList w.files number stripe members
-    → AreOperations ops number w.entries → IsRunOfFile stripe ops members (declared_file number) w own
+    (file : FileId) (stripe : ℕ) (ops : ℕ × ℕ → Op) (members : List ℕ) → KnownList (known w) file stripe members
+    → AreOperations ops file.number w.entries → IsRunOfFile stripe ops members file w own
 
 -- and at each step of a line
 abbrev pub NextAreRuns : Next → Type 0
@@ -64,10 +65,14 @@ NextAreRuns (ends cause w) = FilesAreRuns w []
 
 -- ---- traces
 
--- The trace tells where each file is declared, within the limits.
+abbrev pub place_of : Option PlacedFile → Option Location
+place_of None = None
+place_of (Some f) = Some f.location
+
+-- The trace tells where each file is, declared or made, within the limits.
 pub record ArePlaced (w : World) : Type 0 where
-  pub told : (number : ℕ) → location_in number w.entries ≡ file_in w.files number
-  pub fit : (number : ℕ) (location : Location) → file_in w.files number ≡ Some location → FitsLocation location
+  pub told : (number : ℕ) → location_in number w.entries ≡ place_of (file_in (known w) number)
+  pub fit : (number : ℕ) (f : PlacedFile) → file_in (known w) number ≡ Some f → FitsLocation f.location
 
 -- What the trace tells of a file fits one order of writes and truncations, each issued first; so none stands there twice, and each answer
 -- shows the order as it was.

@@ -7,7 +7,7 @@ use Rattle.xt_protocol.specs.Folds.{fold_of, row_in, file_of}
 use Rattle.xt_protocol.specs.FileStates.{FileState}
 use Rattle.xt_protocol.specs.OsdSteps.{OsdState, file_at}
 use Rattle.file_runs.specs.FileRuns.{FileNode, FileWorld}
-use Rattle.world_spec.specs.World.{World, Node, Running, Core, osd, client, node_in}
+use Rattle.world_spec.specs.World.{World, Node, Running, Core, osd, client, mrc, dir, node_in}
 use Rattle.xt_protocol.specs.SeenBodies.{body_by}
 use Rattle.world_runs.specs.View.{awake_as}
 
@@ -15,10 +15,12 @@ use Rattle.world_runs.specs.View.{awake_as}
 abbrev pub file_seen : FileId → OsdState → FileState
 file_seen file s = file_at (awake_as s.started) s.files file
 
--- clients are as if they didn't run
+-- all others than OSDs are as if they didn't run
 abbrev pub core_state : FileId → Core → Option FileState
 core_state file (osd s) = Some (file_seen file s)
 core_state file (client c) = None
+core_state file (mrc m) = None
+core_state file (dir s) = None
 
 abbrev pub up_state : FileId → Option Running → Option FileState
 up_state file None = None

@@ -1,4 +1,4 @@
-//! Each file of a world of OSDs is a run of that file alone (`file_runs`): after every list of lines, and behind each step of a line
+//! Each file of a world is a run of OSDs of that file alone (`file_runs`): after every list of lines, and behind each step of a line
 //! more. So each replicated file has one order of writes in the trace, which its answers show.
 //!
 //! So it is shown of each thing that may happen in a line, and put together by the walk over lines (`world_runs`).
@@ -17,7 +17,7 @@ ghost use Rattle.world_spec.specs.Rules.{refusal};
 ghost use Rattle.world_spec.specs.Lines.{begins, steps};
 ghost use Rattle.world_spec.specs.Runs.{run_of, IsPartOf, IsRunInto};
 ghost use Rattle.world_safety.specs.Seen.{kept_seen, IsOf, IsNotOf};
-ghost use Rattle.world_safety.specs.Events.{MessagesShow, OthersRest, SilentRest, WakesShow, StopsShow, StartsShow, PlansRest, TicksRest, DeclaredRest};
+ghost use Rattle.world_safety.specs.Events.{MessagesShow, OthersRest, SilentRest, WakesShow, StopsShow, StartsShow, ServersRest, PlansRest, TicksRest, DeclaredRest};
 ghost use Rattle.world_safety.specs.May.{StepsStand, HoldersMakeRoom};
 ghost use Rattle.world_safety.specs.Leaders.{StepsMay, LeadersGoOn, LeadersStop};
 ghost use Rattle.world_safety.specs.Winners.{WinsInTime, WinnersAreAlone};
@@ -56,9 +56,10 @@ pub fn wakes_are_steps_of_each_file()
     ensures { WakesShow }
 {}
 
-/// An OSD that starts has of every file what its records say.
+/// An OSD that starts has of every file what its records say; where another node starts, nothing shows.
 pub fn starts_read_the_records()
-    ensures { StartsShow }
+    ensures osds { StartsShow }
+    ensures others { ServersRest }
 {}
 
 /// Clocks and plans to stop don't show in any file; nor does what a client has, nor a node that is declared.
@@ -138,7 +139,8 @@ pub fn files_are_runs()
         NextAreRuns (steps k room (begins (run_of room lines) l)) }
 {}
 
-/// The trace tells where each file is declared, within the limits: after every list of lines, and behind some steps of a line more.
+/// The trace tells where each file is, declared or made, within the limits: after every list of lines, and behind some steps of a line
+/// more.
 pub fn files_are_placed()
     ensures whole { (room : Room) (lines : List Line) → AreLines lines →
         ArePlaced (run_of room lines) }
