@@ -1,21 +1,20 @@
 -- a client's call, and its last call once more
 use Rattle.std.proofs.Common.{◌≡◌, ℕ, Option, Some, None, Result, Ok, refl, ap, sym, ◌∙◌, subst}
-use Rattle.std.specs.Option.{IfSome, option_or}
+use Rattle.std.specs.Option.{IfSome}
 use Rattle.xt_base.specs.declared.ids.NodeId.{NodeId}
-use Rattle.xt_messages.specs.declared.file.Location.{Location}
 use Rattle.xt_messages.specs.declared.event.Call.{Call}
 use Rattle.xt_protocol.specs.declared.turned.Turned.{Turned}
 use Rattle.client_rows.specs.Called.{called_file}
-use Rattle.client_rows.specs.Holding.{held_of}
 use Rattle.client_rows.specs.Steps.{Step}
 use Rattle.client_rows.specs.Rows.{WholeClient, called}
-use Rattle.world_spec.specs.World.{World, Node, Running, Core, osd, client, node_in, file_in, up_of}
-use Rattle.world_spec.specs.Rules.{no_called_file, unless_usable, held_in, location_held}
+use Rattle.world_spec.specs.declared.PlacedFile.{PlacedFile}
+use Rattle.world_spec.specs.World.{World, Node, Running, Core, osd, client, mrc, dir, node_in, up_of}
+use Rattle.world_spec.specs.Rules.{no_called_file, unless_usable, usable, held_in}
 use Rattle.world_spec.specs.NodeSteps.{Room, Cause, Doing, one_more, client_steps, end_of_step}
-use Rattle.world_spec.specs.Lines.{calls, core_calls, calls_again, core_calls_again}
+use Rattle.world_spec.specs.Lines.{about_to_use, calls, core_calls, calls_again, core_calls_again}
 use Rattle.world_hull.specs.declared.errors.WorldErr.{WorldErr}
 use Rattle.world_host.specs.Hosts.{HostView}
-use Rattle.world_host.specs.Calls.{declared_of, ready_with, IsUsable}
+use Rattle.world_host.specs.Calls.{declared_of, IsUsable}
 use Rattle.world_host.specs.Turns.{call_step, again_step}
 use Rattle.world_host.proofs.Usable.{ready_is, unless_held, usable_by}
 use Rattle.world_limits.specs.Fits.{FitsRunning, FitsTurned, MayForget, FitsStep, FitsCalling, FitsCallingAgain}
@@ -31,7 +30,7 @@ abbrev pub ClientStep : Type 0
 ClientStep = HostView → Running → WholeClient → Step Core
 
 -- its call, where what it uses is declared so
-abbrev pub calling : Call → Option Location → ClientStep
+abbrev pub calling : Call → Option PlacedFile → ClientStep
 calling c declared = λ host running state. call_step host running.clock state c declared
 
 -- its last call once more
@@ -43,21 +42,25 @@ calling_again = λ host running state. again_step host running.clock state
 abbrev pub core_takes : Room → ClientStep → Doing → Node → Running → Core → Result Doing Cause
 core_takes room step d node running (client state) = end_of_step room d node running (step (host_at d.world.times node) running state)
 core_takes room step d node running (osd state) = Ok d
+core_takes room step d node running (mrc state) = Ok d
+core_takes room step d node running (dir state) = Ok d
 
 abbrev pub client_takes : Room → ClientStep → Doing → Option Node → Result Doing Cause
 client_takes room step d None = Ok d
 client_takes room step d (Some node) = elim node.up [ None ↦ Ok d | Some running ↦ core_takes room step d node running running.core ]
 
-calls_are : (room : Room) (d : Doing) (o : Option Node) (c : Call) (declared : Option Location) → declared ≡ declared_of d.world.files (called_file c)
+calls_are : (room : Room) (d : Doing) (o : Option Node) (c : Call) (declared : Option PlacedFile) → declared ≡ declared_of d.world.files (called_file c)
     → client_takes room (calling c declared) d o ≡ calls room d o c
 calls_are room d None c declared is = refl
 calls_are room d (Some node) c declared is = up node.up
   where
     at : (running : Running) (core : Core) → core_takes room (calling c declared) d node running core ≡ core_calls room d node running core c
     at running (osd state) = refl
+    at running (mrc state) = refl
+    at running (dir state) = refl
     at running (client state) =
         ap (λ (s : WholeClient). end_of_step room d node running (client_steps (called node.id d.world.times s running.clock c)))
-        (ap (ready_with state c) is ∙ sym (ready_is d.world.files state c))
+        (ap (about_to_use state c) is ∙ sym (ready_is d.world.files state c))
 
     up : (o : Option Running) → elim o as (λ x. Result Doing Cause) [ None ↦ Ok d | Some running ↦ core_takes room (calling c declared) d node running running.core ]
         ≡ elim o as (λ x. Result Doing Cause) [ None ↦ Ok d | Some running ↦ core_calls room d node running running.core c ]
@@ -70,6 +73,8 @@ calls_again_are room d (Some node) = up node.up
   where
     at : (running : Running) (core : Core) → core_takes room calling_again d node running core ≡ core_calls_again room d node running core
     at running (osd state) = refl
+    at running (mrc state) = refl
+    at running (dir state) = refl
     at running (client state) = refl
 
     up : (o : Option Running) → elim o as (λ x. Result Doing Cause) [ None ↦ Ok d | Some running ↦ core_takes room calling_again d node running running.core ]
@@ -83,7 +88,7 @@ FitsClient w id step =
     (node : Node) (running : Running) → node_in w.nodes id.0 ≡ Some node → node.up ≡ Some running
     → FitsRunning running × ((c : WholeClient) → running.core ≡ client c → FitsStep node.kept (step (host_at w.times node) running c))
 
-calling_fits : (w : World) (id : NodeId) (c : Call) (declared : Option Location) → declared ≡ declared_of w.files (called_file c) → FitsCalling w id c → FitsClient w id (calling c declared)
+calling_fits : (w : World) (id : NodeId) (c : Call) (declared : Option PlacedFile) → declared ≡ declared_of w.files (called_file c) → FitsCalling w id c → FitsClient w id (calling c declared)
 calling_fits w id c declared is fits node running there up =
     let both = fits node running there up in (
       both.0,
@@ -91,7 +96,7 @@ calling_fits w id c declared is fits node running there up =
           record {
             turned =
                 subst (λ (s : WholeClient). FitsTurned node.kept (client_steps (called node.id w.times s running.clock c)).turned)
-                (ready_is w.files state c ∙ ap (ready_with state c) (sym is)) (both.1 state core);
+                (ready_is w.files state c ∙ ap (about_to_use state c) (sym is)) (both.1 state core);
             forgetting = tt;
           },
     )
@@ -134,7 +139,7 @@ module _ (was : Working) (id : NodeId) (place : ℕ) (step : ClientStep) (after 
 
 -- ---- a call
 
-module _ (was self : Working) (id : NodeId) (place : ℕ) (c : Call) (declared : Option Location) (after : NodesView) (turned : Turned) (is : was ≡ self)
+module _ (was self : Working) (id : NodeId) (place : ℕ) (c : Call) (declared : Option PlacedFile) (after : NodesView) (turned : Turned) (is : was ≡ self)
     (found : IsPlace was.doing.world.nodes id (Some place)) (is_declared : declared ≡ declared_of was.doing.world.files (called_file c))
     (made : NodeClientTook (calling c declared) (record { times = was.doing.world.times; nodes = was.doing.world.nodes }) found.0 after (Some turned)) where
   pub call_steps : (T : Type 0) (room : Room) (between new : Working) (r : Result T WorldErr)
@@ -172,15 +177,15 @@ module _ (was self : Working) (id : NodeId) (place : ℕ) (after : NodesView) (t
 no_called_is : (w : World) (id : NodeId) (node : Node) (o : Option ℕ) → node_in w.nodes id.0 ≡ Some node → no_called_file w id o ≡ unless_held w.files (held_in node.up) o
 no_called_is w id node None there = refl
 no_called_is w id node (Some number) there =
-    ap (λ (n : Option Node). unless_usable (option_or (file_in w.files number) (location_held (held_of (held_in (up_of n)) number))) number) there
+    ap (λ (n : Option Node). unless_usable (usable w.files (held_in (up_of n)) number) number) there
 
 module _ (was self : Working) (id : NodeId) (place : ℕ) (is : was ≡ self) (found : IsPlace was.doing.world.nodes id (Some place)) (node : Node) (at : IsAt was.doing.world.nodes place node) where
   its_node : node_in was.doing.world.nodes id.0 ≡ Some node
   its_node = found_at was.doing.world.nodes id place node at (ap (λ (n : Node). n.id) (one_node was.doing.world.nodes place node found.0 at found.1) ∙ found.2)
 
-  pub is_usable : (c : Call) (declared : Option Location) → declared ≡ declared_of was.doing.world.files (called_file c) → no_called_file self.doing.world id (called_file c) ≡ None
+  pub is_usable : (c : Call) (declared : Option PlacedFile) → declared ≡ declared_of was.doing.world.files (called_file c) → no_called_file self.doing.world id (called_file c) ≡ None
       → IfSome node.up (λ (running : Running). IsUsable declared c running.core)
   is_usable c declared is_declared none =
-      subst (λ (d : Option Location). IfSome node.up (λ (running : Running). IsUsable d c running.core)) (sym is_declared)
+      subst (λ (d : Option PlacedFile). IfSome node.up (λ (running : Running). IsUsable d c running.core)) (sym is_declared)
       (usable_by was.doing.world.files node.up c
       (sym (no_called_is was.doing.world id node (called_file c) its_node) ∙ ap (λ (x : Working). no_called_file x.doing.world id (called_file c)) is ∙ none))

@@ -1,5 +1,5 @@
 -- what the first step of each line does
-use Rattle.std.proofs.Common.{◌≡◌, ℕ, ◌<◌, ◌≤◌, Bool, true, false, cond, is_some, Option, Some, None, Result, Ok, Err, List, [], ◌∷◌, ◌++◌, map, length, refl, ap, sym, ◌∙◌, subst, arith}
+use Rattle.std.proofs.Common.{◌≡◌, ℕ, ◌<◌, ◌≤◌, Bool, true, false, cond, Option, Some, None, Result, Ok, Err, List, [], ◌∷◌, ◌++◌, map, length, refl, ap, sym, ◌∙◌, subst, arith}
 use Rattle.std.specs.Prelude.{nat_lt}
 use Rattle.std.specs.Option.{option_map, option_or}
 use Rattle.std.proofs.lemmas.Bool.Decides.{nat_tests}
@@ -12,16 +12,17 @@ use Rattle.xt_messages.specs.declared.status.Limited.TheVariants as limited
 use Rattle.time_line.specs.declared.entry.Halt.TheVariants as halt
 use Rattle.time_line.specs.declared.line.Line.TheVariants as line
 use Rattle.world_spec.specs.declared.TheConstants.{NODES}
+use Rattle.world_spec.specs.declared.Role.{Role}
 use Rattle.world_spec.specs.declared.Role.TheVariants as role
-use Rattle.world_spec.specs.declared.DeclaredFile.{DeclaredFile}
+use Rattle.world_spec.specs.declared.PlacedFile.{PlacedFile}
 use Rattle.time_line.specs.declared.entry.Entry.{Entry}
 use Rattle.time_line.specs.declared.entry.Entry.TheVariants as entry
 use Rattle.world_spec.specs.World.{World, Node, Running, client, node_in, with_node, file_in, up_of}
 use Rattle.time_line.specs.declared.line.Line.{Line}
 use Rattle.xt_messages.specs.declared.status.Rule.{Rule}
-use Rattle.world_spec.specs.Rules.{refusal, no_osd, no_node, runs_already, runs_not, goes_back, drifts}
+use Rattle.world_spec.specs.Rules.{refusal, no_server, no_node, runs_already, runs_not, goes_back, drifts}
 use Rattle.world_spec.specs.NodeSteps.{Room, Cause, came_to, Doing, halted}
-use Rattle.world_spec.specs.Lines.{does, tells, declares, runs, first_boot, changed, stops, crashes, cuts, reads_clock, aims, ticked, first_step, whole_client}
+use Rattle.world_spec.specs.Lines.{does, tells, declares, declared_file, never_started, runs, first_boot, changed, stops, crashes, cuts, reads_clock, aims, ticked, first_step, whole_client}
 use Rattle.world_host.specs.declared.running.Moment.{Moment}
 use Rattle.world_host.specs.Turns.{moment_of}
 use Rattle.world_host.specs.Calls.{targets}
@@ -127,15 +128,15 @@ changes_so old new place f g same changes = λ node at. changes node at ∙ ap (
     maps None = refl
     maps (Some r) = ap (λ (q : Running). Some q) (same r)
 
-pub aim_placed : (room : Room) (d : Doing) (id : NodeId) (file : ℕ) (node : NodeId) (place : ℕ) (is_declared : Bool) (after : NodesView) → IsPlace d.world.nodes id (Some place)
-    → is_declared ≡ is_some (file_in d.world.files file) → ChangesUp (record { times = d.world.times; nodes = d.world.nodes }) place (targets is_declared file node) after
+pub aim_placed : (room : Room) (d : Doing) (id : NodeId) (file : ℕ) (node : NodeId) (place : ℕ) (declared : Option PlacedFile) (after : NodesView) → IsPlace d.world.nodes id (Some place)
+    → declared ≡ file_in d.world.files file → ChangesUp (record { times = d.world.times; nodes = d.world.nodes }) place (targets declared file node) after
     → first_step room d (line.Aim id file node) ≡ Ok (record d { world = record d.world { times = after.times; nodes = after.nodes } })
 unfolding first_step
-aim_placed room d id file node place is_declared after is declared changes =
+aim_placed room d id file node place declared after is is_declared changes =
     ap (λ (w : World). Ok (record d { world = w }))
     (changed_at d.world id place (aims d.world.files file node) after is
-    (changes_so (record { times = d.world.times; nodes = d.world.nodes }) after place (targets is_declared file node) (aims d.world.files file node)
-    (λ r. ap (λ (b : Bool). targets b file node r) declared ∙ targets_is d.world.files file node r) changes))
+    (changes_so (record { times = d.world.times; nodes = d.world.nodes }) after place (targets declared file node) (aims d.world.files file node)
+    (λ r. ap (λ (f : Option PlacedFile). targets f file node r) is_declared ∙ targets_is d.world.files file node r) changes))
 
 pub tick_done : (room : Room) (d : Doing) (count : ℕ) (after : NodesView) (es : List Entry) → after ≡ record { times = d.world.times; nodes = map (ticked count) d.world.nodes }
     → es ≡ d.world.entries ++ entry.Tick count ∷ []
@@ -175,17 +176,15 @@ few d node es room = at (nat_lt (length d.world.nodes) NODES) (less (length d.wo
     at true e = refl
     at false e = absurd (cc)
 
-pub osd_refused : (room : Room) (d : Doing) (id : NodeId) → NODES ≤ length d.world.nodes → cause_of (first_step room d (line.Osd id)) ≡ Some (came_to limited.Nodes)
-unfolding first_step
-osd_refused room d id full = ap cause_of (many d (record { id = id; role = role.Osd; kept = []; past = []; up = None }) [] full)
+pub resting_refused : (d : Doing) (id : NodeId) (its : Role) → NODES ≤ length d.world.nodes → cause_of (declares d (never_started id its) []) ≡ Some (came_to limited.Nodes)
+resting_refused d id its full = ap cause_of (many d (never_started id its) [] full)
 
-pub osd_declared : (room : Room) (d : Doing) (id : NodeId) (after : NodesView) → length d.world.nodes < NODES
-    → after ≡ record { times = d.world.times; nodes = d.world.nodes ++ record { id = id; role = role.Osd; kept = []; past = []; up = None } ∷ [] }
-    → first_step room d (line.Osd id) ≡ Ok (record d { world = record d.world { times = after.times; nodes = after.nodes } })
-unfolding first_step
-osd_declared room d id after some is =
-    few d (record { id = id; role = role.Osd; kept = []; past = []; up = None }) [] some
-    ∙ ap (λ (es : List Entry). Ok (record d { world = record d.world { nodes = d.world.nodes ++ record { id = id; role = role.Osd; kept = []; past = []; up = None } ∷ []; entries = es } })) (append-nil d.world.entries)
+pub resting_declared : (d : Doing) (id : NodeId) (its : Role) (after : NodesView) → length d.world.nodes < NODES
+    → after ≡ record { times = d.world.times; nodes = d.world.nodes ++ never_started id its ∷ [] }
+    → declares d (never_started id its) [] ≡ Ok (record d { world = record d.world { times = after.times; nodes = after.nodes } })
+resting_declared d id its after some is =
+    few d (never_started id its) [] some
+    ∙ ap (λ (es : List Entry). Ok (record d { world = record d.world { nodes = d.world.nodes ++ never_started id its ∷ []; entries = es } })) (append-nil d.world.entries)
     ∙ ap (λ (v : NodesView). Ok (record d { world = record d.world { times = v.times; nodes = v.nodes } })) (sym is)
 
 pub client_refused : (room : Room) (d : Doing) (id : NodeId) (clock : ℕ) → NODES ≤ length d.world.nodes → cause_of (first_step room d (line.Client id clock)) ≡ Some (came_to limited.Nodes)
@@ -203,12 +202,12 @@ client_declared room d id clock after es some is told =
     ∙ ap (λ (v : NodesView). Ok (record d { world = record d.world { times = v.times; nodes = v.nodes; entries = d.world.entries ++ entry.Up id first_boot clock ∷ [] } })) (sym is)
     ∙ ap (λ (xs : List Entry). Ok (record d { world = record d.world { times = after.times; nodes = after.nodes; entries = xs } })) (sym told)
 
-pub file_declared : (room : Room) (d : Doing) (number : ℕ) (location : Location) (files : List DeclaredFile) (es : List Entry)
-    → files ≡ d.world.files ++ record { number = number; location = location } ∷ [] → es ≡ d.world.entries ++ entry.File number location ∷ []
+pub file_declared : (room : Room) (d : Doing) (number : ℕ) (location : Location) (files : List PlacedFile) (es : List Entry)
+    → files ≡ d.world.files ++ record { file = declared_file number; location = location } ∷ [] → es ≡ d.world.entries ++ entry.File number location ∷ []
     → first_step room d (line.File number location) ≡ Ok (record d { world = record d.world { files = files; entries = es } })
 unfolding first_step
 file_declared room d number location files es is told =
-    ap (λ (fs : List DeclaredFile). Ok (record d { world = record d.world { files = fs; entries = d.world.entries ++ entry.File number location ∷ [] } })) (sym is)
+    ap (λ (fs : List PlacedFile). Ok (record d { world = record d.world { files = fs; entries = d.world.entries ++ entry.File number location ∷ [] } })) (sym is)
     ∙ ap (λ (xs : List Entry). Ok (record d { world = record d.world { files = files; entries = xs } })) (sym told)
 
 -- ---- stops
@@ -271,12 +270,12 @@ times_are result times lease drift is so =
 
 -- ---- rules
 
-pub start_rule : (w : World) (l : Line) (node : NodeId) (clock : ℕ) (first second third behind all : Option Rule) → l ≡ line.Start node clock → first ≡ no_osd w.nodes node → second ≡ runs_already w.nodes node
+pub start_rule : (w : World) (l : Line) (node : NodeId) (clock : ℕ) (first second third behind all : Option Rule) → l ≡ line.Start node clock → first ≡ no_server w.nodes node → second ≡ runs_already w.nodes node
     → third ≡ drifts w node clock → behind ≡ option_or second third → all ≡ option_or first behind → all ≡ refusal w l
 unfolding refusal
 start_rule w l node clock first second third behind all is one two three four five =
     five ∙ ap (λ (x : Option Rule). option_or x behind) one
-    ∙ ap (option_or (no_osd w.nodes node)) (four ∙ ap (λ (x : Option Rule). option_or x third) two ∙ ap (option_or (runs_already w.nodes node)) three)
+    ∙ ap (option_or (no_server w.nodes node)) (four ∙ ap (λ (x : Option Rule). option_or x third) two ∙ ap (option_or (runs_already w.nodes node)) three)
     ∙ ap (refusal w) (sym is)
 
 pub clock_rule : (w : World) (l : Line) (node : NodeId) (clock : ℕ) (first second third fourth rises behind all : Option Rule) → l ≡ line.Clock node clock → first ≡ no_node w.nodes node → second ≡ runs_not w.nodes node

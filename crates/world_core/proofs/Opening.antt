@@ -1,5 +1,5 @@
 -- a line that breaks no rule, before its first step
-use Rattle.std.proofs.Common.{◌≡◌, ℕ, ◌≤◌, Bool, true, false, is_some, Option, Some, None, Result, Ok, List, length, refl, ap, sym, ◌∙◌, subst, arith}
+use Rattle.std.proofs.Common.{◌≡◌, ℕ, ◌≤◌, Bool, true, false, is_some, Option, Some, None, Result, Ok, List, [], length, refl, ap, sym, ◌∙◌, subst, arith}
 use Rattle.std.specs.Prelude.{not, nat_le, ◌&&◌}
 use Rattle.std.specs.Option.{option_or}
 use Rattle.std.proofs.lemmas.Bool.Decides.{nat_tests}
@@ -15,7 +15,9 @@ use Rattle.world_spec.specs.World.{World, node_in, file_in}
 use Rattle.world_spec.specs.Rules.{refusal, if_so, no_client, node_twice, drifts_inside, file_twice, first_stranger, clock_ends, no_message, no_called_file, busy, no_call}
 use Rattle.client_rows.specs.Called.{called_file}
 use Rattle.world_spec.specs.NodeSteps.{Room, Cause, Doing, event_comes}
-use Rattle.world_spec.specs.Lines.{calls, calls_again, delivers, no_longer_pending, first_step}
+use Rattle.world_spec.specs.Lines.{calls, calls_again, declares, delivers, never_started, no_longer_pending, first_step}
+use Rattle.world_spec.specs.declared.Role.TheVariants as role
+use Rattle.xt_base.specs.declared.TheConstants.{DIR_NODE, MRC_NODE}
 use Rattle.world_hull.specs.declared.errors.WorldErr.{WorldErr}
 use Rattle.world_step.specs.Steps.{Working, IsStepped}
 
@@ -38,6 +40,14 @@ legal_so w l known is legal = sym (ap (refusal w) is) ∙ legal
 pub osd_own : (w : World) (id : NodeId) → refusal w (line.Osd id) ≡ None → node_in w.nodes id.0 ≡ None
 unfolding refusal
 osd_own w id legal = none_there _ (not_so _ _ legal)
+
+pub mrc_own : (w : World) → refusal w line.Mrc ≡ None → node_in w.nodes MRC_NODE.0 ≡ None
+unfolding refusal
+mrc_own w legal = none_there _ (not_so _ _ legal)
+
+pub dir_own : (w : World) → refusal w line.Dir ≡ None → node_in w.nodes DIR_NODE.0 ≡ None
+unfolding refusal
+dir_own w legal = none_there _ (not_so _ _ legal)
 
 pub client_own : (w : World) (id : NodeId) (clock : ℕ) → refusal w (line.Client id clock) ≡ None → node_in w.nodes id.0 ≡ None
 unfolding refusal
@@ -88,6 +98,18 @@ unfolding refusal
 drop_number w number legal = least (length w.sent) number legal
 
 -- ---- first steps that are other steps
+
+pub osd_first : (room : Room) (d : Doing) (id : NodeId) → first_step room d (line.Osd id) ≡ declares d (never_started id role.Osd) []
+unfolding first_step
+osd_first room d id = refl
+
+pub mrc_first : (room : Room) (d : Doing) → first_step room d line.Mrc ≡ declares d (never_started MRC_NODE role.Mrc) []
+unfolding first_step
+mrc_first room d = refl
+
+pub dir_first : (room : Room) (d : Doing) → first_step room d line.Dir ≡ declares d (never_started DIR_NODE role.Dir) []
+unfolding first_step
+dir_first room d = refl
 
 pub wake_first : (room : Room) (d : Doing) (id : NodeId) → first_step room d (line.Wake id) ≡ event_comes room d id event.Wake
 unfolding first_step

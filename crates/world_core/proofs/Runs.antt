@@ -55,6 +55,8 @@ may_stand room w (line.Times lease drift) is are =
     let fits = last_fits w.lines (line.Times lease drift) are in
     (fits.0, ap (λ (x : World). x.nodes) (is ∙ ap (run_of room) (fits.1 refl) ∙ sym (no_run room)))
 may_stand room w (line.Osd node) is are = (last_fits w.lines (line.Osd node) are).0
+may_stand room w line.Mrc is are = (last_fits w.lines line.Mrc are).0
+may_stand room w line.Dir is are = (last_fits w.lines line.Dir are).0
 may_stand room w (line.Client node clock) is are = (last_fits w.lines (line.Client node clock) are).0
 may_stand room w (line.File number location) is are = (last_fits w.lines (line.File number location) are).0
 may_stand room w (line.Start node clock) is are = (last_fits w.lines (line.Start node clock) are).0

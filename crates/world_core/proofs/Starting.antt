@@ -1,8 +1,9 @@
--- an OSD starts
+-- a node starts
 use Rattle.std.proofs.Common.{◌≡◌, ℕ, Bool, true, false, cond, Option, Some, None, Result, Ok, Err, List, [], ◌∷◌, ◌++◌, refl, ap, sym, ◌∙◌, subst, append_assoc}
-use Rattle.std.specs.Prelude.{nat_lt}
+use Rattle.std.specs.Prelude.{nat_lt, filter, map}
 use Rattle.xt_base.specs.declared.ids.NodeId.{NodeId}
 use Rattle.xt_base.specs.declared.ids.Boot.{Boot}
+use Rattle.xt_messages.specs.declared.record.Record.{Record}
 use Rattle.xt_messages.specs.declared.record.Record.TheVariants as kept
 use Rattle.xt_messages.specs.declared.record.Folded.{Folded}
 use Rattle.xt_messages.specs.declared.status.Limited.TheVariants as limited
@@ -11,15 +12,18 @@ use Rattle.xt_protocol.specs.Folds.{fold_of}
 use Rattle.time_line.specs.declared.line.Line.TheVariants as line
 use Rattle.time_line.specs.declared.entry.Entry.{Entry}
 use Rattle.time_line.specs.declared.entry.Entry.TheVariants as entry
-use Rattle.world_spec.specs.World.{Node, Deed, loads, puts, osd, node_in, with_node}
+use Rattle.world_spec.specs.declared.PlacedFile.{PlacedFile}
+use Rattle.world_spec.specs.World.{Node, Deed, loads, puts, Core, node_in, with_node}
 use Rattle.world_spec.specs.NodeSteps.{Room, Overflow, Cause, came_to, has_no_room, Doing}
-use Rattle.world_spec.specs.Lines.{does, tells, next_boot, osd_starting, starts_as, starts, first_step}
+use Rattle.world_spec.specs.Lines.{does, next_boot, core_starting, file_entry, files_left, is_untold, starts_as, starts, first_step}
 use Rattle.world_spec.specs.Lines as lines
 use Rattle.world_hull.specs.Answers.{IsFullOrMemory, IsFullExactly}
 use Rattle.world_hull.specs.Appends.{kept_by}
 use Rattle.world_hull.specs.declared.hull.Kept.{Kept}
 use Rattle.world_hull.specs.declared.errors.WorldErr.{WorldErr}
 use Rattle.world_hull.specs.declared.errors.WorldErr.TheVariants as error
+use Rattle.world_host.specs.Cores.{SayTheSame, made_at}
+use Rattle.world_host.proofs.Starting.{starts_alike, made_starting}
 use Rattle.world_nodes.specs.Nodes.{NodesView, IsAt, IsPlace, Changes, after_append, after_load}
 use Rattle.world_step.specs.Steps.{Tells, cause_of}
 use Rattle.world_core.specs.Boots.{boot_behind}
@@ -75,7 +79,7 @@ module _ (told : Room) (d : Doing) (id : NodeId) (clock place : ℕ) (is : IsPla
 
   -- the node as it started from its loaded records, before its start is put
   abbrev pub started_from : Boot → Node
-  started_from boot = record (after_load is.0) { up = Some (lines.runs boot clock (osd (osd_starting d.world.times is.0 boot clock))) }
+  started_from boot = record (after_load is.0) { up = Some (lines.runs boot clock (core_starting d.world.times is.0 boot clock is.0.role)) }
 
   abbrev pub started_in : Boot → NodesView
   started_in boot = record { times = d.world.times; nodes = with_node d.world.nodes (started_from boot) }
@@ -86,26 +90,33 @@ module _ (told : Room) (d : Doing) (id : NodeId) (clock place : ℕ) (is : IsPla
       subst (λ (v : NodesView). IsAt v.nodes place (after_load is.0)) (sym (changes is.0 is.1)) (at_again d.world.nodes place is.0 (after_load is.0) is.1 refl)
 
   -- its records were loaded, and it started
-  pub started_is : (boot : Boot) (folded : Folded) (loaded between : NodesView) → Changes (record { times = d.world.times; nodes = d.world.nodes }) place after_load loaded
-      → ((node : Node) → IsAt loaded.nodes place node → folded ≡ fold_of node.kept
-      → between ≡ record loaded { nodes = with_node loaded.nodes (record node { up = Some (lines.runs boot clock (osd (osd_starting loaded.times node boot clock))) }) })
-      → folded ≡ fold_of is.0.kept → between ≡ started_in boot
-  started_is boot folded loaded between changes started said =
+  pub started_is : (boot : Boot) (found : List Record) (loaded between : NodesView) → Changes (record { times = d.world.times; nodes = d.world.nodes }) place after_load loaded
+      → ((node : Node) → IsAt loaded.nodes place node → SayTheSame found node.kept
+      → between ≡ record loaded { nodes = with_node loaded.nodes (record node { up = Some (lines.runs boot clock (core_starting loaded.times node boot clock node.role)) }) })
+      → SayTheSame found is.0.kept → between ≡ started_in boot
+  started_is boot found loaded between changes started said =
       started (after_load is.0) (loaded_at loaded changes) said
-      ∙ ap (λ (v : NodesView). record v { nodes = with_node v.nodes (record (after_load is.0) { up = Some (lines.runs boot clock (osd (osd_starting v.times (after_load is.0) boot clock))) }) }) (changes is.0 is.1)
+      ∙ ap (λ (v : NodesView). record v { nodes = with_node v.nodes (record (after_load is.0) { up = Some (lines.runs boot clock (core_starting v.times (after_load is.0) boot clock is.0.role)) }) }) (changes is.0 is.1)
+      ∙ ap (λ (core : Core). record { times = d.world.times; nodes = with_node (with_node d.world.nodes (after_load is.0)) (record (after_load is.0) { up = Some (lines.runs boot clock core) }) })
+      (starts_alike d.world.times (after_load is.0) is.0 boot clock is.0.role refl (record { rows = refl; requests = refl }))
       ∙ ap (λ (ns : List Node). record { times = d.world.times; nodes = ns }) (twice d.world.nodes (after_load is.0) (started_from boot) refl)
 
   -- the node stands there, as it started
   pub started_at : (boot : Boot) (between : NodesView) → between ≡ started_in boot → IsAt between.nodes place (started_from boot)
   started_at boot between was = subst (λ (v : NodesView). IsAt v.nodes place (started_from boot)) (sym was) (at_again d.world.nodes place is.0 (started_from boot) is.1 refl)
 
+  -- the files that it has made and that aren't told
+  pub left_at : (boot : Boot) (made left : List PlacedFile) → left ≡ filter (is_untold made) (made_at (started_from boot).up) → left ≡ files_left made is.0
+  left_at boot made left so = so ∙ ap (filter (is_untold made)) (made_starting d.world.times is.0 boot clock is.0.role)
+
   -- it has started
-  pub start_done : (boot : Boot) (between after : NodesView) (end : Kept) (es : List Entry) → boot_behind (fold_of is.0.kept).boot ≡ Some boot
+  pub start_done : (boot : Boot) (between after : NodesView) (end : Kept) (left made : List PlacedFile) (es : List Entry) → boot_behind (fold_of is.0.kept).boot ≡ Some boot
       → told.overflow (is.0.past ++ loads ∷ []) (kept.Boot boot) ≡ None → between ≡ started_in boot
       → end ≡ kept_by None → Changes between place (after_append (kept.Boot boot) end) after
-      → es ≡ d.world.entries ++ entry.Up id boot clock ∷ []
-      → first_step told d (line.Start id clock) ≡ Ok (record d { world = record d.world { times = after.times; nodes = after.nodes; entries = es } })
-  start_done boot between after end es some fits was is_end changes said =
+      → left ≡ files_left d.world.made is.0 → made ≡ d.world.made ++ left
+      → es ≡ d.world.entries ++ entry.Up id boot clock ∷ map file_entry left
+      → first_step told d (line.Start id clock) ≡ Ok (record d { world = record d.world { times = after.times; nodes = after.nodes; made = made; entries = es } })
+  start_done boot between after end left made es some fits was is_end changes is_left is_made said =
       let there : Node = started_from boot in
       let next : Node = record there { kept = is.0.kept ++ kept.Boot boot ∷ []; past = is.0.past ++ loads ∷ puts (kept.Boot boot) ∷ [] } in
       let its : after ≡ record { times = d.world.times; nodes = with_node d.world.nodes next } =
@@ -116,6 +127,8 @@ module _ (told : Room) (d : Doing) (id : NodeId) (clock place : ℕ) (is : IsPla
       ∙ ap (λ (ns : List Node). record { times = d.world.times; nodes = ns }) (twice d.world.nodes there next refl) in
       starts_is boot some
       ∙ ap (λ (o : Option Overflow). by_room boot o) fits
-      ∙ ap (λ (i : NodeId). Ok (record d { world = record d.world { nodes = with_node d.world.nodes next; entries = d.world.entries ++ entry.Up i boot clock ∷ [] } })) is.2
-      ∙ ap (λ (v : NodesView). Ok (record d { world = record d.world { times = v.times; nodes = v.nodes; entries = d.world.entries ++ entry.Up id boot clock ∷ [] } })) (sym its)
-      ∙ ap (λ (xs : List Entry). Ok (record d { world = record d.world { times = after.times; nodes = after.nodes; entries = xs } })) (sym said)
+      ∙ ap (λ (fs : List PlacedFile). Ok (record d { world = record d.world { nodes = with_node d.world.nodes next; made = d.world.made ++ fs; entries = d.world.entries ++ entry.Up is.0.id boot clock ∷ map file_entry fs } })) (sym is_left)
+      ∙ ap (λ (i : NodeId). Ok (record d { world = record d.world { nodes = with_node d.world.nodes next; made = d.world.made ++ left; entries = d.world.entries ++ entry.Up i boot clock ∷ map file_entry left } })) is.2
+      ∙ ap (λ (v : NodesView). Ok (record d { world = record d.world { times = v.times; nodes = v.nodes; made = d.world.made ++ left; entries = d.world.entries ++ entry.Up id boot clock ∷ map file_entry left } })) (sym its)
+      ∙ ap (λ (fs : List PlacedFile). Ok (record d { world = record d.world { times = after.times; nodes = after.nodes; made = fs; entries = d.world.entries ++ entry.Up id boot clock ∷ map file_entry left } })) (sym is_made)
+      ∙ ap (λ (xs : List Entry). Ok (record d { world = record d.world { times = after.times; nodes = after.nodes; made = made; entries = xs } })) (sym said)

@@ -28,6 +28,8 @@ pub opened : (room : Room) (w : World) (l : Line) (d : Doing) → first_step roo
 opened room w (line.Settle count) d is = none_yet room _ ∙ ap goes_on (the_doing (begun_with w (line.Settle count)) d _ (settling room (begun_with w (line.Settle count)) count _ refl) is)
 opened room w (line.Times lease drift) d is = opens_one room (line.Times lease drift) w ∙ ap (went w) is
 opened room w (line.Osd node) d is = opens_one room (line.Osd node) w ∙ ap (went w) is
+opened room w line.Mrc d is = opens_one room line.Mrc w ∙ ap (went w) is
+opened room w line.Dir d is = opens_one room line.Dir w ∙ ap (went w) is
 opened room w (line.Client node clock) d is = opens_one room (line.Client node clock) w ∙ ap (went w) is
 opened room w (line.File number location) d is = opens_one room (line.File number location) w ∙ ap (went w) is
 opened room w (line.Start node clock) d is = opens_one room (line.Start node clock) w ∙ ap (went w) is
@@ -47,6 +49,8 @@ opening_few : (l : Line) → opening_of l ≤ 1
 opening_few (line.Settle count) = lit≤ tt
 opening_few (line.Times lease drift) = lit≤ tt
 opening_few (line.Osd node) = lit≤ tt
+opening_few line.Mrc = lit≤ tt
+opening_few line.Dir = lit≤ tt
 opening_few (line.Client node clock) = lit≤ tt
 opening_few (line.File number location) = lit≤ tt
 opening_few (line.Start node clock) = lit≤ tt
@@ -67,6 +71,8 @@ two_in_all : (l : Line) → opening_of l + closing_of l ≡ 2
 two_in_all (line.Settle count) = refl
 two_in_all (line.Times lease drift) = refl
 two_in_all (line.Osd node) = refl
+two_in_all line.Mrc = refl
+two_in_all line.Dir = refl
 two_in_all (line.Client node clock) = refl
 two_in_all (line.File number location) = refl
 two_in_all (line.Start node clock) = refl
@@ -87,6 +93,8 @@ pub opened_err : (room : Room) (w : World) (l : Line) (cause : Cause) → first_
 opened_err room w (line.Settle count) cause is = absurd (let e : Ok (begun_with w (line.Settle count)) ≡ Err cause = sym (settling room _ count _ refl) ∙ is in cc e)
 opened_err room w (line.Times lease drift) cause is = opens_one room (line.Times lease drift) w ∙ ap (went w) is
 opened_err room w (line.Osd node) cause is = opens_one room (line.Osd node) w ∙ ap (went w) is
+opened_err room w line.Mrc cause is = opens_one room line.Mrc w ∙ ap (went w) is
+opened_err room w line.Dir cause is = opens_one room line.Dir w ∙ ap (went w) is
 opened_err room w (line.Client node clock) cause is = opens_one room (line.Client node clock) w ∙ ap (went w) is
 opened_err room w (line.File number location) cause is = opens_one room (line.File number location) w ∙ ap (went w) is
 opened_err room w (line.Start node clock) cause is = opens_one room (line.Start node clock) w ∙ ap (went w) is
@@ -106,6 +114,8 @@ pub begins_in : (w : World) (l : Line) → so_far (begins w l) ≡ w
 begins_in w (line.Settle count) = refl
 begins_in w (line.Times lease drift) = refl
 begins_in w (line.Osd node) = refl
+begins_in w line.Mrc = refl
+begins_in w line.Dir = refl
 begins_in w (line.Client node clock) = refl
 begins_in w (line.File number location) = refl
 begins_in w (line.Start node clock) = refl
@@ -207,23 +217,25 @@ times_more i (suc j) c le = at (λ less. times_more i j c less) (cases i j le)
     at rest (inl less) = (let before : i * c ≤ j * c = rest less in let more : suc j * c ≡ j * c + c = mul_more j c in omega arith)
     at rest (inr same) = subst (λ (n : ℕ). i * c ≤ n * c) same (omega arith)
 
-within_enough : (w : World) (l : Line) (i count k : ℕ) → i < events_of l → count ≡ 1 + OWN * length w.files → k ≤ 1 + i * count → k + count ≤ enough w l
+within_enough : (w : World) (l : Line) (i count k : ℕ) → i < events_of l → count ≡ 1 + OWN * (1 + length w.files + length w.made) → k ≤ 1 + i * count → k + count ≤ enough w l
 within_enough w l i count k less is le =
     let more : suc i * count ≤ events_of l * count = times_more (suc i) (events_of l) count (omega arith) in
     let one : suc i * count ≡ i * count + count = mul_more i count in
-    let all : events_of l * count ≡ events_of l * (1 + OWN * length w.files) = ap (λ (n : ℕ). events_of l * n) is in
+    let all : events_of l * count ≡ events_of l * (1 + OWN * (1 + length w.files + length w.made)) = ap (λ (n : ℕ). events_of l * n) is in
     omega arith
 
 -- the steps of a line, with those after its events, are those that it is allowed
-all_enough : (w : World) (l : Line) (i count : ℕ) → i ≡ events_of l → count ≡ 1 + OWN * length w.files → opening_of l + i * count + closing_of l ≡ enough w l
+all_enough : (w : World) (l : Line) (i count : ℕ) → i ≡ events_of l → count ≡ 1 + OWN * (1 + length w.files + length w.made) → opening_of l + i * count + closing_of l ≡ enough w l
 all_enough w l i count same is =
-    let all : i * count ≡ events_of l * (1 + OWN * length w.files) = ap (λ (n : ℕ). n * count) same ∙ ap (λ (n : ℕ). events_of l * n) is in
+    let all : i * count ≡ events_of l * (1 + OWN * (1 + length w.files + length w.made)) = ap (λ (n : ℕ). n * count) same ∙ ap (λ (n : ℕ). events_of l * n) is in
     let two : opening_of l + closing_of l ≡ 2 = two_in_all l in
     omega arith
 
 begin_fits : (w : World) (l : Line) → FitsAt (begins w l) → FitsWorld w []
 begin_fits w (line.Times lease drift) fits = fits
 begin_fits w (line.Osd node) fits = fits
+begin_fits w line.Mrc fits = fits
+begin_fits w line.Dir fits = fits
 begin_fits w (line.Client node clock) fits = fits
 begin_fits w (line.File number location) fits = fits
 begin_fits w (line.Start node clock) fits = fits
@@ -250,7 +262,7 @@ done_is room w l = refl
 -- ---- the loop over events
 
 module _ (room : Room) (old started now : Working) (l : Line) (i count : ℕ) (begun : old.doing ≡ begun_with old.doing.world l) (first : (first_step room old.doing l ≡ Ok started.doing) × WentOn old started)
-    (is_count : count ≡ 1 + OWN * length old.doing.world.files) (came : steps (i * count) room (goes_on started.doing) ≡ goes_on now.doing) (on : WentOn started now) where
+    (is_count : count ≡ 1 + OWN * (1 + length old.doing.world.files + length old.doing.world.made)) (came : steps (i * count) room (goes_on started.doing) ≡ goes_on now.doing) (on : WentOn started now) where
   start : steps (opening_of l) room (begins old.doing.world l) ≡ goes_on started.doing
   start = opened room old.doing.world l started.doing (ap (λ (d : Doing). first_step room d l) (sym begun) ∙ first.0)
 

@@ -47,6 +47,8 @@ fn copy_of(alloc: Global, line: &Line) -> Result<Line, OutOfMemory>
             drift: *drift,
         },
         Line::Osd { node } => Line::Osd { node: *node },
+        Line::Mrc => Line::Mrc,
+        Line::Dir => Line::Dir,
         Line::Client { node, clock } => Line::Client {
             node: *node,
             clock: *clock,

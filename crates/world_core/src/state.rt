@@ -46,6 +46,7 @@ impl<C: NodeCore, H: Hull> Model for State<C, H> {
           times = s.stepper.nodes.times;
           nodes = s.stepper.nodes.nodes;
           files = s.files;
+          made = s.stepper.made.items;
           sent = s.stepper.sent;
           entries = s.stepper.entries.items;
           lines = take s.shown s.lines.items;
@@ -71,6 +72,7 @@ impl<C: NodeCore, H: Hull> State<C, H> {
             alloc,
             stepper: Stepper {
                 nodes: Nodes::new(alloc, hull),
+                made: Vec::new(alloc),
                 sent: SentMessages::new(alloc),
                 own: OwnMessages::new(alloc),
                 entries: Vec::new(alloc),

@@ -15,7 +15,7 @@ use Rattle.xt_protocol.specs.Folds.{row_in, with_row, new_row, row_after, file_o
 use Rattle.xt_protocol.proofs.FileRows.{rise-with_row}
 use Rattle.osd_files.specs.Whole.{RowRises}
 use Rattle.osd_core.specs.Slots.{AreRows}
-use Rattle.world_limits.specs.Fits.{FitsKept}
+use Rattle.world_host.specs.Cores.{MayBeKept}
 
 new_fits : FitsHead new_head
 new_fits = record {
@@ -106,6 +106,6 @@ all_more folded [] rows fits places = rows
 all_more folded (rec ∷ recs) rows fits places = all_more (folded_after folded rec) recs (one_more folded rec rows fits.0 places.0) fits.1 places.1
 
 -- the files of such records rise, and what is said of each is within its limits
-pub rows_are : (records : List Record) → FitsKept records → AreRows (fold_of records).files
+pub rows_are : (records : List Record) → MayBeKept records → AreRows (fold_of records).files
 unfolding fold_of
-rows_are records fits = all_more nothing_kept records (record { files = tt; each = tt }) fits.limits fits.places
+rows_are records fits = all_more nothing_kept records (record { files = tt; each = tt }) fits.0 fits.1

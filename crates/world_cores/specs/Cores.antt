@@ -11,9 +11,13 @@ use Rattle.world_cores.specs.declared.roles.Core.TheVariants as core
 abbrev pub core_of : Core → world.Core
 core_of (core.Osd o) = world.osd o.state
 core_of (core.Client alloc c) = world.client c.state
+core_of (core.Mrc m) = world.mrc m.state
+core_of (core.Dir alloc d) = world.dir d.state
 
--- A core is the node's: an OSD of a world has the key under which the world seals the capabilities of declared files; a client
--- sends as this node, with these times.
+-- A core is the node's: an OSD and the metadata server of a world have the key under which the world seals the capabilities of
+-- declared files; a client sends as this node, with these times. What the directory service does asks for none of these.
 abbrev pub IsOf : NodeId → TimeSettings → Core → Type 0
 IsOf id times (core.Osd o) = o.key ≡ Some world_key
 IsOf id times (core.Client alloc c) = (c.node ≡ id) × (c.times ≡ times)
+IsOf id times (core.Mrc m) = m.secret ≡ world_key
+IsOf id times (core.Dir alloc d) = Unit {0}

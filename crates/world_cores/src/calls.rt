@@ -3,7 +3,6 @@ ghost use Rattle.std.specs.Prelude.{◌≡◌, ◌<◌, ◌^◌, true, false, So
 ghost use Rattle.client_rows.specs.Requests.{is_ready};
 ghost use Rattle.client_rows.specs.Rows.{is_busy, may_repeat};
 ghost use Rattle.world_spec.specs.Lines.{about_to_use, declared_capability, epoch_of};
-ghost use Rattle.world_host.specs.Calls.{id_with, ready_with};
 ghost use Rattle.world_host.specs.Turns.{IsCoreStep, again_step, call_step};
 ghost use Rattle.world_cores.specs.Cores.{core_of, IsOf};
 
@@ -11,27 +10,25 @@ use crate::roles::{Core, WORLD_KEY};
 use capabilities::seal;
 use client_core::{CallErr, Client};
 use std::alloc::{AllocError, Global};
-use world_host::{called_file, declared_file};
+use world_spec::PlacedFile;
 use xt_base::{COUNTS, FileId, OutOfMemory, SizeMark};
-use xt_messages::{Call, Capability, Location};
+use xt_messages::{Call, Capability};
 use xt_protocol::Turned;
 
 /// The capability of a declared file under a truncate epoch: to read and write, for as long as there is. The world seals it.
 fn declared_capability(
     alloc: Global,
-    number: u64,
-    location: Location,
+    declared: &PlacedFile,
     epoch: u64,
 ) -> Result<Capability, OutOfMemory>
-    ensures { IfOk result (λ capability. capability ≡
-        declared_capability number location epoch) }
+    ensures { IfOk result (λ capability. capability ≡ declared_capability declared.now epoch) }
 {
     let mut capability = Capability {
-        file: declared_file(number),
+        file: declared.file,
         mode: 2,
         expiry: COUNTS,
         epoch,
-        location,
+        location: declared.location,
         tag: [0; 32],
     };
     seal(alloc, &WORLD_KEY, &mut capability)?;
@@ -53,48 +50,46 @@ fn give(
     alloc: Global,
     client: &mut Client,
     call: &Call,
-    number: u64,
-    location: Location,
+    declared: &PlacedFile,
 ) -> Result<(), OutOfMemory>
     ensures { OnOk result (client.new ≡
         record client.old
-        { state = about_to_use client.old.state call.now number (Some location) }) }
+        { state = about_to_use client.old.state call.now (Some declared.now) }) }
 {
-    let file = declared_file(number);
-    let epoch = epoch_of(client, &file, call);
-    client.raise(&file, epoch)?;
-    let capability = declared_capability(alloc, number, location, epoch)?;
+    let epoch = epoch_of(client, &declared.file, call);
+    client.raise(&declared.file, epoch)?;
+    let capability = declared_capability(alloc, declared, epoch)?;
     client.hold(&capability, SizeMark { epoch: 0, size: 0 })
 }
 
-/// A client that is about to make a call is given the capability of the file that it uses, where a schedule declares it there.
+/// A client that is about to make a call is given the capability of the file that it uses, where a schedule declares it.
 fn make_ready(
     alloc: Global,
     client: &mut Client,
     call: &Call,
-    declared: Option<Location>,
+    declared: Option<PlacedFile>,
 ) -> Result<(), OutOfMemory>
     ensures ready { OnOk result (client.new ≡
-        record client.old { state = ready_with client.old.state call.now declared }) }
+        record client.old { state = about_to_use client.old.state call.now declared }) }
     ensures made { OnOk result (client.new.state.made ≡ client.old.state.made) }
 {
-    match (called_file(call), declared) {
-        (Some(number), Some(location)) => give(alloc, client, call, number, location),
-        _ => Ok(()),
+    match &declared {
+        Some(declared) => give(alloc, client, call, declared),
+        None => Ok(()),
     }
 }
 
-/// A client makes a call. What it uses is declared there or held, and no call runs.
+/// A client makes a call. What it uses is declared or held, and no call runs.
 pub fn call(
     alloc: Global,
     client: &mut Client,
     clock: u64,
     call: &Call,
-    declared: Option<Location>,
+    declared: Option<PlacedFile>,
 ) -> Result<Turned, OutOfMemory>
     requires clock { clock < 2 ^ 62 }
     requires free { is_busy client.old.state.made ≡ false }
-    requires held { is_ready (ready_with client.old.state call.now declared).held call.now ≡
+    requires held { is_ready (about_to_use client.old.state call.now declared).held call.now ≡
         true }
     ensures { IfOk result (λ turned.
         IsCoreStep core_of IsOf (λ host.
@@ -122,18 +117,5 @@ pub fn again(alloc: Global, client: &mut Client, clock: u64) -> Result<Turned, O
         Ok(turned) => Ok(turned),
         Err(CallErr::OutOfMemory) => Err(AllocError),
         Err(CallErr::Busy | CallErr::NoCall) => unreachable!(),
-    }
-}
-
-/// The file of this number, as a client may use it: a declared one, or else the one that it holds.
-pub fn id_with(is_declared: bool, client: &Client, number: u64) -> FileId
-    ensures { result ≡ id_with is_declared client.now.state.held number }
-{
-    if is_declared {
-        return declared_file(number);
-    }
-    match client.held(number) {
-        None => declared_file(number),
-        Some(capability) => capability.file,
     }
 }

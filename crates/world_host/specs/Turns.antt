@@ -2,22 +2,22 @@
 use Rattle.std.specs.Prelude.{ℕ, ◌≡◌, Option, Some, None, List}
 use Rattle.xt_base.specs.TimeSettings.{TimeSettings}
 use Rattle.xt_base.specs.declared.ids.NodeId.{NodeId}
-use Rattle.xt_messages.specs.declared.file.Location.{Location}
 use Rattle.xt_messages.specs.declared.event.Call.{Call}
 use Rattle.xt_messages.specs.declared.event.Event.{Event}
 use Rattle.xt_messages.specs.declared.record.Record.{Record}
 use Rattle.xt_protocol.specs.declared.turned.Turned.{Turned}
 use Rattle.client_rows.specs.Steps.{Step}
 use Rattle.client_rows.specs.Rows.{WholeClient, called, called_again}
-use Rattle.world_spec.specs.World.{Running, Core, osd, client}
+use Rattle.world_spec.specs.declared.PlacedFile.{PlacedFile}
+use Rattle.world_spec.specs.World.{Running, Core, osd, client, mrc, dir}
 use Rattle.world_spec.specs.NodeSteps.{core_step, client_steps}
+use Rattle.world_spec.specs.Lines.{about_to_use}
 use Rattle.world_host.specs.declared.running.Moment.{Moment}
 use Rattle.world_host.specs.Hosts.{HostView, node_with}
-use Rattle.world_host.specs.Calls.{ready_with}
 
--- the step of a client's call, at a clock; a file that is declared there it is given the capability of first
-abbrev pub call_step : HostView → ℕ → WholeClient → Call → Option Location → Step Core
-call_step host clock state c declared = client_steps (called host.id host.times (ready_with state c declared) clock c)
+-- the step of a client's call, at a clock; of a file that a schedule declares it is given the capability first
+abbrev pub call_step : HostView → ℕ → WholeClient → Call → Option PlacedFile → Step Core
+call_step host clock state c declared = client_steps (called host.id host.times (about_to_use state c declared) clock c)
 
 -- the step of a client's last call once more, at a clock
 abbrev pub again_step : HostView → ℕ → WholeClient → Step Core
@@ -30,18 +30,20 @@ IsCoreStep state is_of step old new turned =
     → (step host ≡ record { state = state new; turned = turned }) × is_of host.id host.times new
 
 -- no client runs there
-abbrev pub IsOsd : Core → Type 0
-IsOsd (osd state) = Unit {0}
-IsOsd (client state) = ⊥
+abbrev pub IsNoClient : Core → Type 0
+IsNoClient (osd state) = Unit {0}
+IsNoClient (client state) = ⊥
+IsNoClient (mrc state) = Unit {0}
+IsNoClient (dir state) = Unit {0}
 
--- A client took this step from its state; an OSD took none.
+-- A client took this step from its state; any other node took none.
 abbrev pub IsClientStep : {C : Type 0} → (C → Core) → (NodeId → TimeSettings → C → Type 0) → (HostView → WholeClient → Step Core) → C → C → Option Turned → Type 0
-IsClientStep state is_of step old new None = IsOsd (state old) × (new ≡ old)
+IsClientStep state is_of step old new None = IsNoClient (state old) × (new ≡ old)
 IsClientStep state is_of step old new (Some turned) =
     (its : WholeClient) × (state old ≡ client its) × IsCoreStep state is_of (λ host. step host its) old new turned
 
 -- a client's call, if it is one
-abbrev pub IsCoreCall : {C : Type 0} → (C → Core) → (NodeId → TimeSettings → C → Type 0) → ℕ → Call → Option Location → C → C → Option Turned → Type 0
+abbrev pub IsCoreCall : {C : Type 0} → (C → Core) → (NodeId → TimeSettings → C → Type 0) → ℕ → Call → Option PlacedFile → C → C → Option Turned → Type 0
 IsCoreCall state is_of clock c declared old new turned =
     IsClientStep state is_of (λ host its. call_step host clock its c declared) old new turned
 
@@ -60,14 +62,14 @@ Handles kept happens old new None = (old.up ≡ None) × (new ≡ old)
 Handles kept happens old new (Some turned) =
     (running : Running) × Took old running (core_step old.times (node_with kept old) running.core running.clock happens) new turned
 
--- A running client took this step from its state; an OSD, and a node that doesn't run, took none.
+-- A running client took this step from its state; any other node, and one that doesn't run, took none.
 abbrev pub ClientTook : (HostView → Running → WholeClient → Step Core) → HostView → HostView → Option Turned → Type 0
-ClientTook step old new None = ((running : Running) → old.up ≡ Some running → IsOsd running.core) × (new ≡ old)
+ClientTook step old new None = ((running : Running) → old.up ≡ Some running → IsNoClient running.core) × (new ≡ old)
 ClientTook step old new (Some turned) =
     (running : Running) × (state : WholeClient) × (running.core ≡ client state) × Took old running (step old running state) new turned
 
 -- a client made a call
-abbrev pub Calls : Call → Option Location → HostView → HostView → Option Turned → Type 0
+abbrev pub Calls : Call → Option PlacedFile → HostView → HostView → Option Turned → Type 0
 Calls c declared old new turned = ClientTook (λ host running state. call_step host running.clock state c declared) old new turned
 
 -- a client made its last call again

@@ -1,26 +1,26 @@
 ghost use Rattle.std.specs.Prelude.{◌≡◌, ◌+◌, ◌<◌, ◌^◌, true, false, Option, Some, None, IfOk, IfSome, OnOk, OnErr};
 ghost use Rattle.std.specs.Option.{option_map};
-ghost use Rattle.world_spec.specs.World.{client, is_client, is_osd, osd};
-ghost use Rattle.world_spec.specs.Rules.{has_call, may_go_again, held_in, location_held};
+ghost use Rattle.world_spec.specs.World.{client, is_client, is_osd, is_server};
+ghost use Rattle.world_spec.specs.Rules.{has_call, may_go_again, held_in, file_held};
 ghost use Rattle.client_rows.specs.Holding.{held_of};
-ghost use Rattle.world_spec.specs.Lines.{runs, first_boot, crashes, cuts, reads_clock, whole_client};
-ghost use Rattle.xt_protocol.specs.OsdSteps.{osd_from};
+ghost use Rattle.world_spec.specs.Lines.{runs, first_boot, core_starting, crashes, cuts, reads_clock, whole_client};
 ghost use Rattle.xt_messages.specs.Limits.{FitsEvent};
-ghost use Rattle.world_host.specs.Cores.{IsSaid};
-ghost use Rattle.world_host.specs.Hosts.{host_ticked, node_of, nothing_stored};
+ghost use Rattle.world_host.specs.Cores.{IsLoaded, made_at};
+ghost use Rattle.world_host.specs.Hosts.{host_ticked, node_of, node_with, nothing_stored};
 ghost use Rattle.world_host.specs.Forgetting.{needed_by, running_without};
 ghost use Rattle.world_host.specs.Calls.{IsUsable, targets};
 ghost use Rattle.world_host.specs.Turns.{Handles, Calls, CallsAgain, moment_of};
 
+use crate::loaded::Loaded;
 use crate::node_core::NodeCore;
 use crate::running::{Moment, Running};
 use disk_model::Stop;
 use object_versions::Bodies;
 use std::alloc::Global;
 use std::marker::Model;
-use world_spec::Role;
+use world_spec::{PlacedFile, Role};
 use xt_base::{Boot, NodeId, OutOfMemory, Times};
-use xt_messages::{Call, Event, Folded, Keep, Location};
+use xt_messages::{Call, Event, Keep};
 use xt_protocol::Turned;
 
 /// A declared node without what is stored for it. Contracts see its id, its role, its times and how it runs.
@@ -71,13 +71,13 @@ fn fresh<C: NodeCore>(boot: Boot, clock: u64, core: C) -> Running<C>
 }
 
 impl<C: NodeCore> Host<C> {
-    /// A new OSD, which doesn't run.
-    pub fn osd(id: NodeId, times: Times) -> Host<C>
-        ensures { result ≡ record { id = id; role = Role.Osd; times = times; up = None } }
+    /// A new node of this role, which doesn't run.
+    pub fn resting(id: NodeId, role: Role, times: Times) -> Host<C>
+        ensures { result ≡ record { id = id; role = role; times = times; up = None } }
     {
         Host {
             id,
-            role: Role::Osd,
+            role,
             times,
             up: None,
         }
@@ -113,6 +113,12 @@ impl<C: NodeCore> Host<C> {
         ensures { result ≡ is_osd (Some (node_of nothing_stored self.now)) }
     {
         self.role == Role::Osd
+    }
+
+    pub fn is_server(&self) -> bool
+        ensures { result ≡ is_server (Some (node_of nothing_stored self.now)) }
+    {
+        self.role != Role::Client
     }
 
     pub fn is_client(&self) -> bool
@@ -153,39 +159,69 @@ impl<C: NodeCore> Host<C> {
         }
     }
 
-    /// Where the file of this number is, if a running client holds a capability of it.
-    pub fn held(&self, number: u64) -> Option<Location>
-        ensures { result ≡ location_held (held_of (held_in self.now.up) number) }
+    /// The file of this number, if a running client holds a capability of it.
+    pub fn held(&self, number: u64) -> Option<PlacedFile>
+        ensures { result ≡ file_held (held_of (held_in self.now.up) number) }
     {
         let running = self.up.as_ref()?;
         running.core.held(number)
     }
 
-    /// An OSD starts as this boot, from what its records say.
+    /// The files that a running metadata server has made, in the order of making; none where no such server runs.
+    pub fn files(&self, alloc: Global) -> Result<Vec<PlacedFile>, OutOfMemory>
+        ensures { IfOk result (λ files. files.items ≡ made_at self.now.up) }
+    {
+        match &self.up {
+            None => Ok(Vec::new(alloc)),
+            Some(running) => running.core.files(alloc),
+        }
+    }
+
+    /// What starts at a node of its role as this boot, from what its records say.
+    #[tactic(auto, using(crate::proofs::Starting::said_loaded, crate::proofs::Starting::requests_loaded))]
+    fn core_from(
+        &self,
+        alloc: Global,
+        loaded: Loaded,
+        boot: Boot,
+        clock: u64,
+    ) -> Result<C, OutOfMemory>
+        requires clock { clock < 2 ^ 62 }
+        requires loaded { IsLoaded loaded }
+        ensures state { IfOk result (λ core. C.state core ≡
+            core_starting self.now.times (node_with loaded.records.items self.now) boot clock
+            self.now.role) }
+        ensures own { IfOk result (λ core. C.is_of self.now.id self.now.times core) }
+    {
+        let Loaded { records, folded } = loaded;
+        match self.role {
+            Role::Osd => C::osd(alloc, self.id, self.times, folded, boot, clock),
+            Role::Client => Ok(C::client(alloc, self.id, self.times, clock)),
+            Role::Mrc => C::mrc(alloc, records.as_slice(), clock),
+            Role::Dir => C::dir(alloc, records.as_slice()),
+        }
+    }
+
+    /// It starts as this boot, from what its records say, which were loaded for that.
     pub fn start(
         &mut self,
         alloc: Global,
-        folded: Folded,
+        loaded: Loaded,
         boot: Boot,
         clock: u64,
     ) -> Result<(), OutOfMemory>
         requires clock { clock < 2 ^ 62 }
-        requires records { IsSaid folded }
+        requires loaded { IsLoaded loaded }
         ensures ok { OnOk result (self.new ≡
             record self.old {
               up = Some
                   (runs boot clock
-                  (osd
-                  (osd_from (record {
-                    node = self.old.id;
-                    boot = boot;
-                    times = self.old.times;
-                    start = clock;
-                  }) folded.files)));
+                  (core_starting self.old.times (node_with loaded.records.items self.old) boot
+                  clock self.old.role));
             }) }
         ensures err { OnErr result (self.new ≡ self.old) }
     {
-        let core = C::osd(alloc, self.id, self.times, folded, boot, clock)?;
+        let core = self.core_from(alloc, loaded, boot, clock)?;
         drop(self.up.replace(fresh(boot, clock, core)));
         Ok(())
     }
@@ -235,16 +271,25 @@ impl<C: NodeCore> Host<C> {
         }
     }
 
-    /// A client's first target for a file, which is declared or else held, is this member. Where memory runs out it runs no more.
-    pub fn aim(&mut self, number: u64, is_declared: bool, node: NodeId) -> Result<(), OutOfMemory>
+    /// A client's first target for the file of a number is this member. The file is `declared`, if a schedule declares it, or else the one
+    /// that the client holds; where there is none nothing changes. Where memory runs out it runs no more.
+    pub fn aim(
+        &mut self,
+        number: u64,
+        declared: Option<PlacedFile>,
+        node: NodeId,
+    ) -> Result<(), OutOfMemory>
         ensures ok { OnOk result (self.new ≡
-            record self.old { up = option_map (targets is_declared number node) self.old.up }) }
+            record self.old { up = option_map (targets declared number node) self.old.up }) }
         ensures err { OnErr result (self.new ≡ record self.old { up = None }) }
     {
         let Some(Running { core, .. }) = &mut self.up else {
             return Ok(());
         };
-        match core.aim(number, is_declared, node) {
+        let Some(found) = declared.or(core.held(number)) else {
+            return Ok(());
+        };
+        match core.aim(&found.file, node) {
             Ok(()) => Ok(()),
             Err(error) => {
                 drop(self.up.take());
@@ -298,12 +343,12 @@ impl<C: NodeCore> Host<C> {
         }
     }
 
-    /// A client makes a call. None where no client runs. `declared` is where the file of the call is, if a schedule declares it. What the
+    /// A client makes a call. None where no client runs. `declared` is the file of the call, if a schedule declares it. What the
     /// call uses is declared or held, and no call runs. Where memory runs out it runs no more.
     pub fn call(
         &mut self,
         call: &Call,
-        declared: Option<Location>,
+        declared: Option<PlacedFile>,
     ) -> Result<Option<Turned>, OutOfMemory>
         requires clock { IfSome self.old.up (λ running. running.clock < 2 ^ 62) }
         requires free { has_call self.old.up ≡ false }

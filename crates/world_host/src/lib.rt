@@ -1,6 +1,6 @@
 //! A declared node of a world, without what is stored for it: its clock, what is planned for it, and the core that runs there.
 //!
-//! A `NodeCore` is the code of an OSD or of a client: its steps equal those of `world_spec`. Over any core, `Host::handle` equals
+//! A `NodeCore` is the code of a node of any role: its steps equal those of `world_spec`. Over any core, `Host::handle` equals
 //! `core_step` on an event, `Host::call` the step of a client's call, and `Host::again` that of its last call once more. They take the
 //! node's bodies at most, and nothing that appends or sends: what comes of a step is in their hands who hold the world. `Host::keep`
 //! gives the held bodies that an OSD needs, and `Host::forget` lets the others go. After want of memory a node isn't to be used again.
@@ -9,11 +9,13 @@
 mod bodies;
 mod calls;
 mod host;
+mod loaded;
 mod node_core;
 mod running;
 
 pub use bodies::HullBodies;
 pub use calls::{called_file, declared_file};
 pub use host::Host;
+pub use loaded::Loaded;
 pub use node_core::NodeCore;
 pub use running::Moment;

@@ -17,18 +17,17 @@ use Rattle.xt_messages.specs.declared.event.Event.{Event}
 use Rattle.xt_messages.specs.declared.record.KeepBody.{KeepBody}
 use Rattle.xt_messages.specs.declared.record.Record.{Record}
 use Rattle.xt_base.specs.declared.ids.Boot.{Boot}
-use Rattle.xt_messages.specs.declared.record.Folded.{Folded}
 use Rattle.xt_protocol.specs.declared.turned.Turned.{Turned}
-use Rattle.xt_protocol.specs.Folds.{fold_of}
 use Rattle.xt_protocol.specs.Forgetting.{rewritten}
-use Rattle.xt_protocol.specs.OsdSteps.{osd_from}
-use Rattle.world_spec.specs.Lines.{runs, osd_starting}
+use Rattle.world_spec.specs.Lines.{runs, core_starting}
 use Rattle.client_rows.specs.Steps.{Step}
 use Rattle.client_rows.specs.Rows.{WholeClient}
-use Rattle.world_spec.specs.World.{Node, Deed, puts, loads, rewrites, Running, Core, osd, client, node_in, with_node}
+use Rattle.world_spec.specs.World.{Node, Deed, puts, loads, rewrites, Running, Core, osd, client, mrc, dir, node_in, with_node}
 use Rattle.world_spec.specs.NodeSteps.{Room, core_step}
 use Rattle.world_host.specs.Hosts.{HostView, Stored, nothing_stored, node_of, node_with}
 use Rattle.world_host.specs.Turns.{Took, Handles, ClientTook}
+use Rattle.world_host.specs.Cores.{SayTheSame}
+use Rattle.world_host.proofs.Starting.{starts_alike}
 use Rattle.world_clocks.specs.Hosts.{nodes_of}
 use Rattle.world_nodes.specs.Nodes.{NodesView, has_host, AreHosts, IsAt, IsPlace, Changes, host_at, NodeTook, NodeHandles, NodeClientTook, after_append, after_load}
 use Rattle.world_nodes.proofs.Hosts.{AreOthers, same_stored, at_place, changed, still, times_at, pushed, declared_is}
@@ -79,6 +78,8 @@ past_unseen : (times : TimeSettings) (stored : Stored) (host : HostView) (core :
     → core_step times (node_with stored.kept host) core clock happens ≡ core_step times (node_of stored host) core clock happens
 past_unseen times stored host (osd state) clock happens = refl
 past_unseen times stored host (client state) clock happens = refl
+past_unseen times stored host (mrc state) clock happens = refl
+past_unseen times stored host (dir state) clock happens = refl
 
 -- ---- the node in a place
 
@@ -152,17 +153,17 @@ module _ (stored : ℕ → Stored) (times : TimeSettings) (hosts : List HostView
   self_times = ap (λ (v : NodesView). v.times) is_self
 
   -- it started
-  pub node_started : (folded : Folded) (boot : Boot) (clock : ℕ)
-      → new ≡ record old { up = Some (runs boot clock (osd (osd_from (record { node = old.id; boot = boot; times = old.times; start = clock }) folded.files))) }
-      → (node : Node) → IsAt self.nodes place node → folded ≡ fold_of node.kept
-      → record { times = times; nodes = nodes_of stored (set hosts place new) } ≡ record self { nodes = with_node self.nodes (record node { up = Some (runs boot clock (osd (osd_starting self.times node boot clock))) }) }
-  node_started folded boot clock is node at said =
-      let state : NodeId → TimeSettings → Folded → Running = λ id t f. runs boot clock (osd (osd_from (record { node = id; boot = boot; times = t; start = clock }) f.files)) in
+  pub node_started : (found : List Record) (boot : Boot) (clock : ℕ)
+      → new ≡ record old { up = Some (runs boot clock (core_starting old.times (node_with found old) boot clock old.role)) }
+      → (node : Node) → IsAt self.nodes place node → SayTheSame found node.kept
+      → record { times = times; nodes = nodes_of stored (set hosts place new) } ≡ record self { nodes = with_node self.nodes (record node { up = Some (runs boot clock (core_starting self.times node boot clock node.role)) }) }
+  node_started found boot clock is node at said =
       let its : node ≡ node_of (stored old.id.0) old = this_node node at in
-      changes stored (λ (n : Node). record n { up = Some (state old.id old.times folded) }) (same_stored stored old.id.0) (ap (λ (h : HostView). h.id) is) (ap (node_of (stored old.id.0)) is) node at
-      ∙ ap (λ (r : Running). record self { nodes = with_node self.nodes (record node { up = Some r }) })
-      (ap (λ (i : NodeId). state i old.times folded) (sym (ap (λ (n : Node). n.id) its))
-      ∙ ap (λ (t : TimeSettings). state node.id t folded) (its_times ∙ self_times) ∙ ap (state node.id self.times) said)
+      changes stored (λ (n : Node). record n { up = Some (runs boot clock (core_starting old.times (node_with found old) boot clock old.role)) }) (same_stored stored old.id.0) (ap (λ (h : HostView). h.id) is) (ap (node_of (stored old.id.0)) is) node at
+      ∙ ap (λ (core : Core). record self { nodes = with_node self.nodes (record node { up = Some (runs boot clock core) }) })
+      (starts_alike old.times (node_with found old) node boot clock old.role (sym (ap (λ (n : Node). n.id) its)) said
+      ∙ ap (core_starting old.times node boot clock) (sym (ap (λ (n : Node). n.role) its))
+      ∙ ap (λ (t : TimeSettings). core_starting t node boot clock node.role) (its_times ∙ self_times))
 
   -- an event came to it
   pub node_handled : (happens : Event) (turned : Option Turned) → Handles (stored old.id.0).kept happens old new turned → (node : Node) → IsAt self.nodes place node

@@ -10,7 +10,7 @@ use Rattle.std.specs.Option.{option_map}
 use Rattle.xt_messages.specs.declared.record.KeepBody.{KeepBody}
 use Rattle.xt_protocol.specs.Forgetting.{keep_of, osd_without, rewritten}
 use Rattle.xt_protocol.specs.OsdSteps.{OsdState}
-use Rattle.world_spec.specs.World.{World, Node, Deed, rewrites, Running, Core, osd, client, with_node}
+use Rattle.world_spec.specs.World.{World, Node, Deed, rewrites, Running, Core, osd, client, mrc, dir, with_node}
 use Rattle.world_spec.specs.NodeSteps.{Room, rewritten_at, forgets_at}
 use Rattle.world_host.specs.Forgetting.{needed_at, forgets, needed_by, running_without}
 use Rattle.world_host.specs.Hosts.{HostView, Stored, node_of}
@@ -45,6 +45,8 @@ module _ (room : Room) (view : NodesView) (node : Node) where
       by_core : (running : Running) (core : Core) → needed_at core ≡ Some keep
           → (forgets_at room (bare view) node running core).nodes ≡ cond now (with_node view.nodes (next (Some (record running { core = forgets keep core })))) view.nodes
       by_core running (client c) e = absurd (cc)
+      by_core running (mrc m) e = absurd (cc)
+      by_core running (dir d) e = absurd (cc)
       by_core running (osd s) e =
           let same : keep_of s ≡ keep = the_same (keep_of s) keep e in
           ap (λ (b : Bool). (cond b (record (bare view) { nodes = with_node view.nodes (rewritten_at node running s) }) (bare view)).nodes) (ap (room.rewrites_now node.past) same ∙ is)

@@ -4,19 +4,19 @@ use Rattle.std.specs.Option.{option_map}
 use Rattle.std.specs.List.{AllByRecursion}
 use Rattle.xt_base.specs.TimeSettings.{TimeSettings}
 use Rattle.xt_base.specs.declared.ids.NodeId.{NodeId}
-use Rattle.xt_messages.specs.declared.file.Location.{Location}
 use Rattle.xt_messages.specs.declared.event.Call.{Call}
 use Rattle.xt_messages.specs.declared.event.Event.{Event}
 use Rattle.xt_messages.specs.declared.record.Record.{Record}
 use Rattle.xt_protocol.specs.declared.turned.Turned.{Turned}
 use Rattle.client_rows.specs.Steps.{Step}
 use Rattle.client_rows.specs.Rows.{WholeClient}
+use Rattle.world_spec.specs.declared.PlacedFile.{PlacedFile}
 use Rattle.world_spec.specs.World.{World, Node, Deed, puts, loads, Running, Core, client, node_in, with_node}
 use Rattle.world_spec.specs.NodeSteps.{Room, core_step, one_more, one_put, forgets_in}
 use Rattle.world_hull.specs.declared.hull.Kept.{Kept}
 use Rattle.world_hull.specs.declared.hull.Kept.TheVariants as ending
 use Rattle.world_host.specs.Hosts.{HostView, Stored, nothing_stored}
-use Rattle.world_host.specs.Turns.{IsOsd, call_step, again_step}
+use Rattle.world_host.specs.Turns.{IsNoClient, call_step, again_step}
 
 -- the times of a world, and its nodes with what the hull has stored for them
 pub record NodesView : Type 0 where
@@ -25,7 +25,7 @@ pub record NodesView : Type 0 where
 
 -- a world of these nodes in which nothing else is
 abbrev pub bare : NodesView → World
-bare view = record { times = view.times; nodes = view.nodes; files = []; sent = []; entries = []; lines = [] }
+bare view = record { times = view.times; nodes = view.nodes; files = []; made = []; sent = []; entries = []; lines = [] }
 
 -- whether one of them has this id
 abbrev pub has_host : List HostView → ℕ → Bool
@@ -83,15 +83,15 @@ NodeHandles happens old node new (Some turned) =
 abbrev pub host_at : TimeSettings → Node → HostView
 host_at times node = record { id = node.id; role = node.role; times = times; up = node.up }
 
--- the client there took this step from its state; an OSD, and a node that doesn't run, took none
+-- the client there took this step from its state; any other node, and one that doesn't run, took none
 abbrev pub NodeClientTook : (HostView → Running → WholeClient → Step Core) → NodesView → Node → NodesView → Option Turned → Type 0
-NodeClientTook step old node new None = ((running : Running) → node.up ≡ Some running → IsOsd running.core) × (new ≡ old)
+NodeClientTook step old node new None = ((running : Running) → node.up ≡ Some running → IsNoClient running.core) × (new ≡ old)
 NodeClientTook step old node new (Some turned) =
     (running : Running) × (state : WholeClient) × (running.core ≡ client state)
     × NodeTook old node running (step (host_at old.times node) running state) new turned
 
 -- a client made a call
-abbrev pub NodeCalls : Call → Option Location → NodesView → Node → NodesView → Option Turned → Type 0
+abbrev pub NodeCalls : Call → Option PlacedFile → NodesView → Node → NodesView → Option Turned → Type 0
 NodeCalls c declared old node new turned =
     NodeClientTook (λ host running state. call_step host running.clock state c declared) old node new turned
 

@@ -16,10 +16,11 @@ use Rattle.world_hull.specs.declared.hull.Kept.{Kept}
 use Rattle.world_hull.specs.declared.hull.Kept.TheVariants as kept
 use Rattle.time_line.specs.declared.entry.Entry.{Entry}
 use Rattle.time_line.specs.declared.entry.Entry.TheVariants as entry
+use Rattle.world_spec.specs.declared.PlacedFile.{PlacedFile}
 use Rattle.world_spec.specs.declared.Sent.{Sent}
 use Rattle.client_rows.specs.Steps.{Step}
 use Rattle.world_spec.specs.World.{World, Node, Deed, puts, Running, Core, node_in, with_node}
-use Rattle.world_spec.specs.NodeSteps.{Room, Cause, has_no_room, Overflow, Doing, pending, numbered, one_more, overflow_of, within_limits, forgets_if, after_turn, to_itself, entry_of, halted, keeps_record, stopped_in_append, cut_in_sending, loses_own, sends, appends, end_of_step}
+use Rattle.world_spec.specs.NodeSteps.{Room, Cause, has_no_room, Overflow, Doing, pending, numbered, one_more, overflow_of, within_limits, forgets_if, after_turn, to_itself, entry_of, files_marked, halted, keeps_record, stopped_in_append, cut_in_sending, loses_own, sends, appends, end_of_step}
 use Rattle.world_tables.specs.Limits.{limit_passed, within}
 use Rattle.world_tables.proofs.Limits.{within_limits_is}
 use Rattle.world_hull.specs.Appends.{kept_by}
@@ -30,7 +31,7 @@ use Rattle.world_limits.specs.Fits.{MayForget}
 use Rattle.xt_messages.specs.Limits.{FitsMessage}
 use Rattle.world_nodes.specs.Nodes.{NodesView, IsAt, after_append, after_put}
 use Rattle.world_step.specs.Steps.{Around, Working, WentOn, IsStepped, IsUntold, Tells, cause_of}
-use Rattle.world_step.proofs.Forgetting.{forgot, forgot_is, forgot_to, forgot_entries, forgot_lines, forgot_own, told_later, stays_down, forgets_cause, tells_any}
+use Rattle.world_step.proofs.Forgetting.{forgot, forgot_is, forgot_to, forgot_entries, forgot_made, forgot_lines, forgot_own, told_later, stays_down, forgets_cause, tells_any}
 use Rattle.world_step.specs.Endings.{given, hindrance, cause_against, IsGiven, Halts, ended, ended_whole, ended_sending, ended_in_append, halt_of}
 
 -- ---- tables of nodes
@@ -199,8 +200,8 @@ end_again room d node running step =
     whole : (turned : Turned) → after_turn later.world there after turned ≡ after_turn d.world node after turned
     whole turned =
         let x : Node = record (after_put turned.rec node) { up = Some after } in
-        ap (λ (ns : List Node). record d.world { nodes = ns; entries = d.world.entries ++ map (entry_of node.id) turned.marks; sent = d.world.sent ++ numbered (with_node d.world.nodes there) node.id turned.outs }) (put x refl)
-        ∙ ap (λ (more : List Sent). record d.world { nodes = with_node d.world.nodes x; entries = d.world.entries ++ map (entry_of node.id) turned.marks; sent = d.world.sent ++ more }) (numbered_same d.world.nodes there node.id turned.outs)
+        ap (λ (ns : List Node). record d.world { nodes = ns; made = d.world.made ++ files_marked turned.marks; entries = d.world.entries ++ map (entry_of node.id) turned.marks; sent = d.world.sent ++ numbered (with_node d.world.nodes there) node.id turned.outs }) (put x refl)
+        ∙ ap (λ (more : List Sent). record d.world { nodes = with_node d.world.nodes x; made = d.world.made ++ files_marked turned.marks; entries = d.world.entries ++ map (entry_of node.id) turned.marks; sent = d.world.sent ++ more }) (numbered_same d.world.nodes there node.id turned.outs)
 
     by_cut : (cut : Option ℕ) (outs : List Msg) → sends later there after cut outs step.turned ≡ sends d node after cut outs step.turned
     by_cut None outs = ap (λ (w : World). record d { world = w; own = d.own ++ to_itself node.id outs }) (whole step.turned)
@@ -235,44 +236,47 @@ end_again room d node running step =
 abbrev pub gave_of : Working → Node → Option Record → List Msg → Doing
 gave_of was node rec outs = record was.doing { world = given was.doing.world node rec outs }
 
--- what was told and queued then
-abbrev pub told_of : Doing → List Entry → List Msg → Doing
-told_of d entries own = record d { world = record d.world { entries = entries }; own = own }
+-- what was told, made and queued then
+abbrev pub told_of : Doing → List Entry → List PlacedFile → List Msg → Doing
+told_of d entries made own = record d { world = record d.world { made = made; entries = entries }; own = own }
 
-pub whole_done : (room : Room) (old new : Working) (node : Node) (running : Running) (turned : Turned) (made : List Entry) → node.up ≡ Some running
-    → made ≡ map (entry_of node.id) turned.marks → cause_against room old.doing.world node turned.rec turned.outs ≡ None
-    → new ≡ record old { doing = told_of (forgot room node.id turned.rec (gave_of old node turned.rec turned.outs)) (old.doing.world.entries ++ made) (old.doing.own ++ to_itself node.id turned.outs) }
+pub whole_done : (room : Room) (old new : Working) (node : Node) (running : Running) (turned : Turned) (told : List Entry) (files : List PlacedFile) → node.up ≡ Some running
+    → told ≡ map (entry_of node.id) turned.marks → files ≡ files_marked turned.marks → cause_against room old.doing.world node turned.rec turned.outs ≡ None
+    → new ≡ record old { doing = told_of (forgot room node.id turned.rec (gave_of old node turned.rec turned.outs)) (old.doing.world.entries ++ told) (old.doing.world.made ++ files) (old.doing.own ++ to_itself node.id turned.outs) }
     → (ended_whole room old.doing node running turned ≡ Ok new.doing) × WentOn old new
-whole_done room old new node running turned made is_up is_made none is =
+whole_done room old new node running turned told files is_up is_told is_files none is =
     let w : World = old.doing.world in
     let own : List Msg = old.doing.own ++ to_itself node.id turned.outs in
     let marks : List Entry = w.entries ++ map (entry_of node.id) turned.marks in
+    let made : List PlacedFile = w.made ++ files_marked turned.marks in
     let after : Doing = record old.doing { world = after_turn w node running turned; own = own } in
     stepped_ok old (ended_whole room old.doing node running turned) (forgot room node.id turned.rec after) new
     (done_is room w node turned.rec turned.outs after refl none ∙ forgot_is room node.id turned.rec after)
     (is
-    ∙ ap (λ (es : List Entry). record old { doing = told_of (forgot room node.id turned.rec (gave_of old node turned.rec turned.outs)) (w.entries ++ es) own }) is_made
-    ∙ ap (λ (d : Doing). record old { doing = d }) (sym (told_later room node.id turned.rec (gave_of old node turned.rec turned.outs) marks own))
+    ∙ ap (λ (es : List Entry). record old { doing = told_of (forgot room node.id turned.rec (gave_of old node turned.rec turned.outs)) (w.entries ++ es) (w.made ++ files) own }) is_told
+    ∙ ap (λ (fs : List PlacedFile). record old { doing = told_of (forgot room node.id turned.rec (gave_of old node turned.rec turned.outs)) marks (w.made ++ fs) own }) is_files
+    ∙ ap (λ (d : Doing). record old { doing = d }) (sym (told_later room node.id turned.rec (gave_of old node turned.rec turned.outs) marks made own))
     ∙ ap (λ (up : Option Running).
-    record old { doing = forgot room node.id turned.rec (record old.doing { world = record w { nodes = with_node w.nodes (record (after_put turned.rec node) { up = up }); entries = marks; sent = w.sent ++ numbered w.nodes node.id turned.outs }; own = own }) })
+    record old { doing = forgot room node.id turned.rec (record old.doing { world = record w { nodes = with_node w.nodes (record (after_put turned.rec node) { up = up }); made = made; entries = marks; sent = w.sent ++ numbered w.nodes node.id turned.outs }; own = own }) })
     is_up)
     (forgot_lines room node.id turned.rec after)
 
-pub sending_done : (room : Room) (old new : Working) (place : ℕ) (node : Node) (running : Running) (count : ℕ) (turned : Turned) (made : List Entry)
+pub sending_done : (room : Room) (old new : Working) (place : ℕ) (node : Node) (running : Running) (count : ℕ) (turned : Turned) (told : List Entry) (files : List PlacedFile)
     → IsAt old.doing.world.nodes place node → node.up ≡ Some running
-    → made ≡ map (entry_of node.id) turned.marks ++ entry.Down node.id running.clock halt.Cut ∷ []
+    → told ≡ map (entry_of node.id) turned.marks ++ entry.Down node.id running.clock halt.Cut ∷ [] → files ≡ files_marked turned.marks
     → cause_against room old.doing.world node turned.rec (take count turned.outs) ≡ None
     → new ≡ record old {
       doing = record old.doing {
         world = record (given old.doing.world node turned.rec (take count turned.outs)) {
           nodes = with_node (with_node old.doing.world.nodes (after_put turned.rec node)) (record (after_put turned.rec node) { up = None });
-          entries = old.doing.world.entries ++ made;
+          made = old.doing.world.made ++ files;
+          entries = old.doing.world.entries ++ told;
         };
         own = [];
       };
     }
     → (ended_sending room old.doing node running count turned ≡ Ok new.doing) × WentOn old new
-sending_done room old new place node running count turned made at is_up is_made none is =
+sending_done room old new place node running count turned told files at is_up is_told is_files none is =
     let w : World = old.doing.world in
     let outs : List Msg = take count turned.outs in
     let put : Node = after_put turned.rec node in
@@ -284,9 +288,10 @@ sending_done room old new place node running count turned made at is_up is_made 
     (at_again (with_node w.nodes next) place next (record put { up = None }) (at_again w.nodes place node next at refl) refl).found refl in
     stepped_ok old (ended_sending room old.doing node running count turned) after new (done_is room w node turned.rec outs after refl none ∙ stays)
     (is
-    ∙ ap (λ (es : List Entry). record old { doing = record old.doing { world = record (given w node turned.rec outs) { nodes = with_node (with_node w.nodes put) (record put { up = None }); entries = es }; own = [] } })
-    (ap (λ (es : List Entry). w.entries ++ es) is_made ∙ sym (append_assoc w.entries marks (down ∷ [])))
-    ∙ ap (λ (up : Option Running). record old { doing = record old.doing { world = record (given w node turned.rec outs) { nodes = with_node (with_node w.nodes (record put { up = up })) (record put { up = None }); entries = w.entries ++ marks ++ down ∷ [] }; own = [] } }) is_up)
+    ∙ ap (λ (es : List Entry). record old { doing = record old.doing { world = record (given w node turned.rec outs) { nodes = with_node (with_node w.nodes put) (record put { up = None }); made = w.made ++ files; entries = es }; own = [] } })
+    (ap (λ (es : List Entry). w.entries ++ es) is_told ∙ sym (append_assoc w.entries marks (down ∷ [])))
+    ∙ ap (λ (fs : List PlacedFile). record old { doing = record old.doing { world = record (given w node turned.rec outs) { nodes = with_node (with_node w.nodes put) (record put { up = None }); made = w.made ++ fs; entries = (w.entries ++ marks) ++ down ∷ [] }; own = [] } }) is_files
+    ∙ ap (λ (up : Option Running). record old { doing = record old.doing { world = record (given w node turned.rec outs) { nodes = with_node (with_node w.nodes (record put { up = up })) (record put { up = None }); made = w.made ++ files_marked turned.marks; entries = (w.entries ++ marks) ++ down ∷ [] }; own = [] } }) is_up)
     refl
 
 pub append_sent : (d : Doing) (node : Node) (running : Running) (stop : Stop) (rec : Record) → (stopped_in_append d.world node running stop rec).sent ≡ d.world.sent ++ []
@@ -427,15 +432,15 @@ forgot_untold T S room was gave between new place node rec outs value done at gi
     })
 
 -- all comes of it
-pub whole_told : (T S : Type 0) (room : Room) (was self gave between new : Working) (place : ℕ) (node : Node) (running : Running) (turned : Turned) (value : T) (done : S) (outs : List Msg) (id : NodeId) (made es : List Entry) (own : List Msg)
+pub whole_told : (T S : Type 0) (room : Room) (was self gave between new : Working) (place : ℕ) (node : Node) (running : Running) (turned : Turned) (value : T) (done : S) (outs : List Msg) (id : NodeId) (told es : List Entry) (files fs : List PlacedFile) (own : List Msg)
     → was ≡ self → IsAt self.doing.world.nodes place node → node.up ≡ Some running
     → ((n : Node) → IsAt was.doing.world.nodes place n → IsGiven {T = T} room was n turned.rec outs gave (Ok value))
     → ((n : Node) → IsAt gave.doing.world.nodes place n → IsStepped {T = S} gave (forgets_if room n.id turned.rec (Ok gave.doing)) between (Ok done))
-    → outs ≡ turned.outs → ((n : Node) → IsAt was.doing.world.nodes place n → id ≡ n.id) → made ≡ map (entry_of id) turned.marks
-    → es ≡ between.doing.world.entries ++ made → own ≡ between.doing.own ++ to_itself id turned.outs
-    → new ≡ record between { doing = told_of between.doing es own }
+    → outs ≡ turned.outs → ((n : Node) → IsAt was.doing.world.nodes place n → id ≡ n.id) → told ≡ map (entry_of id) turned.marks → files ≡ files_marked turned.marks
+    → es ≡ between.doing.world.entries ++ told → fs ≡ between.doing.world.made ++ files → own ≡ between.doing.own ++ to_itself id turned.outs
+    → new ≡ record between { doing = told_of between.doing es fs own }
     → (ended_whole room self.doing node running turned ≡ Ok new.doing) × WentOn self new
-whole_told T S room was self gave between new place node running turned value done outs id made es own is at up gives forgets is_outs its is_made is_es is_own is_new =
+whole_told T S room was self gave between new place node running turned value done outs id told es files fs own is at up gives forgets is_outs its is_told is_files is_es is_fs is_own is_new =
     let there = subst (λ (x : Working). IsAt x.doing.world.nodes place node) (sym is) at in
     let given_so = gives node there in
     let so = forgets (after_put turned.rec node) (gave_at T room was gave place node turned.rec outs value there given_so) in
@@ -446,25 +451,27 @@ whole_told T S room was self gave between new place node running turned value do
     so.1.rest ∙ ap (λ (d : Doing). record gave { doing = d }) (sym (forgot_to room node.id turned.rec gave.doing between.doing so.0))
     ∙ ap (λ (x : Working). record x { doing = forgot room node.id turned.rec x.doing }) gave_is in
     subst (λ (x : Working). (ended_whole room x.doing node running turned ≡ Ok new.doing) × WentOn x new) is
-    (whole_done room was new node running turned made up (is_made ∙ ap (λ (i : NodeId). map (entry_of i) turned.marks) (its node there))
+    (whole_done room was new node running turned told files up (is_told ∙ ap (λ (i : NodeId). map (entry_of i) turned.marks) (its node there)) is_files
     (ap (cause_against room was.doing.world node turned.rec) (sym is_outs) ∙ given_so.0)
     (is_new
-    ∙ ap (λ (xs : List Entry). record between { doing = told_of between.doing xs own }) is_es
-    ∙ ap (λ (ms : List Msg). record between { doing = told_of between.doing (between.doing.world.entries ++ made) ms }) (is_own ∙ ap (λ (i : NodeId). between.doing.own ++ to_itself i turned.outs) (its node there))
-    ∙ ap (λ (x : Working). record x { doing = told_of x.doing (x.doing.world.entries ++ made) (x.doing.own ++ to_itself node.id turned.outs) }) all
-    ∙ ap (λ (xs : List Entry). record was { doing = told_of left (xs ++ made) (left.own ++ to_itself node.id turned.outs) }) (forgot_entries room node.id turned.rec (gave_of was node turned.rec turned.outs))
-    ∙ ap (λ (ms : List Msg). record was { doing = told_of left (was.doing.world.entries ++ made) (ms ++ to_itself node.id turned.outs) }) (forgot_own room node.id turned.rec (gave_of was node turned.rec turned.outs))))
+    ∙ ap (λ (xs : List Entry). record between { doing = told_of between.doing xs fs own }) is_es
+    ∙ ap (λ (ys : List PlacedFile). record between { doing = told_of between.doing (between.doing.world.entries ++ told) ys own }) is_fs
+    ∙ ap (λ (ms : List Msg). record between { doing = told_of between.doing (between.doing.world.entries ++ told) (between.doing.world.made ++ files) ms }) (is_own ∙ ap (λ (i : NodeId). between.doing.own ++ to_itself i turned.outs) (its node there))
+    ∙ ap (λ (x : Working). record x { doing = told_of x.doing (x.doing.world.entries ++ told) (x.doing.world.made ++ files) (x.doing.own ++ to_itself node.id turned.outs) }) all
+    ∙ ap (λ (xs : List Entry). record was { doing = told_of left (xs ++ told) (left.world.made ++ files) (left.own ++ to_itself node.id turned.outs) }) (forgot_entries room node.id turned.rec (gave_of was node turned.rec turned.outs))
+    ∙ ap (λ (ys : List PlacedFile). record was { doing = told_of left (was.doing.world.entries ++ told) (ys ++ files) (left.own ++ to_itself node.id turned.outs) }) (forgot_made room node.id turned.rec (gave_of was node turned.rec turned.outs))
+    ∙ ap (λ (ms : List Msg). record was { doing = told_of left (was.doing.world.entries ++ told) (was.doing.world.made ++ files) (ms ++ to_itself node.id turned.outs) }) (forgot_own room node.id turned.rec (gave_of was node turned.rec turned.outs))))
 
 -- the node stops after some of its messages
-pub sending_told : (T : Type 0) (room : Room) (was self gave between new : Working) (place : ℕ) (node : Node) (running : Running) (count : ℕ) (turned : Turned) (value : T) (outs : List Msg) (id : NodeId) (marks made es : List Entry)
+pub sending_told : (T : Type 0) (room : Room) (was self gave between new : Working) (place : ℕ) (node : Node) (running : Running) (count : ℕ) (turned : Turned) (value : T) (outs : List Msg) (id : NodeId) (marks told es : List Entry) (files fs : List PlacedFile)
     → was ≡ self → IsAt self.doing.world.nodes place node → node.up ≡ Some running
     → ((n : Node) → IsAt was.doing.world.nodes place n → IsGiven {T = T} room was n turned.rec outs gave (Ok value))
     → outs ≡ take count turned.outs → ((n : Node) → IsAt was.doing.world.nodes place n → id ≡ n.id)
-    → marks ≡ map (entry_of id) turned.marks → made ≡ marks ++ entry.Down id running.clock halt.Cut ∷ [] → between ≡ gave
-    → es ≡ between.doing.world.entries ++ made
-    → Halts (record between { doing = record between.doing { world = record between.doing.world { entries = es } } }) place new
+    → marks ≡ map (entry_of id) turned.marks → told ≡ marks ++ entry.Down id running.clock halt.Cut ∷ [] → files ≡ files_marked turned.marks → between ≡ gave
+    → es ≡ between.doing.world.entries ++ told → fs ≡ between.doing.world.made ++ files
+    → Halts (record between { doing = record between.doing { world = record between.doing.world { made = fs; entries = es } } }) place new
     → (ended_sending room self.doing node running count turned ≡ Ok new.doing) × WentOn self new
-sending_told T room was self gave between new place node running count turned value outs id marks made es is at up gives is_outs its is_marks is_made is_gave is_es halts =
+sending_told T room was self gave between new place node running count turned value outs id marks told es files fs is at up gives is_outs its is_marks is_told is_files is_gave is_es is_fs halts =
     let there = subst (λ (x : Working). IsAt x.doing.world.nodes place node) (sym is) at in
     let given_so = gives node there in
     let fewer : List Msg = take count turned.outs in
@@ -473,13 +480,14 @@ sending_told T room was self gave between new place node running count turned va
     is_gave ∙ given_so.1 ∙ ap (λ (o : List Msg). record was { doing = gave_of was node turned.rec o }) is_outs in
     let stands_there : IsAt between.doing.world.nodes place next = subst (λ (x : Working). IsAt x.doing.world.nodes place next) (sym all) (at_again was.doing.world.nodes place node next there refl) in
     subst (λ (x : Working). (ended_sending room x.doing node running count turned ≡ Ok new.doing) × WentOn x new) is
-    (sending_done room was new place node running count turned made there up
-    (is_made ∙ ap (λ (xs : List Entry). xs ++ entry.Down id running.clock halt.Cut ∷ []) is_marks
-    ∙ ap (λ (i : NodeId). map (entry_of i) turned.marks ++ entry.Down i running.clock halt.Cut ∷ []) (its node there))
+    (sending_done room was new place node running count turned told files there up
+    (is_told ∙ ap (λ (xs : List Entry). xs ++ entry.Down id running.clock halt.Cut ∷ []) is_marks
+    ∙ ap (λ (i : NodeId). map (entry_of i) turned.marks ++ entry.Down i running.clock halt.Cut ∷ []) (its node there)) is_files
     (ap (cause_against room was.doing.world node turned.rec) (sym is_outs) ∙ given_so.0)
     (halts next stands_there
-    ∙ ap (λ (xs : List Entry). record between { doing = record between.doing { world = record between.doing.world { nodes = with_node between.doing.world.nodes (record next { up = None }); entries = xs }; own = [] } }) is_es
-    ∙ ap (λ (x : Working). record x { doing = record x.doing { world = record x.doing.world { nodes = with_node x.doing.world.nodes (record next { up = None }); entries = x.doing.world.entries ++ made }; own = [] } }) all))
+    ∙ ap (λ (xs : List Entry). record between { doing = record between.doing { world = record between.doing.world { nodes = with_node between.doing.world.nodes (record next { up = None }); made = fs; entries = xs }; own = [] } }) is_es
+    ∙ ap (λ (ys : List PlacedFile). record between { doing = record between.doing { world = record between.doing.world { nodes = with_node between.doing.world.nodes (record next { up = None }); made = ys; entries = between.doing.world.entries ++ told }; own = [] } }) is_fs
+    ∙ ap (λ (x : Working). record x { doing = record x.doing { world = record x.doing.world { nodes = with_node x.doing.world.nodes (record next { up = None }); made = x.doing.world.made ++ files; entries = x.doing.world.entries ++ told }; own = [] } }) all))
 
 -- by the plans and by what the step gives
 pub ending_is : (room : Room) (d : Doing) (node : Node) (running : Running) (turned : Turned)

@@ -6,7 +6,8 @@ use Rattle.xt_messages.specs.declared.record.Record.{Record}
 use Rattle.xt_protocol.specs.Forgetting.{keep_of}
 use Rattle.xt_protocol.specs.OsdSteps.{OsdState}
 use Rattle.time_line.specs.declared.entry.Entry.{Entry}
-use Rattle.world_spec.specs.World.{World, Node, Running, Core, osd, client, node_in, with_node}
+use Rattle.world_spec.specs.declared.PlacedFile.{PlacedFile}
+use Rattle.world_spec.specs.World.{World, Node, Running, Core, osd, client, mrc, dir, node_in, with_node}
 use Rattle.world_spec.specs.NodeSteps.{Room, Cause, Doing, rewritten_at, forgets_at, forgets_in, forgets_if}
 use Rattle.world_hull.specs.declared.errors.WorldErr.{WorldErr}
 use Rattle.world_hull.specs.declared.errors.WorldErr.TheVariants as error
@@ -40,7 +41,7 @@ only_nodes room w None = refl
 only_nodes room w (Some node) = by_up node.up
   where
     bare_world : World
-    bare_world = record { times = w.times; nodes = w.nodes; files = []; sent = []; entries = []; lines = [] }
+    bare_world = record { times = w.times; nodes = w.nodes; files = []; made = []; sent = []; entries = []; lines = [] }
 
     by_bool : (running : Running) (s : OsdState) (now : Bool)
         → cond now (record w { nodes = with_node w.nodes (rewritten_at node running s) }) w
@@ -50,6 +51,8 @@ only_nodes room w (Some node) = by_up node.up
 
     by_core : (running : Running) (core : Core) → forgets_at room w node running core ≡ record w { nodes = (forgets_at room bare_world node running core).nodes }
     by_core running (client c) = refl
+    by_core running (mrc m) = refl
+    by_core running (dir s) = refl
     by_core running (osd s) = by_bool running s (room.rewrites_now node.past (keep_of s))
 
     by_up : (up : Option Running)
@@ -62,6 +65,10 @@ pub forgot_entries : (room : Room) (id : NodeId) (rec : Option Record) (d : Doin
 forgot_entries room id None d = refl
 forgot_entries room id (Some rec) d = ap (λ (w : World). w.entries) (only_nodes room d.world (node_in d.world.nodes id.0))
 
+pub forgot_made : (room : Room) (id : NodeId) (rec : Option Record) (d : Doing) → (forgot room id rec d).world.made ≡ d.world.made
+forgot_made room id None d = refl
+forgot_made room id (Some rec) d = ap (λ (w : World). w.made) (only_nodes room d.world (node_in d.world.nodes id.0))
+
 pub forgot_own : (room : Room) (id : NodeId) (rec : Option Record) (d : Doing) → (forgot room id rec d).own ≡ d.own
 forgot_own room id None d = refl
 forgot_own room id (Some rec) d = refl
@@ -70,14 +77,14 @@ pub forgot_lines : (room : Room) (id : NodeId) (rec : Option Record) (d : Doing)
 forgot_lines room id None d = refl
 forgot_lines room id (Some rec) d = ap (λ (w : World). w.lines) (only_nodes room d.world (node_in d.world.nodes id.0))
 
--- what is told and queued then doesn't matter to it
-pub told_later : (room : Room) (id : NodeId) (rec : Option Record) (d : Doing) (entries : List Entry) (own : List Msg)
-    → (let told : Doing → Doing = λ x. record x { world = record x.world { entries = entries }; own = own } in forgot room id rec (told d) ≡ told (forgot room id rec d))
-told_later room id None d entries own = refl
-told_later room id (Some rec) d entries own =
+-- what is told, made and queued then doesn't matter to it
+pub told_later : (room : Room) (id : NodeId) (rec : Option Record) (d : Doing) (entries : List Entry) (made : List PlacedFile) (own : List Msg)
+    → (let told : Doing → Doing = λ x. record x { world = record x.world { made = made; entries = entries }; own = own } in forgot room id rec (told d) ≡ told (forgot room id rec d))
+told_later room id None d entries made own = refl
+told_later room id (Some rec) d entries made own =
     let found : Option Node = node_in d.world.nodes id.0 in
-    ap (λ (w : World). record d { world = w; own = own }) (only_nodes room (record d.world { entries = entries }) found)
-    ∙ sym (ap (λ (w : World). record d { world = record w { entries = entries }; own = own }) (only_nodes room d.world found))
+    ap (λ (w : World). record d { world = w; own = own }) (only_nodes room (record d.world { made = made; entries = entries }) found)
+    ∙ sym (ap (λ (w : World). record d { world = record w { made = made; entries = entries }; own = own }) (only_nodes room d.world found))
 
 -- a node that is down forgets nothing
 pub stays_down : (room : Room) (id : NodeId) (rec : Option Record) (d : Doing) (node : Node) → node_in d.world.nodes id.0 ≡ Some node → node.up ≡ None → forgets_if room id rec (Ok d) ≡ Ok d

@@ -6,7 +6,7 @@ use Rattle.xt_messages.specs.declared.status.Limited.TheVariants as limited
 use Rattle.time_line.specs.declared.TheConstants.{LINES, LINE_BYTES}
 use Rattle.time_line.specs.declared.line.Line.{Line}
 use Rattle.world_spec.specs.declared.TheConstants.{MESSAGES, MESSAGE_BYTES, NODES}
-use Rattle.world_spec.specs.declared.DeclaredFile.{DeclaredFile}
+use Rattle.world_spec.specs.declared.PlacedFile.{PlacedFile}
 use Rattle.world_spec.specs.NodeSteps.{Cause, came_to, has_no_room, Doing}
 use Rattle.world_hull.specs.declared.errors.WorldErr.{WorldErr}
 use Rattle.world_hull.specs.declared.errors.WorldErr.TheVariants as error
@@ -20,7 +20,7 @@ pub record Working : Type 0 where
 
 -- what the steps of nodes leave as it is, in a world and in the line at work
 pub record Around : Type 0 where
-  pub files : List DeclaredFile
+  pub files : List PlacedFile
   pub lines : List Line
   pub left : ℕ
   pub begun : List Line
@@ -31,7 +31,7 @@ abbrev pub working : {C H : Type 0} → Around → Stepper C H → Working
 working around s =
     record {
       doing = record {
-        world = record { times = s.nodes.times; nodes = s.nodes.nodes; files = around.files; sent = s.sent; entries = s.entries.items; lines = around.lines };
+        world = record { times = s.nodes.times; nodes = s.nodes.nodes; files = around.files; made = s.made.items; sent = s.sent; entries = s.entries.items; lines = around.lines };
         own = s.own;
         left = around.left;
       };

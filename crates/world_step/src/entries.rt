@@ -1,9 +1,10 @@
-//! The lines of a trace that the marks of a step give.
+//! The lines of a trace that the marks of a step give, and the files among the marks.
 ghost use Rattle.std.specs.Prelude.{◌≡◌, ◌++◌, ◌∷◌, [], map, IfOk, OnOk, OnErr};
-ghost use Rattle.world_spec.specs.NodeSteps.{entry_of};
+ghost use Rattle.world_spec.specs.NodeSteps.{entry_of, file_marked, files_marked};
 
 use std::alloc::Global;
 use time_line::{Entry, Halt};
+use world_spec::PlacedFile;
 use xt_base::{NodeId, OutOfMemory};
 use xt_messages::{Mark, Marks};
 
@@ -13,7 +14,7 @@ fn entry_of(node: NodeId, mark: Mark) -> Entry
 {
     match mark {
         Mark::File { file, location } => Entry::File {
-            number: file,
+            number: file.number,
             location,
         },
         Mark::Begin { number, call } => Entry::Begin {
@@ -60,6 +61,32 @@ fn entry_of(node: NodeId, mark: Mark) -> Entry
     }
 }
 
+/// The file that a mark tells, if it tells one.
+fn file_marked(mark: &Mark) -> Option<PlacedFile>
+    ensures { result ≡ file_marked mark.now }
+{
+    match mark {
+        Mark::File { file, location } => Some(PlacedFile {
+            file: *file,
+            location: *location,
+        }),
+        _ => None,
+    }
+}
+
+/// The files that marks tell, in order.
+pub fn files_of(alloc: Global, marks: &[Mark]) -> Result<Vec<PlacedFile>, OutOfMemory>
+    ensures { IfOk result (λ files. files.items ≡ files_marked marks.now) }
+{
+    let mut files = Vec::new(alloc);
+    for mark in marks {
+        if let Some(file) = file_marked(mark) {
+            files.push(file)?;
+        }
+    }
+    Ok(files)
+}
+
 /// A line of the trace is told. It is a call, so that the line is no part of the way out.
 pub fn tell(entries: &mut Vec<Entry>, entry: Entry) -> Result<(), OutOfMemory>
     ensures items { OnOk result (entries.new.items ≡ entries.old.items ++ entry ∷ []) }
@@ -91,4 +118,20 @@ pub fn entries_to_cut(
     let mut entries = entries_of(alloc, node, marks)?;
     tell(&mut entries, Entry::Down { node, clock, how })?;
     Ok(entries)
+}
+
+/// Lines of the trace are told, after the others, and files are made. What they were taken from is empty then.
+pub fn tell_all(
+    entries: &mut Vec<Entry>,
+    made: &mut Vec<PlacedFile>,
+    told: &mut Vec<Entry>,
+    files: &mut Vec<PlacedFile>,
+) -> Result<(), OutOfMemory>
+    ensures entries { OnOk result (entries.new.items ≡ entries.old.items ++ told.old.items) }
+    ensures made { OnOk result (made.new.items ≡ made.old.items ++ files.old.items) }
+    ensures err { OnErr result (entries.new.items ≡ entries.old.items) }
+{
+    made.append(files)?;
+    entries.append(told)?;
+    Ok(())
 }

@@ -11,6 +11,6 @@ mod entries;
 mod limits;
 mod stepper;
 
-pub use entries::tell;
+pub use entries::{tell, tell_all};
 pub use limits::limit;
 pub use stepper::Stepper;

@@ -10,7 +10,7 @@ ghost use Rattle.world_step.specs.Steps.{Around, working, IsStepped};
 ghost use Rattle.world_step.specs.Endings.{given_by, FitsGiven, IsGiven, Halts, IsWithin, ended_whole, ended_sending, ended_in_append};
 
 use crate::ending::{Ending, ending_of, front, halt_of};
-use crate::entries::{entries_of, entries_to_cut, tell};
+use crate::entries::{entries_of, entries_to_cut, files_of, tell, tell_all};
 use crate::limits::limit;
 use disk_model::Stop;
 use std::alloc::Global;
@@ -19,15 +19,18 @@ use time_line::Entry;
 use world_host::NodeCore;
 use world_hull::{Hull, WorldErr};
 use world_nodes::Nodes;
+use world_spec::PlacedFile;
 use world_tables::{OwnMessages, SentMessages};
 use xt_base::{NodeId, OptionalBox};
 use xt_messages::{Marks, Msg, Msgs, Record};
 use xt_protocol::Turned;
 
-/// What the steps of nodes change in a world: its nodes, the messages and the trace.
+/// What the steps of nodes change in a world: its nodes, the files that the metadata server has made, the messages and the trace.
 #[derive(Drop)]
 pub struct Stepper<C: NodeCore, H: Hull> {
     pub nodes: Nodes<C, H>,
+    /// The files that the metadata server has made, as the trace tells them.
+    pub made: Vec<PlacedFile>,
     pub sent: SentMessages,
     /// The messages of the stepping node to itself that it hasn't handled, the first one next.
     pub own: OwnMessages,
@@ -157,11 +160,12 @@ impl<C: NodeCore, H: Hull> Stepper<C, H> {
             (given_by rec.now outs.old marks.old)) (working around self.new) result }
     {
         let node = self.nodes.id(place);
-        let mut made = entries_of(alloc, node, replace(marks, Marks::new(alloc)))?;
+        let mut files = files_of(alloc, marks.as_slice())?;
+        let mut told = entries_of(alloc, node, replace(marks, Marks::new(alloc)))?;
         self.give(alloc, place, rec, outs.as_slice())?;
         self.forget(alloc, place, rec)?;
         self.own.put(node, replace(outs, Msgs::new(alloc)))?;
-        self.entries.append(&mut made)?;
+        tell_all(&mut self.entries, &mut self.made, &mut told, &mut files)?;
         Ok(())
     }
 
@@ -186,10 +190,11 @@ impl<C: NodeCore, H: Hull> Stepper<C, H> {
             (given_by rec.now outs.now marks.old)) (working around self.new) result }
     {
         let node = self.nodes.id(place);
-        let told = replace(marks, Marks::new(alloc));
-        let mut made = entries_to_cut(alloc, node, clock, told)?;
+        let mut files = files_of(alloc, marks.as_slice())?;
+        let marks = replace(marks, Marks::new(alloc));
+        let mut told = entries_to_cut(alloc, node, clock, marks)?;
         self.give(alloc, place, rec, front(outs, count))?;
-        self.entries.append(&mut made)?;
+        tell_all(&mut self.entries, &mut self.made, &mut told, &mut files)?;
         self.halt(place);
         Ok(())
     }

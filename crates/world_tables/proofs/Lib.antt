@@ -1,3 +1,4 @@
 pub mod Limits
 pub mod MessageCounts
+pub mod Numbers
 pub mod Places

@@ -5,11 +5,11 @@ use Rattle.std.specs.Ordering.{nat_cmp}
 use Rattle.std.specs.BTreeMap.{is_at}
 use Rattle.std.proofs.lemmas.Grind.{common_steps}
 use Rattle.std.specs.Prelude.{if◌then◌else◌}
-use Rattle.world_spec.specs.declared.DeclaredFile.{DeclaredFile}
+use Rattle.world_spec.specs.declared.PlacedFile.{PlacedFile}
 use Rattle.world_spec.specs.World.{file_in}
 
-pub file_in_push : (files : List DeclaredFile) (f : DeclaredFile) (number : ℕ) → file_in files f.number ≡ None
-    → file_in (files ++ f ∷ []) number ≡ (if f.number == number then Some f.location else file_in files number)
+pub file_in_push : (files : List PlacedFile) (f : PlacedFile) (number : ℕ) → file_in files f.file.number ≡ None
+    → file_in (files ++ f ∷ []) number ≡ (if f.file.number == number then Some f else file_in files number)
 unfolding file_in
 file_in_push [] f number none = refl
 file_in_push (x ∷ files) f number none = grind (arith, common_steps, file_in_push files f number)

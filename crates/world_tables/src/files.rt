@@ -5,22 +5,21 @@ ghost use Rattle.world_spec.specs.World.{file_in};
 use std::alloc::{AllocError, Global};
 use std::collections::BTreeMap;
 use std::marker::Model;
-use world_spec::DeclaredFile;
+use world_spec::PlacedFile;
 use xt_base::OutOfMemory;
-use xt_messages::Location;
 
 /// The declared files, in order. Contracts see the list.
 #[derive(Drop)]
 pub struct DeclaredFiles {
-    list: Vec<DeclaredFile>,
-    places: BTreeMap<u64, Location>,
+    list: Vec<PlacedFile>,
+    places: BTreeMap<u64, PlacedFile>,
 }
 
 impl Model for DeclaredFiles {
     ghost use Rattle.std.specs.Prelude.{List};
-    ghost use Rattle.world_spec.specs.declared.DeclaredFile.{DeclaredFile};
+    ghost use Rattle.world_spec.specs.declared.PlacedFile.{PlacedFile};
 
-    ghost Value = { List DeclaredFile };
+    ghost Value = { List PlacedFile };
 
     ghost use Rattle.world_tables.specs.Places.{AreFilePlaces};
 
@@ -47,25 +46,22 @@ impl DeclaredFiles {
         self.list.len()
     }
 
-    /// Where the declared file of this number is.
-    pub fn find(&self, number: u64) -> Option<Location>
+    /// The declared file of this number.
+    pub fn find(&self, number: u64) -> Option<PlacedFile>
         ensures { result ≡ file_in self.now number }
     {
         self.places.get(&number).copied()
     }
 
     /// Declares a file whose number isn't declared yet.
-    pub fn declare(&mut self, number: u64, location: &Location) -> Result<(), OutOfMemory>
-        requires { file_in self.old number ≡ None }
-        ensures ok { OnOk result (self.new ≡
-            self.old ++ record { number = number; location = location.now } ∷ []) }
+    pub fn declare(&mut self, file: &PlacedFile) -> Result<(), OutOfMemory>
+        requires { file_in self.old file.now.file.number ≡ None }
+        ensures ok { OnOk result (self.new ≡ self.old ++ file.now ∷ []) }
         ensures err { OnErr result (self.new ≡ self.old) }
     {
-        self.list.push(DeclaredFile {
-            number,
-            location: *location,
-        })?;
-        match self.places.insert(number, *location) {
+        let number = file.file.number;
+        self.list.push(*file)?;
+        match self.places.insert(number, *file) {
             Ok(_) => Ok(()),
             Err(_) => {
                 self.list.pop();

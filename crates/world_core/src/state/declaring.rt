@@ -2,14 +2,14 @@
 ghost use Rattle.std.specs.Prelude.{◌≡◌, ◌*◌, ◌^◌, ◌<◌, [], None, Err};
 ghost use Rattle.xt_base.specs.TimeSettings.{AreTimes};
 ghost use Rattle.world_spec.specs.World.{node_in, file_in};
-ghost use Rattle.world_spec.specs.Lines.{first_step};
+ghost use Rattle.world_spec.specs.Lines.{declares, first_step, never_started};
 ghost use Rattle.world_step.specs.Steps.{IsStepped};
 
 use crate::state::State;
 use time_line::{Entry, Line};
-use world_host::NodeCore;
+use world_host::{NodeCore, declared_file};
 use world_hull::{Hull, WorldErr};
-use world_spec::NODES;
+use world_spec::{NODES, PlacedFile, Role};
 use world_step::{limit, tell};
 use xt_base::{Boot, NodeId, Times};
 use xt_messages::{Limited, Location};
@@ -29,16 +29,16 @@ impl<C: NodeCore, H: Hull> State<C, H> {
         Ok(())
     }
 
-    /// Declares an OSD, where there is room for it.
-    pub fn declare_osd(&mut self, node: NodeId) -> Result<(), WorldErr>
+    /// Declares a node of this role that doesn't run, where there is room for it.
+    pub fn declare(&mut self, node: NodeId, role: Role) -> Result<(), WorldErr>
         requires { node_in self.old.doing.world.nodes node.0 ≡ None }
-        ensures { IsStepped self.old (first_step H.room self.old.doing (Line.Osd node)) self.new
-            result }
+        ensures { IsStepped self.old (declares self.old.doing (never_started node role) [])
+            self.new result }
     {
         if self.stepper.nodes.len() as u64 >= NODES {
             return Err(limit(Limited::Nodes));
         }
-        self.stepper.nodes.declare_osd(node)?;
+        self.stepper.nodes.declare(node, role)?;
         Ok(())
     }
 
@@ -64,7 +64,11 @@ impl<C: NodeCore, H: Hull> State<C, H> {
         ensures { IsStepped self.old
             (first_step H.room self.old.doing (Line.File number location.now)) self.new result }
     {
-        self.files.declare(number, location)?;
+        let file = PlacedFile {
+            file: declared_file(number),
+            location: *location,
+        };
+        self.files.declare(&file)?;
         tell(
             &mut self.stepper.entries,
             Entry::File {

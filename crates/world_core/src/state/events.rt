@@ -12,12 +12,13 @@ ghost use Rattle.world_step.specs.Steps.{IsStepped};
 use crate::state::State;
 use world_host::{NodeCore, called_file};
 use world_hull::{Hull, WorldErr};
+use world_spec::PlacedFile;
 use world_tables::DeclaredFiles;
 use xt_base::{Copies, NodeId};
-use xt_messages::{Call, Event, Location, Msg};
+use xt_messages::{Call, Event, Msg};
 
-/// Where the file of a call is, if it is declared.
-fn declared_of(files: &DeclaredFiles, call: &Call) -> Option<Location>
+/// The file of a call, if it is declared.
+fn declared_of(files: &DeclaredFiles, call: &Call) -> Option<PlacedFile>
     ensures { result ≡ declared_of files.now (called_file call.now) }
 {
     files.find(called_file(call)?)

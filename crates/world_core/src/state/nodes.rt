@@ -1,8 +1,9 @@
 //! What a line does to a node: it starts, stops, has its clock set or its next step planned.
-ghost use Rattle.std.specs.Prelude.{◌≡◌, ◌+◌, ◌^◌, ◌<◌, [], Some, None, Err, IfOk, IfErr, length};
+ghost use Rattle.std.specs.Prelude.{◌≡◌, ◌+◌, ◌^◌, ◌<◌, ◌∷◌, [], Some, None, Err, IfOk, IfErr, length, filter, map};
 ghost use Rattle.world_spec.specs.World.{Node, node_in};
 ghost use Rattle.world_spec.specs.Rules.{clock_ends};
-ghost use Rattle.world_spec.specs.Lines.{first_step};
+ghost use Rattle.world_spec.specs.Lines.{file_entry, first_step, is_untold};
+ghost use Rattle.world_host.specs.Cores.{made_at};
 ghost use Rattle.world_limits.specs.Fits.{FitsKept};
 ghost use Rattle.xt_messages.specs.Limits.{FitsRecord};
 ghost use Rattle.xt_protocol.specs.Folds.{fold_of, IsInPlace};
@@ -19,12 +20,15 @@ use time_line::{Entry, Halt, Line};
 use world_host::NodeCore;
 use world_hull::{Hull, Kept, WorldErr};
 use world_nodes::Nodes;
-use world_step::{limit, tell};
-use xt_base::{Boot, COUNTS, NodeId};
+use world_spec::PlacedFile;
+use world_step::{limit, tell, tell_all};
+use world_tables::untold;
+use xt_base::{Boot, COUNTS, NodeId, OutOfMemory};
 use xt_messages::{Limited, Record};
 
 impl<C: NodeCore, H: Hull> State<C, H> {
-    /// An OSD starts from what its records say, with the start behind its last one, and keeps that first.
+    /// A node starts from what its records say, with the start after its last one, and keeps that first. The files that a metadata server
+    /// has made and that no entry tells yet are told then; there is room for all entries before the start is kept.
     pub fn start(&mut self, node: NodeId, clock: u64) -> Result<(), WorldErr>
         requires clock { clock < 2 ^ 62 }
         requires kept { (found : Node) → node_in self.old.doing.world.nodes node.0 ≡ Some found →
@@ -35,16 +39,26 @@ impl<C: NodeCore, H: Hull> State<C, H> {
         let Some(place) = self.stepper.nodes.find(node) else {
             return Ok(());
         };
-        let folded = self.stepper.nodes.said(self.alloc, place)?;
-        let Some(boot) = next_boot(folded.boot) else {
+        let loaded = self.stepper.nodes.load(self.alloc, place)?;
+        let Some(boot) = next_boot(loaded.folded.boot) else {
             return Err(limit(Limited::Boots));
         };
         self.stepper
             .nodes
-            .start(self.alloc, place, folded, boot, clock)?;
-        self.stepper.entries.reserve(1)?;
+            .start(self.alloc, place, loaded, boot, clock)?;
+        let made = self.stepper.made.as_slice();
+        let mut left = files_left(self.alloc, &self.stepper.nodes, made, place)?;
+        let up = Entry::Up { node, boot, clock };
+        let mut told = entries_of_start(self.alloc, up, left.as_slice())?;
+        self.stepper.entries.reserve(told.len())?;
+        self.stepper.made.reserve(left.len())?;
         keep_boot(self.alloc, &mut self.stepper.nodes, place, boot)?;
-        tell(&mut self.stepper.entries, Entry::Up { node, boot, clock })?;
+        tell_all(
+            &mut self.stepper.entries,
+            &mut self.stepper.made,
+            &mut told,
+            &mut left,
+        )?;
         Ok(())
     }
 
@@ -118,14 +132,47 @@ impl<C: NodeCore, H: Hull> State<C, H> {
             (first_step H.room self.old.doing (Line.Aim client file node)) self.new result }
     {
         if let Some(place) = self.stepper.nodes.find(client) {
-            let is_declared = self.files.find(file).is_some();
-            self.stepper.nodes.aim(place, file, is_declared, node)?;
+            let declared = self.files.find(file);
+            self.stepper.nodes.aim(place, file, declared, node)?;
         }
         Ok(())
     }
 }
 
-/// Keeps the start of the OSD at a place.
+/// The files that the metadata server at a place has made and that no entry tells yet, in the order of making. `made` are those that
+/// the trace tells.
+fn files_left<C: NodeCore, H: Hull>(
+    alloc: Global,
+    nodes: &Nodes<C, H>,
+    made: &[PlacedFile],
+    place: usize,
+) -> Result<Vec<PlacedFile>, OutOfMemory>
+    requires { place < length nodes.now.nodes }
+    ensures { IfOk result (λ left. (node : Node) → IsAt nodes.now.nodes place node →
+        left.items ≡ filter (is_untold made.now) (made_at node.up)) }
+{
+    let files = nodes.files(alloc, place)?;
+    untold(alloc, made, files.as_slice())
+}
+
+/// The lines of the trace for a start: the node is up, and these files are told.
+fn entries_of_start(
+    alloc: Global,
+    up: Entry,
+    left: &[PlacedFile],
+) -> Result<Vec<Entry>, OutOfMemory>
+    ensures { IfOk result (λ entries. entries.items ≡ up ∷ map file_entry left.now) }
+{
+    let mut entries = Vec::new(alloc);
+    tell(&mut entries, up)?;
+    for known in left {
+        let (number, location) = (known.file.number, known.location);
+        tell(&mut entries, Entry::File { number, location })?;
+    }
+    Ok(entries)
+}
+
+/// Keeps the start of the node at a place.
 fn keep_boot<C: NodeCore, H: Hull>(
     alloc: Global,
     nodes: &mut Nodes<C, H>,

@@ -1,16 +1,16 @@
 //! The rules that a line may break.
 ghost use Rattle.std.specs.Prelude.{◌≡◌, ◌*◌, ◌<◌, Some, None, length};
 ghost use Rattle.std.specs.Option.{option_or};
-ghost use Rattle.world_spec.specs.Rules.{refusal, file_twice, first_stranger, usable, unless_usable, no_called_file, no_member, no_message, drifts_inside};
+ghost use Rattle.world_spec.specs.Rules.{refusal, file_twice, first_stranger, usable_at, unless_usable, no_called_file, no_member, no_message, drifts_inside};
 ghost use Rattle.client_rows.specs.Called.{called_file};
 
 use crate::state::State;
 use time_line::Line;
 use world_host::{NodeCore, called_file};
 use world_hull::Hull;
-use world_spec::NODES;
+use world_spec::{NODES, PlacedFile};
 use world_tables::SentMessages;
-use xt_base::NodeId;
+use xt_base::{DIR_NODE, MRC_NODE, NodeId};
 use xt_messages::{Call, Location, Rule};
 
 /// A message that was never sent.
@@ -40,13 +40,12 @@ impl<C: NodeCore, H: Hull> State<C, H> {
         }
     }
 
-    /// Where a file is that a client may use: a declared one, or else one that it holds.
-    fn usable(&self, client: NodeId, number: u64) -> Option<Location>
-        ensures { result ≡
-            usable self.now.doing.world.files self.now.doing.world.nodes client number }
+    /// The file of this number that a client may use: a declared one, or else one that it holds.
+    fn usable(&self, client: NodeId, number: u64) -> Option<PlacedFile>
+        ensures { result ≡ usable_at self.now.doing.world client number }
     {
         match self.files.find(number) {
-            Some(location) => Some(location),
+            Some(file) => Some(file),
             None => self.stepper.nodes.held(client, number),
         }
     }
@@ -65,12 +64,12 @@ impl<C: NodeCore, H: Hull> State<C, H> {
     /// A first target that isn't of the file's list, or a file that the client may not use.
     fn aim_rule(&self, client: NodeId, number: u64, node: NodeId) -> Option<Rule>
         ensures { let w = self.now.doing.world in
-            let location = usable w.files w.nodes client number in
-            result ≡ option_or (unless_usable location number) (no_member location node) }
+            let found = usable_at w client number in
+            result ≡ option_or (unless_usable found number) (no_member found node) }
     {
         match self.usable(client, number) {
             None => Some(Rule::NoSuchFile { number }),
-            Some(location) if location.members.contains(node) => None,
+            Some(found) if found.location.members.contains(node) => None,
             Some(_) => Some(Rule::NoSuchNode { node }),
         }
     }
@@ -95,16 +94,20 @@ impl<C: NodeCore, H: Hull> State<C, H> {
         match line {
             Line::Times { .. } | Line::Settle { .. } => None,
             Line::Osd { node } => nodes.twice(*node),
+            Line::Mrc => nodes.twice(MRC_NODE),
+            Line::Dir => nodes.twice(DIR_NODE),
             Line::Client { node, clock } => {
                 nodes.twice(*node).or(self.drifts_inside(*node, *clock))
             }
             Line::File { number, location } => self.file_rule(*number, location),
             Line::Start { node, clock } => {
                 let close = nodes.drifts(*node, *clock);
-                nodes.no_osd(*node).or(nodes.runs_already(*node).or(close))
+                nodes
+                    .no_server(*node)
+                    .or(nodes.runs_already(*node).or(close))
             }
             Line::Stop { node } | Line::Crash { node, .. } | Line::Cut { node, .. } => {
-                nodes.no_osd(*node).or(nodes.runs_not(*node))
+                nodes.no_server(*node).or(nodes.runs_not(*node))
             }
             Line::Clock { node, clock } => {
                 let close = nodes.drifts(*node, *clock);

@@ -11,6 +11,8 @@ use crate::state::State;
 use time_line::Line;
 use world_host::NodeCore;
 use world_hull::{Hull, WorldErr};
+use world_spec::Role;
+use xt_base::{DIR_NODE, MRC_NODE};
 use xt_messages::Event;
 
 /// How many messages of a node to itself a file may have behind one event.
@@ -28,7 +30,9 @@ impl<C: NodeCore, H: Hull> State<C, H> {
     {
         match line {
             Line::Times { lease, drift } => self.set_times(*lease, *drift),
-            Line::Osd { node } => self.declare_osd(*node),
+            Line::Osd { node } => self.declare(*node, Role::Osd),
+            Line::Mrc => self.declare(MRC_NODE, Role::Mrc),
+            Line::Dir => self.declare(DIR_NODE, Role::Dir),
             Line::Client { node, clock } => self.declare_client(*node, *clock),
             Line::File { number, location } => self.declare_file(*number, location),
             Line::Start { node, clock } => self.start(*node, *clock),
@@ -100,11 +104,15 @@ impl<C: NodeCore, H: Hull> State<C, H> {
         Ok(false)
     }
 
-    /// How many steps an event has at most, with the messages to itself that follow.
+    /// How many steps an event has at most, with the messages to itself that follow: each of them is about one of the files, or about one
+    /// that is made in the line.
     fn turns_of_event(&self) -> u128
-        ensures { result ≡ 1 + OWN * length self.now.doing.world.files }
+        ensures { let w = self.now.doing.world in
+            result ≡ 1 + OWN * (1 + length w.files + length w.made) }
     {
-        1 + OWN * self.files.len() as u128
+        let files = self.files.len() as u128;
+        let made = self.stepper.made.len() as u128;
+        1 + OWN * (1 + files + made)
     }
 
     /// The steps of a line that breaks no rule and has begun, as many as it is allowed. True where it is done.

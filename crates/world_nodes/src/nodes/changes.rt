@@ -1,9 +1,9 @@
 //! What changes the declared nodes.
 ghost use Rattle.std.specs.Prelude.{◌≡◌, ◌<◌, ◌^◌, ◌++◌, ◌∷◌, [], true, false, Some, None, IfOk, IfSome, OnOk, OnErr, length, map};
-ghost use Rattle.world_spec.specs.World.{Node, client, osd, node_in};
+ghost use Rattle.world_spec.specs.World.{Node, client, node_in};
 ghost use Rattle.world_spec.specs.declared.Role.TheVariants as role;
 ghost use Rattle.world_spec.specs.Rules.{clock_ends, has_call, may_go_again};
-ghost use Rattle.world_spec.specs.Lines.{runs, first_boot, crashes, cuts, reads_clock, ticked, whole_client};
+ghost use Rattle.world_spec.specs.Lines.{runs, first_boot, crashes, cuts, never_started, reads_clock, ticked, whole_client};
 ghost use Rattle.world_host.specs.Calls.{IsUsable, targets};
 ghost use Rattle.world_host.specs.Turns.{Handles};
 ghost use Rattle.xt_messages.specs.Limits.{FitsEvent};
@@ -15,21 +15,19 @@ use std::alloc::Global;
 use world_clocks::{set_clock, tick};
 use world_host::{Host, HullBodies, NodeCore};
 use world_hull::Hull;
+use world_spec::{PlacedFile, Role};
 use xt_base::{NodeId, OutOfMemory};
-use xt_messages::{Call, Event, Location};
+use xt_messages::{Call, Event};
 use xt_protocol::Turned;
 
 impl<C: NodeCore, H: Hull> Nodes<C, H> {
-    /// Declares an OSD of an id of its own, which doesn't run.
-    pub fn declare_osd(&mut self, id: NodeId) -> Result<(), OutOfMemory>
+    /// Declares a node of this role, of an id of its own, which doesn't run.
+    pub fn declare(&mut self, id: NodeId, role: Role) -> Result<(), OutOfMemory>
         requires { node_in self.old.nodes id.0 ≡ None }
         ensures { OnOk result (self.new ≡
-            record self.old {
-              nodes = self.old.nodes
-                  ++ record { id = id; role = role.Osd; kept = []; past = []; up = None } ∷ [];
-            }) }
+            record self.old { nodes = self.old.nodes ++ never_started id role ∷ [] }) }
     {
-        self.hosts.push(Host::osd(id, self.times))?;
+        self.hosts.push(Host::resting(id, role, self.times))?;
         Ok(())
     }
 
@@ -90,18 +88,19 @@ impl<C: NodeCore, H: Hull> Nodes<C, H> {
         set_clock(&mut self.hosts, place, clock);
     }
 
-    /// The first target of the client at a place for a file, which is declared or else held, is this member.
+    /// The first target of the client at a place for the file of a number is this member. The file is `declared`, if a schedule declares
+    /// it, or else the one that the client holds; where there is none nothing changes.
     pub fn aim(
         &mut self,
         place: usize,
         number: u64,
-        is_declared: bool,
+        declared: Option<PlacedFile>,
         node: NodeId,
     ) -> Result<(), OutOfMemory>
         requires { place < length self.old.nodes }
-        ensures { OnOk result (ChangesUp self.old place (targets is_declared number node) self.new) }
+        ensures { OnOk result (ChangesUp self.old place (targets declared number node) self.new) }
     {
-        self.hosts[place].aim(number, is_declared, node)
+        self.hosts[place].aim(number, declared, node)
     }
 
     /// Every running clock advances.
@@ -124,13 +123,13 @@ impl<C: NodeCore, H: Hull> Nodes<C, H> {
         handle(&mut self.hosts[place], &self.hull, ev)
     }
 
-    /// The client at a place makes a call. None where no client runs. `declared` is where the file of the call is, if a schedule declares
-    /// it. What the call uses is declared or held, and no call runs.
+    /// The client at a place makes a call. None where no client runs. `declared` is the file of the call, if a schedule declares it.
+    /// What the call uses is declared or held, and no call runs.
     pub fn call(
         &mut self,
         place: usize,
         call: &Call,
-        declared: Option<Location>,
+        declared: Option<PlacedFile>,
     ) -> Result<Option<Turned>, OutOfMemory>
         requires inside { place < length self.old.nodes }
         requires running { (node : Node) → IsAt self.old.nodes place node →

@@ -3,11 +3,11 @@ ghost use Rattle.std.specs.Prelude.{◌≡◌, ◌<◌, ◌^◌, Some, None, IfO
 ghost use Rattle.xt_messages.specs.Limits.{FitsMessage, FitsRecord};
 ghost use Rattle.xt_protocol.specs.Folds.{fold_of, IsInPlace};
 ghost use Rattle.xt_protocol.specs.Forgetting.{rewritten};
-ghost use Rattle.world_host.specs.Cores.{IsSaid};
+ghost use Rattle.world_host.specs.Cores.{IsLoaded, SayTheSame, made_at};
 ghost use Rattle.world_host.specs.Forgetting.{needed_by};
-ghost use Rattle.world_spec.specs.World.{Node, osd, with_node};
+ghost use Rattle.world_spec.specs.World.{Node, with_node};
 ghost use Rattle.world_spec.specs.NodeSteps.{overflow_of};
-ghost use Rattle.world_spec.specs.Lines.{runs, osd_starting};
+ghost use Rattle.world_spec.specs.Lines.{runs, core_starting};
 ghost use Rattle.world_hull.specs.Answers.{IsFullOrMemory, IsFullExactly};
 ghost use Rattle.world_hull.specs.Appends.{IsInAppend, kept_by};
 ghost use Rattle.world_limits.specs.Fits.{FitsKept, FitsNext, MayForget};
@@ -17,50 +17,63 @@ use crate::nodes::Nodes;
 use disk_model::Stop;
 use replica_records::fold;
 use std::alloc::{AllocError, Global};
-use world_host::NodeCore;
+use world_host::{Loaded, NodeCore};
 use world_hull::{Hull, Kept, WorldErr};
+use world_spec::PlacedFile;
 use xt_base::{Boot, OptionalBox, OutOfMemory};
-use xt_messages::{Folded, Keep, Msg, Record};
+use xt_messages::{Keep, Msg, Record};
 
 impl<C: NodeCore, H: Hull> Nodes<C, H> {
-    /// What the records of the node at a place say, which are loaded for that.
-    pub fn said(&mut self, alloc: Global, place: usize) -> Result<Folded, OutOfMemory>
+    /// The records of the node at a place, which are loaded for a start, and what they say.
+    pub fn load(&mut self, alloc: Global, place: usize) -> Result<Loaded, OutOfMemory>
         requires { place < length self.old.nodes }
-        ensures said { IfOk result (λ folded. (node : Node) → IsAt self.old.nodes place node →
-            folded ≡ fold_of node.kept) }
+        ensures found { IfOk result (λ found. (node : Node) → IsAt self.old.nodes place node →
+            SayTheSame found.records.items node.kept) }
+        ensures folded { IfOk result (λ found. found.folded ≡ fold_of found.records.items) }
         ensures loaded { OnOk result (Changes self.old place after_load self.new) }
     {
         let node = self.hosts[place].id();
         let Ok(records) = self.hull.revive(alloc, node) else {
             return Err(AllocError);
         };
-        fold(alloc, records.as_slice())
+        let folded = fold(alloc, records.as_slice())?;
+        Ok(Loaded { records, folded })
     }
 
-    /// The OSD at a place starts as this boot, from what its records say.
+    /// The node at a place starts as this boot, from what its records say, which were loaded for that.
     pub fn start(
         &mut self,
         alloc: Global,
         place: usize,
-        folded: Folded,
+        loaded: Loaded,
         boot: Boot,
         clock: u64,
     ) -> Result<(), OutOfMemory>
         requires inside { place < length self.old.nodes }
         requires clock { clock < 2 ^ 62 }
-        requires records { IsSaid folded }
+        requires loaded { IsLoaded loaded }
         ensures { OnOk result ((node : Node) → IsAt self.old.nodes place node →
-            folded ≡ fold_of node.kept →
+            SayTheSame loaded.records.items node.kept →
             self.new ≡
             record self.old {
               nodes = with_node self.old.nodes
                   (record node {
                     up = Some
-                        (runs boot clock (osd (osd_starting self.old.times node boot clock)));
+                        (runs boot clock
+                        (core_starting self.old.times node boot clock node.role));
                   });
             }) }
     {
-        self.hosts[place].start(alloc, folded, boot, clock)
+        self.hosts[place].start(alloc, loaded, boot, clock)
+    }
+
+    /// The files that the metadata server at a place has made, in the order of making; none where no such server runs.
+    pub fn files(&self, alloc: Global, place: usize) -> Result<Vec<PlacedFile>, OutOfMemory>
+        requires { place < length self.now.nodes }
+        ensures { IfOk result (λ files. (node : Node) → IsAt self.now.nodes place node →
+            files.items ≡ made_at node.up) }
+    {
+        self.hosts[place].files(alloc)
     }
 
     /// Appends a record of the node at a place, or stops in that.

@@ -2,7 +2,7 @@
 ghost use Rattle.std.specs.Prelude.{◌≡◌, ◌<◌, Some, None};
 ghost use Rattle.std.specs.Option.{option_map};
 ghost use Rattle.world_spec.specs.World.{client, node_in, up_of};
-ghost use Rattle.world_spec.specs.Rules.{no_osd, no_client, no_node, node_twice, runs_already, runs_not, first_stranger, goes_back, clock_ends, busy, no_call, drifts, held_in, location_held};
+ghost use Rattle.world_spec.specs.Rules.{no_osd, no_server, no_client, no_node, node_twice, runs_already, runs_not, first_stranger, goes_back, clock_ends, busy, no_call, drifts, held_in, file_held};
 ghost use Rattle.client_rows.specs.Holding.{held_of};
 ghost use Rattle.world_nodes.specs.Nodes.{bare};
 
@@ -10,8 +10,9 @@ use crate::nodes::Nodes;
 use world_clocks::{ClockTest, least_where};
 use world_host::NodeCore;
 use world_hull::Hull;
+use world_spec::PlacedFile;
 use xt_base::NodeId;
-use xt_messages::{Location, Rule};
+use xt_messages::Rule;
 
 impl<C: NodeCore, H: Hull> Nodes<C, H> {
     /// There is no such OSD.
@@ -20,6 +21,16 @@ impl<C: NodeCore, H: Hull> Nodes<C, H> {
     {
         match self.find(id) {
             Some(place) if self.hosts[place].is_osd() => None,
+            _ => Some(Rule::NoSuchNode { node: id }),
+        }
+    }
+
+    /// There is no such node that starts and stops.
+    pub fn no_server(&self, id: NodeId) -> Option<Rule>
+        ensures { result ≡ no_server self.now.nodes id }
+    {
+        match self.find(id) {
+            Some(place) if self.hosts[place].is_server() => None,
             _ => Some(Rule::NoSuchNode { node: id }),
         }
     }
@@ -115,11 +126,10 @@ impl<C: NodeCore, H: Hull> Nodes<C, H> {
         }
     }
 
-    /// Where the file of this number is, if the client of this id runs and holds a capability of it.
-    pub fn held(&self, id: NodeId, number: u64) -> Option<Location>
+    /// The file of this number, if the client of this id runs and holds a capability of it.
+    pub fn held(&self, id: NodeId, number: u64) -> Option<PlacedFile>
         ensures { result ≡
-            location_held
-            (held_of (held_in (up_of (node_in self.now.nodes id.0))) number) }
+            file_held (held_of (held_in (up_of (node_in self.now.nodes id.0))) number) }
     {
         let place = self.find(id)?;
         self.hosts[place].held(number)

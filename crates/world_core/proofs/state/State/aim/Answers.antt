@@ -1,4 +1,4 @@
-use Rattle.std.proofs.Common.{is_some, refl, ap, ◌∙◌}
+use Rattle.std.proofs.Common.{refl}
 use Rattle.world_spec.specs.Lines.{first_step}
 use Rattle.world_spec.specs.NodeSteps.{Doing}
 use Rattle.time_line.specs.declared.line.Line.TheVariants as line
@@ -8,8 +8,8 @@ use Rattle.world_core.proofs.state.State.aim.Goals as goal
 pub returns-in_ok-aim : goal.returns-in_ok-aim
 returns-in_ok-aim g c =
     from_view _ _ _ (λ (d : Doing). first_step g.H.Hull.room d (line.Aim c.args.client c.args.file c.args.node)) c.self.view_is (
-      aim_placed g.H.Hull.room _ c.args.client c.args.file c.args.node c.in-Some.place c.is_some-is_declared.result c.aim.new.self c.in-Some.ensures
-          (c.is_some-is_declared.ensures ∙ ap is_some c.find-in-Some.ensures) c.in_ok-aim.ensures,
+      aim_placed g.H.Hull.room _ c.args.client c.args.file c.args.node c.in-Some.place c.find-declared.result c.aim.new.self c.in-Some.ensures
+          c.find-declared.ensures c.in_ok-aim.ensures,
       record { rest = refl; lines = refl },
     )
 

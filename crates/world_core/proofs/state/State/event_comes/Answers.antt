@@ -41,6 +41,7 @@ returns-in-None g c =
               times = v.times;
               nodes = v.nodes;
               files = c.self.inside.files;
+              made = c.self.inside.stepper.made.items;
               sent = c.self.inside.stepper.sent;
               entries = c.self.inside.stepper.entries.items;
               lines = take c.self.inside.shown c.self.inside.lines.items;

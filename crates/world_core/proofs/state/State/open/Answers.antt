@@ -6,12 +6,20 @@ use Rattle.world_spec.specs.Lines.{first_step}
 use Rattle.world_limits.proofs.Coming.{coming, delivered, calling, calling_again, kept_fits}
 use Rattle.world_core.specs.Standing.{MayStand}
 use Rattle.world_core.proofs.FirstSteps.{from_view}
-use Rattle.world_core.proofs.Opening.{legal_so, osd_own, client_own, file_own, tick_ends, call_usable, call_free, again_free, again_may, deliver_number, drop_number, wake_first, call_first, again_first, deliver_first, drop_first, settle_first, steps_as}
+use Rattle.world_core.proofs.Opening.{legal_so, osd_own, mrc_own, dir_own, osd_first, mrc_first, dir_first, client_own, file_own, tick_ends, call_usable, call_free, again_free, again_may, deliver_number, drop_number, wake_first, call_first, again_first, deliver_first, drop_first, settle_first, steps_as}
 use Rattle.world_core.proofs.state.State.open.Goals as goal
 
-pub declare_osd-requires : goal.declare_osd-requires
-declare_osd-requires g c =
+pub declare-requires : goal.declare-requires
+declare-requires g c =
     osd_own c.args.self.now.doing.world c.in-Osd.node (legal_so c.args.self.now.doing.world c.args.line.now (line.Osd c.in-Osd.node) c.in-Osd.is c.requires.legal)
+
+pub declare-requires-in-Mrc : goal.declare-requires-in-Mrc
+declare-requires-in-Mrc g c =
+    mrc_own c.args.self.now.doing.world (legal_so c.args.self.now.doing.world c.args.line.now line.Mrc c.in-Mrc.is c.requires.legal)
+
+pub declare-requires-in-Dir : goal.declare-requires-in-Dir
+declare-requires-in-Dir g c =
+    dir_own c.args.self.now.doing.world (legal_so c.args.self.now.doing.world c.args.line.now line.Dir c.in-Dir.is c.requires.legal)
 
 pub declare_client-requires-clause-own : goal.declare_client-requires-clause-own
 declare_client-requires-clause-own g c =
@@ -36,7 +44,7 @@ event_comes-requires g c =
 pub call-requires-clause-fits : goal.call-requires-clause-fits
 call-requires-clause-fits g c =
     let stands = subst (MayStand c.args.self.now.doing.world) c.in-Call.is c.requires.values in
-    calling c.args.self.now.doing.world [] c.in-Call.client c.in-Call.call c.requires.fits (stands.1, stands.2)
+    calling c.args.self.now.doing.world [] c.in-Call.client c.in-Call.call c.requires.fits stands.1
 
 pub call-requires-clause-usable : goal.call-requires-clause-usable
 call-requires-clause-usable g c =
@@ -69,6 +77,18 @@ deliver-requires-clause-fits g c =
 pub settle-requires : goal.settle-requires
 settle-requires g c =
     drop_number c.args.self.now.doing.world c.in-Drop.number (legal_so c.args.self.now.doing.world c.args.line.now (line.Drop c.in-Drop.number) c.in-Drop.is c.requires.legal)
+
+pub returns-in-Osd : goal.returns-in-Osd
+returns-in-Osd g c =
+    steps_as (Unit {0}) g.H.Hull.room c.args.self.now c.declare.new.self c.args.line.now (line.Osd c.in-Osd.node) _ c.declare.result c.in-Osd.is (osd_first g.H.Hull.room c.args.self.now.doing c.in-Osd.node) c.declare.ensures
+
+pub returns-in-Mrc : goal.returns-in-Mrc
+returns-in-Mrc g c =
+    steps_as (Unit {0}) g.H.Hull.room c.args.self.now c.declare-in-Mrc.new.self c.args.line.now line.Mrc _ c.declare-in-Mrc.result c.in-Mrc.is (mrc_first g.H.Hull.room c.args.self.now.doing) c.declare-in-Mrc.ensures
+
+pub returns-in-Dir : goal.returns-in-Dir
+returns-in-Dir g c =
+    steps_as (Unit {0}) g.H.Hull.room c.args.self.now c.declare-in-Dir.new.self c.args.line.now line.Dir _ c.declare-in-Dir.result c.in-Dir.is (dir_first g.H.Hull.room c.args.self.now.doing) c.declare-in-Dir.ensures
 
 pub returns-in-Wake : goal.returns-in-Wake
 returns-in-Wake g c =

@@ -6,7 +6,7 @@ use Rattle.world_core.proofs.state.State.refusal.Goals as goal
 
 pub returns-in-Start : goal.returns-in-Start
 returns-in-Start g c =
-    start_rule _ c.args.line.now c.in-Start.node c.in-Start.clock _ _ _ _ _ c.in-Start.is c.no_osd.ensures c.runs_already.ensures c.drifts-close.ensures c.or-in-Start.ensures c.or-in-Start-2.ensures
+    start_rule _ c.args.line.now c.in-Start.node c.in-Start.clock _ _ _ _ _ c.in-Start.is c.no_server.ensures c.runs_already.ensures c.drifts-close.ensures c.or-in-Start.ensures c.or-in-Start-2.ensures
     ∙ ap (λ (x : Working). refusal x.doing.world c.args.line.now) c.self.view_is
 
 pub returns-in-Clock : goal.returns-in-Clock

@@ -21,6 +21,7 @@ returns-in_default g c =
           times = c.self.inside.stepper.nodes.times;
           nodes = c.self.inside.stepper.nodes.nodes;
           files = c.self.inside.files;
+          made = c.self.inside.stepper.made.items;
           sent = c.self.inside.stepper.sent;
           entries = c.self.inside.stepper.entries.items;
           lines = take c.self.inside.shown c.self.inside.lines.items;

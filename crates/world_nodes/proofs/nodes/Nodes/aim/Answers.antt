@@ -18,6 +18,6 @@ returns g c =
     map_ok c.aim.result
     (λ is.
     changes (stored_in g.H.Hull.kept g.H.Hull.past c.self.inside.hull) c.self.inside.times c.self.inside.hosts.items c.args.place c.index_mut.result.now c.aim.new.self c.args.self.now c.self.invariant c.self.view_is c.requires c.index_mut.ensures.value
-    (stored_in g.H.Hull.kept g.H.Hull.past c.self.inside.hull) (λ (node : Node). record node { up = option_map (targets c.args.is_declared c.args.number c.args.node) node.up }) (same_stored (stored_in g.H.Hull.kept g.H.Hull.past c.self.inside.hull) c.index_mut.result.now.id.0)
+    (stored_in g.H.Hull.kept g.H.Hull.past c.self.inside.hull) (λ (node : Node). record node { up = option_map (targets c.args.declared c.args.number c.args.node) node.up }) (same_stored (stored_in g.H.Hull.kept g.H.Hull.past c.self.inside.hull) c.index_mut.result.now.id.0)
     (same_but_up c.index_mut.result.now c.aim.new.self _ is).0 (ap (node_of ((stored_in g.H.Hull.kept g.H.Hull.past c.self.inside.hull) c.index_mut.result.now.id.0)) is))
     c.aim.ensures.ok

@@ -11,4 +11,4 @@ invariant_of-self g c =
 
 pub returns : goal.returns
 returns g c =
-    map_ok c.start.result (λ is. node_started (stored_in g.H.Hull.kept g.H.Hull.past c.self.inside.hull) c.self.inside.times c.self.inside.hosts.items c.args.place c.index_mut.result.now c.start.new.self c.args.self.now c.self.invariant c.self.view_is c.requires.inside c.index_mut.ensures.value c.args.folded c.args.boot c.args.clock is) c.start.ensures.ok
+    map_ok c.start.result (λ is. node_started (stored_in g.H.Hull.kept g.H.Hull.past c.self.inside.hull) c.self.inside.times c.self.inside.hosts.items c.args.place c.index_mut.result.now c.start.new.self c.args.self.now c.self.invariant c.self.view_is c.requires.inside c.index_mut.ensures.value c.args.loaded.records.items c.args.boot c.args.clock is) c.start.ensures.ok

@@ -7,7 +7,7 @@ use Rattle.xt_messages.specs.declared.event.Mark.{Mark}
 use Rattle.time_line.specs.declared.entry.Halt.TheVariants as halt
 use Rattle.time_line.specs.declared.entry.Entry.{Entry}
 use Rattle.time_line.specs.declared.entry.Entry.TheVariants as entry
-use Rattle.world_spec.specs.NodeSteps.{Doing, loses_own, cut_in_sending, numbered, entry_of}
+use Rattle.world_spec.specs.NodeSteps.{Doing, loses_own, cut_in_sending, numbered, entry_of, files_marked}
 use Rattle.world_step.specs.Steps.{working}
 use Rattle.world_step.specs.Endings.{given_by}
 use Rattle.world_step.proofs.Endings.{gave_not, given_untold, gave_inside, sending_told, fits_front, nothing_around}
@@ -26,11 +26,11 @@ returns-in_err-give g c = λ around node running at up clock.
     (λ (d : Doing). loses_own d (cut_in_sending d.world node running c.args.count (given_by c.args.rec.now c.args.outs.now c.args.marks.now))) refl at
     (ap (λ (outs : List Msg). c.args.self.now.sent ++ numbered c.args.self.now.nodes.nodes node.id outs) (sym c.front.ensures)) (c.in_err-give.ensures around))
 
-pub returns-in_err-append : goal.returns-in_err-append
-returns-in_err-append g c = λ around node running at up clock.
-    let p = err_from_is_err_and c.from_residual-in_err-append.result c.from_residual-in_err-append.ensures.1 in
+pub returns-in_err-tell_all : goal.returns-in_err-tell_all
+returns-in_err-tell_all g c = λ around node running at up clock.
+    let p = err_from_is_err_and c.from_residual-in_err-tell_all.result c.from_residual-in_err-tell_all.ensures.1 in
     rw (p.1, p.2)
-    (tt, given_untold (Unit {0}) g.H.Hull.room (working around c.args.self.now) (working around c.give.new.self) _ node c.args.rec.now c.front.result.now tt (c.in_ok-give.ensures around node at) (record { entries = c.in_err-append.ensures.items; lines = refl; begun = refl; ended = refl }))
+    (tt, given_untold (Unit {0}) g.H.Hull.room (working around c.args.self.now) (working around c.give.new.self) _ node c.args.rec.now c.front.result.now tt (c.in_ok-give.ensures around node at) (record { entries = c.in_err-tell_all.ensures.err; lines = refl; begun = refl; ended = refl }))
 
 pub halt-requires : goal.halt-requires
 halt-requires g c =
@@ -41,6 +41,7 @@ pub returns : goal.returns
 returns g c = λ around node running at up clock.
     let told : ℕ → List Mark → List Entry = λ k marks. map (entry_of c.id-node.result) marks ++ entry.Down c.id-node.result k halt.Cut ∷ [] in
     sending_told (Unit {0}) g.H.Hull.room (working around c.args.self.now) (working around c.args.self.now) (working around c.give.new.self) (working around c.give.new.self) (working around c.halt.new.self) c.args.place node running c.args.count (given_by c.args.rec.now c.args.outs.now c.args.marks.now) tt c.front.result.now c.id-node.result
-    (map (entry_of c.id-node.result) c.args.marks.now) c.in_ok-made.made.items c.append.new.self.items refl at up (c.in_ok-give.ensures around) c.front.ensures c.id-node.ensures.id refl
-    (c.in_ok-made.ensures ∙ ap (told c.args.clock) c.replace-told.ensures.value ∙ ap (λ (k : ℕ). told k c.args.marks.now) (sym clock))
-    refl c.in_ok-append.ensures.items (c.halt.ensures around)
+    (map (entry_of c.id-node.result) c.args.marks.now) c.in_ok-told.told.items c.tell_all.new.entries.items c.in_ok-files.files.items c.tell_all.new.made.items refl at up (c.in_ok-give.ensures around) c.front.ensures c.id-node.ensures.id refl
+    (c.in_ok-told.ensures ∙ ap (told c.args.clock) c.replace-marks.ensures.value ∙ ap (λ (k : ℕ). told k c.args.marks.now) (sym clock))
+    (c.in_ok-files.ensures ∙ ap files_marked c.as_slice.ensures)
+    refl c.in_ok-tell_all.ensures.entries c.in_ok-tell_all.ensures.made (c.halt.ensures around)
