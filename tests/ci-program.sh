@@ -52,7 +52,36 @@ crash 1 3 a5
 crash 4294967295 4 ff
 cut 1 0
 cut 4294967295 340282366920938463463374607431768211455
-""".splitlines()
+mrc
+dir
+osd 901
+client 900 0
+start 901 0
+wake 900
+meta 1 1 1 stat /v
+meta 10 4294967295 4294967295 mkdir v 000
+meta 10 0 0 mkdir /v 777
+meta 10 1 1 create /v/a 644 rep 1 1024
+meta 10 1 1 create /v/a 644 str 9 131072
+meta 10 1 1 rename / //
+meta 10 1 1 unlink /v/a
+meta 10 1 1 rmdir .
+meta 10 1 1 list / -
+meta 10 1 1 list /v --
+meta 10 1 1 chmod /v/a 700
+meta 10 1 1 grant /v/a read
+meta 10 1 1 grant /v/a write
+meta 10 1 1 grant /v/a truncate
+meta 10 1 1 report 18446744073709551615
+registry 10 set 4294967295 255 127.0.0.1:5 4611686018427387903
+registry 10 get 0
+registry 10 list 0 4294967295
+registry 10 remove 1 0
+""".splitlines() + [
+    f"meta 10 1 1 rename {'a' * 65_535} {'b' * 65_535}",
+    f"meta 10 1 1 list / {'b' * 65_535}",
+    f"registry 10 set 1 1 {'a' * 255} 0",
+]
 
 # Lines that it may have first.
 READ_FIRST = ["osd 47", "times 1000 100", "times 1099511627775 549755813887"]
@@ -136,8 +165,56 @@ cut 1 00
 cut 1 340282366920938463463374607431768211456
 cut 4294967296 0
 down 1 0 idle
-meta 1 1 1 stat /v
-""".splitlines() + ["", " ", " osd 3", "osd 3 ", "osd 3\r", "write 100 1 0 0 ", "times 1000 100"]
+mrc 901
+dir 900
+MRC
+meta 10 1 1
+meta 10 1 1 stat
+meta 10 1 1 stat /v /v
+meta 10 1 1 locate /v
+meta 10 1 stat /v
+meta 10 4294967296 1 stat /v
+meta 10 1 01 stat /v
+meta 10 1 1 mkdir /v
+meta 10 1 1 mkdir /v 75
+meta 10 1 1 mkdir /v 0755
+meta 10 1 1 mkdir /v 758
+meta 10 1 1 create /v/a 644 rep 0 1024
+meta 10 1 1 create /v/a 644 rep 10 1024
+meta 10 1 1 create /v/a 644 rep 1 1000
+meta 10 1 1 create /v/a 644 strip 1 1024
+meta 10 1 1 create /v/a 644 rep 1
+meta 10 1 1 rename /v/a
+meta 10 1 1 list /v
+meta 10 1 1 chmod /v/a
+meta 10 1 1 grant /v/a
+meta 10 1 1 grant /v/a 2
+meta 10 1 1 report
+meta 10 1 1 report /v/a
+meta 10 1 1 report 18446744073709551616
+registry 10
+registry 10 put 1
+registry 10 set 1 1 a
+registry 10 set 1 256 a 0
+registry 10 set 1 1 a 4611686018427387904
+registry 10 set 4294967296 1 a 0
+registry 10 get
+registry 10 get 1 1
+registry 10 list 1
+registry 10 list 256 0
+registry 10 remove 1
+registry 10 remove 1 4611686018427387904
+registry 10 1 1 get 1
+""".splitlines() + ["", " ", " osd 3", "osd 3 ", "osd 3\r", "write 100 1 0 0 ", "times 1000 100"] + [
+    "mrc ",
+    "meta 10 1 1 stat /v\u00e9",
+    "meta 10 1 1 stat ",
+    "meta 10 1 1 mkdir  /v 755",
+    "meta 10 1 1 list /v ",
+    f"meta 10 1 1 stat {'a' * 65_536}",
+    f"registry 10 set 1 1 {'a' * 256} 0",
+    "registry 10 set 1 1  0",
+]
 
 # Times that none may have.
 MALFORMED_FIRST = ["times 1000 500", "times 1000 0", "times 1099511627776 100"]

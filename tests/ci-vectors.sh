@@ -5,7 +5,7 @@ set -u
 here=$(cd "$(dirname "$0")" && pwd)
 program=$(bash "$here/build.sh") || exit 1
 failed=0
-for folder in "$here/vectors" "$here/../examples"; do
+for folder in "$here/vectors" "$here/vectors-roles" "$here/../examples"; do
     bash "$here/vectors.sh" "$folder" "$program" || failed=1
 done
 bash "$here/audits.sh" "$here/vectors-audit" "$program" || failed=1

@@ -169,25 +169,34 @@ def schedule(rng):
     """A schedule of lines that are mostly legal."""
     osds, clients = rng.randrange(1, 5), rng.randrange(1, 3)
     lines = [f"times {rng.choice([1000, 14000])} {rng.choice([0, 100, 400])}"]
-    lines += [f"osd {n}" for n in range(1, osds + 1)]
+    lines += [f"osd {n}" for n in range(1, osds + 1)] + ["mrc", "dir"]
     lines += [f"client {n} 0" for n in range(10, 10 + clients)]
     files = rng.randrange(1, 3)
     for f in range(1, files + 1):
         members = rng.sample(range(1, osds + 1), rng.randrange(1, osds + 1))
         lines.append(f"file {f} {rng.choice(['rep', 'rep', 'str'])} 1024 {' '.join(map(str, members))}")
-    lines += [f"start {n} {rng.choice([0, 0, 50])}" for n in range(1, osds + 1)]
+    nodes = [*range(1, osds + 1), 900, 901]
+    lines += [f"start {n} {rng.choice([0, 0, 50])}" for n in nodes]
+    for n in range(1, osds + 1):
+        lines += [f"registry 10 set {n} 1 {n} 0", "settle 9"]
+    lines += ["wake 901", "settle 9", "meta 10 1 1 mkdir /v 777", "settle 9"]
     lines += [f"tick {rng.choice([1500, 15000, 20000])}"]
     for _ in range(rng.randrange(1, 60)):
-        c, f, n = rng.randrange(10, 10 + clients), rng.randrange(1, files + 1), rng.randrange(1, osds + 1)
+        c, f, n = rng.randrange(10, 10 + clients), rng.choice([*range(1, files + 1), 1_000_000]), rng.choice(nodes)
+        path, user = rng.choice(["/v/a", "/v/a", "/v/b", "/v/d", "/v"]), rng.randrange(1, 3)
         lines.append(
             rng.choice(
                 [
-                    "settle", "settle", "settle", f"tick {rng.choice([1, 10, 500, 1000, 3000])}", f"wake {n}", f"wake {n}",
+                    "settle 99", "settle 99", "settle 99", f"tick {rng.choice([1, 10, 500, 1000, 3000])}", f"wake {n}", f"wake {n}",
                     f"read {c} {f} {rng.randrange(3)} 0 {rng.choice([1, 16, 1024])}",
                     f"write {c} {f} {rng.randrange(3)} {rng.randrange(8)} {rng.randbytes(rng.randrange(1, 9)).hex()}",
                     f"truncate {c} {f} {rng.randrange(1, 9)} {rng.randrange(0, 3000)}",
                     f"aim {c} {f} {n}", f"again {c}", f"deliver {rng.randrange(1, 200)}", f"drop {rng.randrange(1, 200)}",
                     f"stop {n}", f"start {n} {rng.randrange(0, 40000)}", f"clock {n} {rng.randrange(0, 40000)}",
+                    f"meta {c} {user} 1 create {path} 644 {rng.choice(['rep', 'str'])} {rng.randrange(1, 4)} 1024",
+                    f"meta {c} {user} 1 grant {path} {rng.choice(['read', 'write', 'truncate'])}", f"meta {c} {user} 1 report {f}",
+                    f"meta {c} {user} 1 {rng.choice(['stat', 'unlink', 'rmdir'])} {path}", f"meta {c} {user} 1 rename {path} /v/b",
+                    f"registry {c} {rng.choice(['get 1', 'list 1 0', 'remove 1 1', 'set 1 1 a 1'])}",
                     f"crash {n} {rng.randrange(1, 5)} {rng.choice(['00', 'a5', 'ff'])}", f"cut {n} {rng.randrange(0, 4)}",
                 ]
             )
@@ -353,8 +362,8 @@ def stores_are_changed(rng, folder, count):
 
 def main():
     rng = random.Random(SEED)
-    schedules = [open(f, "rb").read() for f in sorted(glob.glob(f"{HERE}/vectors/*.schedule") + glob.glob(f"{HERE}/../examples/*.schedule"))]
-    traces = [open(f, "rb").read() for f in sorted(glob.glob(f"{HERE}/vectors/*.trace") + glob.glob(f"{HERE}/vectors-audit/*.trace"))]
+    schedules = [open(f, "rb").read() for f in sorted(glob.glob(f"{HERE}/vectors*/*.schedule") + glob.glob(f"{HERE}/../examples/*.schedule"))]
+    traces = [open(f, "rb").read() for f in sorted(glob.glob(f"{HERE}/vectors*/*.trace"))]
     shares = {"schedules changed": 0.3, "schedules drawn": 0.1, "traces changed": 0.3, "words": 0.2, "stores": 0.05, "datagrams": 0.05}
     with tempfile.TemporaryDirectory() as folder:
         os.chdir(folder)

@@ -8,8 +8,10 @@ use Rattle.time_line.specs.declared.entry.Entry.{Entry}
 use Rattle.time_line.specs.declared.line.Line.{Line}
 use Rattle.time_line.specs.Bounds.{AreLines}
 use Rattle.time_line.specs.TimeLine.{times_told}
+use Rattle.world_spec.specs.declared.PlacedFile.{PlacedFile}
 use Rattle.world_spec.specs.World.{World}
 use Rattle.world_spec.specs.NodeSteps.{Room, entry_of}
+use Rattle.world_spec.specs.Lines.{file_entry, files_left}
 use Rattle.world_spec.specs.Runs.{run_of}
 use Rattle.world_runs.proofs.Walk.{IsKept, run_kept}
 use Rattle.judging.specs.Laws.{HaveNoTimes, TimesStandFirst}
@@ -39,6 +41,10 @@ marks_untimed : (node : NodeId) (ms : List Mark) → HaveNoTimes (map (entry_of 
 marks_untimed node [] = tt
 marks_untimed node (m ∷ ms) = (mark_untimed node m, marks_untimed node ms)
 
+files_untimed : (files : List PlacedFile) → HaveNoTimes (map file_entry files)
+files_untimed [] = tt
+files_untimed (f ∷ fs) = (refl, files_untimed fs)
+
 -- the trace so far tells them first, if at all
 abbrev TellsTimesFirst : World → List Msg → Type 0
 TellsTimesFirst w own = TimesStandFirst w.entries
@@ -48,10 +54,10 @@ times_kept =
     record {
       begins = tt;
       times = λ lease drift are. tt;
-      osd_declared = λ w id fits free first. still_first w.entries _ first tt;
+      server_declared = λ w id its is_server stands fits free first. still_first w.entries _ first tt;
       client_declared = λ w id clock fits free first. still_first w.entries _ first (refl, tt);
       file_declared = λ w number location fits free first. still_first w.entries _ first (refl, tt);
-      started = λ w node clock bound found down close first. still_first w.entries _ first (refl, tt);
+      started = λ w node clock is_server bound found down close first. still_first w.entries _ first (refl, files_untimed (files_left w.made node));
       planned = λ w node r q found is_up boot clock core first. first;
       aimed_at = λ w node r c number target found is_up is_client first. first;
       stopped = λ w own node r how found is_up first. still_first w.entries _ first (refl, tt);

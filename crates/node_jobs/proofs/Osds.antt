@@ -43,7 +43,7 @@ module _ (records after : List Record) (are : AreRecords records) (boot : FitsBo
   pub osd_rows : AreRows (fold_of after).files
   osd_rows =
       subst (λ (rs : List Record). AreRows (fold_of rs).files) (sym is)
-      (rows_are (booted records) (record { limits = booted_is.limits; places = booted_is.places }))
+      (rows_are (booted records) (booted_is.limits, booted_is.places))
 
   module _ (id : NodeId) (times : TimeSettings) (reading : ℕ) where
     abbrev first : Silent

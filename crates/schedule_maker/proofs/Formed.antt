@@ -74,8 +74,8 @@ call_formed c turn is =
     let object = is.object in
     let at = is.at in
     either (λ made. IsLine false (line.Call (node c.client) made)) c.is_read (call.Read c.file c.object c.at 16) (call.Write c.file c.object c.at (to_be_bytes w64 turn))
-    (tt, (omega arith, tt, (omega arith, omega arith, omega arith, omega arith, omega arith)))
-    (tt, (omega arith, tt, (omega arith, omega arith, omega arith, eight_bytes turn, omega arith)))
+    (tt, (omega arith, (omega arith, omega arith, omega arith, omega arith, omega arith)))
+    (tt, (omega arith, (omega arith, omega arith, omega arith, eight_bytes turn, omega arith)))
 
 -- ---- turns
 

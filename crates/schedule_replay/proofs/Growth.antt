@@ -20,7 +20,7 @@ use Rattle.time_line.specs.declared.entry.Halt.TheVariants as halt
 use Rattle.world_spec.specs.declared.TheConstants.{MESSAGES, MESSAGE_BYTES, NODES}
 use Rattle.world_spec.specs.declared.Sent.{Sent}
 use Rattle.client_rows.specs.Steps.{Step}
-use Rattle.world_spec.specs.World.{World, Node, puts, loads, Running, Core, osd, client, node_in, with_node}
+use Rattle.world_spec.specs.World.{World, Node, puts, loads, Running, Core, osd, client, mrc, dir, node_in, with_node}
 use Rattle.world_spec.specs.NodeSteps.{Room, Overflow, Cause, came_to, has_no_room, Doing, frame_bytes, core_step, after_turn, halted, keeps_record, one_more, one_put, forgets_if, cut_in_sending, sends, appends, within_limits, overflow_of, end_of_step, event_at, event_comes}
 use Rattle.world_spec.specs.Lines.{Next, finished, opens, goes_on, ends, begins, does, declares, next_boot, starts, starts_as, changed, stops, crashes, cuts, reads_clock, core_calls, calls, core_calls_again, calls_again, aims, no_longer_pending, delivers, least_pending, first_step, went, settles, works_on, next_step, steps, so_far, enough, done}
 use Rattle.world_spec.specs.Runs.{IsPartOf}
@@ -179,6 +179,8 @@ changed_grows w node change =
 core_grows : (room : Room) (d : Doing) (node : Node) (running : Running) (core : Core) (c : Call) → GoesOn d.world (core_calls room d node running core c)
 core_grows room d node running (client state) c = step_grows room d node running _
 core_grows room d node running (osd state) c = stays d.world
+core_grows room d node running (mrc state) c = stays d.world
+core_grows room d node running (dir state) c = stays d.world
 
 calls_grow : (room : Room) (d : Doing) (node : Option Node) (c : Call) → GoesOn d.world (calls room d node c)
 calls_grow room d None c = stays d.world
@@ -191,6 +193,8 @@ calls_grow room d (Some node) c = up node.up
 core_grows_again : (room : Room) (d : Doing) (node : Node) (running : Running) (core : Core) → GoesOn d.world (core_calls_again room d node running core)
 core_grows_again room d node running (client state) = step_grows room d node running _
 core_grows_again room d node running (osd state) = stays d.world
+core_grows_again room d node running (mrc state) = stays d.world
+core_grows_again room d node running (dir state) = stays d.world
 
 calls_again_grow : (room : Room) (d : Doing) (node : Option Node) → GoesOn d.world (calls_again room d node)
 calls_again_grow room d None = stays d.world
@@ -204,6 +208,8 @@ first_grows : (room : Room) (d : Doing) (l : Line) → GoesOn d.world (first_ste
 unfolding first_step
 first_grows room d (line.Times lease drift) = record { same = refl; more = _; entries = refl }
 first_grows room d (line.Osd node) = declares_grows d _ []
+first_grows room d line.Mrc = declares_grows d _ []
+first_grows room d line.Dir = declares_grows d _ []
 first_grows room d (line.Client node clock) = declares_grows d _ _
 first_grows room d (line.File number location) = record { same = refl; more = _; entries = refl }
 first_grows room d (line.Start node clock) = starts_grows room d clock (node_in d.world.nodes node.0)

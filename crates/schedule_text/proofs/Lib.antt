@@ -1,4 +1,5 @@
 pub use Rattle.server_text.proofs.InLine
+pub use Rattle.server_text.proofs.RequestsAgain
 pub use Rattle.server_text.proofs.WordsAgain
 pub mod AnswersAgain
 pub mod EntryAgain

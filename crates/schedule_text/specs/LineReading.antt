@@ -9,7 +9,7 @@ use Rattle.xt_messages.specs.declared.event.Call.TheVariants as call
 use Rattle.time_line.specs.declared.line.Line.{Line}
 use Rattle.time_line.specs.declared.line.Line.TheVariants as line
 use Rattle.server_text.specs.Reading.{number_at, first_word, other_words, each_word, byte_of, bytes_of, node_in}
-use Rattle.server_text.specs.RequestReading.{kind_in}
+use Rattle.server_text.specs.RequestReading.{kind_in, meta_call_in, registry_call_in}
 
 -- the node that the first word numbers, and the words behind it
 unfoldable pub node_at : List ℕ → NodeId × List ℕ
@@ -123,6 +123,16 @@ truncate_at words =
     let epoch = number_at 64 size.1 in
     line.Call client.0 (call.Truncate file.0 size.0 epoch.0)
 
+unfoldable pub meta_at : List ℕ → Line
+meta_at words =
+    let client = node_at words in
+    line.Call client.0 (meta_call_in client.1)
+
+unfoldable pub registry_at : List ℕ → Line
+registry_at words =
+    let client = node_at words in
+    line.Call client.0 (registry_call_in client.1)
+
 unfoldable pub again_at : List ℕ → Line
 again_at words =
     let client = node_at words in
@@ -150,28 +160,30 @@ settle_at words =
     let count = number_at 128 words in
     line.Settle count.0
 
--- the line of this name, of those that set the times, declare, start or stop
-unfoldable pub node_line : List ℕ → List ℕ → Option Line
-node_line name words =
+-- the line of this name, of those that set the times or declare
+unfoldable pub declared_line : List ℕ → List ℕ → Option Line
+declared_line name words =
     if bytes_eq name (codes "times") then Some (times_at words)
     else if bytes_eq name (codes "osd") then Some (osd_at words)
+    else if bytes_eq name (codes "mrc") then Some line.Mrc
+    else if bytes_eq name (codes "dir") then Some line.Dir
     else if bytes_eq name (codes "client") then Some (client_at words)
     else if bytes_eq name (codes "file") then file_at words
-    else if bytes_eq name (codes "start") then Some (start_at words)
-    else if bytes_eq name (codes "stop") then Some (stop_at words)
     else None
 
--- the line of this name, of those that plan a stop, move a clock or wake, and those before
-unfoldable pub timed_line : List ℕ → List ℕ → Option Line
-timed_line name words =
-    if bytes_eq name (codes "crash") then crash_at words
+-- the line of this name, of those that start, stop or plan a stop, move a clock or wake, and those before
+unfoldable pub node_line : List ℕ → List ℕ → Option Line
+node_line name words =
+    if bytes_eq name (codes "start") then Some (start_at words)
+    else if bytes_eq name (codes "stop") then Some (stop_at words)
+    else if bytes_eq name (codes "crash") then crash_at words
     else if bytes_eq name (codes "cut") then Some (cut_at words)
     else if bytes_eq name (codes "clock") then Some (clock_at words)
     else if bytes_eq name (codes "tick") then Some (tick_at words)
     else if bytes_eq name (codes "wake") then Some (wake_at words)
-    else node_line name words
+    else declared_line name words
 
--- the line of this name, of all but a write
+-- the line of this name, of all but those with bytes or texts
 unfoldable pub named_line : List ℕ → List ℕ → Option Line
 named_line name words =
     if bytes_eq name (codes "read") then Some (read_at words)
@@ -181,10 +193,12 @@ named_line name words =
     else if bytes_eq name (codes "deliver") then Some (deliver_at words)
     else if bytes_eq name (codes "drop") then Some (drop_at words)
     else if bytes_eq name (codes "settle") then Some (settle_at words)
-    else timed_line name words
+    else node_line name words
 
 -- the line that the bytes may spell
 unfoldable pub line_at : List ℕ → Option Line
 line_at bytes =
     if bytes_eq (first_word bytes) (codes "write") then Some (write_at (other_words bytes))
+    else if bytes_eq (first_word bytes) (codes "meta") then Some (meta_at (other_words bytes))
+    else if bytes_eq (first_word bytes) (codes "registry") then Some (registry_at (other_words bytes))
     else named_line (first_word bytes) (other_words bytes)

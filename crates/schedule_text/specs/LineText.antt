@@ -7,12 +7,14 @@ use Rattle.time_line.specs.declared.line.Line.{Line}
 use Rattle.time_line.specs.declared.line.Line.TheVariants as line
 use Rattle.time_line.specs.Bounds.{FitsLine}
 use Rattle.server_text.specs.Words.{spaced, hex_pair}
-use Rattle.schedule_text.specs.CallText.{file_words, call_name, call_words}
+use Rattle.schedule_text.specs.CallText.{file_words, call_name, call_words, IsSpellableCall}
 
 -- the words of a schedule's line
 unfoldable pub line_words : Line → List (List ℕ)
 line_words (line.Times lease drift) = codes "times" ∷ decimal lease ∷ decimal drift ∷ []
 line_words (line.Osd node) = codes "osd" ∷ decimal node.0 ∷ []
+line_words line.Mrc = codes "mrc" ∷ []
+line_words line.Dir = codes "dir" ∷ []
 line_words (line.Client node clock) = codes "client" ∷ decimal node.0 ∷ decimal clock ∷ []
 line_words (line.File number location) = codes "file" ∷ file_words number location
 line_words (line.Start node clock) = codes "start" ∷ decimal node.0 ∷ decimal clock ∷ []
@@ -42,6 +44,7 @@ abbrev pub IsForm : Bool → Line → Type 0
 IsForm first (line.Times lease drift) = IsTrue first
 IsForm first (line.File number location) = IsPlace location
 IsForm first (line.Cut node count) = count < 2 ^ 128
+IsForm first (line.Call client made) = IsSpellableCall made
 IsForm first (line.Deliver number) = number < 2 ^ 128
 IsForm first (line.Drop number) = number < 2 ^ 128
 IsForm first (line.Settle count) = count < 2 ^ 128

@@ -1,7 +1,7 @@
 ghost use Rattle.std.specs.Prelude.{◌≡◌, ◌<◌, ◌^◌, ◌↔◌, IsTrue};
 ghost use Rattle.std.specs.List.{AllByRecursion};
 ghost use Rattle.xt_messages.specs.Limits.{FitsMembers, FitsLocation};
-ghost use Rattle.time_line.specs.Bounds.{FitsCall, FitsRefusal, FitsRetry, FitsAnswered, FitsOutcome, FitsPosition, IsOnContent};
+ghost use Rattle.time_line.specs.Bounds.{FitsCall, FitsRefusal, FitsRetry, FitsAnswered, FitsOutcome, FitsPosition};
 ghost use Rattle.xt_base.specs.FieldLimits.{FitsBytes};
 ghost use Rattle.schedule_text.specs.CallText.{IsSpellableCall};
 ghost use Rattle.schedule_text.specs.OutcomeText.{IsSpellableOutcome};
@@ -45,35 +45,9 @@ pub(crate) fn is_written(file: u64, object: u64, at: u32, bytes: &[u8]) -> bool
     object < 1 << 32 && (1..=BODY).contains(&bytes.len())
 }
 
-/// Whether a schedule may make the call.
-pub(crate) fn is_call(call: &Call) -> bool
-    ensures { IsTrue result ↔ (IsOnContent call.now × FitsCall call.now) }
-{
-    match call {
-        Call::Read {
-            file,
-            object,
-            at,
-            len,
-        } => is_read(*file, *object, *at, *len),
-        Call::Write {
-            file,
-            object,
-            at,
-            bytes,
-        } => is_written(*file, *object, *at, bytes.as_slice()),
-        Call::Truncate { file, size, epoch } => {
-            let _file_fits = *file;
-            let _size_fits = *size;
-            *epoch < COUNTS
-        }
-        _ => false,
-    }
-}
-
 /// Whether a client's call has a spelling, and values within their limits.
 #[tactic(auto, using(server_text::proofs::RequestsAgain::request_is_written))]
-fn is_begun(call: &Call) -> bool
+fn is_call(call: &Call) -> bool
     ensures { IsTrue result ↔ (IsSpellableCall call.now × FitsCall call.now) }
 {
     match call {
@@ -126,6 +100,7 @@ pub(crate) fn is_line(first: bool, line: &Line) -> bool
             let _fits = node.0;
             true
         }
+        Line::Mrc | Line::Dir => true,
         Line::Client { node, clock } | Line::Start { node, clock } => {
             let _fits = node.0;
             *clock < COUNTS
@@ -275,7 +250,7 @@ pub(crate) fn is_entry(first: bool, entry: &Entry) -> bool
             call,
         } => {
             let _fits = client.0;
-            *number < COUNTS && is_begun(call)
+            *number < COUNTS && is_call(call)
         }
         Entry::Held { node, file, end } => {
             let _node_fits = node.0;

@@ -1,8 +1,10 @@
 ghost use Rattle.std.specs.Prelude.{◌≡◌, IfOk};
-ghost use Rattle.schedule_text.specs.LineReading.{times_at, osd_at, client_at, file_at, start_at, stop_at, crash_at, cut_at, clock_at, tick_at, wake_at, read_at, truncate_at, again_at, aim_at, write_at, deliver_at, drop_at, settle_at, node_line, timed_line, named_line, line_at};
+ghost use Rattle.schedule_text.specs.LineReading.{times_at, osd_at, client_at, file_at, start_at, stop_at, crash_at, cut_at, clock_at, tick_at, wake_at, read_at, truncate_at, meta_at, registry_at, again_at, aim_at, write_at, deliver_at, drop_at, settle_at, declared_line, node_line, named_line, line_at};
 
 use crate::nodes::{location_at, node_at};
-use server_text::{byte_of, bytes_of, cut, u8_at, u32_at, u64_at, u128_at};
+use server_text::{
+    byte_of, bytes_of, cut, read_meta_call, read_registry_call, u8_at, u32_at, u64_at, u128_at,
+};
 use std::alloc::Global;
 use time_line::Line;
 use xt_base::OutOfMemory;
@@ -167,6 +169,26 @@ pub(crate) fn truncate(words: &[u8]) -> Line
     Line::Call { client, call }
 }
 
+/// `meta C USER GROUP VERB ARGS`
+#[tactic(auto, unfolding(crate::specs::LineReading::meta_at))]
+pub(crate) fn meta(alloc: Global, words: &[u8]) -> Result<Line, OutOfMemory>
+    ensures { IfOk result (λ line. line ≡ meta_at words.now) }
+{
+    let (client, words) = node_at(words);
+    let call = read_meta_call(alloc, words)?;
+    Ok(Line::Call { client, call })
+}
+
+/// `registry C VERB ARGS`
+#[tactic(auto, unfolding(crate::specs::LineReading::registry_at))]
+pub(crate) fn registry(alloc: Global, words: &[u8]) -> Result<Line, OutOfMemory>
+    ensures { IfOk result (λ line. line ≡ registry_at words.now) }
+{
+    let (client, words) = node_at(words);
+    let call = read_registry_call(alloc, words)?;
+    Ok(Line::Call { client, call })
+}
+
 /// `again C`
 #[tactic(auto, unfolding(crate::specs::LineReading::again_at))]
 pub(crate) fn again(words: &[u8]) -> Line
@@ -214,34 +236,38 @@ pub(crate) fn settle(words: &[u8]) -> Line
     Line::Settle { count }
 }
 
-/// A line of this name, of those that set the times, declare, start or stop.
-#[tactic(auto, unfolding(crate::specs::LineReading::node_line))]
-pub(crate) fn node_line(name: &[u8], words: &[u8]) -> Option<Line>
-    ensures { result ≡ node_line name.now words.now }
+/// A line of this name, of those that set the times or declare.
+#[tactic(auto, unfolding(crate::specs::LineReading::declared_line))]
+pub(crate) fn declared_line(name: &[u8], words: &[u8]) -> Option<Line>
+    ensures { result ≡ declared_line name.now words.now }
 {
     if name == b"times".as_slice() {
         Some(times(words))
     } else if name == b"osd".as_slice() {
         Some(osd(words))
+    } else if name == b"mrc".as_slice() {
+        Some(Line::Mrc)
+    } else if name == b"dir".as_slice() {
+        Some(Line::Dir)
     } else if name == b"client".as_slice() {
         Some(client(words))
     } else if name == b"file".as_slice() {
         file(words)
-    } else if name == b"start".as_slice() {
-        Some(start(words))
-    } else if name == b"stop".as_slice() {
-        Some(stop(words))
     } else {
         None
     }
 }
 
-/// A line of this name, of those that plan a stop, move a clock or wake, and those before.
-#[tactic(auto, unfolding(crate::specs::LineReading::timed_line))]
-pub(crate) fn timed_line(name: &[u8], words: &[u8]) -> Option<Line>
-    ensures { result ≡ timed_line name.now words.now }
+/// A line of this name, of those that start, stop or plan a stop, move a clock or wake, and those before.
+#[tactic(auto, unfolding(crate::specs::LineReading::node_line))]
+pub(crate) fn node_line(name: &[u8], words: &[u8]) -> Option<Line>
+    ensures { result ≡ node_line name.now words.now }
 {
-    if name == b"crash".as_slice() {
+    if name == b"start".as_slice() {
+        Some(start(words))
+    } else if name == b"stop".as_slice() {
+        Some(stop(words))
+    } else if name == b"crash".as_slice() {
         crash(words)
     } else if name == b"cut".as_slice() {
         Some(cut_line(words))
@@ -252,11 +278,11 @@ pub(crate) fn timed_line(name: &[u8], words: &[u8]) -> Option<Line>
     } else if name == b"wake".as_slice() {
         Some(wake(words))
     } else {
-        node_line(name, words)
+        declared_line(name, words)
     }
 }
 
-/// A line of this name, of any but a write.
+/// A line of this name, of any but those with bytes or texts.
 #[tactic(auto, unfolding(crate::specs::LineReading::named_line))]
 pub(crate) fn named_line(name: &[u8], words: &[u8]) -> Option<Line>
     ensures { result ≡ named_line name.now words.now }
@@ -276,7 +302,7 @@ pub(crate) fn named_line(name: &[u8], words: &[u8]) -> Option<Line>
     } else if name == b"settle".as_slice() {
         Some(settle(words))
     } else {
-        timed_line(name, words)
+        node_line(name, words)
     }
 }
 
@@ -288,6 +314,10 @@ pub(crate) fn loose_line(alloc: Global, bytes: &[u8]) -> Result<Option<Line>, Ou
     let (name, words) = cut(bytes);
     if name == b"write".as_slice() {
         Ok(Some(write(alloc, words)?))
+    } else if name == b"meta".as_slice() {
+        Ok(Some(meta(alloc, words)?))
+    } else if name == b"registry".as_slice() {
+        Ok(Some(registry(alloc, words)?))
     } else {
         Ok(named_line(name, words))
     }

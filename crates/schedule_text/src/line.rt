@@ -80,6 +80,13 @@ fn push_aim(out: &mut Vec<u8>, client: NodeId, file: u64, node: NodeId) -> Resul
     )
 }
 
+/// Appends a line that is one word.
+fn push_name(out: &mut Vec<u8>, name: &[u8]) -> Result<(), OutOfMemory>
+    ensures { OnOk result (out.new.items ≡ out.old.items ++ spaced (name.now ∷ [])) }
+{
+    push_named_words(out, name, &[])
+}
+
 /// Appends a line, without a line feed.
 #[tactic(auto, unfolding(crate::specs::LineText::line_text, crate::specs::LineText::line_words))]
 fn push_line(out: &mut Vec<u8>, line: &Line) -> Result<(), OutOfMemory>
@@ -88,6 +95,8 @@ fn push_line(out: &mut Vec<u8>, line: &Line) -> Result<(), OutOfMemory>
     match line {
         Line::Times { lease, drift } => push_times(out, *lease, *drift),
         Line::Osd { node } => push_named_node(out, b"osd", *node),
+        Line::Mrc => push_name(out, b"mrc"),
+        Line::Dir => push_name(out, b"dir"),
         Line::Client { node, clock } => push_clock(out, b"client", *node, *clock),
         Line::File { number, location } => push_file_line(out, *number, location),
         Line::Start { node, clock } => push_clock(out, b"start", *node, *clock),

@@ -15,7 +15,6 @@ use Rattle.xt_messages.specs.declared.meta.RowKind.TheVariants as row_kind
 use Rattle.xt_messages.specs.declared.message.Payload.TheVariants as payload
 use Rattle.xt_messages.specs.declared.message.Msg.{Msg}
 use Rattle.xt_messages.specs.declared.event.Mark.{Mark}
-use Rattle.xt_messages.specs.declared.event.Mark.TheVariants as mark
 use Rattle.xt_messages.specs.declared.registry.RegistryReq.TheVariants as wish
 use Rattle.xt_protocol.specs.Turns.{message, sends}
 use Rattle.capabilities.specs.Tags.{sealed}
@@ -23,7 +22,7 @@ use Rattle.server_rows.specs.Metadata.{MrcStep, step_of_mrc}
 use Rattle.server_rows.specs.Examples.{key, new_server, rows_from}
 use Rattle.volume_rows.specs.Examples.{names_deep}
 use Rattle.spec_examples.specs.Sealing.{changed, tags}
-use Rattle.spec_examples.specs.Served.{Row, create, digests, file, location_on, on, seen_in}
+use Rattle.spec_examples.specs.Served.{Row, create, digests, file, location_on, made_on, on, seen_in}
 
 -- opens what handles requests
 unfoldable pub requests : Unit {0}
@@ -319,11 +318,7 @@ rows = numbered 0 placed
 
 -- the files that are made, and where
 abbrev pub places : List Mark
-places =
-    mark.File 1000000 (location_on (1 ∷ 2 ∷ []))
-    ∷ mark.File 1000001 (location_on (2 ∷ []))
-    ∷ mark.File 1000002 (location_on (1 ∷ []))
-    ∷ []
+places = made_on 1000000 (1 ∷ 2 ∷ []) ∷ made_on 1000001 (2 ∷ []) ∷ made_on 1000002 (1 ∷ []) ∷ []
 
 -- what steps tell and record, and the files that they mark
 abbrev pub seen : List MrcStep → List (List Msg × Option (List (NodeId × ℕ × List NodeId))) × List Mark

@@ -171,17 +171,18 @@ files =
     ∷ (asks 10 10 5000 (ask.Unlink (codes "/v/b")), done, on [])
     ∷ []
 
--- the files that are made in these steps, and where
-abbrev pub places : List Mark
-places =
-    mark.File 1000000 (location_on (1 ∷ [])) ∷ mark.File 1000001 (location_on (5 ∷ 7 ∷ 9 ∷ []))
-    ∷ mark.File 1000002 (location_on (7 ∷ 9 ∷ 3 ∷ 5 ∷ []))
-    ∷ []
-
 -- the volume of `/v`: version 5 of the name `v` in the nil namespace, from another program
 abbrev pub volume : List ℕ
 volume =
     0x80 ∷ 0xe2 ∷ 0x43 ∷ 0x4c ∷ 0x46 ∷ 0x6c ∷ 0x59 ∷ 0xa0 ∷ 0xa3 ∷ 0x64 ∷ 0x5d ∷ 0x8d ∷ 0x01 ∷ 0x60 ∷ 0x13 ∷ 0x38 ∷ []
+
+-- the mark of a file of that volume, and where it is
+abbrev pub made_on : ℕ → List ℕ → Mark
+made_on number members = mark.File (record { volume = volume; number = number }) (location_on members)
+
+-- the files that are made in these steps, and where
+abbrev pub places : List Mark
+places = made_on 1000000 (1 ∷ []) ∷ made_on 1000001 (5 ∷ 7 ∷ 9 ∷ []) ∷ made_on 1000002 (7 ∷ 9 ∷ 3 ∷ 5 ∷ []) ∷ []
 
 -- opens what makes the digest of a name
 unfoldable pub digests : Unit {0}

@@ -25,7 +25,7 @@ pub fn numbers_are_kept()
 {}
 
 /// The OSDs of a new file are picked by its number, and the files that were ever made are known.
-#[tactic(auto, unfolding(server_rows::specs::Metadata::step_of_mrc))]
+#[tactic(auto, unfolding(server_rows::specs::Metadata::step_of_mrc, crate::specs::Served::digests))]
 pub fn files_are_made()
     ensures answers { map seen_in (steps_from new_server (comings files)) ≡ map wanted_of files }
     ensures places { flat_map (λ step. step.turned.marks) (steps_from new_server (comings files)) ≡
