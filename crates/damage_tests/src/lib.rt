@@ -1,0 +1,26 @@
+//! Tests of input that is damaged, and of devices that fail or stop: journals, parts of messages, schedules, disks, links, clocks and
+//! children. Each goes over a table, whose answers were worked out by hand from the formats.
+//!
+//! Contracts say the same of all input. A table shows that they mean what the formats say.
+#![tactic(auto)]
+
+#[cfg(test)]
+mod appends;
+#[cfg(test)]
+mod bytes;
+#[cfg(test)]
+mod datagrams;
+#[cfg(test)]
+mod devices;
+#[cfg(test)]
+mod journals;
+#[cfg(test)]
+mod parts;
+#[cfg(test)]
+mod runs;
+#[cfg(test)]
+mod schedules;
+
+/// What is told where a test stops that can't go on.
+#[cfg(test)]
+const OTHERWISE: &str = "a call answers otherwise";
