@@ -14,7 +14,7 @@ program=${1:-$(bash "$here/../tests/build.sh" xt_bench)}
 folder=$(mktemp -d "${2:-${TMPDIR:-/tmp}}/journal.XXXXXX")
 trap 'rm -rf "$folder"' EXIT
 cat >"$folder/plain.c" <<'PLAIN'
-/* plain SIZE N PATH: appends a piece of SIZE bytes, its length and a gate N times, and opens each gate behind it. */
+/* plain SIZE N PATH: appends a piece of SIZE bytes, its length and a gate N times, and opens each gate after it. */
 #include <fcntl.h>
 #include <stdlib.h>
 #include <string.h>

@@ -54,7 +54,7 @@ fn compress(state: &mut [u32; 8], block: &[u8]) {
     }
 }
 
-/// The SHA-256 of a block of 64 bytes and a message behind it.
+/// The SHA-256 of a block of 64 bytes and a message after it.
 fn hash(block: &[u8; 64], message: &[u8]) -> [u8; 32] {
     let mut state = START;
     compress(&mut state, block);

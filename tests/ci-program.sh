@@ -11,7 +11,7 @@ import sys
 
 PROGRAM = sys.argv[1]
 
-# Lines that a schedule may have behind its first.
+# Lines that a schedule may have after its first.
 READ = """\
 osd 47
 osd 0
@@ -86,7 +86,7 @@ registry 10 remove 1 0
 # Lines that it may have first.
 READ_FIRST = ["osd 47", "times 1000 100", "times 1099511627775 549755813887"]
 
-# Lines that no schedule may have behind its first.
+# Lines that no schedule may have after its first.
 MALFORMED = """\
 replay
 osd
@@ -280,7 +280,7 @@ for front, output in (
     (b"client 10 0\nosd", b"up 10 1 0\n! source 1\n"),
     (b"client 10 0\nosd 1\n", b"up 10 1 0\n! source 1\n"),
 ):
-    check(f"a source that fails behind {front!r}", from_halting(front), 7, output)
+    check(f"a source that fails after {front!r}", from_halting(front), 7, output)
 
 with open("/dev/full", "wb") as full:
     check("a sink that is full", run(["replay"], input=b"client 10 0\n", stdout=full), 8, None)
