@@ -121,6 +121,7 @@ pub fn entries_to_cut(
 }
 
 /// Lines of the trace are told, after the others, and files are made. What they were taken from is empty then.
+/// Where memory runs out no line is told; whether the files are made then isn't said.
 pub fn tell_all(
     entries: &mut Vec<Entry>,
     made: &mut Vec<PlacedFile>,
