@@ -33,7 +33,7 @@ pub fn first_of(members: &Members, op: &Op) -> NodeId
     }
 }
 
-/// The member behind this one.
+/// The member after this one.
 fn member_after(members: &[NodeId], node: NodeId) -> Option<NodeId>
     ensures { result ≡ spec.member_after members.now node }
 {
@@ -67,7 +67,7 @@ pub fn was_asked(members: &Members, op: &Op, target: NodeId, node: NodeId) -> bo
     }
 }
 
-/// Whom an operation asks next, once the target has done it: a truncation goes on to the member behind it.
+/// Whom an operation asks next, once the target has done it: a truncation goes on to the member after it.
 pub fn next_asked(members: &Members, op: &Op, target: NodeId) -> Option<NodeId>
     ensures { result ≡ spec.next_asked members.now op.now target }
 {

@@ -115,7 +115,7 @@ module _ (stripe : ℕ) (some : 0 < stripe) (ops : ℕ × ℕ → Op) (members :
 
   -- ---- a list of steps of one node
 
-  -- the world behind it
+  -- the world after it
   abbrev behind : world.World → ℕ → Seen → world.World
   behind v n b = put v n (local_of b)
 
@@ -144,7 +144,7 @@ module _ (stripe : ℕ) (some : 0 < stripe) (ops : ℕ × ℕ → Op) (members :
       by_node (λ t. Shape (if t then x else xs m) (behind v n b) m (if t then x else xs m).state) m n (λ is. subst (λ k. Shape x (behind v n b) k x.state) (sym is) one)
       (λ ne. shape_on (xs m) v (behind v n b) m (xs m).state (goes_leaves v n b g m ne) (all m))
 
-  -- ---- who holds behind it
+  -- ---- who holds after it
 
   holder_is : (v : world.World) (n : ℕ) (b : Seen) → Goes v n b → (b.holder ≡ Some n → ⊥) → b.holder ≡ without n v.holder
   holder_is v n b g gone = at b.holder v.holder gone (λ m ne. (goes_leaves v n b g m ne).holds)

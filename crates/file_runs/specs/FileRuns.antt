@@ -69,7 +69,7 @@ abbrev pub step_on : Site → FileState → Happening → FileStep
 step_on site s (message from content) = step_of_file site s from content
 step_on site s wake = and_then (expired site s) (wake_of_file site)
 
--- How a step ends: the node goes on; it stops behind the step, however few of its messages got out; or it stops in its append, and
+-- How a step ends: the node goes on; it stops after the step, however few of its messages got out; or it stops in its append, and
 -- its record is kept, or lost.
 pub data Ending : Type 0 where
   goes_on : Ending
@@ -88,7 +88,7 @@ pub data Event : Type 0 where
 abbrev pub sent_by : ℕ → List Msg → List Sent
 sent_by n outs = map (λ m. record { from = n; content = m.payload }) outs
 
--- who holds behind a step: its node while it leads
+-- who holds after a step: its node while it leads
 abbrev pub holder_after : ℕ → Option Tenure → Option ℕ → Option ℕ
 holder_after n None holder = without n holder
 holder_after n (Some t) holder = Some n

@@ -1,4 +1,4 @@
-//! Runs of one replicated file among OSDs: its nodes take the steps of `xt_protocol`, stop in or behind any of them, and start again from
+//! Runs of one replicated file among OSDs: its nodes take the steps of `xt_protocol`, stop in or after any of them, and start again from
 //! what they keep. Who holds the file is given: at no moment two nodes do.
 //!
 //! It promises that after every such run, from every start that may begin, the marks of all nodes fit one order of writes, each read

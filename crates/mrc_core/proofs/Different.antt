@@ -18,7 +18,7 @@ both : (a b : Bool) → IsTrue (not a && b) → (a ≡ false) × IsTrue b
 both true b h = absurd (cc)
 both false b h = (refl, h)
 
--- a node that isn't there before another one is put behind, and isn't that one, isn't there behind it
+-- a node that isn't there before another one is put after, and isn't that one, isn't there after it
 still_absent : (nodes : List NodeId) (last : NodeId) (v : ℕ) → has_node nodes v ≡ false → (last.0 == v) ≡ false → has_node (nodes ++ last ∷ []) v ≡ false
 still_absent [] last v none differs = rw differs refl
 still_absent (node ∷ nodes) last v none differs =

@@ -27,7 +27,7 @@ fn is_refused<D: Disk>(alloc: Global, disk: D) -> bool {
     }
 }
 
-/// Another sign, another layout, and an open gate with no record behind it.
+/// Another sign, another layout, and an open gate with no record after it.
 static REFUSED: [&[u8]; 3] = [
     b"another file's",
     b"XTFSJRNL\0\0\0\x02\0\0",

@@ -1,6 +1,6 @@
 //! An OSD that keeps its records, with no world around it: what it gives in any step is within the limits, and it goes on so.
 //!
-//! Each record of a step is in its place behind those that it runs on, the messages are within their limits, and behind the step the
+//! Each record of a step is in its place after those that it runs on, the messages are within their limits, and after the step the
 //! OSD runs on the records with that one. So it does from its start on. A node that serves an OSD, and keeps each record before it
 //! sends the messages of the step, can be refused for want of room alone. Definitions and theorems alone; nothing runs here.
 #![tactic(auto)]
@@ -20,7 +20,7 @@ ghost use Rattle.world_limits.specs.Fits.{FitsKept};
 ghost use Rattle.world_limits.specs.States.{KeptIs, outside_by};
 ghost use Rattle.osd_limits.specs.Keeping.{RunsOn, StepsOn};
 
-/// Records that are within the limits, each in its place behind those before it, as a store gives them: the rows that they say are
+/// Records that are within the limits, each in its place after those before it, as a store gives them: the rows that they say are
 /// within the limits, too.
 pub fn records_are_kept()
     ensures { (records : List Record) → FitsKept records → KeptIs records }

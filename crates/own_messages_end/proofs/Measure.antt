@@ -1,4 +1,4 @@
--- fewer messages to itself are left behind each that an OSD handles
+-- fewer messages to itself are left after each that an OSD handles
 use Rattle.std.proofs.Common.{◌≡◌, ℕ, ◌≤◌, ◌-◌, Bool, List, [], ◌∷◌, sym, ap, subst, ◌∙◌, arith}
 use Rattle.std.specs.Prelude.{zero, suc}
 use Rattle.xt_messages.specs.declared.file.Capability.{Capability}

@@ -23,7 +23,7 @@ pub record Working : Type 0 where
   pub kept : List Record
   pub own : List Msg
 
--- the record of a step is kept, and its messages to itself wait behind the others
+-- the record of a step is kept, and its messages to itself wait after the others
 abbrev pub after_step : Working → OsdStep → Working
 after_step w step =
     record { osd = step.osd; kept = one_more w.kept step.turned.rec; own = w.own ++ to_itself w.osd.started.node step.turned.outs }

@@ -23,7 +23,7 @@ pub fn own_messages_end()
         AreEnough sealed reading (1 + OWN * length then.osd.files) then) }
 {}
 
-/// Where so many are enough, one fewer are enough behind each message to itself: a measure for a loop that handles them until none is
+/// Where so many are enough, one fewer are enough after each message to itself: a measure for a loop that handles them until none is
 /// left.
 pub fn own_messages_fall()
     ensures { (sealed : Capability → Bool) (reading k : ℕ) (w : Working) (m : Msg) (rest : List Msg) →

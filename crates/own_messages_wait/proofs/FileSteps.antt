@@ -27,7 +27,7 @@ use Rattle.own_messages_wait.proofs.Messages.{Gives, Less, Comes, message_given}
 use Rattle.own_messages_wait.proofs.Asking.{ask_given}
 use Rattle.own_messages_wait.proofs.Waking.{wake_given}
 
--- the file as it stands behind a step
+-- the file as it stands after a step
 pub stands_after : (n from : NodeId) (s : FileState) (step : FileStep) → Gives n from s step → FileIs (IsApart n) step.state → FileStands n step.state
 stands_after n from s step q ids = record { head = q.head; tenure = q.tenure; ids = ids; seats = q.seats; few = q.few }
 
@@ -47,7 +47,7 @@ module _ (site : Site) (from : NodeId) (s : FileState) (stands : FileStands site
   later_apart : are_distinct (members_of (expired site s).state.kept.location) ≡ true
   later_apart = ap (λ (k : FileRow). are_distinct (members_of k.location)) due.settles.kept ∙ apart
 
-  -- what comes behind what is overdue
+  -- what comes after what is overdue
   behind_due : (content : Payload) (rows : FileState → FileStep) → Gives site.node from (expired site s).state (rows (expired site s).state) → Gives site.node from s (and_then (expired site s) rows)
   behind_due content rows q =
       record {

@@ -1,4 +1,4 @@
--- what comes behind a row of the primary: asks that are served, wait, or come back
+-- what comes after a row of the primary: asks that are served, wait, or come back
 use Rattle.std.proofs.Common.{◌≡◌, ℕ, ◌≤◌, ◌+◌, ◌*◌, Bool, true, false, List, [], ◌∷◌, ◌++◌, length, refl, sym, ap, ap₂, subst, ◌∙◌, arith, Option, Some, None, is_some, le_of_eq}
 use Rattle.std.specs.Prelude.{◌&&◌, not, cond}
 use Rattle.std.proofs.lemmas.Bool.{and_parts}

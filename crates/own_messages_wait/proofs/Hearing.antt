@@ -1,4 +1,4 @@
--- what comes of each message to a primary: less is left behind one of its own node
+-- what comes of each message to a primary: less is left after one of its own node
 use Rattle.std.proofs.Common.{◌≡◌, ℕ, ◌≤◌, ◌+◌, ◌*◌, ◌⊎◌, inl, inr, Bool, true, false, List, [], ◌∷◌, ◌++◌, refl, sym, ap, subst, ◌∙◌, arith, Option, Some, None, is_some, le_refl}
 use Rattle.std.specs.Prelude.{◌&&◌, ◌||◌, not, cond, ◌==◌, max}
 use Rattle.std.proofs.lemmas.Bool.{and_parts, eqb-true}

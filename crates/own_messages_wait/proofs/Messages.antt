@@ -70,7 +70,7 @@ pub record Gives (n : NodeId) (from : NodeId) (s : FileState) (step : FileStep) 
   -- without a lease and a round none goes there, unless one came from there
   pub idle : (from.0 == n.0) ≡ false → IsFree step.state.lease → (told ≡ None) × (sent ≡ None)
 
--- less is left behind a message of the lease: alone, and beside one of the primary, which stays as it is
+-- less is left after a message of the lease: alone, and beside one of the primary, which stays as it is
 pub record LeaseLess (n : NodeId) (s : FileState) (content : Payload) (step : FileStep) (told sent : Option Payload) : Type 0 where
   pub alone : chain_weight n step.state sent + lease_of told + 1 ≤ chain_weight n s None + lease_rank content
   pub led_alone : IfLed sent step.state
@@ -80,7 +80,7 @@ pub record LeaseLess (n : NodeId) (s : FileState) (content : Payload) (step : Fi
   pub tenure : IsLed s → (step.state.primary.tenure ≡ s.primary.tenure) ⊎ (step.state.primary.tenure ≡ None)
   pub beside : (c : Payload) → IsLed s → chain_weight n step.state (Some c) + lease_of told + 1 ≤ chain_weight n s (Some c) + lease_rank content
 
--- less is left behind a message of the primary
+-- less is left after a message of the primary
 pub record PrimaryLess (n : NodeId) (s : FileState) (content : Payload) (step : FileStep) (told sent : Option Payload) : Type 0 where
   pub told_none : told ≡ None
   pub less : chain_weight n step.state sent + 1 ≤ chain_weight n s (Some content)

@@ -1,4 +1,4 @@
--- an event at an OSD: its files stand behind it, and what goes to the OSD itself stands there
+-- an event at an OSD: its files stand after it, and what goes to the OSD itself stands there
 use Rattle.std.proofs.Common.{◌≡◌, ℕ, ◌+◌, ◌⊎◌, inl, inr, Bool, true, false, List, [], ◌∷◌, ◌++◌, map, refl, sym, ap, ap₂, subst, ◌∙◌, Option, Some, None}
 use Rattle.std.specs.Prelude.{cond, ◌==◌}
 use Rattle.xt_base.specs.declared.ids.FileId.{FileId}

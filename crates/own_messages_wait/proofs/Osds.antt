@@ -188,7 +188,7 @@ module _ (site : Site) (awake : Awake)
   come f from (payload.Ask number capability asked) heard = other_asks from (payload.Ask number capability asked) f.kept heard refl
   come f from _ heard = tt
 
-  -- the file behind it
+  -- the file after it
   pub step_stands : (f : FileState) (from : NodeId) (content : Payload) → FileStands site.node f → FileHolds f → AskHolds content → Heard from f.kept content → FileStands site.node (step_of_file site f from content).state
   step_stands f from content its fit ask heard =
       stands_after site.node from f (step_of_file site f from content) (step_any f from content its fit ask heard)

@@ -47,7 +47,7 @@ Body = ℕ → Stamp → List ℕ
 abbrev pub ground : Place → FileRow → Body → Ground
 ground place row body = record { place = place; own = row.head; held = row.held; body = body }
 
--- what is kept behind a row
+-- what is kept after a row
 abbrev pub row_then : FileRow → Led → FileRow
 row_then row led = kept_after row led.turned.rec
 
@@ -354,7 +354,7 @@ module _ (place : Place) (row : FileRow) (its : place.file ≡ row.file) (body :
       (λ other. unkept place.node row before Own limit (ground place row body) learnt t best.1 best.0 (difference (known_of_own row.held) best.1.versions)
       (fetching place row its body learnt t best.1 best.0 (difference (known_of_own row.held) best.1.versions) None before Own limit refl apart head promised unfed other (λ mine. (refl, room mine))))
 
-  -- a status is counted: `t` is the tenure behind it
+  -- a status is counted: `t` is the tenure after it
   pub counting : (learnt : ℕ) (t : Tenure) (before : Tenure) (Own : Type 0) (limit : ℕ) → t.progress ≡ progress.Gathering → before.progress ≡ progress.Gathering
       → are_distinct (nodes_of t.peers) ≡ true → HeadStands row.head → TenureStands place.node row.head t → 1 ≤ limit
       → (Own → Reports place row t limit)

@@ -283,7 +283,7 @@ IsOutside n _ = Unit {0}
 pub loosen : (awake : Awake) (n : NodeId) (files : List FileState) (own : List Msg) (k j : ℕ) → k ≤ j → Chain awake n files own k → Chain awake n files own j
 loosen awake n files own k j less c = record { sent = c.sent; is = c.is; stands = c.stands; led = c.led; known = c.known; low = let low = c.low in omega (arith, low, less) }
 
--- what holds of the files behind an event
+-- what holds of the files after an event
 pub record Behind (n : NodeId) (files : List FileState) : Type 0 where
   pub all_stand : (f : FileState) → Has f files → FileStands n f × FileSmall f
   pub all_rise : Rises (files_of files)

@@ -232,7 +232,7 @@ module _ (w : World) (node : Node) (r : Running) (s : OsdState) (found : node_in
   abbrev Behind : Event → List Msg → World
   Behind happens outs = after_turn w node (record r { core = osd (step_of_osd (outside_of node.kept) s r.clock happens).osd }) (record (step_of_osd (outside_of node.kept) s r.clock happens).turned { outs = outs })
 
-  -- of what would wait behind the whole step, what is left waits
+  -- of what would wait after the whole step, what is left waits
   cut_short : (happens : Event) (front own outs rest : List Msg) (k : ℕ) → (step_of_osd (outside_of node.kept) s r.clock happens).turned.outs ≡ outs ++ rest → (own ≡ []) ⊎ (own ≡ front)
       → (let step = step_of_osd (outside_of node.kept) s r.clock happens in InChain (after_turn w node (record r { core = osd step.osd }) step.turned) (front ++ to_itself node.id step.turned.outs) k)
       → IsWaiting (Behind happens outs) (own ++ to_itself node.id outs)

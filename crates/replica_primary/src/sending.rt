@@ -37,7 +37,7 @@ pub fn last_sent(
     })
 }
 
-/// Puts the message to a peer behind the others, where there is one.
+/// Puts the message to a peer after the others, where there is one.
 pub fn send_any(
     outs: &mut Msgs,
     from: NodeId,

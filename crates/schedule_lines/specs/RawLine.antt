@@ -14,7 +14,7 @@ line_feed = 10
 abbrev pub IsInLine : List ℕ → Type 0
 IsInLine bytes = AllByRecursion (λ byte. byte ≢ line_feed) bytes
 
--- What was taken of a line at once, behind its first bytes, of at most so many bytes: those before the line feed, and it, where it
+-- What was taken of a line at once, after its first bytes, of at most so many bytes: those before the line feed, and it, where it
 -- is whole; at least one byte else
 abbrev pub IsPiece : ℕ → Option (List ℕ) → Option (List ℕ) → List ℕ → List ℕ → Bool → Type 0
 IsPiece room old new line longer true =
@@ -32,7 +32,7 @@ IsRawLine old new bytes raw.Whole = Takes old new (bytes ++ line_feed ∷ []) ×
 IsRawLine old new bytes raw.Unended = Takes old new bytes × IsAtEnd new × IsInLine bytes × (bytes ≢ []) × (length bytes ≤ LINE_BYTES)
 -- one byte more than a line may have
 IsRawLine old new bytes raw.TooLong = Takes old new bytes × IsInLine bytes × (length bytes ≡ LINE_BYTES + 1)
--- the source failed behind these
+-- the source failed after these
 IsRawLine old new bytes raw.Failed = Takes old new bytes × IsInLine bytes × (length bytes ≤ LINE_BYTES)
 -- there was no memory for one byte more
 IsRawLine old new bytes raw.OutOfMemory = (taken : List ℕ) × Takes old new taken

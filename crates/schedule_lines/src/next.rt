@@ -29,7 +29,7 @@ fn line_of(alloc: Global, text: &[u8], before: u64) -> NextLine
     }
 }
 
-/// Reads the next line, the one behind `before` others. `raw` is room for its bytes.
+/// Reads the next line, the one after `before` others. `raw` is room for its bytes.
 pub fn next_line<S: Source>(alloc: Global, src: &mut S, raw: &mut Vec<u8>, before: u64) -> NextLine
     requires { before < LINES }
     ensures reading { IsReading before (S.left src.old) (S.left src.new) result }

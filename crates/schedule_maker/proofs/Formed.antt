@@ -15,7 +15,7 @@ use Rattle.schedule_maker.specs.Draws.{next_state, drawn_in, choice_from, after_
 use Rattle.schedule_maker.specs.Generated.{node, on_three, opening, clock_before, restart_before, pause_before, call_of, call_in, turn_from, turns_from, generated}
 use Rattle.schedule_maker.specs.Scheduled.{AreFormed, AreSchedule}
 
--- lines of a schedule behind its first
+-- lines of a schedule after its first
 abbrev AreLater : List Line → Type 0
 AreLater lines = AllByRecursion (IsLine false) lines
 

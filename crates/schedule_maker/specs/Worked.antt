@@ -46,7 +46,7 @@ three_turns =
 abbrev pub HasThreeTurns : Type 0
 HasThreeTurns = texts_of (generated 7 3) ≡ opening_texts ++ three_turns
 
--- the 16th turn has a pause before it, behind the greatest state of the draws
+-- the 16th turn has a pause before it, after the greatest state of the draws
 abbrev pub turn_16 : List (List ℕ)
 turn_16 =
     codes "tick 400" ∷

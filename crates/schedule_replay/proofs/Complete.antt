@@ -42,7 +42,7 @@ no_feed xs [] second p e = let all : IsInLine (line_feed ∷ second) = subst IsI
 no_feed [] (y ∷ ys) second p e = cc
 no_feed (x ∷ xs) (y ∷ ys) second p e = no_feed xs ys second p.1 (let tails : xs ≡ ys ++ line_feed ∷ second = cc in tails)
 
--- a line feed behind a text
+-- a line feed after a text
 feed_behind : (text rest : List ℕ) → ended text ++ rest ≡ text ++ line_feed ∷ rest
 feed_behind text rest = append_assoc text (line_feed ∷ []) rest
 
@@ -202,7 +202,7 @@ none_left : (rest : List Line) → schedule_text rest ≡ [] → rest ≡ []
 none_left [] e = refl
 none_left (l ∷ ls) e = absurd (omega (arith, ap length e, ap length (first_line l ls), length-append (line_text l) (line_feed ∷ schedule_text ls)))
 
--- the replay ended behind the lines that it did, of a good schedule
+-- the replay ended after the lines that it did, of a good schedule
 ended_whole : (room : Room) (lines done rest : List Line) (taken behind : List ℕ) (new : List Entry) (put : List ℕ) (sink_before sink_after : Option (List ℕ)) (sb sa kb ka : ℕ) (s : Status)
     → lines ≡ done ++ rest
     → AreOfSchedule (length (run_of room done).lines) rest → AreDoneFrom room (run_of room done) rest → length (run_of room done).lines + length rest ≤ LINES → schedule_text rest ≡ taken ++ behind

@@ -23,7 +23,7 @@ use Rattle.schedule_replay.specs.Steps.{Grown, status_for}
 use Rattle.schedule_lines.proofs.Streamed.{Puts-append}
 use Rattle.schedule_replay.proofs.Growth.{part_grows, done_grows}
 
--- a front behind the same bytes
+-- a front after the same bytes
 front_behind : (before front bytes : List ℕ) → IsFrontOf front bytes → IsFrontOf (before ++ front) (before ++ bytes)
 front_behind before front bytes (rest, same, some) =
     (rest, ap (λ (b : List ℕ). before ++ b) same ∙ sym (append_assoc before front rest), some)
@@ -71,7 +71,7 @@ text_missing put new status.Done told part = absurd told
 text_missing put new status.OutOfMemory told part = inl part
 text_missing put new _ told part = part
 
--- the last line was put behind the entries, or as much of it as could be
+-- the last line was put after the entries, or as much of it as could be
 pub finished_ends : (room : Room) (w : World) (taken : List ℕ) (left : Option (List ℕ)) (more : List Entry) (s given : Status) (before mid after : Option (List ℕ))
     → Puts before mid (trace_text more)
     → IsFinished mid after s given
@@ -126,13 +126,13 @@ done_adds room old new l more few formed is same =
 ends_early : (room : Room) (old new : World) (l : Line) (cause : Cause) (more : List Entry) → CameTo room old l cause new → new.entries ≡ old.entries ++ more → EndsEarly room old l cause more
 ends_early room old new l cause more came same = (came.part, came.ended, sym came.entries ∙ same)
 
--- and one behind which memory ran out, those or nothing
+-- and one after which memory ran out, those or nothing
 left_adds : (room : Room) (old new : World) (l : Line) (more : List Entry) → IsLeft room old l new → new.entries ≡ old.entries ++ more → AddsPart room old l more
 left_adds room old new l more (inl kept) same = inl (nothing_added old.entries more (sym kept.0 ∙ same))
 left_adds room old new l more (inr (lines, inl kept)) same = inl (nothing_added old.entries more (sym kept ∙ same))
 left_adds room old new l more (inr (lines, inr (part, is, kept))) same = inr (part, is, sym kept ∙ same)
 
--- a line that isn't done ends the replay behind what its finished steps add
+-- a line that isn't done ends the replay after what its finished steps add
 pub refused_ends : (room : Room) (old new : Standing) (l : Line) (e : WorldErr) (more : List Entry) (left : Option (List ℕ))
     → length old.world.lines < LINES
     → IsLine (length old.world.lines == 0) l

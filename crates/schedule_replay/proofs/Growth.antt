@@ -1,4 +1,4 @@
--- The steps of a line add entries behind those that are there, and leave the lines so far as they are.
+-- The steps of a line add entries after those that are there, and leave the lines so far as they are.
 use Rattle.std.proofs.Common.{◌≡◌, ◌∙◌, ℕ, zero, suc, Bool, true, false, if◌then◌else◌, ◌-◌, arith, nat_lt, take, length, slice_get, Option, Some, None, Result, Ok, Err, List, [], ◌∷◌, ◌++◌, refl, sym, ap, subst, append_assoc, append-nil}
 use Rattle.xt_base.specs.declared.ids.NodeId.{NodeId}
 use Rattle.xt_messages.specs.declared.event.Call.{Call}
@@ -26,7 +26,7 @@ use Rattle.world_spec.specs.Lines.{Next, finished, opens, goes_on, ends, begins,
 use Rattle.world_spec.specs.Runs.{IsPartOf}
 use Rattle.world_step.proofs.Forgetting.{only_nodes}
 
--- the later world has the lines of the earlier one, and its entries with more behind them
+-- the later world has the lines of the earlier one, and its entries with more after them
 pub record Grows (old new : World) : Type 0 where
   pub same : new.lines ≡ old.lines
   pub more : List Entry
@@ -270,12 +270,12 @@ begins_at : (w : World) (l : Line) → so_far (begins w l) ≡ w
 begins_at w (line.Settle count) = refl
 begins_at w _ = refl
 
--- the world behind some finished steps of a line
+-- the world after some finished steps of a line
 pub part_grows : (room : Room) (w : World) (l : Line) (part : World) → IsPartOf room w l part → Grows w part
 part_grows room w l part (k, some, is) =
     subst (λ (v : World). Grows v part) (begins_at w l) (subst (Grows (so_far (begins w l))) is (steps_grow k room (begins w l)))
 
--- the world that a line leaves is behind some finished steps
+-- the world that a line leaves is after some finished steps
 pub done_part : (room : Room) (w : World) (l : Line) → IsPartOf room w l (so_far (done room w l))
 unfolding done
 done_part room w l = (enough w l, omega arith, refl)

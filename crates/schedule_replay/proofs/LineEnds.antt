@@ -18,7 +18,7 @@ use Rattle.schedule_replay.specs.Steps.{IsNext, IsEnd, Grown, status_for}
 use Rattle.schedule_lines.proofs.Streamed.{Puts-nothing}
 use Rattle.schedule_replay.proofs.Endings.{Comes, stop_ends, stop_told, finished_ends, put_ends, done_adds, refused_ends, refused_told}
 
--- the entries behind those that were printed
+-- the entries after those that were printed
 pub shown_is : (old new more : List Entry) → new ≡ old ++ more → take (length new - length old) (drop (length old) new) ≡ more
 shown_is old new more grown =
     let rest : drop (length old) new ≡ more = ap (λ (es : List Entry). drop (length old) es) grown ∙ drop-append_seam old more in
@@ -55,7 +55,7 @@ come_to room old new l (Ok u) more left few formed applied same = inl (done_adds
 come_to room old new l (Err e) more left few formed applied same =
     inr (status_for (length old.world.lines + 1) e, refused_told (length old.world.lines + 1) e, refused_ends room old new l e more left few formed applied same)
 
--- the line, as one behind those of the world
+-- the line, as one after those of the world
 formed_behind : (w : Standing) (lines : List Line) (l : Line) → lines ≡ w.world.lines → IsLine (length lines == 0) l → IsLine (length w.world.lines == 0) l
 formed_behind w lines l same formed = subst (λ (ls : List Line). IsLine (length ls == 0) l) same formed
 

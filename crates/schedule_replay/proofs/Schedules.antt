@@ -31,7 +31,7 @@ pub one_more : (lines : List Line) (l : Line) → AreOfSchedule 0 lines → IsLi
 one_more lines l all new =
     of_schedule-more 0 lines l all (subst (λ (n : ℕ). IsLine (n == 0) l) (let e : length lines ≡ 0 + length lines = omega arith in e) new)
 
--- behind the first line none sets the times
+-- after the first line none sets the times
 sets_none : (first : Bool) (l : Line) → first ≡ false → IsForm first l → sets_times l ≡ false
 sets_none true l later form = absurd cc
 sets_none false (line.Times lease drift) later form = absurd (let never : false ≡ true = form in cc)
@@ -56,7 +56,7 @@ run_safe room lines formed = runs_safe room lines (lines_fit lines formed)
 pub kept_safe : (room : Room) (w : World) → IsScheduleRun room w → IsSafe w.entries
 kept_safe room w run = subst (λ (v : World). IsSafe v.entries) (sym run.same) (run_safe room w.lines run.formed)
 
--- and so it is behind each finished step of a line more
+-- and so it is after each finished step of a line more
 pub part_safe : (room : Room) (w : World) (l : Line) (part : World) → IsScheduleRun room w → IsLine (length w.lines == 0) l → refusal w l ≡ None → IsPartOf room w l part → IsSafe part.entries
 part_safe room w l part run formed legal is =
     parts_safe room w.lines l part.entries (lines_fit (w.lines ++ l ∷ []) (one_more w.lines l run.formed formed))

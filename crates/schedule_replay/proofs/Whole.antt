@@ -119,7 +119,7 @@ ends_so room source_before source_now source_after sink_before sink_now sink_aft
 pub nothing_taken : (before after : Option (List ℕ)) → after ≡ before → Takes before after []
 nothing_taken before after same = subst (λ (left : Option (List ℕ)). Takes before left []) (sym same) (Takes-nothing before)
 
--- behind the last line that a schedule may have
+-- after the last line that a schedule may have
 pub past_end : (room : Room) (source_before source_after sink : Option (List ℕ)) (w : Standing) → Takes source_before source_after [] → IsAtEnd source_after → IsEnd room source_before source_after sink sink w status.Done
 unfolding trace_text last_line
 past_end room source_before source_after sink w taken end =

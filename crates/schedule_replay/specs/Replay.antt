@@ -20,7 +20,7 @@ use Rattle.world_step.specs.Steps.{limit_of}
 use Rattle.schedule_lines.specs.Fronts.{IsFrontOf}
 use Rattle.schedule_lines.specs.NextLine.{ended, StopsReading}
 
--- each line is one of a schedule, behind so many others; only the first may set the times
+-- each line is one of a schedule, after so many others; only the first may set the times
 abbrev pub AreOfSchedule : ℕ → List Line → Type 0
 AreOfSchedule before [] = Unit {0}
 AreOfSchedule before (line ∷ lines) = IsLine (before == 0) line × AreOfSchedule (before + 1) lines
@@ -39,7 +39,7 @@ pub record AreRun (room : Room) (lines : List Line) : Type 0 where
   pub formed : AreOfSchedule 0 lines
   pub done : AreDoneFrom room start_world lines
 
--- the line is taken whole, behind those that made the world, of which there are fewer than a schedule may have
+-- the line is taken whole, after those that made the world, of which there are fewer than a schedule may have
 abbrev pub IsTaken : World → List ℕ → Line → Type 0
 IsTaken w taken line =
     (length w.lines < LINES) × IsLine (length w.lines == 0) line × (taken ≡ ended (line_text line))
@@ -66,14 +66,14 @@ AddsAll room w taken new =
     (line : Line) × IsBegun w taken line
     × ((whole : World) × (done room w line ≡ finished whole) × (whole.entries ≡ w.entries ++ new))
 
--- Why a replay ends with a status behind the lines that made this world, by the bytes that it takes from there on and what
+-- Why a replay ends with a status after the lines that made this world, by the bytes that it takes from there on and what
 -- is left of the source, and by the entries that come before the status.
 abbrev pub EndsWith : Room → World → List ℕ → Option (List ℕ) → List Entry → Status → Type 0
 -- the source is at its end
 EndsWith room w taken left new status.Done = (taken ≡ []) × IsAtEnd left × (new ≡ [])
 -- the next line isn't one of a schedule, or the source ended within it
 EndsWith room w taken left new (status.Malformed number) = IsUnread w taken left (status.Malformed number) × (new ≡ [])
--- the source failed within the next line, or behind as many lines as a schedule may have
+-- the source failed within the next line, or after as many lines as a schedule may have
 EndsWith room w taken left new (status.SourceFault count) =
     (IsUnread w taken left (status.SourceFault count) ⊎ ((length w.lines ≡ LINES) × (taken ≡ []))) × (new ≡ [])
 -- the next line breaks this rule, the first that it breaks
@@ -101,7 +101,7 @@ IsCutShort put new status.OutOfMemory =
     ((put ≡ []) ⊎ (put ≡ trace_text new)) ⊎ (put ≡ trace_text new ++ last_line status.OutOfMemory)
 IsCutShort put new said = (put ≡ []) ⊎ (put ≡ trace_text new)
 
--- Why a replay ends behind the lines that made this world, by the entries that the line behind them adds, and by the bytes that
+-- Why a replay ends after the lines that made this world, by the entries that the line after them adds, and by the bytes that
 -- are put from there on.
 abbrev pub EndsAt : Room → World → List ℕ → Option (List ℕ) → List Entry → List ℕ → Status → Type 0
 -- the sink failed within the entries of a line that is done, or within what the end was to put
@@ -115,8 +115,8 @@ EndsAt room w taken left new put status.OutOfMemory =
 -- all was put
 EndsAt room w taken left new put s = EndsWith room w taken left new s × (put ≡ trace_text new ++ last_line s)
 
--- A replay over journals with this room: the lines that it did, the entries of the steps that a line behind them finished, what
--- it took and put behind the text of these lines, and why it ended. Its trace is safe: each replicated file of it, in every clause.
+-- A replay over journals with this room: the lines that it did, the entries of the steps that a line after them finished, what
+-- it took and put after the text of these lines, and why it ended. Its trace is safe: each replicated file of it, in every clause.
 pub record IsReplay (room : Room) (source_before source_after sink_before sink_after : Option (List ℕ)) (s : Status) : Type 0 where
   pub lines : List Line
   pub few : length lines ≤ LINES

@@ -54,7 +54,7 @@ abbrev pub CausesStep : ℕ → ℕ → ℕ → ℕ → Option Status → Type 0
 CausesStep source_before source_later sink_before sink_later None = (source_later ≡ source_before) × (sink_later ≡ sink_before)
 CausesStep source_before source_later sink_before sink_later (Some s) = HasCause source_before source_later sink_before sink_later s
 
--- more entries stand behind the old ones
+-- more entries stand after the old ones
 abbrev pub Grown : List Entry → List Entry → Type 0
 Grown old new = (more : List Entry) × (new ≡ old ++ more)
 

@@ -18,7 +18,7 @@ use world_hull::Hull;
 use xt_base::Failed;
 use xt_messages::{Limited, Status};
 
-/// Ends a replay behind as many lines as a schedule may have.
+/// Ends a replay after as many lines as a schedule may have.
 fn past_last<S: Source, K: Sink>(alloc: Global, src: &mut S, out: &mut K) -> Status
     ensures end { (room : Room) → (w : Standing) → length w.world.lines ≡ LINES →
         IsEnd room (S.left src.old) (S.left src.new) (K.held out.old) (K.held out.new) w result }

@@ -25,7 +25,7 @@ pub fn status_of(number: u64, error: WorldErr) -> Status
     }
 }
 
-/// Applies a line to a world that is the run of its lines. Its entries stand behind those that were there, and the trace is safe.
+/// Applies a line to a world that is the run of its lines. Its entries stand after those that were there, and the trace is safe.
 fn apply<C: NodeCore, H: Hull>(world: &mut World<C, H>, line: Line) -> Result<(), WorldErr>
     requires going { world.old.ended ≡ false }
     requires run { IsScheduleRun H.room world.old.world }

@@ -52,7 +52,7 @@ decimal-Lacks mark n wide none = lacks (decimal n) (decimal_is_IsNumeral_wide n 
 
 -- What was written is read.
 
--- what a member gave, behind the sign of equality
+-- what a member gave, after the sign of equality
 abbrev retry_rest : Retry → List ℕ
 retry_rest (retry.NoLease end) = codes "nolease:" ++ decimal end
 retry_rest (retry.NoMajority have need) = codes "nomajority:" ++ decimal have ++ 47 ∷ decimal need

@@ -47,7 +47,7 @@ answered_in word = record { node = node_of (number_of 32 (front 61 word)); outco
 unfoldable pub answers_in : List ℕ → List Answered
 answers_in words = each_word answered_in (length words) words
 
--- Readers, of what stands behind the name of an entry.
+-- Readers, of what stands after the name of an entry.
 
 unfoldable pub times_in : List ℕ → Option Entry
 times_in words =

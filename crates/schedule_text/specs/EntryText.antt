@@ -49,7 +49,7 @@ entry_words (entry.Done client number outcome) =
 unfoldable pub entry_text : Entry → List ℕ
 entry_text e = spaced (entry_words e)
 
--- a trace: its entries, a line feed behind each
+-- a trace: its entries, a line feed after each
 unfoldable pub trace_text : List Entry → List ℕ
 trace_text entries = flat_map (λ e. entry_text e ++ 10 ∷ []) entries
 

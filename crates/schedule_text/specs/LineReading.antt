@@ -11,7 +11,7 @@ use Rattle.time_line.specs.declared.line.Line.TheVariants as line
 use Rattle.server_text.specs.Reading.{number_at, first_word, other_words, each_word, byte_of, bytes_of, node_in}
 use Rattle.server_text.specs.RequestReading.{kind_in, meta_call_in, registry_call_in}
 
--- the node that the first word numbers, and the words behind it
+-- the node that the first word numbers, and the words after it
 unfoldable pub node_at : List ℕ → NodeId × List ℕ
 node_at words = (node_in (first_word words), other_words words)
 

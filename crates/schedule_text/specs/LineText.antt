@@ -54,6 +54,6 @@ IsForm first _ = Unit {0}
 abbrev pub IsLine : Bool → Line → Type 0
 IsLine first line = IsForm first line × FitsLine line
 
--- a schedule: its lines, a line feed behind each
+-- a schedule: its lines, a line feed after each
 unfoldable pub schedule_text : List Line → List ℕ
 schedule_text lines = flat_map (λ l. line_text l ++ 10 ∷ []) lines

@@ -20,7 +20,7 @@ ask_refusal_words (ask.OldEpoch epoch) = codes "oldepoch" ∷ decimal epoch ∷ 
 ask_refusal_words (ask.TooFar object) = codes "toofar" ∷ decimal object ∷ []
 ask_refusal_words ask.ClientsFull = codes "clientsfull" ∷ []
 
--- what one member gave, behind its number
+-- what one member gave, after its number
 unfoldable pub retry_text : Retry → List ℕ
 retry_text (retry.NoLease end) = codes "=nolease:" ++ decimal end
 retry_text (retry.NoMajority have need) = codes "=nomajority:" ++ decimal have ++ 47 ∷ decimal need

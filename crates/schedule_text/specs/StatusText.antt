@@ -44,7 +44,7 @@ refusal_words (refusal.Meta why) = meta_refusal_words why
 refusal_words (refusal.Changed version) = codes "changed" ∷ decimal version ∷ []
 refusal_words refusal.Absent = codes "absent" ∷ []
 
--- the words of a status behind the exclamation mark; none for a job that is complete
+-- the words of a status after the exclamation mark; none for a job that is complete
 unfoldable pub status_words : Status → List (List ℕ)
 status_words status.Done = []
 status_words status.Usage = codes "usage" ∷ []

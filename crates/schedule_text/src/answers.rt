@@ -15,7 +15,7 @@ fn first_mark(word: &[u8], mark: u8) -> Option<usize>
     word.iter().position(|byte| *byte == mark)
 }
 
-/// The bytes before the first mark, and those behind it.
+/// The bytes before the first mark, and those after it.
 fn cut_at(word: &[u8], mark: u8) -> (&[u8], &[u8])
     ensures front { result.0.now ≡ front mark word.now }
     ensures back { result.1.now ≡ back mark word.now }

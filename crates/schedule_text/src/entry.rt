@@ -229,7 +229,7 @@ fn push_entry_line(out: &mut Vec<u8>, entry: &Entry) -> Result<(), OutOfMemory>
 /// The bytes that most entries need, at most.
 const ENTRY_BYTES: usize = 64;
 
-/// The entries, a line feed behind each.
+/// The entries, a line feed after each.
 #[tactic(auto, using(crate::proofs::Trace::no_entries))]
 pub fn print_entries(alloc: Global, entries: &[Entry]) -> Result<Octets, OutOfMemory>
     ensures { IfOk result (λ text. text ≡ trace_text entries.now) }

@@ -8,11 +8,11 @@ use Rattle.xt_base.specs.declared.ids.NodeId.{NodeId}
 unfoldable pub first_word : List ℕ → List ℕ
 first_word bytes = before_first (λ byte. byte == 32) bytes
 
--- the bytes behind the first space
+-- the bytes after the first space
 unfoldable pub other_words : List ℕ → List ℕ
 other_words bytes = after_first (λ byte. byte == 32) bytes
 
--- a number with a digit behind it, or the greatest one below 2 to the power of `bits`
+-- a number with a digit after it, or the greatest one below 2 to the power of `bits`
 abbrev pub with_digit : ℕ → ℕ → ℕ → ℕ
 with_digit bits number byte = min (min (number * 10) (2 ^ bits - 1) + (byte - 48)) (2 ^ bits - 1)
 
@@ -20,7 +20,7 @@ with_digit bits number byte = min (min (number * 10) (2 ^ bits - 1) + (byte - 48
 unfoldable pub number_of : ℕ → List ℕ → ℕ
 number_of bits word = fold (with_digit bits) 0 word
 
--- the number of the first word, and the words behind it
+-- the number of the first word, and the words after it
 unfoldable pub number_at : ℕ → List ℕ → ℕ × List ℕ
 number_at bits words = (number_of bits (first_word words), other_words words)
 

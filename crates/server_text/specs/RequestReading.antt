@@ -20,7 +20,7 @@ want_in word =
     else if bytes_eq word (codes "write") then 2
     else 3
 
--- the name behind which a list goes on; none for a dash
+-- the name after which a list goes on; none for a dash
 abbrev pub after_in : List ℕ → List ℕ
 after_in word = if bytes_eq word (codes "-") then [] else text_in word
 

@@ -19,7 +19,7 @@ pub record IsAsciiWord (text : List ℕ) : Type 0 where
   pub some : 0 < length text
   pub each : IsTrue (list_all is_of_word text)
 
--- the name behind which a list goes on: none, or a word that isn't the dash that stands for none
+-- the name after which a list goes on: none, or a word that isn't the dash that stands for none
 abbrev pub IsAfter : List ℕ → Type 0
 IsAfter [] = Unit {0}
 IsAfter (byte ∷ bytes) = IsAsciiWord (byte ∷ bytes) × (byte ∷ bytes ≢ codes "-")

@@ -171,7 +171,7 @@ fn registry_row(alloc: Global, words: &[u8]) -> Result<RegistryRow, OutOfMemory>
     })
 }
 
-/// `V` behind `ok` or `changed`
+/// `V` after `ok` or `changed`
 #[tactic(auto, unfolding(crate::specs::AnswerReading::versioned_in))]
 fn versioned(name: &[u8], words: &[u8]) -> RegistryOutcome
     ensures { result ≡ versioned_in name.now words.now }

@@ -52,7 +52,7 @@ fn is_name(name: &Name) -> bool
     bytes.len() <= NAME && is_word(bytes)
 }
 
-/// Whether a list may go on behind this name.
+/// Whether a list may go on after this name.
 fn is_after(after: &Name) -> bool
     ensures { IsTrue result ↔ (IsAfter after.now × FitsPath after.now) }
 {

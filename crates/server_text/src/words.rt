@@ -14,7 +14,7 @@ fn first_space(words: &[u8]) -> Option<usize>
     words.iter().position(|byte| *byte == b' ')
 }
 
-/// The bytes before the first space, and those behind it.
+/// The bytes before the first space, and those after it.
 #[tactic(auto, unfolding(crate::specs::Reading::first_word, crate::specs::Reading::other_words))]
 pub fn cut(words: &[u8]) -> (&[u8], &[u8])
     ensures word { result.0.now ≡ first_word words.now }

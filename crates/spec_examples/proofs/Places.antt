@@ -23,7 +23,7 @@ use Rattle.spec_examples.specs.StoredRecords.{file, promise, boot, update, stage
 use Rattle.spec_examples.specs.Values.{epoch}
 
 module _ (before : List Record) where
-  -- behind records in their places: bytes that are no record
+  -- after records in their places: bytes that are no record
   no_record : (payload : List ℕ) (rest : List (List ℕ)) → AreRecords before → recorded payload ≡ Err error.BadRecord
       → IsFirstBad (texts_of before ++ payload ∷ rest) (length before)
   no_record payload rest are none = record {

@@ -6,7 +6,7 @@ use Rattle.disk_model.specs.Plan.{planned}
 use Rattle.disk_model.specs.Disk.{Kept, at_rest}
 use Rattle.disk_model.specs.Changes.{Change, Write, Sync, kept_after}
 
--- a look, two writes with a sync behind each, and a look: how many calls looked and changed, up to each
+-- a look, two writes with a sync after each, and a look: how many calls looked and changed, up to each
 abbrev pub six_calls : List (ℕ × ℕ)
 six_calls = (1, 0) ∷ (1, 1) ∷ (1, 2) ∷ (1, 3) ∷ (1, 4) ∷ (2, 4) ∷ []
 

@@ -1,4 +1,4 @@
--- one field of each kind, one behind the other, and fields that are refused
+-- one field of each kind, one after the other, and fields that are refused
 use Rattle.std.specs.Prelude.{ℕ, List, [], ◌∷◌, ◌++◌, map, codes}
 use Rattle.std.specs.Str.{chars, is_utf8}
 use lib.Utf8.{encode}

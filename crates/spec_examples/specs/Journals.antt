@@ -52,7 +52,7 @@ standing =
     -- in 13 bytes no record stands, whatever they are
     ∷ (in_layout 1 (0xa5 ∷ []), Stands [])
     ∷ (in_layout 2 (0 ∷ []), Stands [])
-    -- what is behind a gate that isn't open doesn't count
+    -- what is after a gate that isn't open doesn't count
     ∷ (in_layout 1 (0 ∷ 0 ∷ 0 ∷ 0 ∷ 1 ∷ 0x61 ∷ 0x62 ∷ 0x63 ∷ []), Stands [])
     ∷ (in_layout 1 (0x37 ∷ 0 ∷ 0 ∷ 0 ∷ 1 ∷ 0x61 ∷ 0 ∷ []), Stands [])
     ∷ (in_layout 1 (0xa5 ∷ 0 ∷ 0 ∷ 0 ∷ 1 ∷ 0x61 ∷ 0x37 ∷ 0xa5 ∷ []), at_first (0x61 ∷ []))
@@ -75,15 +75,15 @@ foreign =
     ∷ (in_layout 2 (0 ∷ 0 ∷ []), Unknown 2)
     ∷ []
 
--- an open gate with no record behind it
+-- an open gate with no record after it
 abbrev pub damaged : List Row
 damaged =
-    -- the length is cut off; there is no payload; there is no gate behind it
+    -- the length is cut off; there is no payload; there is no gate after it
     (in_layout 1 (0xa5 ∷ 0 ∷ []), Damaged 12)
     ∷ (in_layout 1 (0xa5 ∷ 0 ∷ 0 ∷ 0 ∷ []), Damaged 12)
     ∷ (in_layout 1 (0xa5 ∷ 0 ∷ 0 ∷ 0 ∷ 0 ∷ 0 ∷ []), Damaged 12)
     ∷ (in_layout 1 (0xa5 ∷ 0 ∷ 0 ∷ 0 ∷ 1 ∷ 0x61 ∷ []), Damaged 12)
-    -- each byte of the length counts: behind the first one stand 24 bytes
+    -- each byte of the length counts: after the first one stand 24 bytes
     ∷ (changed 13 1, Damaged 12)
     ∷ (changed 14 1, Damaged 12)
     ∷ (changed 15 1, Damaged 12)

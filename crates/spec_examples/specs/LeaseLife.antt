@@ -44,7 +44,7 @@ pub data Seen : Type 0 where
   sees_writing : ℕ → Seen
   sees_held : ℕ → Seen
 
--- the clock, from whom, what, and what is seen behind it
+-- the clock, from whom, what, and what is seen after it
 abbrev pub Row : Type 0
 Row = ℕ × ℕ × Event × Seen
 
@@ -102,7 +102,7 @@ after_event s now from lapse = lease_expired s now
 abbrev pub after : LeaseState → Row → LeaseState
 after s row = after_event s row.0 (node row.1) row.2
 
--- what is seen behind each row
+-- what is seen after each row
 abbrev pub seen_after : LeaseState → List Row → List Seen
 seen_after s rows = scan after (λ s row. seen (after s row)) s rows
 

@@ -27,7 +27,7 @@ picks =
     ∷ (1000007, 1, 9 ∷ [])
     ∷ []
 
--- a report, and the mark behind it
+-- a report, and the mark after it
 abbrev pub Report : Type 0
 Report = SizeMark × SizeMark
 

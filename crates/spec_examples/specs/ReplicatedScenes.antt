@@ -108,7 +108,7 @@ aimed =
     ∷ (0, makes (read 1 0 1), begins 1 2)
     ∷ []
 
--- behind the last number there is none
+-- after the last number there is none
 abbrev pub last : List Row
 last =
     (0, makes (read 1 0 1), begins 1 last_number)

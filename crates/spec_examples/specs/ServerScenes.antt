@@ -122,7 +122,7 @@ registry =
     ∷ (1000, wakes, repeats 6 (by 900 retry.Silent ∷ []))
     ∷ []
 
--- behind the last number there is none
+-- after the last number there is none
 abbrev pub last : List Row
 last =
     (0, makes mkdir, begins 901 last_number)

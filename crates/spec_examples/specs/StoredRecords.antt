@@ -1,4 +1,4 @@
--- Records of a node: which payloads are a store's, which bodies it keeps, and what it finds behind a stopped append.
+-- Records of a node: which payloads are a store's, which bodies it keeps, and what it finds after a stopped append.
 use Rattle.std.specs.Prelude.{ℕ, Option, Some, List, [], ◌∷◌, ◌++◌, map, replicate}
 use Rattle.std.specs.List.{flat_map}
 use Rattle.disk_model.specs.declared.plan.Stop.{Stop}
@@ -128,7 +128,7 @@ by_stop lost kept = replicate 8 lost ++ kept ∷ lost ∷ lost ∷ kept ∷ []
 abbrev pub stopped : List Record → Record → Stop → List Record
 stopped before rec stop = records_after (λ n. before) (record { 0 = 7 }) rec (kept_by (Some stop)) 7
 
--- the last of three starts, the second of which stopped: behind that one, and behind the third
+-- the last of three starts, the second of which stopped: after that one, and after the third
 abbrev pub boots_found : Stop → ℕ × ℕ
 boots_found stop =
     let two = stopped (boot 1 ∷ []) (boot 2) stop in

@@ -21,7 +21,7 @@ cut =
     ∷ (0, replies 2 2 (ok 1 4097 abc), done 2 1 4098 2)
     ∷ (0, makes (read 2 4 3), begins 2 3)
     ∷ (0, replies 2 3 (ok 2 9000 abc), done 3 2 9000 3)
-    -- an object behind the end, and one whose bytes have no number of 64 bits
+    -- an object after the end, and one whose bytes have no number of 64 bits
     ∷ (0, makes (read 2 9 3), begins 1 4)
     ∷ (0, replies 1 4 (ok 2 1 abc), done 4 2 9000 0)
     ∷ (0, makes (read 2 18446744073709551615 3), begins 1 5)

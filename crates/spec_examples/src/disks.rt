@@ -17,7 +17,7 @@ pub fn calls_fail_as_planned()
     ensures { map failed plans ≡ failed_wanted }
 {}
 
-/// What a read gives behind two writes, and what a crash leaves that puts its byte at each place that isn't synced.
+/// What a read gives after two writes, and what a crash leaves that puts its byte at each place that isn't synced.
 pub fn a_stop_leaves_its_byte()
     ensures reads { (four_after (one_byte ∷ Sync ∷ three_bytes ∷ Sync ∷ [])).read ≡
         1 ∷ 9 ∷ 3 ∷ 8 ∷ 8 ∷ 8 ∷ [] }
@@ -41,7 +41,7 @@ pub fn journals_are_read()
     ensures damaged { AreRead damaged }
 {}
 
-/// What stands behind an append that stopped: its record where the gate was being opened and the byte opens it.
+/// What stands after an append that stopped: its record where the gate was being opened and the byte opens it.
 pub fn a_stopped_append_is_kept_by_its_gate()
     ensures { map left_by stops ≡ left_wanted }
 {}

@@ -13,7 +13,7 @@ pub fn a_start_is_silent()
     ensures behind { awake_at lease.started 5000 ≡ Some lease.awake }
 {}
 
-/// What is seen of a lease behind each event: rounds that are given up, outrun, ended by another's lease, won too late,
+/// What is seen of a lease after each event: rounds that are given up, outrun, ended by another's lease, won too late,
 /// and won; and a lease that lapses.
 pub fn a_lease_lives()
     ensures { lease.seen_after lease.start lease.life ≡ map lease.wanted lease.life }

@@ -92,7 +92,7 @@ none_left : (rest : List Entry) → trace_text rest ≡ [] → rest ≡ []
 none_left [] e = refl
 none_left (x ∷ xs) e = absurd (omega (arith, ap length e, ap length (first_entry x xs), length-append (entry_text x) (line_feed ∷ trace_text xs)))
 
--- behind these entries a trace has these, and these bytes were taken of them
+-- after these entries a trace has these, and these bytes were taken of them
 record IsSplit (all entries rest : List Entry) (taken behind : List ℕ) : Type 0 where
   parts : all ≡ entries ++ rest
   formed : AreOfTrace (length entries) rest

@@ -30,7 +30,7 @@ no_text : trace_text [] ≡ []
 unfolding trace_text
 no_text = refl
 
--- the entries so far, and how many bytes the trace may have behind them
+-- the entries so far, and how many bytes the trace may have after them
 pub record IsReadSoFar (old now : Option (List ℕ)) (entries : List Entry) (room : ℕ) : Type 0 where
   pub formed : AreOfTrace 0 entries
   pub size : length (trace_text entries) + room ≡ TRACE_BYTES
@@ -92,7 +92,7 @@ whole old mid new es room so_far took end =
       end = end;
     }
 
--- behind the first entry none tells the times
+-- after the first entry none tells the times
 tells_none : (first : Bool) (e : Entry) → first ≡ false → IsInPlace first e → times_told e ≡ None
 tells_none true e later place = absurd cc
 tells_none false (entry.Times lease drift) later place = absurd (let never : false ≡ true = place in cc)

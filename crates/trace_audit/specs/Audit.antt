@@ -14,7 +14,7 @@ use Rattle.schedule_lines.specs.Fronts.{PutsFront}
 use Rattle.trace_audit.specs.declared.TheConstants.{TRACE_BYTES}
 use Rattle.trace_audit.specs.NextEntry.{StopsAudit}
 
--- each entry is one of a trace, behind so many others; only the first may tell the times
+-- each entry is one of a trace, after so many others; only the first may tell the times
 abbrev pub AreOfTrace : ℕ → List Entry → Type 0
 AreOfTrace before [] = Unit {0}
 AreOfTrace before (e ∷ es) = IsEntryAt (before == 0) e × AreOfTrace (before + 1) es
@@ -24,11 +24,11 @@ pub record IsTrace (entries : List Entry) : Type 0 where
   pub formed : AreOfTrace 0 entries
   pub few : length (trace_text entries) ≤ TRACE_BYTES
 
--- how many bytes the trace may have behind these entries
+-- how many bytes the trace may have after these entries
 abbrev pub room_behind : List Entry → ℕ
 room_behind entries = TRACE_BYTES - length (trace_text entries)
 
--- Why an audit ends behind these entries, by the bytes that it takes from there on and what is left of the source.
+-- Why an audit ends after these entries, by the bytes that it takes from there on and what is left of the source.
 abbrev pub EndsWith : List Entry → List ℕ → Option (List ℕ) → Status → Type 0
 -- the source is at its end, and the trace is safe
 EndsWith entries taken left status.Done = (taken ≡ []) × IsAtEnd left × IsSafe entries
@@ -43,14 +43,14 @@ abbrev pub text_of : Status → List ℕ
 text_of status.Done = codes "safe" ++ line_feed ∷ []
 text_of s = last_line s
 
--- the text of a status was put, or the sink failed behind a front of it, or there was no memory for it
+-- the text of a status was put, or the sink failed after a front of it, or there was no memory for it
 abbrev pub IsTold : Option (List ℕ) → Option (List ℕ) → Status → Status → Type 0
 IsTold old new s given =
     ((given ≡ s) × Puts old new (text_of s))
     ⊎ ((count : ℕ) × (given ≡ status.SinkFault count) × PutsFront old new (text_of s))
     ⊎ ((given ≡ status.OutOfMemory) × (s ≢ status.Done) × Puts old new [])
 
--- An audit: the entries that it read, the bytes that it took behind their text, and why it ended, which it tells.
+-- An audit: the entries that it read, the bytes that it took after their text, and why it ended, which it tells.
 pub record IsAudit (source_before source_after sink_before sink_after : Option (List ℕ)) (given : Status) : Type 0 where
   pub entries : List Entry
   pub trace : IsTrace entries

@@ -14,7 +14,7 @@ use Rattle.trace_audit.specs.declared.TheConstants.{TRACE_BYTES}
 use Rattle.trace_audit.specs.declared.next.NextEntry.{NextEntry}
 use Rattle.trace_audit.specs.declared.next.NextEntry.TheVariants as next
 
--- no entry has this text, behind so many others
+-- no entry has this text, after so many others
 abbrev pub IsNoEntry : ℕ → List ℕ → Type 0
 IsNoEntry before text = (e : Entry) → IsEntryAt (before == 0) e → text ≡ entry_text e → ⊥
 
@@ -22,14 +22,14 @@ IsNoEntry before text = (e : Entry) → IsEntryAt (before == 0) e → text ≡ e
 abbrev pub IsUnended : List ℕ → List ℕ → Option (List ℕ) → Type 0
 IsUnended text taken left = (taken ≡ text) × (text ≢ []) × IsAtEnd left
 
--- Why no entry is read behind so many others, of a trace that may have so many bytes more, by the bytes that were taken and what is
+-- Why no entry is read after so many others, of a trace that may have so many bytes more, by the bytes that were taken and what is
 -- left.
 abbrev pub StopsAudit : ℕ → ℕ → List ℕ → Option (List ℕ) → Status → Type 0
 -- these bytes, no more than a line and the trace may have, and their line feed aren't an entry, or the source ended within one
 StopsAudit before room taken left (status.Malformed number) =
     (text : List ℕ) × IsInLine text × (length text ≤ LINE_BYTES) × (length taken ≤ room) × (number ≡ before + 1)
     × (((taken ≡ ended text) × IsNoEntry before text) ⊎ IsUnended text taken left)
--- the source failed within the line, behind no more bytes than a line may have
+-- the source failed within the line, after no more bytes than a line may have
 StopsAudit before room taken left (status.SourceFault count) = IsInLine taken × (length taken ≤ LINE_BYTES)
 -- one byte more came than a line may have
 StopsAudit before room taken left (status.Limit limited.Line limit) =
@@ -43,7 +43,7 @@ StopsAudit before room taken left status.OutOfMemory = Unit {0}
 -- nothing else stops the reading
 StopsAudit before room taken left _ = ⊥
 
--- what is read behind so many entries, of a trace that may have so many bytes more; `bytes` are those of the line
+-- what is read after so many entries, of a trace that may have so many bytes more; `bytes` are those of the line
 abbrev pub IsNextEntry : ℕ → ℕ → Option (List ℕ) → Option (List ℕ) → List ℕ → NextEntry → Type 0
 IsNextEntry before room old new bytes (next.Entry e) =
     Takes old new (ended (entry_text e)) × IsEntryAt (before == 0) e × (bytes ≡ entry_text e) × (length bytes < room)
@@ -60,7 +60,7 @@ CountsFaults before after (next.Entry e) = after ≡ before
 CountsFaults before after next.End = after ≡ before
 CountsFaults before after (next.Stopped s) = CountsStop before after s
 
--- what the bytes of a line are read as, behind so many entries
+-- what the bytes of a line are read as, after so many entries
 abbrev pub IsEntryOf : ℕ → List ℕ → NextEntry → Type 0
 IsEntryOf before text (next.Entry e) = (text ≡ entry_text e) × IsEntryAt (before == 0) e
 IsEntryOf before text next.End = ⊥

@@ -65,7 +65,7 @@ at_least test from n (e ∷ es) ns is = by (test e) is (at_least test (from + 1)
     by true is more = (let same : from ≡ n = cc (is) in omega (arith, same))
     by false is more = omega (arith, more is)
 
--- the entry at the place, which is dealt, behind others that aren't
+-- the entry at the place, which is dealt, after others that aren't
 pub record IsMet (one other both : Entry → Bool) (from n : ℕ) (rest : List Entry) (one_left other_left : List ℕ) : Type 0 where
   pub skipped : List Entry
   pub met : Entry

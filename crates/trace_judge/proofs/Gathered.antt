@@ -10,7 +10,7 @@ use Rattle.time_line.specs.TimeLine.{begun, call_begun, location_in, location_to
 
 -- ---- the entries one by one
 
--- the first entry of the rest, and those behind it
+-- the first entry of the rest, and those after it
 pub first_and_others : (rest : List Entry) (e : Entry) → 1 ≤ length rest → e ≡ get_or rest 0 e → rest ≡ e ∷ take (length rest - 1) (drop 1 rest)
 first_and_others [] e some is = absurd (omega (arith, some))
 first_and_others (x ∷ rest) e some is =

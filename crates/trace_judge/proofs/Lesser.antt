@@ -40,7 +40,7 @@ said entries (Some b) is = (b, refl, refl, is)
 pub is_verdict : (entries : List Entry) (v : Verdict) → TimesStandFirst entries → v ≡ verdict_of (audited entries) → IsVerdictOn entries v
 is_verdict entries v first is = subst (IsVerdictOn entries) (sym is) (said entries (audited entries) (audits entries first))
 
--- the lesser of a verdict and the least of those behind it
+-- the lesser of a verdict and the least of those after it
 pub least_more : (verdicts : List Verdict) (count : ℕ) (v d : Verdict) → count < length verdicts → v ≡ get_or verdicts count d → least_verdict (drop count verdicts) ≡ lesser_verdict v (least_verdict (drop (count + 1) verdicts))
 unfolding least_verdict
 least_more verdicts count v d inside is =

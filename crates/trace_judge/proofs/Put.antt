@@ -133,7 +133,7 @@ pub set_none : (set : BTreeSet (ℕ × ℕ)) → ((id : OpId) → has_id set id 
 unfolding is_in
 set_none set none id = none id
 
--- where a position is counted from 1, none is not behind it
+-- where a position is counted from 1, none is not after it
 pub borne_at : (order : List OpId) (claim : Claim) → ((claim.count == 0) || is_at order claim.id claim.count) ≡ ((claim.count == 0) || is_that (slice_get order (claim.count - 1)) claim.id)
 borne_at order claim = by claim.count
   where

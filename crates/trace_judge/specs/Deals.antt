@@ -11,12 +11,12 @@ use Rattle.time_line.specs.declared.entry.Entry.{Entry}
 use Rattle.time_line.specs.TimeLine.{is_replicated_at, stripe_at}
 use Rattle.judging.specs.Dealt.{file_of, is_file, ticks_of}
 
--- the places, counted from 0, of those of these entries that the test picks, behind so many others
+-- the places, counted from 0, of those of these entries that the test picks, after so many others
 unfoldable pub places_from : (Entry → Bool) → ℕ → List Entry → List ℕ
 places_from test count [] = []
 places_from test count (e ∷ es) = if test e then count ∷ places_from test (count + 1) es else places_from test (count + 1) es
 
--- how far the clocks have advanced before each of these entries, behind others by which they have so far
+-- how far the clocks have advanced before each of these entries, after others by which they have so far
 unfoldable pub ticks_from : ℕ → List Entry → List ℕ
 ticks_from ticks [] = []
 ticks_from ticks (e ∷ es) = ticks ∷ ticks_from (ticks + ticks_of e) es

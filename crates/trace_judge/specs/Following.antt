@@ -21,7 +21,7 @@ says_of s once = s.once
 says_of s shown = s.shown
 says_of s fresh = s.fresh
 
--- The code keeps what the pass keeps. Content and answers count only while each write stands once: behind that no verdict looks at them.
+-- The code keeps what the pass keeps. Content and answers count only while each write stands once: after that no verdict looks at them.
 pub record Follows (k : Kept) (j : Judging) : Type 0 where
   pub stands : (n : NodeId) → TellsStanding j.leases.readings.ticks (get nat_cmp j.leases.readings.rows n.0) (k.stands n)
   pub holder : j.leases.holder ≡ k.holder

@@ -162,7 +162,7 @@ fn is_common(e: &Entry) -> bool
     )
 }
 
-/// Puts the place of the entry behind the others, if it is of every file. An error is want of memory.
+/// Puts the place of the entry after the others, if it is of every file. An error is want of memory.
 fn note_common(places: &mut Vec<usize>, e: &Entry, place: usize) -> Result<(), AllocError>
     ensures { OnOk result (places.new.items ≡
         (if is_common e.now then places.old.items ++ place ∷ [] else places.old.items)) }

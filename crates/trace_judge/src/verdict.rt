@@ -55,7 +55,7 @@ fn is_placed(placed: bool, file: u64, e: &Entry) -> bool
     placed || location_told(file, e).is_some()
 }
 
-/// The verdict that the clauses so far give behind so many entries, if the file's place is told.
+/// The verdict that the clauses so far give after so many entries, if the file's place is told.
 #[tactic(auto, using(crate::proofs::Walk::least_same))]
 fn verdict_at(judging: &Judging, placed: bool, entry: u64) -> Option<Verdict>
     ensures { (k : Kept) → Follows k judging.now →

@@ -10,7 +10,7 @@ use crate::verdict::{Verdict, judge};
 use std::alloc::{AllocError, Global};
 use time_line::Entry;
 
-/// Puts the number of the file that the entry tells, if it tells one, behind the others.
+/// Puts the number of the file that the entry tells, if it tells one, after the others.
 fn note_file(files: &mut Vec<u64>, e: &Entry) -> Result<(), AllocError>
     ensures { OnOk result ((more : List ℕ) →
         files.new.items ++ more ≡ files.old.items ++ with_file e.now more) }

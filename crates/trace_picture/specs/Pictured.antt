@@ -24,7 +24,7 @@ refusal_of draw_err.OutOfMemory = status.OutOfMemory
 abbrev pub IsDrawn : List Entry → Option (List ℕ) → Option (List ℕ) → Status → Type 0
 -- a document was put
 IsDrawn entries held held_after status.Done = (text : List ℕ) × IsDocument text × Puts held held_after text
--- the sink failed behind a front of it
+-- the sink failed after a front of it
 IsDrawn entries held held_after (status.SinkFault count) = (text : List ℕ) × IsDocument text × PutsFront held held_after text
 -- there are more entries than a picture may have
 IsDrawn entries held held_after (status.Limit limited.Lines limit) = (ENTRIES < length entries) × (limit ≡ ENTRIES) × Puts held held_after []

@@ -10,7 +10,7 @@ use Rattle.world_host.specs.Hosts.{HostView, Stored, node_of}
 abbrev pub nodes_of : (ℕ → Stored) → List HostView → List Node
 nodes_of stored hosts = map (λ h. node_of (stored h.id.0) h) hosts
 
--- no running clock would reach the end behind so many milliseconds
+-- no running clock would reach the end after so many milliseconds
 abbrev pub MayTick : ℕ → HostView → Type 0
 MayTick count host = IfSome host.up (λ running. running.clock + count < COUNTS)
 

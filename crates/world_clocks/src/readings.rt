@@ -24,7 +24,7 @@ pub enum ClockTest {
         clock: u64,
         drift: u64,
     },
-    /// Those that would reach the end behind so many milliseconds.
+    /// Those that would reach the end after so many milliseconds.
     Ends {
         count: u64,
     },

@@ -32,7 +32,7 @@ after_is : (room : Room) (w : World) (l : Line) → refusal w l ≡ None → aft
 unfolding after
 after_is room w l legal = ap (after_refusal room w l) legal
 
--- the world behind a line that is done is the run with that line
+-- the world after a line that is done is the run with that line
 pub applied_run : (room : Room) (w whole : World) (l : Line) → w ≡ run_of room w.lines → refusal w l ≡ None → done room w l ≡ finished whole → whole.lines ≡ w.lines
     → with_line whole l ≡ run_of room (whole.lines ++ l ∷ [])
 applied_run room w whole l is legal ended same =

@@ -41,7 +41,7 @@ pub step_is : (room : Room) (d : Doing) → steps 1 room (goes_on d) ≡ next_st
 unfolding steps
 step_is room d = refl
 
--- a line that is done or has ended is so behind more steps
+-- a line that is done or has ended is so after more steps
 pub done_longer : (k j : ℕ) (room : Room) (next : Next) (w : World) → steps k room next ≡ finished w → k ≤ j → steps j room next ≡ finished w
 done_longer k j room next w is le =
     let split : j ≡ k + (j - k) = omega arith in
@@ -114,7 +114,7 @@ went_further a b c one two = record { rest = two.rest ∙ ap (λ (x : Working). 
 pub fits_at : (room : Room) (next : Next) (k : ℕ) (d : Doing) → AllFit room next → steps k room next ≡ goes_on d → FitsWorld d.world d.own
 fits_at room next k d fits is = subst FitsAt is (fits k)
 
--- a step ends the line behind so many others
+-- a step ends the line after so many others
 pub has_ended : (room : Room) (old now new : Working) (next : Next) (k count : ℕ) (e : WorldErr) → k < count → steps k room next ≡ goes_on now.doing → WentOn old now
     → TellsEnd (next_step room (goes_on now.doing)) now.doing.world e × IsUntold now new → HasEnded room old count next new e
 has_ended room old now new next k count e lt came went_on so = at e so.0

@@ -165,7 +165,7 @@ first_ends room old new l total e begun some so = at e so.0
       },
     )
 
--- behind so many steps
+-- after so many steps
 module _ (room : Room) (old now : Working) (next : Next) (k : ℕ) (came : steps k room next ≡ goes_on now.doing) (on : WentOn old now) where
   pub later_fits : AllFit room next → AllFit room (goes_on now.doing)
   later_fits fits = λ j. subst FitsAt (steps-add k j room next ∙ ap (steps j room) came) (fits (k + j))

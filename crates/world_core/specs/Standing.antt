@@ -42,14 +42,14 @@ IsTurned old next new (Err e) = TellsEnd next old.doing.world e × IsUntold old 
 
 -- ---- how a line ends
 
--- The entries are those behind some of these steps, and the lines are as before.
+-- The entries are those after some of these steps, and the lines are as before.
 pub record IsLeftIn (old new : Working) (part : World) : Type 0 where
   pub entries : new.doing.world.entries ≡ part.entries
   pub lines : new.doing.world.lines ≡ old.doing.world.lines
   pub begun : new.begun ≡ old.begun
   pub ended : new.ended ≡ old.ended
 
--- A line at this place came to its end by a limit or a full journal; or memory ran out behind so many more steps.
+-- A line at this place came to its end by a limit or a full journal; or memory ran out after so many more steps.
 abbrev pub HasEnded : Room → Working → ℕ → Next → Working → WorldErr → Type 0
 HasEnded room old count next new (error.Illegal rule) = ⊥
 HasEnded room old count next new (error.Limit what limit) =
@@ -97,7 +97,7 @@ HasRun room old l new (Ok true) = (done room old.doing.world l ≡ finished new.
 HasRun room old l new (Ok false) = (done room old.doing.world l ≡ goes_on new.doing) × WentOn old new
 HasRun room old l new (Err e) = HasEnded room old (enough old.doing.world l) (begins old.doing.world l) new e
 
--- the line isn't taken up; or it is the last line, behind the entries of the steps that it finished, if any
+-- the line isn't taken up; or it is the last line, after the entries of the steps that it finished, if any
 abbrev pub IsLeft : Room → World → Line → World → Type 0
 IsLeft room old l new =
     ((new.entries ≡ old.entries) × (new.lines ≡ old.lines))

@@ -93,7 +93,7 @@ fn copy_of(alloc: Global, line: &Line) -> Result<Line, OutOfMemory>
     })
 }
 
-/// The same line comes behind these.
+/// The same line comes after these.
 pub fn push_copy(alloc: Global, lines: &mut Vec<Line>, line: &Line) -> Result<(), OutOfMemory>
     ensures ok { OnOk result (lines.new.items ≡ lines.old.items ++ line.now ∷ []) }
     ensures err { OnErr result (lines.new.items ≡ lines.old.items) }

@@ -170,7 +170,7 @@ impl NodeStore {
         restarted(alloc, self.bytes()?)
     }
 
-    /// Puts a record behind the others.
+    /// Puts a record after the others.
     pub fn put(self, alloc: Global, rec: &Record) -> Result<NodeStore, WorldErr>
         requires fits { FitsRecord rec.now }
         requires place { IsInPlace (fold_of self.records) rec.now }

@@ -243,7 +243,7 @@ impl<C: NodeCore> Host<C> {
         }
     }
 
-    /// Its next step that sends stops behind so many messages, where it runs.
+    /// Its next step that sends stops after so many messages, where it runs.
     pub fn plan_cut(&mut self, count: u128)
         ensures { self.new ≡ record self.old { up = option_map (cuts count) self.old.up } }
     {

@@ -34,7 +34,7 @@ NextOf records rec = IfSome rec (λ r. (file : FileId) × RecordIs (row_in (fold
 same_file : (a b : FileId) → Some a ≡ Some b → a ≡ b
 same_file a b e = cc
 
--- a record in its place on a row is in its place behind those that say that row
+-- a record in its place on a row is in its place after those that say that row
 place_is : (folded : Folded) (row : FileRow) (rec : Record) → row_in folded.files row.file ≡ row → RecordIs row rec → IsInPlace folded rec
 place_is folded row (kept.Promise file epoch) said is =
     subst (λ (f : FileId). is_at_most (row_in folded.files f).head.promised epoch ≡ true) (sym (same_file file row.file is.own)) (subst (λ (r : FileRow). is_at_most r.head.promised epoch ≡ true) (sym said) is.place)
@@ -130,7 +130,7 @@ start_is records boot is fits = record {
 
 -- ---- records from outside
 
--- A record within its limits, in its place: the rows behind it are within theirs.
+-- A record within its limits, in its place: the rows after it are within theirs.
 rows_more : (folded : Folded) (rec : Record) → AllByRecursion RowIs folded.files → FitsRecord rec → IsInPlace folded rec → AllByRecursion RowIs (folded_after folded rec).files
 rows_more folded rec rows limits place = at (file_of rec) refl
   where

@@ -274,7 +274,7 @@ world_fits w own p = record {
 put_is : (w : World) (own : List Msg) (node old : Node) → node_in w.nodes node.id.0 ≡ Some old → NodeIs node → WorldIs w own → (n : ℕ) (x : Node) → node_in (with_node w.nodes node) n ≡ Some x → NodeIs x
 put_is w own node old found is all n x there = replaced NodeIs w.nodes node old n x found is (λ y was. all.each n y was) there
 
--- a node behind the others
+-- a node after the others
 added_is : (nodes : List Node) (node : Node) → node_in nodes node.id.0 ≡ None → NodeIs node → ((n : ℕ) (x : Node) → node_in nodes n ≡ Some x → NodeIs x) → (n : ℕ) (x : Node) → node_in (nodes ++ node ∷ []) n ≡ Some x → NodeIs x
 added_is nodes node free is each n x there = elim (same n node.id.0) [
   | inl e ↦ (let now : Some node ≡ Some x = sym (ap (node_in (nodes ++ node ∷ [])) e ∙ node_in-last nodes node free) ∙ there in let is_node : node ≡ x = cc in subst NodeIs is_node is)
@@ -575,6 +575,6 @@ fits_at (opens l w) p = world_fits w [] p.0
 fits_at (goes_on d) p = world_fits d.world d.own p
 fits_at (ends cause w) p = tt
 
--- Each step of a line behind a run is made in a world that fits.
+-- Each step of a line after a run is made in a world that fits.
 pub do_steps_fit : (room : Room) → DoStepsFit room
 do_steps_fit room lines l k are allowed = fits_at (steps k room (begins (run_of room lines) l)) (steps_into Stage stage_kept room lines l k are allowed)

@@ -29,7 +29,7 @@ use Rattle.world_runs.specs.View.{messages}
 
 -- ---- nodes
 
--- each record of a node is within its limits, and in its place behind those before it
+-- each record of a node is within its limits, and in its place after those before it
 pub record FitsKept (kept : List Record) : Type 0 where
   pub limits : AllByRecursion FitsRecord kept
   pub places : AreInPlace nothing_kept kept
@@ -49,7 +49,7 @@ pub record FitsNode (node : Node) : Type 0 where
 
 -- ---- what a step gives
 
--- a record may be kept behind these
+-- a record may be kept after these
 abbrev pub FitsNext : List Record → Option Record → Type 0
 FitsNext kept rec = IfSome rec (λ r. FitsRecord r × IsInPlace (fold_of kept) r)
 

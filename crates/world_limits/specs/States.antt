@@ -143,7 +143,7 @@ pub record FileIs (s : FileState) : Type 0 where
   pub leads : PrimaryIs s.primary
   pub waits : AsksAre s.asks
 
--- a record of the file is in its place behind those that say this row
+-- a record of the file is in its place after those that say this row
 abbrev pub PlacedOn : FileRow → Record → Type 0
 PlacedOn row (kept.Promise file epoch) = is_at_most row.head.promised epoch ≡ true
 PlacedOn row (kept.Update file update) = FollowsHead row.head update

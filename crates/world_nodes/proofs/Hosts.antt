@@ -61,7 +61,7 @@ has_host-at (h ∷ hs) (suc place) d lt = either (h.id.0 == (get_or hs place d).
     either true rest = refl
     either false rest = rest
 
--- one that stands behind another has another id
+-- one that stands after another has another id
 other_id : (h : HostView) (hs : List HostView) (place : ℕ) (d : HostView) → has_host hs h.id.0 ≡ false → place < length hs → (h.id.0 == (get_or hs place d).id.0) ≡ false
 other_id h hs place d none lt = at (h.id.0 == (get_or hs place d).id.0) refl
   where

@@ -68,7 +68,7 @@ nodes_ticked : (stored : ℕ → Stored) (count : ℕ) (hosts : List HostView) �
 nodes_ticked stored count [] = refl
 nodes_ticked stored count (h ∷ hs) = ap (λ (ns : List Node). ticked count (node_of (stored h.id.0) h) ∷ ns) (nodes_ticked stored count hs)
 
--- the nodes behind a tick
+-- the nodes after a tick
 pub ticked_hosts : (stored : ℕ → Stored) (times : TimeSettings) (hosts after : List HostView) (self : NodesView) (count : ℕ) → AreHosts stored times hosts
     → record { times = times; nodes = nodes_of stored hosts } ≡ self → after ≡ map (host_ticked count) hosts
     → AreHosts stored times after × (record { times = times; nodes = nodes_of stored after } ≡ record self { nodes = map (ticked count) self.nodes })

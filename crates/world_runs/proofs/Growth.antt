@@ -1,4 +1,4 @@
--- What holds of the world at every moment, and what of it stays with entries behind.
+-- What holds of the world at every moment, and what of it stays as entries are added.
 use Rattle.std.proofs.Common.{Bool, true, false, ◌==◌, if◌then◌else◌, ◌≡◌, ◌≢◌, ℕ, ◌≤◌, ◌⊎◌, inl, inr, List, [], ◌∷◌, ◌++◌, map, refl, ap, subst, sym, ◌∙◌, arith, Option, Some, None}
 use Rattle.std.specs.Option.{option_or}
 use Rattle.std.proofs.lemmas.Bool.Decides.{nat_tests}
@@ -54,7 +54,7 @@ use Rattle.world_runs.proofs.Making.{AreFileMarks}
 
 -- ---- the trace
 
--- What stands behind an entry: a call ends well only as it was answered; what is issued, committed or answered has begun.
+-- What stands after an entry: a call ends well only as it was answered; what is issued, committed or answered has begun.
 abbrev pub EntryIs : List Entry → Entry → Type 0
 EntryIs es (entry.Done caller number how) = OutcomeIs es (id_of caller number) how
 EntryIs es (entry.Issue node file count id) = HasBegunOn file es id

@@ -145,7 +145,7 @@ put_fit files nodes es sent node old found up fit = record { each = each; strang
       | inr ne ↦ fit.strangers n (sym (node_in-other nodes node n ne) ∙ none)
     ]
 
--- a node behind the others
+-- a node after the others
 pub add_fit : (files : List PlacedFile) (nodes : List Node) (es : List Entry) (sent : List Msg) (node : Node) → node_in nodes node.id.0 ≡ None → UpIs es node.id node.up → EndsFit files nodes es sent → NodesFit nodes (nodes ++ node ∷ []) es
 add_fit files nodes es sent node free up fit = record { each = each; strangers = strangers }
   where
@@ -179,7 +179,7 @@ tick_fit files nodes es sent count fit = record { each = λ n x is. each n x (no
 
 -- ---- a step of a node
 
--- what a step owes, its entries behind these
+-- what a step owes, its entries after these
 pub record Owes (es : List Entry) (node : NodeId) (core : Core) (turned : Turned) : Type 0 where
   pub core_is : CoreIs (es ++ map (entry_of node) turned.marks) node core
   pub sent : (m : Msg) → Has m turned.outs → ContentIs (es ++ map (entry_of node) turned.marks) m.from m.to m.payload

@@ -145,7 +145,7 @@ pub messages_show : (file : FileId) (w : World) (node : Node) (r : Running) (s :
     → file_concerned msg.payload ≡ Some file → Sees file w v → ShowsMessage file w node r s msg v
 messages_show file w node r s msg v its awake concerns sees = message_taken file node r s msg awake concerns w v its sees
 
--- what the OSD has of the file behind the message
+-- what the OSD has of the file after the message
 pub message_leaves : (file : FileId) (node : Node) (r : Running) (s : OsdState) (msg : Msg) (awake : IsAwake r s) (concerns : file_concerned msg.payload ≡ Some file)
     → file_seen file (step_at node r s (event.Deliver msg)).osd ≡ (step_of_file (site_at node r s) (file_seen file s) msg.from msg.payload).state
 message_leaves file node r s msg awake concerns =

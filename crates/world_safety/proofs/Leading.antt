@@ -1,4 +1,4 @@
--- who leads behind what changes nothing of a file led before
+-- who leads after what changes nothing of a file led before
 use Rattle.std.proofs.Common.{◌≡◌, ◌≤◌, ℕ, ◌+◌, inl, inr, List, [], ◌∷◌, ◌++◌, map, refl, arith, ap, sym, ◌∙◌, subst, Option, Some, None, Bool, true, false}
 use Rattle.std.specs.Prelude.{cond, nat_lt}
 use Rattle.std.specs.Option.{option_map}

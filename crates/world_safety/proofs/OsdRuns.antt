@@ -67,7 +67,7 @@ has_sent n (x ∷ xs) m (inr h) is = inr (has_sent n xs m h is)
 abbrev SentNow : ℕ → FileStep → Msg → Type 0
 SentNow n step m = Has (record { from = m.from.0; content = m.payload }) (sent_by n step.turned.outs) ⊎ (shown m.from.0 m.payload ≡ [])
 
--- a run of the file's world shows the world behind it
+-- a run of the file's world shows the world after it
 ran : (stripe : ℕ) (ops : ℕ × ℕ → Op) (members : List ℕ) (file : FileId) (w after : World) (was own_after : List Msg) (n : ℕ) (v : FileWorld) (step : FileStep) → IsRun stripe ops members file after n v step
     → ((m : Msg) → Has m (own_after ++ messages after) → file_concerned m.payload ≡ Some file → SentNow n step m ⊎ Has m (was ++ messages w))
     → TellsAs stripe ops file.number after.entries (record { node = n; marks = step.turned.marks } ∷ v.tales)

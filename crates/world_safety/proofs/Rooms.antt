@@ -1,4 +1,4 @@
--- events behind others, and room for a step that leaves the lease held
+-- events after others, and room for a step that leaves the lease held
 use Rattle.std.proofs.Common.{◌≡◌, ℕ, inl, inr, List, [], ◌∷◌, ◌++◌, refl}
 use Rattle.std.specs.Prelude.{◌⊎◌}
 use Rattle.xt_base.specs.declared.ids.FileId.{FileId}

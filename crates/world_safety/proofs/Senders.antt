@@ -574,7 +574,7 @@ comes_from site s from (payload.Update f update) =
     record { outs = answer_sent site.node from s.kept.file (updated s.kept.file s.kept.head update).answer (updated_from s.kept.file s.kept.head update).answer }
 comes_from site s from content = heard_from site s s.lease from content
 
--- behind what is overdue
+-- after what is overdue
 then_from : (site : Site) (s : FileState) (rest : List Msg) → AreFrom site.node (expired site s).state.kept.file rest → AreFrom site.node s.kept.file ((expired site s).turned.outs ++ rest)
 then_from site s rest are =
     both site.node s.kept.file (expired site s).turned.outs rest (expired_from site s).outs (subst (λ (row : FileRow). AreFrom site.node row.file rest) (expired_keeps site s) are)

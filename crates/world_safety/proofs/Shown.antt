@@ -1,4 +1,4 @@
--- what a file's world shows behind what changes nothing of it, and behind events more
+-- what a file's world shows after what changes nothing of it, and after events more
 use Rattle.std.proofs.Common.{◌≡◌, ℕ, inl, inr, List, [], ◌∷◌, ◌++◌, map, refl, ap, sym, ◌∙◌, subst, Some, None, false}
 use Rattle.std.specs.Prelude.{◌⊎◌, ◌==◌}
 use Rattle.std.proofs.lemmas.List.{append-nil, append_assoc}

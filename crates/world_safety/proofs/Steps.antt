@@ -82,7 +82,7 @@ module _ (stripe : ℕ) (ops : ℕ × ℕ → Op) (members : List ℕ) (file : F
   now_is : max r.clock s.last ≡ r.clock
   now_is = later r.clock s.last fits.0.last
 
-  -- nobody else led, where the lease is held behind the step
+  -- nobody else led, where the lease is held after the step
   alone_before : IsHeld step.state.lease → (m : ℕ) → Leads w file m → m ≡ n
   alone_before is m lead = at (wins_in_time site (file_seen file s) happens is)
     where
@@ -97,7 +97,7 @@ module _ (stripe : ℕ) (ops : ℕ × ℕ → Op) (members : List ℕ) (file : F
           (subst (λ (x : FileState). IsHeld (lease_expired x.lease r.clock)) (sym is_state) (subst (λ (c : ℕ). IsHeld (lease_expired step.state.lease c)) now_is now))
           m (led_after file w behind node_after m refl ne lead))
 
-  -- nor does anybody else behind it
+  -- nor does anybody else after it
   alone_behind : (t : Tenure) → step.state.primary.tenure ≡ Some t → (m : ℕ) → Leads behind file m → m ≡ n
   alone_behind t is m lead = at (m == n) refl
     where

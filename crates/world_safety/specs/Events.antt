@@ -36,7 +36,7 @@ site_at node r s = site_of (outside_of node.kept) (awake_as s.started) (max r.cl
 abbrev pub step_at : Node → Running → OsdState → Event → OsdStep
 step_at node r s happens = step_of_osd (outside_of node.kept) s r.clock happens
 
--- the world behind its step, of whose messages these go out
+-- the world after its step, of whose messages these go out
 abbrev pub stepped : World → Node → Running → OsdState → Event → List Msg → World
 stepped w node r s happens outs =
     let step = step_at node r s happens in after_turn w node (record r { core = osd step.osd }) (record step.turned { outs = outs })

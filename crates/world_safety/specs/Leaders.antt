@@ -1,4 +1,4 @@
--- that a step of a node is an event that may come in the file's world, and that who leads still holds behind it
+-- that a step of a node is an event that may come in the file's world, and that who leads still holds after it
 use Rattle.std.specs.Prelude.{◌≡◌, ℕ, Some, None, List}
 use Rattle.xt_base.specs.declared.ids.FileId.{FileId}
 use Rattle.xt_messages.specs.declared.file.Op.{Op}
@@ -33,7 +33,7 @@ LeadersGoOn =
     → ((t : Tenure) → step.state.primary.tenure ≡ Some t → (m : ℕ) → Leads after file m → m ≡ node.id.0)
     → LeadersHold file w v → LeadersHold file after (acted v node.id.0 step goes_on)
 
--- And behind a stop.
+-- And after a stop.
 abbrev pub LeadersStop : Type 0
 LeadersStop =
     (file : FileId) (w after : World) (node : Node) (v : FileWorld) (step : FileStep) → after.nodes ≡ with_node w.nodes node

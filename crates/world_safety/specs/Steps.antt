@@ -19,7 +19,7 @@ use Rattle.world_safety.specs.Seen.{file_seen, Sees}
 use Rattle.world_safety.specs.Events.{RunsAs, IsAwake, site_at, stepped}
 use Rattle.world_safety.specs.May.{LeadersHold}
 
--- These events may come in the file's world, and lead to what the world shows of the file behind the step: who leads holds, and what
+-- These events may come in the file's world, and lead to what the world shows of the file after the step: who leads holds, and what
 -- the file's step sends and marks is added.
 pub record IsRun (stripe : ℕ) (ops : ℕ × ℕ → Op) (members : List ℕ) (file : FileId) (after : World) (n : ℕ) (v : FileWorld) (step : FileStep) : Type 0 where
   pub events : List Event
@@ -30,7 +30,7 @@ pub record IsRun (stripe : ℕ) (ops : ℕ × ℕ → Op) (members : List ℕ) (
   pub tales : (after_all v events).tales ≡ record { node = n; marks = step.turned.marks } ∷ v.tales
 
 -- A message to an OSD past its silence, whichever of its messages go out: so it is for the file that it concerns, where the worlds before
--- and behind are in order, and at no moment do two nodes hold the file by the trace.
+-- and after are in order, and at no moment do two nodes hold the file by the trace.
 abbrev pub MessagesRun : Type 0
 MessagesRun =
     (stripe : ℕ) (ops : ℕ × ℕ → Op) (members : List ℕ) (file : FileId) (w : World) (own own_after outs : List Msg) (node : Node) (r : Running) (s : OsdState) (msg : Msg) (v : FileWorld)

@@ -8,7 +8,7 @@ use Rattle.world_spec.specs.Rules.{refusal}
 use Rattle.world_spec.specs.Runs.{run_of, IsRunInto}
 use Rattle.time_line.specs.Verdicts.{Clause, Holds}
 
--- The clause holds of each replicated file: in the trace of every run of any lines within their limits, and in the trace behind each
+-- The clause holds of each replicated file: in the trace of every run of any lines within their limits, and in the trace after each
 -- finished step of a line more.
 pub record AlwaysHolds (clause : Clause) : Type 0 where
   pub whole : (room : Room) (lines : List Line) (file : ℕ) → AreLines lines → Holds clause file (run_of room lines).entries

@@ -1,4 +1,4 @@
-//! Each file of a world is a run of OSDs of that file alone (`file_runs`): after every list of lines, and behind each step of a line
+//! Each file of a world is a run of OSDs of that file alone (`file_runs`): after every list of lines, and after each step of a line
 //! more. So each replicated file has one order of writes in the trace, which its answers show.
 //!
 //! So it is shown of each thing that may happen in a line, and put together by the walk over lines (`world_runs`).
@@ -95,7 +95,7 @@ pub fn messages_may_come()
     ensures operations { OperationsAre }
 {}
 
-/// Where who leads in the world holds the file in the file's world, a step of the file may come there; and behind a step, and behind a
+/// Where who leads in the world holds the file in the file's world, a step of the file may come there; and after a step, and after a
 /// stop, who leads holds.
 pub fn steps_may_come()
     ensures may { StepsMay }
@@ -139,7 +139,7 @@ pub fn files_are_runs()
         NextAreRuns (steps k room (begins (run_of room lines) l)) }
 {}
 
-/// The trace tells where each file is, declared or made, within the limits: after every list of lines, and behind some steps of a line
+/// The trace tells where each file is, declared or made, within the limits: after every list of lines, and after some steps of a line
 /// more.
 pub fn files_are_placed()
     ensures whole { (room : Room) (lines : List Line) → AreLines lines →
@@ -151,7 +151,7 @@ pub fn files_are_placed()
 
 /// What the trace tells of a replicated file fits one order of writes and truncations: each claim is borne out by the order of writes
 /// that the trace gives, no write stands there twice, and each answer shows the order as it was. So it is in every run of any lines,
-/// and behind some steps of a line more.
+/// and after some steps of a line more.
 pub fn files_are_safe()
     ensures whole { (room : Room) (lines : List Line) → AreLines lines →
         FilesAreSafe (run_of room lines).entries }

@@ -2,7 +2,7 @@
 //! there is one order of its writes, in which each stands once and had begun before; answers show the file as it stands; and the ends
 //! of calls, as the callers see them, are fresh.
 //!
-//! The crate has no code to run. It says so of every list of lines within their limits, in every room, and also behind each finished
+//! The crate has no code to run. It says so of every list of lines within their limits, in every room, and also after each finished
 //! step of a line more: whatever is lost, repeated or comes late, and wherever a node stops, in its appends and sendings too.
 #![tactic(auto)]
 
@@ -26,7 +26,7 @@ ghost use Rattle.world_safety.specs.Runs.{HasOneOrder};
 ghost use Rattle.world_safety.specs.Traces.{AlwaysHolds};
 ghost use Rattle.world_safety.specs.Examples.{caught_up, caught_up_trace};
 
-/// The trace of every run is safe, and so is the trace behind each finished step of a line more.
+/// The trace of every run is safe, and so is the trace after each finished step of a line more.
 pub fn runs_are_safe()
     ensures whole { (room : Room) → AreRunsSafe room }
     ensures part { (room : Room) (lines : List Line) (l : Line) (entries : List Entry) →

@@ -81,7 +81,7 @@ unfoldable pub trace_of : List Line → List Entry
 unfolding trace_in
 trace_of lines = trace_in ample lines
 
--- the rule that a line breaks behind these
+-- the rule that a line breaks after these
 unfoldable pub rule_behind : List Line → Line → Option Rule
 unfolding world_in refusal first_stranger least_where node_in file_in
 rule_behind lines l = refusal (world_in ample lines) l

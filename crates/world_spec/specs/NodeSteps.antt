@@ -209,7 +209,7 @@ abbrev pub forgets_in : Room → World → Option Node → World
 forgets_in room w None = w
 forgets_in room w (Some node) = elim node.up [ None ↦ w | Some running ↦ forgets_at room w node running running.core ]
 
--- behind a step that put a record and left its node running, before the node's messages to itself
+-- after a step that put a record and left its node running, before the node's messages to itself
 abbrev pub forgets_if : Room → NodeId → Option Record → Result Doing Cause → Result Doing Cause
 forgets_if room id (Some rec) (Ok d) = Ok (record d { world = forgets_in room d.world (node_in d.world.nodes id.0) })
 forgets_if room id _ result = result

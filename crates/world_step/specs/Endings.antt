@@ -80,7 +80,7 @@ ended_whole room d node running turned =
     ended room node turned.rec
     (record d { world = after_turn d.world node running turned; own = d.own ++ to_itself node.id turned.outs })
 
--- in its sending, behind so many messages
+-- in its sending, after so many messages
 abbrev pub ended_sending : Room → Doing → Node → Running → ℕ → Turned → Result Doing Cause
 ended_sending room d node running count turned =
     ended room node turned.rec (loses_own d (cut_in_sending d.world node running count turned))

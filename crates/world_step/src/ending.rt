@@ -16,7 +16,7 @@ pub enum Ending {
     Whole,
     /// In the append of its record, by this stop.
     InAppend(Stop),
-    /// In its sending, behind so many messages.
+    /// In its sending, after so many messages.
     InSending(u128),
 }
 

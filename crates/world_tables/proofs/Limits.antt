@@ -1,4 +1,4 @@
--- The limits of a step are those of the messages behind it.
+-- The limits of a step are those of the messages after it.
 use Rattle.std.proofs.Common.{◌≡◌, Bool, true, false, cond, Some, None, Ok, Err, refl}
 use Rattle.std.specs.Prelude.{nat_lt, length}
 use Rattle.xt_messages.specs.declared.status.Limited.TheVariants as limited

@@ -8,7 +8,7 @@ use std::rt::Files;
 use xt_base::{BODY, CallList, Octets};
 use xt_journal::Journal;
 
-/// The journal with this payload behind its records.
+/// The journal with this payload after its records.
 pub fn longer<D: Disk>(alloc: Global, journal: Journal<D>, payload: &[u8]) -> Result<Journal<D>>
     requires some { 1 ≤ length payload.now }
     requires fits { length payload.now < 2 ^ 32 }

@@ -33,7 +33,7 @@ fn tell(rt: &impl Print, words: &[Name], done: Done) -> Result<()> {
     Ok(())
 }
 
-/// The words of the command line behind the program's name.
+/// The words of the command line after the program's name.
 fn words_of(rt: &HostRuntime, alloc: Global) -> Result<Words> {
     let mut args = env::args(rt)?;
     let _name = args.next();

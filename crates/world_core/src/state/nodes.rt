@@ -92,7 +92,7 @@ impl<C: NodeCore, H: Hull> State<C, H> {
         }
     }
 
-    /// Plans behind how many messages the next step of a running node that sends stops.
+    /// Plans after how many messages the next step of a running node that sends stops.
     pub fn plan_cut(&mut self, node: NodeId, count: u128)
         ensures step { first_step H.room self.old.doing (Line.Cut node count) ≡
             Ok self.new.doing }
@@ -191,7 +191,7 @@ fn keep_boot<C: NodeCore, H: Hull>(
     nodes.append(alloc, place, &Record::Boot { boot }, None)
 }
 
-/// The start behind the last one, where there is one within the limit.
+/// The start after the last one, where there is one within the limit.
 fn next_boot(last: Boot) -> Option<Boot>
     ensures { result ≡ boot_behind last }
 {

@@ -15,7 +15,7 @@ use world_spec::Role;
 use xt_base::{DIR_NODE, MRC_NODE};
 use xt_messages::Event;
 
-/// How many messages of a node to itself a file may have behind one event.
+/// How many messages of a node to itself a file may have after one event.
 const OWN: u128 = 16_532;
 
 impl<C: NodeCore, H: Hull> State<C, H> {

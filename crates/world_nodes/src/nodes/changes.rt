@@ -72,7 +72,7 @@ impl<C: NodeCore, H: Hull> Nodes<C, H> {
         self.hosts[place].plan_crash(stop);
     }
 
-    /// The next step of the node at a place that sends stops behind so many messages.
+    /// The next step of the node at a place that sends stops after so many messages.
     pub fn plan_cut(&mut self, place: usize, count: u128)
         requires { place < length self.old.nodes }
         ensures { ChangesUp self.old place (cuts count) self.new }

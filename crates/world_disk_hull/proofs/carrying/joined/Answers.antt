@@ -49,7 +49,7 @@ loop-part-preserved c =
     let same = same_Some _ _ (sym c.in-Ok-take.ensures.ok ∙ step) in
     record { joiner = ap (λ taken. taken.held) same; last = ap (λ taken. taken.whole) same }
 
--- behind the last part the message was given
+-- after the last part the message was given
 given_at_end : (sender : NodeId) (number : ℕ) (message : List ℕ) (parts : List (List ℕ)) (taken : ℕ) (last : Option Whole) →
     parts ≡ parts_of (id_of sender number) message → length parts ≤ taken → taken ≤ length parts →
     last ≡ (if taken == parts_in (length message) then Some (whole_of (id_of sender number) message) else None) →
