@@ -14,7 +14,7 @@ use Rattle.command_words.specs.declared.job.ClientJob.{ClientJob}
 use Rattle.command_words.specs.declared.job.Defaults.{Defaults}
 use Rattle.client_jobs.specs.Running.{Counts, HasWorked, Ends, first_number, client_of, command_of, starts_in, put_in}
 use Rattle.client_jobs.specs.Lines.{IsLine, IsListed, number_after, terms_for, terms_after, session_for, session_after, bytes_put, lists_alone}
-use Rattle.client_jobs.specs.declared.session.Session.{Session}
+use Rattle.client_jobs.specs.declared.session.CommandSession.{CommandSession}
 
 -- a clock was read once
 pub read_once : (before later : Option (List ℕ)) (reading : ℕ) → IfSome before (λ left. (reading ≡ next_reading left) × (later ≡ Some (readings_left left)))
@@ -24,18 +24,18 @@ read_once (Some left) later reading told untold = (told.0, told.1)
 
 -- a session of these
 both : (driver d : DriverView) (client c : ClientView) → driver ≡ d → client ≡ c
-    → let made : Session = record { driver = driver; client = client } in let is : Session = record { driver = d; client = c } in made ≡ is
+    → let made : CommandSession = record { driver = driver; client = client } in let is : CommandSession = record { driver = d; client = c } in made ≡ is
 both driver d client c same alike =
-    ap (λ (x : DriverView). let s : Session = record { driver = x; client = client } in s) same
-    ∙ ap (λ (x : ClientView). let s : Session = record { driver = d; client = x } in s) alike
+    ap (λ (x : DriverView). let s : CommandSession = record { driver = x; client = client } in s) same
+    ∙ ap (λ (x : ClientView). let s : CommandSession = record { driver = d; client = x } in s) alike
 
-number : (session : Session) (reading first least asked : ℕ) → first ≡ max least asked → least ≡ first_number reading → asked ≡ session.client.state.replicas.next
+number : (session : CommandSession) (reading first least asked : ℕ) → first ≡ max least asked → least ≡ first_number reading → asked ≡ session.client.state.replicas.next
     → first ≡ number_after session reading
 number session reading first least asked is low above =
     is ∙ ap (λ (n : ℕ). max n asked) low ∙ ap (max (first_number reading)) above
 
 -- what the code makes of a session as a command begins
-pub record Begun (job : ClientJob) (old : Session) (reading : ℕ) (driver : DriverView) (client : ClientView) : Type 0 where
+pub record Begun (job : ClientJob) (old : CommandSession) (reading : ℕ) (driver : DriverView) (client : ClientView) : Type 0 where
   pub first : ℕ
   pub least : ℕ
   pub asked : ℕ
@@ -49,8 +49,8 @@ pub record Begun (job : ClientJob) (old : Session) (reading : ℕ) (driver : Dri
   pub works : driver ≡ on_terms old.driver given
   pub new : client ≡ client_of job first
 
-begun_in : (job : ClientJob) (old : Session) (reading : ℕ) (driver : DriverView) (client : ClientView) → Begun job old reading driver client
-    → let made : Session = record { driver = driver; client = client } in made ≡ session_for job (number_after old reading) old
+begun_in : (job : ClientJob) (old : CommandSession) (reading : ℕ) (driver : DriverView) (client : ClientView) → Begun job old reading driver client
+    → let made : CommandSession = record { driver = driver; client = client } in made ≡ session_for job (number_after old reading) old
 begun_in job old reading driver client b =
     let n = number old reading b.first b.least b.asked b.is b.low b.above in
     both driver (session_for job (number_after old reading) old).driver client (session_for job (number_after old reading) old).client
@@ -58,7 +58,7 @@ begun_in job old reading driver client b =
     (b.new ∙ ap (client_of job) n)
 
 -- and after it
-pub record Left (job : ClientJob) (old left : Session) (final : DriverView) : Type 0 where
+pub record Left (job : ClientJob) (old left : CommandSession) (final : DriverView) : Type 0 where
   pub kept : Terms
   pub are : kept ≡ terms_of old.driver
   pub given : Terms
@@ -67,23 +67,23 @@ pub record Left (job : ClientJob) (old left : Session) (final : DriverView) : Ty
   pub after : taken ≡ terms_after job kept given
   pub works : final ≡ on_terms left.driver taken
 
-goes_back : (job : ClientJob) (old left : Session) (final : DriverView) → Left job old left final
-    → let made : Session = record { driver = final; client = left.client } in made ≡ session_after job old left
+goes_back : (job : ClientJob) (old left : CommandSession) (final : DriverView) → Left job old left final
+    → let made : CommandSession = record { driver = final; client = left.client } in made ≡ session_after job old left
 goes_back job old left final l =
-    ap (λ (x : DriverView). let s : Session = record { driver = x; client = left.client } in s)
+    ap (λ (x : DriverView). let s : CommandSession = record { driver = x; client = left.client } in s)
     (l.works ∙ ap (on_terms left.driver) (l.after ∙ ap (λ (t : Terms). terms_after job t l.given) l.are ∙ ap (terms_after job (terms_of old.driver)) l.were))
 
-pub line_runs : (job : ClientJob) (old left : Session) (bytes : List ℕ) (reading : ℕ) (unread : Option (List ℕ)) (driver final : DriverView) (client : ClientView) (before after : Around)
+pub line_runs : (job : ClientJob) (old left : CommandSession) (bytes : List ℕ) (reading : ℕ) (unread : Option (List ℕ)) (driver final : DriverView) (client : ClientView) (before after : Around)
     (held later : Option (List ℕ)) (sink risen link clock source clocked : ℕ) (now : Counts) (ended : Status) → Reads before.to_read unread (reading ∷ [])
     → clocked ≡ clock → bytes ≡ bytes_put (put_in job.order) → Begun job old reading driver client → Left job old left final
     → HasWorked (command_of job bytes) (record before { to_read = unread }) after (starts_in job (record { driver = driver; client = client })) left held later sink risen
     (record { link = link; clock = clocked; source = source }) now ended
     → IsLine job old (record { driver = final; client = left.client }) before after held later sink risen (record { link = link; clock = clock; source = source }) now ended
 line_runs job old left bytes reading unread driver final client before after held later sink risen link clock source clocked now ended reads sound same begun back works =
-    let P : List ℕ → Session → ℕ → Type 0 =
+    let P : List ℕ → CommandSession → ℕ → Type 0 =
     λ b s n. HasWorked (command_of job b) (record before { to_read = unread }) after (starts_in job s) left held later sink risen
     (record { link = link; clock = n; source = source }) now ended in
-    let first : Session = record { driver = driver; client = client } in
+    let first : CommandSession = record { driver = driver; client = client } in
     inr (record {
       reading = reading;
       unread = unread;
@@ -91,12 +91,12 @@ line_runs job old left bytes reading unread driver final client before after hel
       left = left;
       works =
           subst (P (bytes_put (put_in job.order)) (session_for job (number_after old reading) old)) sound
-          (subst (λ (s : Session). P (bytes_put (put_in job.order)) s clocked) (begun_in job old reading driver client begun)
+          (subst (λ (s : CommandSession). P (bytes_put (put_in job.order)) s clocked) (begun_in job old reading driver client begun)
           (subst (λ (b : List ℕ). P b first clocked) same works));
       goes_back = goes_back job old left final back;
     })
 
-pub lists_end : (base : Defaults) (job : ClientJob) (old new : Session) (bytes : List ℕ) (first : ℕ) (client : ClientView) (before after : Around) (counts now : Counts) (why : Status)
+pub lists_end : (base : Defaults) (job : ClientJob) (old new : CommandSession) (bytes : List ℕ) (first : ℕ) (client : ClientView) (before after : Around) (counts now : Counts) (why : Status)
     → job ≡ lists_alone base → bytes ≡ [] → first ≡ old.client.state.replicas.next → client ≡ client_of job first
     → ((text : List ℕ) × Ends (command_of job bytes) before after (record { session = record { driver = old.driver; client = client }; stage = next.Lists 2 nobody }) new counts now why text)
     → IsListed base old new before after counts now why

@@ -13,13 +13,13 @@ use Rattle.command_words.specs.declared.job.Order.TheVariants as order
 use Rattle.client_plans.specs.declared.stage.Stage.TheVariants as next
 use Rattle.client_plans.specs.Plans.{nobody}
 use Rattle.client_jobs.specs.Content.{pattern_from}
-use Rattle.client_jobs.specs.Running.{Counts, HasWhy, Closes, HasWorked, Ends, Standing, first_number, client_of, command_of, starts_in, put_in}
-use Rattle.client_jobs.specs.declared.session.Session.{Session}
+use Rattle.client_jobs.specs.Running.{Counts, HasWhy, Closes, HasWorked, Ends, CommandState, first_number, client_of, command_of, starts_in, put_in}
+use Rattle.client_jobs.specs.declared.session.CommandSession.{CommandSession}
 
 -- ---- the terms on which a command works
 
 -- The number of its first call, by its clock's first reading: as outside a session, but above all numbers that were used before it.
-abbrev pub number_after : Session → ℕ → ℕ
+abbrev pub number_after : CommandSession → ℕ → ℕ
 number_after session reading = max (first_number reading) session.client.state.replicas.next
 
 -- whether a command is one of the client whose session it is
@@ -54,14 +54,14 @@ terms_after job kept left = record {
 }
 
 -- a session as a command begins in it whose first call has this number
-abbrev pub session_for : ClientJob → ℕ → Session → Session
+abbrev pub session_for : ClientJob → ℕ → CommandSession → CommandSession
 session_for job first session = record {
   driver = on_terms session.driver (terms_for job first (terms_of session.driver));
   client = client_of job first;
 }
 
 -- and after a command that left this
-abbrev pub session_after : ClientJob → Session → Session → Session
+abbrev pub session_after : ClientJob → CommandSession → CommandSession → CommandSession
 session_after job session left = record {
   driver = on_terms left.driver (terms_after job (terms_of session.driver) (terms_of left.driver));
   client = left.client;
@@ -75,7 +75,7 @@ bytes_put (Some (Some size)) = pattern_from 0 size
 bytes_put _ = []
 
 -- Its clock can't be read, and nothing else is done.
-pub record IsUnread (old new : Session) (before after : Around) (held later : Option (List ℕ)) (sink risen : ℕ) (counts now : Counts) (ended : Status) : Type 0 where
+pub record IsUnread (old new : CommandSession) (before after : Around) (held later : Option (List ℕ)) (sink risen : ℕ) (counts now : Counts) (ended : Status) : Type 0 where
   pub times : ℕ
   pub cause : HasWhy counts now (status.ClockFault times)
   pub alone : after ≡ before
@@ -84,18 +84,18 @@ pub record IsUnread (old new : Session) (before after : Around) (held later : Op
 
 -- Its clock was read once, and its operations are those of the command, with the numbers from there on. What they left goes back to the
 -- session.
-pub record HasRun (job : ClientJob) (old new : Session) (before after : Around) (held later : Option (List ℕ)) (sink risen : ℕ) (counts now : Counts) (ended : Status)
+pub record HasRun (job : ClientJob) (old new : CommandSession) (before after : Around) (held later : Option (List ℕ)) (sink risen : ℕ) (counts now : Counts) (ended : Status)
     : Type 0 where
   pub reading : ℕ
   pub unread : Option (List ℕ)
   pub reads : Reads before.to_read unread (reading ∷ [])
-  pub left : Session
+  pub left : CommandSession
   pub works : HasWorked (command_of job (bytes_put (put_in job.order))) (record before { to_read = unread }) after
       (starts_in job (session_for job (number_after old reading) old)) left held later sink risen counts now ended
   pub goes_back : new ≡ session_after job old left
 
 -- What a command of a session does.
-abbrev pub IsLine : ClientJob → Session → Session → Around → Around → Option (List ℕ) → Option (List ℕ) → ℕ → ℕ → Counts → Counts → Status → Type 0
+abbrev pub IsLine : ClientJob → CommandSession → CommandSession → Around → Around → Option (List ℕ) → Option (List ℕ) → ℕ → ℕ → Counts → Counts → Status → Type 0
 IsLine job old new before after held later sink risen counts now ended =
     IsUnread old new before after held later sink risen counts now ended ⊎ HasRun job old new before after held later sink risen counts now ended
 
@@ -106,13 +106,13 @@ abbrev pub lists_alone : Defaults → ClientJob
 lists_alone base = record { settings = base.settings; who = base.who; dir = None; key = None; order = order.Register nobody 0 [] }
 
 -- where the lists begin, with the numbers that follow
-abbrev pub before_lists : Defaults → Session → Standing
+abbrev pub before_lists : Defaults → CommandSession → CommandState
 before_lists base session = record {
   session = record { driver = session.driver; client = client_of (lists_alone base) session.client.state.replicas.next };
   stage = next.Lists 2 nobody;
 }
 
 -- The lists with which commands begin were made, and nothing else; or they ended for this reason.
-pub record IsListed (base : Defaults) (old new : Session) (before after : Around) (counts now : Counts) (why : Status) : Type 0 where
+pub record IsListed (base : Defaults) (old new : CommandSession) (before after : Around) (counts now : Counts) (why : Status) : Type 0 where
   pub text : List ℕ
   pub ends : Ends (command_of (lists_alone base) []) before after (before_lists base old) new counts now why text

@@ -33,7 +33,7 @@ use Rattle.client_jobs.specs.Content.{pattern_from}
 use Rattle.client_jobs.specs.Limits.{fits_call, unasked}
 use Rattle.client_jobs.specs.declared.running.Advanced.{Advanced}
 use Rattle.client_jobs.specs.declared.running.Advanced.TheVariants as to
-use Rattle.client_jobs.specs.declared.session.Session.{Session}
+use Rattle.client_jobs.specs.declared.session.CommandSession.{CommandSession}
 
 -- ---- what is around a command
 
@@ -116,21 +116,21 @@ abbrev pub command_of : ClientJob → List ℕ → Command
 command_of job bytes = record { task = task_of job bytes; tries = job.who.tries }
 
 -- how far it is: what its calls are made by, and its stage
-pub record Standing : Type 0 where
-  pub session : Session
+pub record CommandState : Type 0 where
+  pub session : CommandSession
   pub stage : Stage
 
 -- a call that is to be carried out in a session
-abbrev pub call_in : Session → Call → ℕ → Carried
+abbrev pub call_in : CommandSession → Call → ℕ → Carried
 call_in session asked tries = record { driver = session.driver; client = session.client; call = asked; tries = tries }
 
 -- A call was carried out over the link, by the clock, and has a result; this is what it left.
-pub record HasCalled (call : Carried) (before after : Around) (left : Session) : Type 0 where
+pub record HasCalled (call : Carried) (before after : Around) (left : CommandSession) : Type 0 where
   pub carried : HasCarried call before after left.driver left.client
   pub ended : IsSome (rows.result_in left.client.state.made)
 
 -- The operation of a stage was carried out, and ended so.
-pub record HasOperated (c : Command) (before after : Around) (s : Standing) (left : Session) (ended : CallResult) : Type 0 where
+pub record HasOperated (c : Command) (before after : Around) (s : CommandState) (left : CommandSession) (ended : CallResult) : Type 0 where
   pub asked : Call
   pub is : operation_of c.task s.stage ≡ Some asked
   pub carried : HasCarried (call_in s.session asked c.tries) before after left.driver left.client
@@ -138,15 +138,15 @@ pub record HasOperated (c : Command) (before after : Around) (s : Standing) (lef
 
 -- So many operations were carried out, one after the other, each that of its stage; this is what they came to, and what is to be
 -- written.
-pub data Runs (c : Command) (from : Around) (start : Standing) : ℕ → Around → Standing → List ℕ → Type 0 where
+pub data Runs (c : Command) (from : Around) (start : CommandState) : ℕ → Around → CommandState → List ℕ → Type 0 where
   begun : Runs c from start 0 from start []
-  carried : (count : ℕ) (between after : Around) (s : Standing) (text : List ℕ) (left : Session) (ended : CallResult)
+  carried : (count : ℕ) (between after : Around) (s : CommandState) (text : List ℕ) (left : CommandSession) (ended : CallResult)
       → Runs c from start count between s text → HasOperated c between after s left ended
       → Runs c from start (count + 1) after (record { session = left; stage = (goes_on c.task s.stage ended).stage })
       (text ++ (goes_on c.task s.stage ended).text)
 
 -- There are so many results that the plan comes to this by them.
-pub record IsPlanned (c : Command) (start s : Standing) (count : ℕ) (text : List ℕ) : Type 0 where
+pub record IsPlanned (c : Command) (start s : CommandState) (count : ℕ) (text : List ℕ) : Type 0 where
   pub results : List CallResult
   pub each : length results ≡ count
   pub is : after c.task start.stage results ≡ record { stage = s.stage; text = text }
@@ -163,30 +163,30 @@ status_of error.OutOfMemory = status.OutOfMemory
 
 -- A call isn't carried out: it uses a file that isn't held, or no message holds it; or the link, the clock, the turns, the numbers or
 -- memory end it.
-abbrev pub CannotCall : Carried → Around → Around → Session → Status → Type 0
+abbrev pub CannotCall : Carried → Around → Around → CommandSession → Status → Type 0
 CannotCall call before after left why =
     ((is_ready call.client.state.held call.call && fits_call call.call) ≡ false) × (why ≡ unasked call.call) × (after ≡ before)
     × (left.driver ≡ call.driver) × (left.client ≡ call.client)
     ⊎ (failed : DriveErr) × (why ≡ status_of failed) × CannotCarry call before after left.driver left.client failed
 
 -- the operation of a stage isn't carried out
-pub record CannotOperate (c : Command) (before after : Around) (s : Standing) (left : Session) (why : Status) : Type 0 where
+pub record CannotOperate (c : Command) (before after : Around) (s : CommandState) (left : CommandSession) (why : Status) : Type 0 where
   pub asked : Call
   pub is : operation_of c.task s.stage ≡ Some asked
   pub ends : CannotCall (call_in s.session asked c.tries) before after left why
 
 -- Where memory runs out over an operation or over what is written of it, nothing of that is written.
-abbrev pub EndsAt : Command → Around → Around → Standing → Session → Status → Type 0
+abbrev pub EndsAt : Command → Around → Around → CommandState → CommandSession → Status → Type 0
 EndsAt c before after s left why = CannotOperate c before after s left why ⊎ (why ≡ status.OutOfMemory)
 
 -- what the operation of a stage comes to, where there is one: how the command goes on, or why it ends
-abbrev pub HasStepped : Command → Around → Around → Standing → Session → Result (Option Goes) Status → Type 0
+abbrev pub HasStepped : Command → Around → Around → CommandState → CommandSession → Result (Option Goes) Status → Type 0
 HasStepped c before after s left (Ok (Some goes)) = (ended : CallResult) × HasOperated c before after s left ended × (goes ≡ goes_on c.task s.stage ended)
 HasStepped c before after s left (Ok None) = (operation_of c.task s.stage ≡ None) × (after ≡ before) × (left ≡ s.session)
 HasStepped c before after s left (Err why) = EndsAt c before after s left why
 
 -- and once that is written which it writes
-abbrev pub HasAdvanced : Command → Around → Around → Standing → Option (List ℕ) → Option (List ℕ) → Session → Advanced → Type 0
+abbrev pub HasAdvanced : Command → Around → Around → CommandState → Option (List ℕ) → Option (List ℕ) → CommandSession → Advanced → Type 0
 HasAdvanced c before after s held later left (to.On stage) =
     (ended : CallResult) × HasOperated c before after s left ended × (stage ≡ (goes_on c.task s.stage ended).stage)
     × Puts held later (goes_on c.task s.stage ended).text
@@ -234,7 +234,7 @@ GoesOn _ = ⊥
 -- ---- the whole
 
 -- its clock has been read once, and what `put` writes is known
-pub record Begins (job : ClientJob) (left rest : Option (List ℕ)) (to_read unread : Option (List ℕ)) (session : Session) (bytes : List ℕ) : Type 0 where
+pub record Begins (job : ClientJob) (left rest : Option (List ℕ)) (to_read unread : Option (List ℕ)) (session : CommandSession) (bytes : List ℕ) : Type 0 where
   pub reading : ℕ
   pub reads : Reads to_read unread (reading ∷ [])
   pub content : IsContent job.order left rest bytes
@@ -242,11 +242,11 @@ pub record Begins (job : ClientJob) (left rest : Option (List ℕ)) (to_read unr
   pub starts : session.client ≡ client_of job (first_number reading)
 
 -- where its operations begin
-abbrev pub starts_in : ClientJob → Session → Standing
+abbrev pub starts_in : ClientJob → CommandSession → CommandState
 starts_in job session = record { session = session; stage = begins job.order }
 
 -- So many operations were carried out, and what they were to write was put.
-pub record IsUnderWay (c : Command) (from : Around) (start : Standing) (held : Option (List ℕ)) (count : ℕ) (now : Around) (s : Standing)
+pub record IsUnderWay (c : Command) (from : Around) (start : CommandState) (held : Option (List ℕ)) (count : ℕ) (now : Around) (s : CommandState)
     (later : Option (List ℕ)) : Type 0 where
   pub text : List ℕ
   pub runs : Runs c from start count now s text
@@ -258,23 +258,23 @@ IsSound before now = (now.link ≡ before.link) × (now.clock ≡ before.clock)
 
 -- A stage has no operation; or its operation isn't carried out, or memory runs out over what it writes; or as many were carried out as
 -- a client has numbers.
-abbrev pub EndsBy : Command → ℕ → Around → Around → Standing → Session → Counts → Counts → Status → Type 0
+abbrev pub EndsBy : Command → ℕ → Around → Around → CommandState → CommandSession → Counts → Counts → Status → Type 0
 EndsBy c count between after s left before now why =
     ((operation_of c.task s.stage ≡ None) × (why ≡ status_at s.stage) × (after ≡ between) × (left ≡ s.session) × IsSound before now)
     ⊎ ((EndsAt c between after s left why × HasWhy before now why)
     ⊎ ((count ≡ 2 ^ 62) × (why ≡ status_of error.NumbersSpent) × (after ≡ between) × (left ≡ s.session) × IsSound before now))
 
 -- Its operations came to an end, for this reason: what they were to write, and what they left.
-pub record Ends (c : Command) (from after : Around) (start : Standing) (left : Session) (before now : Counts) (why : Status) (text : List ℕ) : Type 0 where
+pub record Ends (c : Command) (from after : Around) (start : CommandState) (left : CommandSession) (before now : Counts) (why : Status) (text : List ℕ) : Type 0 where
   pub count : ℕ
   pub between : Around
-  pub s : Standing
+  pub s : CommandState
   pub runs : Runs c from start count between s text
   pub ends : EndsBy c count between after s left before now why
 
 -- How its operations end: what they were to write was put, and the last line of the status after it; or the sink failed over a front
 -- of what they were to write; or as many were carried out as a client has numbers.
-pub record HasEnded (c : Command) (from after : Around) (start : Standing) (left : Session) (held later : Option (List ℕ)) (sink risen : ℕ)
+pub record HasEnded (c : Command) (from after : Around) (start : CommandState) (left : CommandSession) (held later : Option (List ℕ)) (sink risen : ℕ)
     (before now : Counts) (ended : Status) : Type 0 where
   pub why : Status
   pub text : List ℕ
@@ -283,7 +283,7 @@ pub record HasEnded (c : Command) (from after : Around) (start : Standing) (left
   pub puts : Puts held put text
   pub closes : Closes put later sink risen why ended
 
-pub record IsCut (c : Command) (from after : Around) (start : Standing) (left : Session) (held later : Option (List ℕ)) (sink risen : ℕ)
+pub record IsCut (c : Command) (from after : Around) (start : CommandState) (left : CommandSession) (held later : Option (List ℕ)) (sink risen : ℕ)
     (before now : Counts) (ended : Status) : Type 0 where
   pub count : ℕ
   pub stage : Stage
@@ -296,7 +296,7 @@ pub record IsCut (c : Command) (from after : Around) (start : Standing) (left : 
   pub told : times ≡ risen
   pub sound : IsSound before now
 
-abbrev pub HasWorked : Command → Around → Around → Standing → Session → Option (List ℕ) → Option (List ℕ) → ℕ → ℕ → Counts → Counts → Status → Type 0
+abbrev pub HasWorked : Command → Around → Around → CommandState → CommandSession → Option (List ℕ) → Option (List ℕ) → ℕ → ℕ → Counts → Counts → Status → Type 0
 HasWorked c from after start left held later sink risen before now ended =
     HasEnded c from after start left held later sink risen before now ended ⊎ IsCut c from after start left held later sink risen before now ended
 
@@ -320,9 +320,9 @@ pub record HasBegun (job : ClientJob) (before after : Around) (left rest held la
     : Type 0 where
   pub bytes : List ℕ
   pub unread : Option (List ℕ)
-  pub session : Session
+  pub session : CommandSession
   pub starts : Begins job left rest before.to_read unread session bytes
-  pub leaves : Session
+  pub leaves : CommandSession
   pub works : HasWorked (command_of job bytes) (record before { to_read = unread }) after (starts_in job session) leaves held later sink risen
       counts now ended
 

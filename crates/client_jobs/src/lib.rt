@@ -18,4 +18,4 @@ mod showing;
 
 pub use lines::{run_line, run_lists};
 pub use running::{close, commands_keep_their_plans, first_number, run_client, status_of};
-pub use session::Session;
+pub use session::CommandSession;

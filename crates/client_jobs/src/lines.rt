@@ -8,7 +8,7 @@ ghost use Rattle.client_jobs.specs.Lines.{IsLine, IsListed, bytes_put};
 
 use crate::content::Content;
 use crate::running::{close, first_number, put_in, work, work_quietly};
-use crate::session::{Session, terms_after, terms_for};
+use crate::session::{CommandSession, terms_after, terms_for};
 use client_core::Client;
 use client_plans::Stage;
 use command_words::{ClientJob, Defaults, Order};
@@ -45,7 +45,7 @@ fn client_of(alloc: Global, job: &ClientJob, first: u64) -> Client
 pub fn run_line<K: Sink, L: Link, C: Clock>(
     alloc: Global,
     job: &ClientJob,
-    session: &mut Session,
+    session: &mut CommandSession,
     out: &mut K,
     link: &mut L,
     clock: &mut C,
@@ -116,7 +116,7 @@ fn lists_alone(base: &Defaults) -> ClientJob
 pub fn run_lists<L: Link, C: Clock>(
     alloc: Global,
     base: &Defaults,
-    session: &mut Session,
+    session: &mut CommandSession,
     link: &mut L,
     clock: &mut C,
 ) -> Status

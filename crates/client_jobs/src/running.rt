@@ -5,13 +5,13 @@ ghost use Rattle.client_plans.specs.Plans.{begins, end_of};
 ghost use Rattle.client_jobs.specs.Content.{bytes_of, HasReadCause};
 ghost use Rattle.client_jobs.specs.Running as spec;
 ghost use Rattle.client_loop.specs.Carrying.{Around};
-ghost use Rattle.client_jobs.specs.Running.{Command, Standing, Runs, IsPlanned, HasWhy, first_number, driver_of, client_of, IsContent, command_of, call_in, CannotCall, HasCalled, HasStepped, HasAdvanced, Ends, HasAdvanceCause, has_last_line, Closes, CanAsk, GoesOn, Begins, IsClientJob, HasWorked, starts_in, IsEarly};
+ghost use Rattle.client_jobs.specs.Running.{Command, CommandState, Runs, IsPlanned, HasWhy, first_number, driver_of, client_of, IsContent, command_of, call_in, CannotCall, HasCalled, HasStepped, HasAdvanced, Ends, HasAdvanceCause, has_last_line, Closes, CanAsk, GoesOn, Begins, IsClientJob, HasWorked, starts_in, IsEarly};
 
 use crate::asking::operation_of;
 use crate::content::{Content, ReadErr, read_all};
 use crate::going::goes_by;
 use crate::limits::{fits_call, unasked};
-use crate::session::Session;
+use crate::session::CommandSession;
 use client_core::Client;
 use client_loop::{DriveErr, Driver};
 use client_plans::{Goes, Stage};
@@ -25,7 +25,7 @@ use xt_messages::{Call, Limited, Status};
 /// What a command begins with.
 #[derive(Drop)]
 struct Begun {
-    session: Session,
+    session: CommandSession,
     content: Content,
 }
 
@@ -125,7 +125,7 @@ fn content_of<S: Source>(alloc: Global, order: &Order, src: &mut S) -> Result<Co
 }
 
 /// A session of this command alone, which begins at this reading.
-fn session_of(alloc: Global, job: &ClientJob, reading: u64) -> Option<Session>
+fn session_of(alloc: Global, job: &ClientJob, reading: u64) -> Option<CommandSession>
     requires dir { IsSome job.now.dir }
     requires turns { job.now.settings.turns < 2 ^ 62 }
     ensures { IfSome result (λ session. (session.driver ≡ driver_of job.now reading)
@@ -136,7 +136,7 @@ fn session_of(alloc: Global, job: &ClientJob, reading: u64) -> Option<Session>
     let (node, times) = (job.who.id, job.settings.times);
     let boot = Boot(first);
     match Driver::new(alloc, node, boot, times, dir, job.settings.turns) {
-        Ok(driver) => Some(Session {
+        Ok(driver) => Some(CommandSession {
             driver,
             client: Client::new(alloc, node, times, first),
         }),
@@ -226,7 +226,7 @@ fn begin<S: Source, L: Link, C: Clock>(
 
 /// Carries a call out.
 fn operate<L: Link, C: Clock>(
-    session: &mut Session,
+    session: &mut CommandSession,
     call: &Call,
     tries: u32,
     link: &mut L,
@@ -294,7 +294,7 @@ pub(crate) fn step<L: Link, C: Clock>(
     alloc: Global,
     job: &ClientJob,
     content: &Content,
-    session: &mut Session,
+    session: &mut CommandSession,
     stage: &Stage,
     link: &mut L,
     clock: &mut C,
@@ -376,7 +376,7 @@ fn advance<K: Sink, L: Link, C: Clock>(
     alloc: Global,
     job: &ClientJob,
     content: &Content,
-    session: &mut Session,
+    session: &mut CommandSession,
     stage: &Stage,
     out: &mut K,
     link: &mut L,
@@ -432,7 +432,7 @@ pub(crate) fn work<K: Sink, L: Link, C: Clock>(
     alloc: Global,
     job: &ClientJob,
     content: &Content,
-    session: &mut Session,
+    session: &mut CommandSession,
     out: &mut K,
     link: &mut L,
     clock: &mut C,
@@ -484,7 +484,7 @@ pub(crate) fn work_quietly<L: Link, C: Clock>(
     alloc: Global,
     job: &ClientJob,
     content: &Content,
-    session: &mut Session,
+    session: &mut CommandSession,
     first: Stage,
     link: &mut L,
     clock: &mut C,
@@ -581,6 +581,6 @@ pub fn run_client<S: Source, K: Sink, L: Link, C: Clock>(
 
 /// What a command does is its plan: by the results of its operations the plan comes to where the command is, and to what it writes.
 pub fn commands_keep_their_plans()
-    ensures { (c : Command) (from now : Around) (start s : Standing) (count : ℕ) (text : List ℕ) →
+    ensures { (c : Command) (from now : Around) (start s : CommandState) (count : ℕ) (text : List ℕ) →
         Runs c from start count now s text → IsPlanned c start s count text }
 {}

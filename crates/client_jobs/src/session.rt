@@ -13,20 +13,20 @@ use xt_base::Boot;
 /// What the commands of a session have in common, which runs them one after the other: an end of the link, and the client of the last
 /// command, after whose numbers the next one's come.
 #[derive(Drop)]
-pub struct Session {
+pub struct CommandSession {
     pub driver: Driver,
     pub client: Client,
 }
 
-impl Session {
+impl CommandSession {
     /// The session over an end of a link, in which no number was used yet.
-    pub fn new(alloc: Global, driver: Driver) -> Session
+    pub fn new(alloc: Global, driver: Driver) -> CommandSession
         ensures driver { result.driver ≡ driver }
         ensures client { result.client ≡ new_client driver.sender.node driver.times 0 }
     {
         let terms = driver.terms();
         let client = Client::new(alloc, terms.sender.node, terms.times, 0);
-        Session { driver, client }
+        CommandSession { driver, client }
     }
 }
 

@@ -7,22 +7,22 @@ use Rattle.node_links.specs.declared.children.ChildCall.{ChildCall}
 use Rattle.client_loop.specs.Carrying.{Around}
 use Rattle.client_jobs.specs.Running.{Closes}
 use Rattle.client_jobs.specs.Lines.{IsListed}
-use Rattle.client_jobs.specs.declared.session.Session.{Session}
+use Rattle.client_jobs.specs.declared.session.CommandSession.{CommandSession}
 use Rattle.command_words.specs.declared.job.ClusterJob.{ClusterJob}
 use Rattle.command_words.specs.declared.job.Defaults.{Defaults}
 use Rattle.cluster_lines.specs.Lines.{Situation, AreLines}
 use Rattle.cluster_children.specs.Calls.{Waits, WaitsFront, EndsWait}
 use Rattle.cluster_job.specs.Opening.{HasOpened, HasStarted, CannotStart}
 use Rattle.cluster_job.specs.Registering.{HasRegistered, CannotRegister}
-use Rattle.cluster_job.specs.Phases.{Standing, Phase, starting, rising, registering, listing, settling, commanding, parting, waiting, over, rises_at, settles_at, base_of, Comes, begun, gone, StartsAll, Hears, Lists, Parts, EndsHearing, EndsParting, EndsUntold, EndsIn, done, untold, told}
+use Rattle.cluster_job.specs.Phases.{ClusterState, Phase, starting, rising, registering, listing, settling, commanding, parting, waiting, over, rises_at, settles_at, base_of, Comes, begun, gone, StartsAll, Hears, Lists, Parts, EndsHearing, EndsParting, EndsUntold, EndsIn, done, untold, told}
 use Rattle.cluster_job.specs.Cluster.{Moment, begins_at, moment_of, EndsFrom, EndsOpened}
 
 module _ (job : ClusterJob) where
-  pub comes_then : (a b : Phase) (s t : Standing) → Comes job a s b t → (c : Phase) (u : Standing) → Comes job b t c u → Comes job a s c u
+  pub comes_then : (a b : Phase) (s t : ClusterState) → Comes job a s b t → (c : Phase) (u : ClusterState) → Comes job b t c u → Comes job a s c u
   comes_then a b s t first c u begun = first
   comes_then a b s t first c u (gone phase v w next goes) = gone phase v w (comes_then a b s t first phase v next) goes
 
-  pub ends_then : (a b : Phase) (s t : Standing) (after : Moment) (children : List ℕ) (said : Status) → Comes job a s b t → EndsFrom job b t after children said
+  pub ends_then : (a b : Phase) (s t : ClusterState) (after : Moment) (children : List ℕ) (said : Status) → Comes job a s b t → EndsFrom job b t after children said
       → EndsFrom job a s after children said
   ends_then a b s t after children said first ends = record {
     last = ends.last;
@@ -37,13 +37,13 @@ module _ (job : ClusterJob) where
   }
 
   -- it has come so far, and ends
-  pub ends_at : (first phase : Phase) (start s last : Standing) (said : Status) → Comes job first start phase s → EndsIn job phase s last said
+  pub ends_at : (first phase : Phase) (start s last : ClusterState) (said : Status) → Comes job first start phase s → EndsIn job phase s last said
       → EndsFrom job first start (moment_of last) last.children said
   ends_at first phase start s last said comes ends =
       record { last = last; goes = record { phase = phase; s = s; comes = comes; ends = ends }; around = refl; left = refl }
 
   -- why is told then
-  pub ends_told : (first phase : Phase) (start s last : Standing) (held : Option (List ℕ)) (sink : ℕ) (why said : Status) → Comes job first start phase s
+  pub ends_told : (first phase : Phase) (start s last : ClusterState) (held : Option (List ℕ)) (sink : ℕ) (why said : Status) → Comes job first start phase s
       → EndsUntold job phase s last why → Closes last.situation.held held last.situation.sink sink why said
       → EndsFrom job first start (moment_of (record last { situation = record last.situation { held = held; sink = sink } })) last.children said
   ends_told first phase start s last held sink why said comes ends closes =
@@ -52,7 +52,7 @@ module _ (job : ClusterJob) where
 
   -- ---- the children
 
-  pub starts_all : (s : Standing) (to_read : Option (List ℕ)) (calls : Option (List ChildCall)) (clock child : ℕ) (children : List ℕ) (started : ℕ)
+  pub starts_all : (s : ClusterState) (to_read : Option (List ℕ)) (calls : Option (List ChildCall)) (clock child : ℕ) (children : List ℕ) (started : ℕ)
       → HasStarted job s.situation.around (record s.situation.around { to_read = to_read }) s.calls calls children started
       → clock ≡ s.situation.counts.clock → child ≡ s.child
       → StartsAll job s (record s {
@@ -78,7 +78,7 @@ module _ (job : ClusterJob) where
         started = started;
       })) (sym still) (record { started = has; only = refl }))
 
-  pub ends_starting : (s : Standing) (to_read : Option (List ℕ)) (calls : Option (List ChildCall)) (clock child : ℕ) (children : List ℕ)
+  pub ends_starting : (s : ClusterState) (to_read : Option (List ℕ)) (calls : Option (List ChildCall)) (clock child : ℕ) (children : List ℕ)
       (held : Option (List ℕ)) (sink : ℕ) (why said : Status)
       → CannotStart job s.situation.around (record s.situation.around { to_read = to_read }) s.calls calls children s.situation.counts
       (record s.situation.counts { clock = clock }) s.child child why
@@ -104,15 +104,15 @@ module _ (job : ClusterJob) where
       })
       held sink why said begun (record { cannot = cannot; only = refl }) closes
 
-  has_started : (s t : Standing) → StartsAll job s t → Comes job starting s rising t
+  has_started : (s t : ClusterState) → StartsAll job s t → Comes job starting s rising t
   has_started s t starts = gone starting s t begun starts
 
-  pub has_risen : (s t : Standing) (until : ℕ) (later : Situation) → StartsAll job s t → until ≡ rises_at job t.started → Hears until t.situation later
+  pub has_risen : (s t : ClusterState) (until : ℕ) (later : Situation) → StartsAll job s t → until ≡ rises_at job t.started → Hears until t.situation later
       → Comes job starting s registering (record t { situation = later })
   has_risen s t until later starts e hears =
       gone rising t (record t { situation = later }) (has_started s t starts) (subst (λ n. Hears n t.situation later) e hears, refl)
 
-  pub ends_rising : (s t : Standing) (until : ℕ) (last : Situation) (held : Option (List ℕ)) (sink : ℕ) (why said : Status) → StartsAll job s t
+  pub ends_rising : (s t : ClusterState) (until : ℕ) (last : Situation) (held : Option (List ℕ)) (sink : ℕ) (why said : Status) → StartsAll job s t
       → until ≡ rises_at job t.started → EndsHearing until t.situation last why → Closes last.held held last.sink sink why said
       → EndsFrom job starting s (moment_of (record t { situation = record last { held = held; sink = sink } })) t.children said
   ends_rising s t until last held sink why said starts e cannot closes =
@@ -121,13 +121,13 @@ module _ (job : ClusterJob) where
 
   -- ---- registrations, lists, and time
 
-  pub ends_registering : (s : Standing) (later : Situation) (said : Status) → CannotRegister job s.situation later said
+  pub ends_registering : (s : ClusterState) (later : Situation) (said : Status) → CannotRegister job s.situation later said
       → EndsFrom job registering s (moment_of (record s { situation = later })) s.children said
   ends_registering s later said cannot =
       ends_at registering registering s s (record s { situation = later }) said begun (told (record s { situation = later }) said (cannot, refl))
 
   -- the lists are made with what the cluster has
-  pub lists : (s : Situation) (session : Session) (around : Around) (link clock : ℕ) (base : Defaults) (said why : Status) → base ≡ base_of job → why ≡ said
+  pub lists : (s : Situation) (session : CommandSession) (around : Around) (link clock : ℕ) (base : Defaults) (said why : Status) → base ≡ base_of job → why ≡ said
       → IsListed base s.session session s.around around s.counts (record s.counts { link = link; clock = clock }) said
       → Lists job s (record s { session = session; around = around; counts = record s.counts { link = link; clock = clock } }) why
   lists s session around link clock base said why same is listed = record {
@@ -137,31 +137,31 @@ module _ (job : ClusterJob) where
     only = refl;
   }
 
-  has_registered : (s : Standing) (later : Situation) (reading : ℕ) → HasRegistered job s.situation later reading
+  has_registered : (s : ClusterState) (later : Situation) (reading : ℕ) → HasRegistered job s.situation later reading
       → Comes job registering s listing (record s { situation = later; registered = reading })
   has_registered s later reading has =
       gone registering s (record s { situation = later; registered = reading }) begun (record { registered = has; only = refl })
 
-  pub ends_listing : (s : Standing) (l last : Situation) (reading : ℕ) (held : Option (List ℕ)) (sink : ℕ) (why said : Status)
+  pub ends_listing : (s : ClusterState) (l last : Situation) (reading : ℕ) (held : Option (List ℕ)) (sink : ℕ) (why said : Status)
       → HasRegistered job s.situation l reading → Lists job l last why → why ≢ status.Done → Closes last.held held last.sink sink why said
       → EndsFrom job registering s (moment_of (record s { situation = record last { held = held; sink = sink } })) s.children said
   ends_listing s l last reading held sink why said has fails not closes =
       ends_told registering listing s (record s { situation = l; registered = reading }) (record s { situation = last; registered = reading }) held sink why said
       (has_registered s l reading has) (fails, not, refl) closes
 
-  has_listed : (s : Standing) (l later : Situation) (reading : ℕ) → HasRegistered job s.situation l reading → Lists job l later status.Done
+  has_listed : (s : ClusterState) (l later : Situation) (reading : ℕ) → HasRegistered job s.situation l reading → Lists job l later status.Done
       → Comes job registering s settling (record s { situation = later; registered = reading })
   has_listed s l later reading has made =
       gone listing (record s { situation = l; registered = reading }) (record s { situation = later; registered = reading }) (has_registered s l reading has) (made, refl)
 
-  pub has_settled : (s : Standing) (l m later : Situation) (reading until : ℕ) → HasRegistered job s.situation l reading → Lists job l m status.Done
+  pub has_settled : (s : ClusterState) (l m later : Situation) (reading until : ℕ) → HasRegistered job s.situation l reading → Lists job l m status.Done
       → until ≡ settles_at job s.started reading → Hears until m later
       → Comes job registering s commanding (record s { situation = later; registered = reading })
   has_settled s l m later reading until has made e hears =
       gone settling (record s { situation = m; registered = reading }) (record s { situation = later; registered = reading }) (has_listed s l m reading has made)
       (subst (λ n. Hears n m later) e hears, refl)
 
-  pub ends_settling : (s : Standing) (l m last : Situation) (reading until : ℕ) (held : Option (List ℕ)) (sink : ℕ) (why said : Status)
+  pub ends_settling : (s : ClusterState) (l m last : Situation) (reading until : ℕ) (held : Option (List ℕ)) (sink : ℕ) (why said : Status)
       → HasRegistered job s.situation l reading → Lists job l m status.Done → until ≡ settles_at job s.started reading → EndsHearing until m last why
       → Closes last.held held last.sink sink why said
       → EndsFrom job registering s (moment_of (record s { situation = record last { held = held; sink = sink } })) s.children said
@@ -174,25 +174,25 @@ module _ (job : ClusterJob) where
   pub lines : (s later : Situation) (base : Defaults) (said why : Status) → base ≡ base_of job → why ≡ said → AreLines base s later said → AreLines (base_of job) s later why
   lines s later base said why same is ran = subst (λ b. AreLines b s later why) same (subst (AreLines base s later) (sym is) ran)
 
-  pub ends_commanding : (s : Standing) (later : Situation) (said : Status) → AreLines (base_of job) s.situation later said → said ≢ status.Done
+  pub ends_commanding : (s : ClusterState) (later : Situation) (said : Status) → AreLines (base_of job) s.situation later said → said ≢ status.Done
       → EndsFrom job commanding s (moment_of (record s { situation = later })) s.children said
   ends_commanding s later said ran not =
       ends_at commanding commanding s s (record s { situation = later }) said begun (told (record s { situation = later }) said (ran, not, refl))
 
-  has_commanded : (s : Standing) (later : Situation) → AreLines (base_of job) s.situation later status.Done → Comes job commanding s parting (record s { situation = later })
+  has_commanded : (s : ClusterState) (later : Situation) → AreLines (base_of job) s.situation later status.Done → Comes job commanding s parting (record s { situation = later })
   has_commanded s later ran = gone commanding s (record s { situation = later }) begun (ran, refl)
 
-  pub ends_parting : (s : Standing) (l last : Situation) (held : Option (List ℕ)) (sink : ℕ) (why said : Status)
+  pub ends_parting : (s : ClusterState) (l last : Situation) (held : Option (List ℕ)) (sink : ℕ) (why said : Status)
       → AreLines (base_of job) s.situation l status.Done → EndsParting job l last why → Closes last.held held last.sink sink why said
       → EndsFrom job commanding s (moment_of (record s { situation = record last { held = held; sink = sink } })) s.children said
   ends_parting s l last held sink why said ran cannot closes =
       ends_told commanding parting s (record s { situation = l }) (record s { situation = last }) held sink why said (has_commanded s l ran) (cannot, refl) closes
 
-  has_parted : (s : Standing) (l later : Situation) → AreLines (base_of job) s.situation l status.Done → Parts job l later
+  has_parted : (s : ClusterState) (l later : Situation) → AreLines (base_of job) s.situation l status.Done → Parts job l later
       → Comes job commanding s waiting (record s { situation = later })
   has_parted s l later ran parts = gone parting (record s { situation = l }) (record s { situation = later }) (has_commanded s l ran) (parts, refl)
 
-  pub ends_waiting : (s : Standing) (l later : Situation) (calls : Option (List ChildCall)) (child : ℕ) (children : List ℕ) (held : Option (List ℕ)) (sink : ℕ)
+  pub ends_waiting : (s : ClusterState) (l later : Situation) (calls : Option (List ChildCall)) (child : ℕ) (children : List ℕ) (held : Option (List ℕ)) (sink : ℕ)
       (why said : Status) → AreLines (base_of job) s.situation l status.Done → Parts job l later → WaitsFront s.calls calls s.children children
       → EndsWait s.child child why → Closes later.held held later.sink sink why said
       → EndsFrom job commanding s
@@ -205,7 +205,7 @@ module _ (job : ClusterJob) where
   all_waited before after children others none front =
       subst (Waits before after) (sym (append-nil front.waited) ∙ ap (λ xs. front.waited ++ xs) (sym none) ∙ sym front.is) front.waits
 
-  pub ends_done : (s : Standing) (l later : Situation) (calls : Option (List ChildCall)) (child : ℕ) (children : List ℕ)
+  pub ends_done : (s : ClusterState) (l later : Situation) (calls : Option (List ChildCall)) (child : ℕ) (children : List ℕ)
       → AreLines (base_of job) s.situation l status.Done → Parts job l later → WaitsFront s.calls calls s.children children → children ≡ [] → child ≡ s.child
       → EndsFrom job commanding s (moment_of (record s { situation = later; calls = calls; child = child })) children status.Done
   ends_done s l later calls child children ran parts front none still = record {
@@ -223,7 +223,7 @@ module _ (job : ClusterJob) where
 
   -- ---- the whole
 
-  pub opened_ends : (before : Moment) (opened : Around) (session : Session) (link clock : ℕ) (after : Moment) (children : List ℕ) (said : Status)
+  pub opened_ends : (before : Moment) (opened : Around) (session : CommandSession) (link clock : ℕ) (after : Moment) (children : List ℕ) (said : Status)
       → HasOpened job before.around opened session → link ≡ before.counts.link → clock ≡ before.counts.clock
       → EndsFrom job starting (begins_at (record before { around = opened; counts = record before.counts { link = link; clock = clock } }) session) after children said
       → EndsOpened job before after children said

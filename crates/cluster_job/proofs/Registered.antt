@@ -5,7 +5,7 @@ use Rattle.xt_messages.specs.declared.status.Status.TheVariants as status
 use Rattle.node_links.specs.declared.link.Datagram.{Datagram}
 use Rattle.node_runs.specs.Links.{Reads}
 use Rattle.client_jobs.specs.Running.{HasWhy, Closes}
-use Rattle.client_jobs.specs.declared.session.Session.{Session}
+use Rattle.client_jobs.specs.declared.session.CommandSession.{CommandSession}
 use Rattle.command_words.specs.declared.job.ClusterJob.{ClusterJob}
 use Rattle.cluster_words.specs.declared.children.ClusterNode.TheVariants as node
 use Rattle.cluster_children.specs.Calls.{osds_to}
@@ -46,7 +46,7 @@ registers_all job start s osds all so_far = subst (λ n. Registers job start (re
 
 -- ---- the clock, after the last one
 
-module _ (session : Session) (given sent : Option (List Datagram)) (losses : ℕ) (to_read : Option (List ℕ)) (left held : Option (List ℕ)) (link clock source sink : ℕ) where
+module _ (session : CommandSession) (given sent : Option (List Datagram)) (losses : ℕ) (to_read : Option (List ℕ)) (left held : Option (List ℕ)) (link clock source sink : ℕ) where
   abbrev before_reading : Situation
   before_reading = record {
     session = session;

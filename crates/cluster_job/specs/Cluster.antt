@@ -4,11 +4,11 @@ use Rattle.xt_messages.specs.declared.status.Status.{Status}
 use Rattle.node_links.specs.declared.children.ChildCall.{ChildCall}
 use Rattle.client_loop.specs.Carrying.{Around}
 use Rattle.client_jobs.specs.Running.{Counts, Closes}
-use Rattle.client_jobs.specs.declared.session.Session.{Session}
+use Rattle.client_jobs.specs.declared.session.CommandSession.{CommandSession}
 use Rattle.command_words.specs.declared.job.ClusterJob.{ClusterJob}
 use Rattle.cluster_children.specs.Calls.{Stops}
 use Rattle.cluster_job.specs.Opening.{HasOpened, CannotOpen}
-use Rattle.cluster_job.specs.Phases.{Standing, Phase, starting, GoesFrom}
+use Rattle.cluster_job.specs.Phases.{ClusterState, Phase, starting, GoesFrom}
 
 -- What is around the command: a link and a clock, what its source has left and what its sink holds, the calls of its spawner, and how often
 -- each of them has failed.
@@ -22,7 +22,7 @@ pub record Moment : Type 0 where
   pub child : ℕ
 
 -- how all stands as its session begins
-abbrev pub begins_at : Moment → Session → Standing
+abbrev pub begins_at : Moment → CommandSession → ClusterState
 begins_at m session = record {
   situation = record { session = session; around = m.around; left = m.left; held = m.held; counts = m.counts; sink = m.sink };
   calls = m.calls;
@@ -32,7 +32,7 @@ begins_at m session = record {
   registered = 0;
 }
 
-abbrev pub moment_of : Standing → Moment
+abbrev pub moment_of : ClusterState → Moment
 moment_of s = record {
   around = s.situation.around;
   left = s.situation.left;
@@ -51,8 +51,8 @@ pub record EndsUnopened (before after : Moment) (said : Status) : Type 0 where
   pub only : after ≡ record before { around = after.around; held = after.held; counts = after.counts; sink = after.sink }
 
 -- From one phase on it goes as far as it can, and ends so: this is around it then, and these children weren't waited for.
-pub record EndsFrom (job : ClusterJob) (first : Phase) (start : Standing) (after : Moment) (children : List ℕ) (said : Status) : Type 0 where
-  pub last : Standing
+pub record EndsFrom (job : ClusterJob) (first : Phase) (start : ClusterState) (after : Moment) (children : List ℕ) (said : Status) : Type 0 where
+  pub last : ClusterState
   pub goes : GoesFrom job first start last said
   pub around : after ≡ moment_of last
   pub left : children ≡ last.children
@@ -60,7 +60,7 @@ pub record EndsFrom (job : ClusterJob) (first : Phase) (start : Standing) (after
 -- The link is bound and the clock is read, and then it goes from phase to phase.
 pub record EndsOpened (job : ClusterJob) (before after : Moment) (children : List ℕ) (said : Status) : Type 0 where
   pub opened : Around
-  pub session : Session
+  pub session : CommandSession
   pub opens : HasOpened job before.around opened session
   pub ends : EndsFrom job starting (begins_at (record before { around = opened }) session) after children said
 

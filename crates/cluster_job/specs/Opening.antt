@@ -8,7 +8,7 @@ use Rattle.node_runs.specs.Links.{Reads}
 use Rattle.client_loop.specs.Listening.{DriverView}
 use Rattle.client_loop.specs.Carrying.{Around}
 use Rattle.client_jobs.specs.Running.{Counts, HasWhy, first_number, new_client}
-use Rattle.client_jobs.specs.declared.session.Session.{Session}
+use Rattle.client_jobs.specs.declared.session.CommandSession.{CommandSession}
 use Rattle.command_words.specs.declared.job.ClusterJob.{ClusterJob}
 use Rattle.cluster_words.specs.Children.{local}
 use Rattle.cluster_children.specs.Calls.{nodes_of, Starts, StartsFront, EndsStart}
@@ -29,7 +29,7 @@ driver_at job reading = record {
 }
 
 -- no number was used yet
-abbrev pub session_at : ClusterJob → ℕ → Session
+abbrev pub session_at : ClusterJob → ℕ → CommandSession
 session_at job reading = record { driver = driver_at job reading; client = new_client job.who.id job.settings.times 0 }
 
 -- Of what is around, only the clock was used, which gave these readings.
@@ -38,7 +38,7 @@ pub record OnlyReads (before after : Around) (readings : List ℕ) : Type 0 wher
   pub only : after ≡ record before { to_read = after.to_read }
 
 -- The link was bound, and then the clock was read once.
-pub record HasOpened (job : ClusterJob) (before after : Around) (session : Session) : Type 0 where
+pub record HasOpened (job : ClusterJob) (before after : Around) (session : CommandSession) : Type 0 where
   pub reading : ℕ
   pub reads : OnlyReads before after (reading ∷ [])
   pub session_is : session ≡ session_at job reading

@@ -17,7 +17,7 @@ use Rattle.cluster_job.specs.Parting.{HasParted, CannotPart}
 
 -- How all stands with a cluster: its session with what is around that; the calls of its spawner, and how often that has failed; its
 -- children that aren't waited for; and what its clock read when the last child was started and when the last registration had ended.
-pub record Standing : Type 0 where
+pub record ClusterState : Type 0 where
   pub situation : Situation
   pub calls : Option (List ChildCall)
   pub child : ℕ
@@ -66,7 +66,7 @@ base_of job = record { settings = job.settings; who = job.who }
 -- ---- phases that go well
 
 -- all nodes are started
-pub record StartsAll (job : ClusterJob) (s later : Standing) : Type 0 where
+pub record StartsAll (job : ClusterJob) (s later : ClusterState) : Type 0 where
   pub started : HasStarted job s.situation.around later.situation.around s.calls later.calls later.children later.started
   pub only : later ≡ record s {
     situation = record s.situation { around = later.situation.around };
@@ -85,7 +85,7 @@ pub record Hears (until : ℕ) (s later : Situation) : Type 0 where
   }
 
 -- the MRC and the OSDs are registered
-pub record RegistersAll (job : ClusterJob) (s later : Standing) : Type 0 where
+pub record RegistersAll (job : ClusterJob) (s later : ClusterState) : Type 0 where
   pub registered : HasRegistered job s.situation later.situation later.registered
   pub only : later ≡ record s { situation = later.situation; registered = later.registered }
 
@@ -108,15 +108,15 @@ pub record Parts (job : ClusterJob) (s later : Situation) : Type 0 where
   pub only : later ≡ record s { session = record s.session { driver = later.session.driver }; around = later.around }
 
 -- all children are waited for
-pub record Awaits (s later : Standing) : Type 0 where
+pub record Awaits (s later : ClusterState) : Type 0 where
   pub waits : Waits s.calls later.calls s.children
   pub only : later ≡ record s { calls = later.calls; children = [] }
 
 -- nothing but the situation is another
-abbrev pub OnlySituation : Standing → Standing → Type 0
+abbrev pub OnlySituation : ClusterState → ClusterState → Type 0
 OnlySituation s later = later ≡ record s { situation = later.situation }
 
-abbrev pub Goes : ClusterJob → Phase → Standing → Standing → Type 0
+abbrev pub Goes : ClusterJob → Phase → ClusterState → ClusterState → Type 0
 Goes job starting s later = StartsAll job s later
 Goes job rising s later = Hears (rises_at job s.started) s.situation later.situation × OnlySituation s later
 Goes job registering s later = RegistersAll job s later
@@ -128,14 +128,14 @@ Goes job waiting s later = Awaits s later
 Goes job over s later = ⊥
 
 -- It has come from one phase to another.
-pub data Comes (job : ClusterJob) (first : Phase) (start : Standing) : Phase → Standing → Type 0 where
+pub data Comes (job : ClusterJob) (first : Phase) (start : ClusterState) : Phase → ClusterState → Type 0 where
   begun : Comes job first start first start
-  gone : (phase : Phase) (s later : Standing) → Comes job first start phase s → Goes job phase s later → Comes job first start (phase_after phase) later
+  gone : (phase : Phase) (s later : ClusterState) → Comes job first start phase s → Goes job phase s later → Comes job first start (phase_after phase) later
 
 -- ---- phases that end it
 
 -- not all nodes are started
-pub record EndsStarting (job : ClusterJob) (s later : Standing) (why : Status) : Type 0 where
+pub record EndsStarting (job : ClusterJob) (s later : ClusterState) (why : Status) : Type 0 where
   pub cannot : CannotStart job s.situation.around later.situation.around s.calls later.calls later.children s.situation.counts later.situation.counts
       s.child later.child why
   pub only : later ≡ record s {
@@ -163,13 +163,13 @@ pub record EndsParting (job : ClusterJob) (s later : Situation) (why : Status) :
   pub only : later ≡ record s { around = later.around }
 
 -- not all children are waited for
-pub record EndsWaiting (s later : Standing) (why : Status) : Type 0 where
+pub record EndsWaiting (s later : ClusterState) (why : Status) : Type 0 where
   pub front : WaitsFront s.calls later.calls s.children later.children
   pub cause : EndsWait s.child later.child why
   pub only : later ≡ record s { calls = later.calls; child = later.child; children = later.children }
 
 -- What ends a cluster in a phase, before that is told.
-abbrev pub EndsUntold : ClusterJob → Phase → Standing → Standing → Status → Type 0
+abbrev pub EndsUntold : ClusterJob → Phase → ClusterState → ClusterState → Status → Type 0
 EndsUntold job starting s later why = EndsStarting job s later why
 EndsUntold job rising s later why = EndsHearing (rises_at job s.started) s.situation later.situation why × OnlySituation s later
 EndsUntold job listing s later why = Lists job s.situation later.situation why × (why ≢ status.Done) × OnlySituation s later
@@ -179,26 +179,26 @@ EndsUntold job waiting s later why = EndsWaiting s later why
 EndsUntold job _ s later why = ⊥
 
 -- the last line of a status is put, and nothing else is done
-pub record OnlyTells (why : Status) (s later : Standing) (said : Status) : Type 0 where
+pub record OnlyTells (why : Status) (s later : ClusterState) (said : Status) : Type 0 where
   pub closes : Closes s.situation.held later.situation.held s.situation.sink later.situation.sink why said
   pub only : later ≡ record s { situation = record s.situation { held = later.situation.held; sink = later.situation.sink } }
 
 -- What ends a cluster in a phase by a command or a line, which has told it.
-abbrev pub EndsTold : ClusterJob → Phase → Standing → Standing → Status → Type 0
+abbrev pub EndsTold : ClusterJob → Phase → ClusterState → ClusterState → Status → Type 0
 EndsTold job registering s later said = CannotRegister job s.situation later.situation said × OnlySituation s later
 EndsTold job commanding s later said = AreLines (base_of job) s.situation later.situation said × (said ≢ status.Done) × OnlySituation s later
 EndsTold job _ s later said = ⊥
 
 -- How a cluster ends in a phase: past the last one it is done; else why it ends is told, by a command or a line, or after it.
-pub data EndsIn (job : ClusterJob) (phase : Phase) (s : Standing) : Standing → Status → Type 0 where
+pub data EndsIn (job : ClusterJob) (phase : Phase) (s : ClusterState) : ClusterState → Status → Type 0 where
   done : phase ≡ over → EndsIn job phase s s status.Done
-  untold : (last later : Standing) (why said : Status) → EndsUntold job phase s last why → OnlyTells why last later said
+  untold : (last later : ClusterState) (why said : Status) → EndsUntold job phase s last why → OnlyTells why last later said
       → EndsIn job phase s later said
-  told : (later : Standing) (said : Status) → EndsTold job phase s later said → EndsIn job phase s later said
+  told : (later : ClusterState) (said : Status) → EndsTold job phase s later said → EndsIn job phase s later said
 
 -- From one phase on it goes as far as it can, and ends so.
-pub record GoesFrom (job : ClusterJob) (first : Phase) (start later : Standing) (said : Status) : Type 0 where
+pub record GoesFrom (job : ClusterJob) (first : Phase) (start later : ClusterState) (said : Status) : Type 0 where
   pub phase : Phase
-  pub s : Standing
+  pub s : ClusterState
   pub comes : Comes job first start phase s
   pub ends : EndsIn job phase s later said

@@ -8,7 +8,7 @@ use crate::listening::listen;
 use crate::opening::{open, start};
 use crate::parting::part;
 use crate::registering::{register_all, unless_done};
-use client_jobs::{Session, close, run_lists};
+use client_jobs::{CommandSession, close, run_lists};
 use cluster_children::Children;
 use cluster_lines::run_lines;
 use command_words::{ClusterJob, Defaults};
@@ -40,7 +40,7 @@ fn settles_at(job: &ClusterJob, started: u64, registered: u64) -> u64
 fn set_up<K: Sink, L: Link, C: Clock, P: Spawner>(
     alloc: Global,
     job: &ClusterJob,
-    session: &mut Session,
+    session: &mut CommandSession,
     children: &mut Children,
     out: &mut K,
     link: &mut L,
@@ -161,7 +161,7 @@ fn set_up<K: Sink, L: Link, C: Clock, P: Spawner>(
 fn settle<K: Sink, L: Link, C: Clock>(
     alloc: Global,
     job: &ClusterJob,
-    session: &mut Session,
+    session: &mut CommandSession,
     started: u64,
     out: &mut K,
     link: &mut L,
@@ -285,7 +285,7 @@ fn settle<K: Sink, L: Link, C: Clock>(
 fn carry_on<S: Source, K: Sink, L: Link, C: Clock, P: Spawner>(
     alloc: Global,
     job: &ClusterJob,
-    session: &mut Session,
+    session: &mut CommandSession,
     children: &mut Children,
     src: &mut S,
     out: &mut K,

@@ -1,13 +1,13 @@
 ghost use Rattle.std.specs.Prelude.{ℕ, List, Option, OnOk, IfErr};
 ghost use Rattle.cluster_job.specs.Phases.{Hears, EndsHearing};
 
-use client_jobs::{Session, status_of};
+use client_jobs::{CommandSession, status_of};
 use node_links::{Clock, Link};
 use xt_messages::Status;
 
 /// Hears what comes until the clock reads this time or more.
 pub fn listen<L: Link, C: Clock>(
-    session: &mut Session,
+    session: &mut CommandSession,
     until: u64,
     link: &mut L,
     clock: &mut C,

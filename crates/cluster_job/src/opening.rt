@@ -4,7 +4,7 @@ ghost use Rattle.node_runs.specs.Links.{Reads};
 ghost use Rattle.client_jobs.specs.Running.{HasWhy};
 ghost use Rattle.cluster_job.specs.Opening.{HasOpened, CannotOpen, HasStarted, CannotStart, session_at};
 
-use client_jobs::{Session, first_number};
+use client_jobs::{CommandSession, first_number};
 use client_loop::Driver;
 use cluster_children::Children;
 use cluster_words::address;
@@ -35,7 +35,7 @@ pub fn read<C: Clock>(clock: &mut C) -> Result<u64, Status>
 }
 
 /// A session that begins at this reading.
-fn session(alloc: Global, job: &ClusterJob, reading: u64) -> Result<Session, OutOfMemory>
+fn session(alloc: Global, job: &ClusterJob, reading: u64) -> Result<CommandSession, OutOfMemory>
     requires turns { job.now.settings.turns < 2 ^ 62 }
     ensures { IfOk result (λ session. session ≡ session_at job.now reading) }
 {
@@ -48,7 +48,7 @@ fn session(alloc: Global, job: &ClusterJob, reading: u64) -> Result<Session, Out
         &dir,
         job.settings.turns,
     )?;
-    Ok(Session::new(alloc, driver))
+    Ok(CommandSession::new(alloc, driver))
 }
 
 /// Takes an address for the link, and reads the clock: the session of the cluster's commands.
@@ -57,7 +57,7 @@ pub fn open<L: Link, C: Clock>(
     job: &ClusterJob,
     link: &mut L,
     clock: &mut C,
-) -> Result<Session, Status>
+) -> Result<CommandSession, Status>
     requires turns { job.now.settings.turns < 2 ^ 62 }
     ensures opened { IfOk result (HasOpened job.now
         (record {

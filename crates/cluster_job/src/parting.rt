@@ -5,7 +5,7 @@ ghost use Rattle.cluster_job.specs.Parting as spec;
 ghost use Rattle.cluster_job.specs.Phases.{Parts, EndsParting};
 
 use capabilities::hmac;
-use client_jobs::Session;
+use client_jobs::CommandSession;
 use cluster_words::ClusterNode;
 use command_words::ClusterJob;
 use node_links::Link;
@@ -49,7 +49,7 @@ fn farewells(alloc: Global, job: &ClusterJob) -> Result<Msgs, OutOfMemory>
 pub fn part<L: Link>(
     alloc: Global,
     job: &ClusterJob,
-    session: &mut Session,
+    session: &mut CommandSession,
     link: &mut L,
 ) -> Result<(), Status>
     requires some { 1 ≤ length job.now.key }

@@ -3,7 +3,7 @@ ghost use Rattle.cluster_job.specs.Registering as spec;
 ghost use Rattle.cluster_job.specs.Registering.{registration_of, RunsLine, IsNotRegistered, HasRegistered, CannotRegister};
 
 use crate::opening::read;
-use client_jobs::{Session, close, run_line};
+use client_jobs::{CommandSession, close, run_line};
 use cluster_words::{ClusterNode, address};
 use command_words::{ClientJob, ClusterJob, Order};
 use node_links::{Clock, Link, Sink};
@@ -59,7 +59,7 @@ fn register<K: Sink, L: Link, C: Clock>(
     alloc: Global,
     job: &ClusterJob,
     node: ClusterNode,
-    session: &mut Session,
+    session: &mut CommandSession,
     out: &mut K,
     link: &mut L,
     clock: &mut C,
@@ -150,7 +150,7 @@ fn register<K: Sink, L: Link, C: Clock>(
 pub fn register_all<K: Sink, L: Link, C: Clock>(
     alloc: Global,
     job: &ClusterJob,
-    session: &mut Session,
+    session: &mut CommandSession,
     out: &mut K,
     link: &mut L,
     clock: &mut C,

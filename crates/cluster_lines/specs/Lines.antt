@@ -16,14 +16,14 @@ use Rattle.client_loop.specs.Carrying.{Around}
 use Rattle.command_words.specs.declared.job.ClientJob.{ClientJob}
 use Rattle.command_words.specs.declared.job.Defaults.{Defaults}
 use Rattle.asked_jobs.specs.Lines.{line_job}
-use Rattle.client_jobs.specs.declared.session.Session.{Session}
+use Rattle.client_jobs.specs.declared.session.CommandSession.{CommandSession}
 use Rattle.client_jobs.specs.Running.{Counts, HasWhy, Closes}
 use Rattle.client_jobs.specs.Lines.{IsLine}
 
 -- How all stands between two lines: the session, what is around it, what the source has left and the sink holds, how often the link, the
 -- clock and the source have failed, and how often the sink.
 pub record Situation : Type 0 where
-  pub session : Session
+  pub session : CommandSession
   pub around : Around
   pub left : Option (List ℕ)
   pub held : Option (List ℕ)

@@ -7,11 +7,11 @@ ghost use Rattle.schedule_lines.specs.Causes.{CausesPut};
 ghost use Rattle.cluster_lines.specs.Lines as spec;
 ghost use Rattle.client_loop.specs.Carrying.{Around};
 ghost use Rattle.command_words.specs.declared.job.Defaults.{Defaults};
-ghost use Rattle.client_jobs.specs.declared.session.Session.{Session};
+ghost use Rattle.client_jobs.specs.declared.session.CommandSession.{CommandSession};
 ghost use Rattle.cluster_lines.specs.Lines.{asked_by, IsText, IsAnswered, code_line, IsRunTo, IsStep, EndsLines, AreLines};
 
 use asked_jobs::asked_line;
-use client_jobs::{Session, close, run_line};
+use client_jobs::{CommandSession, close, run_line};
 use command_words::{ClientJob, Defaults};
 use node_links::{Clock, Link, Sink, Source};
 use schedule_lines::{RawLine, put_all, read_raw, take_byte};
@@ -72,7 +72,7 @@ fn asked_by(
 fn answer<K: Sink, L: Link, C: Clock>(
     alloc: Global,
     asked: Option<ClientJob>,
-    session: &mut Session,
+    session: &mut CommandSession,
     out: &mut K,
     link: &mut L,
     clock: &mut C,
@@ -127,7 +127,7 @@ fn run_text<K: Sink, L: Link, C: Clock>(
     cluster: &Defaults,
     kind: RawLine,
     text: &[u8],
-    session: &mut Session,
+    session: &mut CommandSession,
     out: &mut K,
     link: &mut L,
     clock: &mut C,
@@ -186,7 +186,7 @@ fn run_text<K: Sink, L: Link, C: Clock>(
 fn next_line<S: Source, K: Sink, L: Link, C: Clock>(
     alloc: Global,
     cluster: &Defaults,
-    session: &mut Session,
+    session: &mut CommandSession,
     src: &mut S,
     raw: &mut Vec<u8>,
     out: &mut K,
@@ -272,7 +272,7 @@ fn next_line<S: Source, K: Sink, L: Link, C: Clock>(
 
 /// Ends the lines after as many as there may be.
 fn past_last<S: Source, K: Sink>(alloc: Global, src: &mut S, out: &mut K) -> Status
-    ensures { (cluster : Defaults) (session : Session) (around : Around) (link clock : ℕ) →
+    ensures { (cluster : Defaults) (session : CommandSession) (around : Around) (link clock : ℕ) →
         EndsLines cluster LINES
         (record {
           session = session;
@@ -310,7 +310,7 @@ fn past_last<S: Source, K: Sink>(alloc: Global, src: &mut S, out: &mut K) -> Sta
 pub fn run_lines<S: Source, K: Sink, L: Link, C: Clock>(
     alloc: Global,
     cluster: &Defaults,
-    session: &mut Session,
+    session: &mut CommandSession,
     src: &mut S,
     out: &mut K,
     link: &mut L,

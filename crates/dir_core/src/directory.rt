@@ -1,13 +1,13 @@
 ghost use Rattle.std.specs.Prelude.{◌≡◌, ◌≤◌, [], ◌∷◌, length, None, IfOk, OnOk, OnErr, Ok};
-ghost use Rattle.kept_answers.specs.Standings.{with_answer};
+ghost use Rattle.reply_cache.specs.Standings.{with_answer};
 ghost use Rattle.capabilities.specs.Stops.{is_stop};
 ghost use Rattle.registry_table.specs.Registry.{is_recorded, outcome_of};
 ghost use Rattle.registry_table.specs.Plans.{applied};
 ghost use Rattle.server_rows.specs.Directory.{dir_of, after_record, after_registry, fresh, recorded, record_of, requested, step_of_dir, reply_to};
 
 use capabilities::is_stop;
-use kept_answers::{KeptAnswers, Standing};
 use registry_table::{Plan, Registry};
+use reply_cache::{ReplyCache, Standing};
 use std::alloc::Global;
 use std::marker::Model;
 use xt_base::{Copies, DIR_NODE, NodeId, Octets, OptionalBox, OutOfMemory, Seq};
@@ -18,7 +18,7 @@ use xt_protocol::Turned;
 pub struct Dir {
     key: Octets,
     registry: Registry,
-    clients: KeptAnswers<RegistryAnswer>,
+    clients: ReplyCache<RegistryAnswer>,
 }
 
 // A derived drop is part of the code of each function that may drop a value. This one is proved once.
@@ -121,7 +121,7 @@ impl Dir {
         let mut dir = Dir {
             key: Octets::of(alloc, key)?,
             registry: Registry::new(alloc),
-            clients: KeptAnswers::new(alloc),
+            clients: ReplyCache::new(alloc),
         };
         for rec in records {
             dir.take(alloc, rec)?;

@@ -12,7 +12,7 @@ use Rattle.xt_messages.specs.declared.event.Outcome.{Outcome}
 use Rattle.xt_messages.specs.declared.event.Outcome.TheVariants as outcome
 use Rattle.time_line.specs.declared.entry.Entry.{Entry}
 use Rattle.time_line.specs.declared.entry.Entry.TheVariants as entry
-use Rattle.time_line.specs.TimeLine.{is_id, id_of, begun, call_begun, operation_on, Standing, standing_after, advances, held_until, holds_as, Claim, claim_on, order_by, location_told, is_replicated, stripe_of, times_of}
+use Rattle.time_line.specs.TimeLine.{is_id, id_of, begun, call_begun, operation_on, RunningBoot, standing_after, advances, held_until, holds_as, Claim, claim_on, order_by, location_told, is_replicated, stripe_of, times_of}
 use Rattle.time_line.specs.Clauses.{acts_on, is_change}
 use Rattle.time_line.specs.Verdicts.{Clause, apart, acting, one_order, once, shown, fresh, Break}
 use Rattle.judging.specs.Pass.{Kept, nothing, after, looked_at, fits_apart, holder_after, fits_acting, fits_order, fits_once, fits_shown, fits_end, fits_begin, fits, Answer, answer_on, ok_by, ok_told, is_told, is_in, shows, is_answer, is_end, content_with, content_by, least_broken, break_at, broken_from, judged}
@@ -69,13 +69,13 @@ called file (Some (call.Truncate f size epoch)) = by (f == file)
     by false = refl
 called file (Some _) = refl
 
-no_advance : (s : Option Standing) → advances 0 s ≡ s
+no_advance : (s : Option RunningBoot) → advances 0 s ≡ s
 no_advance None = refl
-no_advance (Some s) = ap (λ (clock : ℕ). Some (let t : Standing = record { boot = s.boot; clock = clock; end = s.end } in t)) (add-zero s.clock)
+no_advance (Some s) = ap (λ (clock : ℕ). Some (let t : RunningBoot = record { boot = s.boot; clock = clock; end = s.end } in t)) (add-zero s.clock)
 
-advance_twice : (a b : ℕ) (s : Option Standing) → advances (a + b) s ≡ advances b (advances a s)
+advance_twice : (a b : ℕ) (s : Option RunningBoot) → advances (a + b) s ≡ advances b (advances a s)
 advance_twice a b None = refl
-advance_twice a b (Some s) = ap (λ (clock : ℕ). Some (let t : Standing = record { boot = s.boot; clock = clock; end = s.end } in t)) (sym (add_assoc s.clock a b))
+advance_twice a b (Some s) = ap (λ (clock : ℕ). Some (let t : RunningBoot = record { boot = s.boot; clock = clock; end = s.end } in t)) (sym (add_assoc s.clock a b))
 
 -- ---- what the pass over the dealt entries keeps, where `whole` are the calls of the trace
 
@@ -116,7 +116,7 @@ module _ (file : ℕ) (whole : OpId → Option Call) where
   -- ---- an entry that isn't dealt changes nothing that is seen, but clocks
 
   pub record Passes (k : Kept) (e : Entry) : Type 0 where
-    pub stands : (node : NodeId) (s : Option Standing) → standing_after node file s e ≡ advances (ticks_of e) s
+    pub stands : (node : NodeId) (s : Option RunningBoot) → standing_after node file s e ≡ advances (ticks_of e) s
     pub looked : looked_at file e ≡ None
     pub acts : acts_on file e ≡ None
     pub claims : claim_on file e ≡ None
@@ -128,7 +128,7 @@ module _ (file : ℕ) (whole : OpId → Option Call) where
 
   -- an entry that tells nothing of a file, a node or a call
   silent : (k : Kept) (e : Entry)
-      → ((node : NodeId) (s : Option Standing) → standing_after node file s e ≡ advances (ticks_of e) s)
+      → ((node : NodeId) (s : Option RunningBoot) → standing_after node file s e ≡ advances (ticks_of e) s)
       → looked_at file e ≡ None → acts_on file e ≡ None → claim_on file e ≡ None → answer_on file e ≡ None → location_told file e ≡ None
       → ((id : OpId) → call_begun id e ≡ None) → ok_told e ≡ None → fits_begin file k e ≡ true
       → Passes k e
@@ -174,7 +174,7 @@ module _ (file : ℕ) (whole : OpId → Option Call) where
   ends_nobody client number (outcome.Ok count bytes) id is = is
   ends_nobody client number _ id is = refl
 
-  stays : (node : NodeId) (s : Option Standing) → s ≡ advances 0 s
+  stays : (node : NodeId) (s : Option RunningBoot) → s ≡ advances 0 s
   stays node s = sym (no_advance s)
 
   passes : (k : Kept) (e : Entry) (es : List Entry) → Come k (e ∷ es) → is_dealt file whole e ≡ false → Passes k e

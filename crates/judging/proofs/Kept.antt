@@ -8,7 +8,7 @@ use Rattle.xt_base.specs.declared.ids.OpId.{OpId}
 use Rattle.xt_messages.specs.declared.event.Call.{Call}
 use Rattle.time_line.specs.Content.{content_from}
 use Rattle.time_line.specs.declared.entry.Entry.{Entry}
-use Rattle.time_line.specs.TimeLine.{call_begun, begun, Standing, standing, standing_after, holds, holds_as, claim_on, order_by, write_order, content_at}
+use Rattle.time_line.specs.TimeLine.{call_begun, begun, RunningBoot, standing, standing_after, holds, holds_as, claim_on, order_by, write_order, content_at}
 use Rattle.time_line.specs.Clauses.{AreApart, HoldersAct, IsOneOrder, AreOnce, EndsAreAnswered, acts_on}
 use Rattle.time_line.specs.Verdicts.{apart, acting, one_order, once, shown, fresh}
 use Rattle.judging.specs.Pass.{Kept, nothing, looked_at, fits_apart, fits_acting, fits_order, fits_once, fits_shown, fits_end, fits_begin, answer_on, ok_told, after}
@@ -56,14 +56,14 @@ and_right false y is = absurd (true≢false (sym is))
 
 module _ (drift stripe file : ℕ) (es : List Entry) (e : Entry) (k : Kept) (i : IsKept drift stripe file es k)
     (drift_before : HasDrift drift file es) (drift_then : HasDrift drift file (es ++ e ∷ [])) where
-  standings : NodeId → Option Standing
+  standings : NodeId → Option RunningBoot
   standings n = standing_after n file (k.stands n) e
 
   held_before : (n : NodeId) → holds es n file ≡ holds_as drift (k.stands n)
   held_before n = drift_before n ∙ ap (holds_as drift) (sym (i.stands n))
 
   stands_then : (n : NodeId) → standing_after n file (k.stands n) e ≡ standing n file (es ++ e ∷ [])
-  stands_then n = ap (λ (s : Option Standing). standing_after n file s e) (i.stands n) ∙ sym (standing-push n file es e)
+  stands_then n = ap (λ (s : Option RunningBoot). standing_after n file s e) (i.stands n) ∙ sym (standing-push n file es e)
 
   held_then : (n : NodeId) → holds (es ++ e ∷ []) n file ≡ holds_as drift (standing_after n file (k.stands n) e)
   held_then n = drift_then n ∙ ap (holds_as drift) (sym (stands_then n))

@@ -28,7 +28,7 @@ use Rattle.xt_protocol.specs.declared.states.PrimaryState.{PrimaryState}
 use Rattle.xt_protocol.specs.declared.states.Tenure.{Tenure}
 use Rattle.xt_protocol.specs.Turns.{joined}
 use Rattle.xt_protocol.specs.Stamps.{is_epoch, is_earlier, is_below, is_version, has_version}
-use Rattle.xt_protocol.specs.Writes.{Standing, repeated, older, turned_away, fresh}
+use Rattle.xt_protocol.specs.Writes.{WriteStanding, repeated, older, turned_away, fresh}
 use Rattle.xt_protocol.specs.Primaries.{Ground, Led, carries, is_unknown, is_ready, known_of_report, majority_among, nodes_of, peer_in, reports_of, statuses_counted, target_of, with_node}
 use Rattle.xt_protocol.specs.PrimaryRows.{epoch_drawn, epoch_above, installs, fetches, head_chosen, chooses, status_counted, feeds, status_told, with_state, hears_status, body_fetched, body_beyond, hears_object, body_staged, body_missed, hears_missing, target_in, head_acked, update_acked, acked_below, hears_ack, makes_current, outpromised, hears_peer, hears_member, hears_epoch, hears_in, epoch_told, hears}
 use Rattle.xt_protocol.specs.ReplicaRows.{stage_record}
@@ -211,7 +211,7 @@ unless_acts : (g : Ground) (learnt : ℕ) (t : Tenure) (head : FileHead) (issued
 unless_acts g learnt t head (Some issued) id epoch asked = tt
 unless_acts g learnt t head None id epoch asked = issues_acts g learnt t head (next_update_of g t head id epoch asked)
 
-stands_acts : (g : Ground) (learnt : ℕ) (t : Tenure) (head : FileHead) (issued : Option IssuedUpdate) (id : OpId) (epoch : ℕ) (asked : Op) (how : Standing)
+stands_acts : (g : Ground) (learnt : ℕ) (t : Tenure) (head : FileHead) (issued : Option IssuedUpdate) (id : OpId) (epoch : ℕ) (asked : Op) (how : WriteStanding)
     → ActsIfAny g.place.file (write_stands g learnt t head issued id epoch asked how)
 stands_acts g learnt t head issued id epoch asked (repeated count) = record { marks = (refl, tt); plain = λ c. tt }
 stands_acts g learnt t head issued id epoch asked older = record { marks = tt; plain = λ c. tt }

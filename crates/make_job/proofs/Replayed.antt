@@ -12,7 +12,7 @@ use Rattle.world_spec.specs.Rules.{refusal}
 use Rattle.world_spec.specs.Runs.{after, run_of}
 use Rattle.world_hull.specs.declared.errors.WorldErr.{WorldErr}
 use Rattle.world_hull.specs.declared.errors.WorldErr.TheVariants as error
-use Rattle.world_core.specs.Standing.{Standing, IsDone, CameTo, IsRefused}
+use Rattle.world_core.specs.RunStates.{RunState, IsDone, CameTo, IsRefused}
 use Rattle.schedule_replay.specs.Replay.{IsDoneFrom, AreDoneFrom}
 use Rattle.schedule_replay.specs.Steps.{status_for}
 use Rattle.schedule_replay.proofs.Whole.{are_done-more, run_of-more, lines_after, world_after, still_going}
@@ -28,18 +28,18 @@ pub one_more : (all : List Line) (i : ℕ) (l : Line) → i < length all → l �
 one_more all i l within is = take_more all i l within ∙ ap (λ (k : Line). take i all ++ k ∷ []) (sym is)
 
 -- these lines are done, and made the world, which takes another one
-pub record IsReplayedTo (room : Room) (lines : List Line) (w : Standing) : Type 0 where
+pub record IsReplayedTo (room : Room) (lines : List Line) (w : RunState) : Type 0 where
   pub done : AreDoneFrom room start_world lines
   pub same : w.world ≡ run_of room lines
   pub lines_so_far : w.world.lines ≡ lines
   pub going : w.ended ≡ false
 
-pub begun : (room : Room) (w : Standing) → w.world ≡ start_world → w.ended ≡ false → IsReplayedTo room [] w
+pub begun : (room : Room) (w : RunState) → w.world ≡ start_world → w.ended ≡ false → IsReplayedTo room [] w
 unfolding run_of
 begun room w start going = record { done = tt; same = start; lines_so_far = ap (λ (v : World). v.lines) start; going = going }
 
 -- one line more is done
-pub goes_on : (room : Room) (lines longer : List Line) (l : Line) (old new : Standing) → longer ≡ lines ++ l ∷ [] → IsReplayedTo room lines old → IsDone room old l new → IsReplayedTo room longer new
+pub goes_on : (room : Room) (lines longer : List Line) (l : Line) (old new : RunState) → longer ≡ lines ++ l ∷ [] → IsReplayedTo room lines old → IsDone room old l new → IsReplayedTo room longer new
 goes_on room lines longer l old new same so_far is =
     let is_run : fold (after room) start_world lines ≡ old.world = unfold run_of in sym so_far.same in
     subst (λ (ls : List Line). IsReplayedTo room ls new) (sym same) (record {
@@ -51,13 +51,13 @@ goes_on room lines longer l old new same so_far is =
     })
 
 -- the next line is within the limits
-pub next_fits : (room : Room) (all lines later : List Line) (l : Line) (w : Standing) → all ≡ lines ++ l ∷ later → IsReplayedTo room lines w → AreLines all → AreLines (w.world.lines ++ l ∷ [])
+pub next_fits : (room : Room) (all lines later : List Line) (l : Line) (w : RunState) → all ≡ lines ++ l ∷ later → IsReplayedTo room lines w → AreLines all → AreLines (w.world.lines ++ l ∷ [])
 next_fits room all lines later l w split so_far are =
     subst (λ (ls : List Line). AreLines (ls ++ l ∷ [])) (sym so_far.lines_so_far)
     (lines_front (lines ++ l ∷ []) later (subst AreLines (split ∙ sym (append_assoc lines (l ∷ []) later)) are))
 
 -- the next line isn't done
-pub stops : (room : Room) (all lines later : List Line) (l : Line) (old new : Standing) (number : ℕ) (e : WorldErr)
+pub stops : (room : Room) (all lines later : List Line) (l : Line) (old new : RunState) (number : ℕ) (e : WorldErr)
     → all ≡ lines ++ l ∷ later
     → IsReplayedTo room lines old
     → number ≡ length lines + 1

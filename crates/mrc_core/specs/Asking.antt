@@ -2,7 +2,7 @@
 use Rattle.std.specs.Prelude.{ℕ, ◌≤◌, ◌<◌, ◌^◌, List, length, Option, IsTrue}
 use Rattle.xt_base.specs.MemberList.{are_distinct}
 use Rattle.xt_base.specs.declared.ids.NodeId.{NodeId}
-use Rattle.kept_answers.specs.Standings.{with_answer}
+use Rattle.reply_cache.specs.Standings.{with_answer}
 use Rattle.volume_rows.specs.Requests.{Outcome}
 use Rattle.server_rows.specs.Requests.{outcome_of, with_sizes}
 use Rattle.server_rows.specs.Metadata.{Catalogue, MrcState, MrcStep, after_meta, after_request, requested, fresh}

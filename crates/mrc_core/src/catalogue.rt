@@ -2,7 +2,7 @@ ghost use Rattle.std.specs.Prelude.{◌≡◌, ◌≤◌, ◌<◌, false, length
 ghost use Rattle.std.specs.Option.{option_map};
 ghost use Rattle.indexmap.specs.IndexMap.{insert_entry, spare};
 ghost use Rattle.xt_messages.specs.declared.meta.MetaReq.TheVariants as ask;
-ghost use Rattle.kept_answers.specs.Standings.{standing_of};
+ghost use Rattle.reply_cache.specs.Standings.{standing_of};
 ghost use Rattle.volume_rows.specs.Paths.{path_in};
 ghost use Rattle.volume_rows.specs.Rows.{Volumes};
 ghost use Rattle.volume_rows.specs.Requests.{Outcome, applied};
@@ -22,7 +22,7 @@ use crate::picking::place_of;
 use crate::plan::Plan;
 use crate::settling::{Settled, Settling};
 use indexmap::IndexMap;
-use kept_answers::{KeptAnswers, Standing};
+use reply_cache::{ReplyCache, Standing};
 use server_rows::{MadeFile, NewSizes};
 use std::alloc::{AllocError, Global};
 use std::marker::Model;
@@ -36,7 +36,7 @@ use xt_messages::{Logged, MetaAnswer, MetaRefusal, MetaReq, Record};
 pub struct Catalogue {
     tree: Tree,
     made: IndexMap<u64, MadeFile>,
-    clients: KeptAnswers<MetaAnswer>,
+    clients: ReplyCache<MetaAnswer>,
 }
 
 impl Model for Catalogue {
@@ -168,7 +168,7 @@ impl Catalogue {
         Catalogue {
             tree: Tree::new(alloc),
             made: IndexMap::new(alloc),
-            clients: KeptAnswers::new(alloc),
+            clients: ReplyCache::new(alloc),
         }
     }
 

@@ -12,7 +12,7 @@ use crate::catalogue::Catalogue;
 use crate::picking::{marks_on, nodes_for, place_of};
 use crate::plan::Plan;
 use crate::settling::{Settled, Settling};
-use kept_answers::Standing;
+use reply_cache::Standing;
 use std::alloc::Global;
 use xt_base::{Copies, MRC_NODE, Members, NodeId, OptionalBox, OutOfMemory, Seq};
 use xt_messages::{Logged, Marks, MetaAnswer, Msg, Msgs, Payload, Record};

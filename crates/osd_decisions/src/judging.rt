@@ -9,7 +9,7 @@ use xt_messages::{FileHead, Op, Reply, Session};
 
 /// How a write stands to a head.
 #[derive(Drop)]
-pub enum Standing {
+pub enum WriteStanding {
     /// It is its client's last one, and was the write of this count.
     Repeated { count: u64 },
     /// Its client has made a later one.
@@ -45,13 +45,13 @@ fn too_far(objects: u64, stripe: u32, op: &Op) -> Option<u64>
 }
 
 /// Whether there is room for a client's session: it has one, or fewer have written than may.
-fn room_for_client(head: &FileHead, session: Option<Session>) -> Standing
+fn room_for_client(head: &FileHead, session: Option<Session>) -> WriteStanding
     ensures { result ≡ shown_standing (rows.room_for_client head.now session) }
 {
     if session.is_some() || head.sessions.len() < CLIENTS {
-        Standing::Fresh
+        WriteStanding::Fresh
     } else {
-        Standing::TurnedAway {
+        WriteStanding::TurnedAway {
             reply: Reply::ClientsFull,
         }
     }
@@ -65,20 +65,20 @@ fn judged(
     session: Option<Session>,
     epoch: u64,
     op: &Op,
-) -> Standing
+) -> WriteStanding
     requires few { objects < 2 ^ 32 }
     requires some { 1 ≤ stripe }
     ensures { result ≡ shown_standing (rows.judged objects stripe head.now session epoch op.now) }
 {
     if is_old_epoch(head.mark, epoch, op) {
-        return Standing::TurnedAway {
+        return WriteStanding::TurnedAway {
             reply: Reply::OldEpoch {
                 epoch: head.mark.epoch,
             },
         };
     }
     match too_far(objects, stripe, op) {
-        Some(object) => Standing::TurnedAway {
+        Some(object) => WriteStanding::TurnedAway {
             reply: Reply::TooFar { object },
         },
         None => room_for_client(head, session),
@@ -95,7 +95,7 @@ pub fn standing_of(
     id: OpId,
     epoch: u64,
     op: &Op,
-) -> Standing
+) -> WriteStanding
     requires few { objects < 2 ^ 32 }
     requires some { 1 ≤ stripe }
     requires rising { HeadRises head.now }
@@ -103,8 +103,8 @@ pub fn standing_of(
 {
     let session = session_of(head.sessions.as_slice(), id.client);
     match session {
-        Some(last) if id.number == last.number => Standing::Repeated { count: last.count },
-        Some(last) if id.number < last.number => Standing::Older,
+        Some(last) if id.number == last.number => WriteStanding::Repeated { count: last.count },
+        Some(last) if id.number < last.number => WriteStanding::Older,
         _ => judged(objects, stripe, head, session, epoch, op),
     }
 }

@@ -21,7 +21,7 @@ use Rattle.xt_protocol.specs.declared.states.PrimaryState.{PrimaryState}
 use Rattle.xt_protocol.specs.Primaries.{Ground, Led, nodes_of, unknown_peer}
 use Rattle.xt_protocol.specs.PrimaryRows.{epoch_drawn, epoch_above}
 use Rattle.xt_protocol.specs.Serving.{issues, issues_unless, next_update_of, write_stands, writes, writes_in, writes_under}
-use Rattle.xt_protocol.specs.Writes.{Standing, repeated, older, turned_away, fresh, standing}
+use Rattle.xt_protocol.specs.Writes.{WriteStanding, repeated, older, turned_away, fresh, standing}
 use Rattle.replica_primary.specs.Written.{ground}
 use Rattle.replica_primary.specs.PrimaryViews.{PrimaryView}
 use Rattle.osd_files.specs.Counts.{IsCounted}
@@ -58,7 +58,7 @@ module _ (members : List NodeId) (g : Ground) (learnt : ℕ) where
   unless_counted t head (Some issued) id epoch asked counted = tt
   unless_counted t head None id epoch asked counted = issues_counted t head (next_update_of g t head id epoch asked) counted
 
-  stands_counted : (t : Tenure) (head : FileHead) (issued : Option IssuedUpdate) (id : OpId) (epoch : ℕ) (asked : Op) (s : Standing) → IsCounted members (Some t)
+  stands_counted : (t : Tenure) (head : FileHead) (issued : Option IssuedUpdate) (id : OpId) (epoch : ℕ) (asked : Op) (s : WriteStanding) → IsCounted members (Some t)
       → GivesCounted members (write_stands g learnt t head issued id epoch asked s)
   stands_counted t head issued id epoch asked (repeated count) counted = counted
   stands_counted t head issued id epoch asked older counted = counted

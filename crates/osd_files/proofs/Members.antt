@@ -37,7 +37,7 @@ use Rattle.xt_protocol.specs.Primaries.{if_any}
 use Rattle.xt_protocol.specs.ReplicaRows.{kept_after}
 use Rattle.xt_protocol.specs.StripedRows.{capability_range_list, range_and_list, striped_refusal, member_acts, to_client, striped_handled}
 use Rattle.xt_protocol.specs.PlainRows.{only, plain_step}
-use Rattle.xt_protocol.specs.Writes.{Standing, repeated, older, turned_away, fresh, is_old_epoch, too_far, room_for_client, reach, judged, known_client, by_session, standing, written, objects_of, cuts_body, truncated, update_of}
+use Rattle.xt_protocol.specs.Writes.{WriteStanding, repeated, older, turned_away, fresh, is_old_epoch, too_far, room_for_client, reach, judged, known_client, by_session, standing, written, objects_of, cuts_body, truncated, update_of}
 use Rattle.replica_state.specs.Kept.{IsNotable}
 use Rattle.replica_state.proofs.HeadFits.{FitsInHead, taken_fits}
 use Rattle.osd_invariants.proofs.StripedAsks.{KeepsUpdate, striped_outcome}
@@ -63,7 +63,7 @@ stays_inside site stored capability asked none = by_capability (capability_refus
 -- ---- a write that stands isn't too far
 
 module _ (objects stripe : ℕ) (head : FileHead) (epoch : ℕ) (asked : Op) where
-  abbrev IsNear : Standing → Type 0
+  abbrev IsNear : WriteStanding → Type 0
   IsNear how = how ≡ fresh → too_far objects stripe asked ≡ None
 
   reached : (o : Option Session) (far : Option ℕ) → too_far objects stripe asked ≡ far → IsNear (reach head o far)

@@ -5,7 +5,7 @@ ghost use Rattle.osd_files.specs.Owners.{owner_at, owner_of, renewer_of};
 
 use crate::lead::Lead;
 use flease::{Acceptor, Awake, FileLease};
-use osd_asks::OpenAsks;
+use osd_requests::OpenAsks;
 use peer_searches::Searches;
 use replica_state::Replica;
 use std::alloc::Global;

@@ -6,7 +6,7 @@ ghost use Rattle.osd_files.specs.Whole.{IsWhole, RowRises};
 use crate::lead::Lead;
 use crate::parts::Parts;
 use flease::{Acceptor, Awake, FileLease};
-use osd_asks::OpenAsks;
+use osd_requests::OpenAsks;
 use peer_searches::Searches;
 use replica_state::Replica;
 use std::alloc::Global;

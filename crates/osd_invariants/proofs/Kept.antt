@@ -27,7 +27,7 @@ use Rattle.xt_protocol.specs.declared.states.Tenure.{Tenure}
 use Rattle.xt_protocol.specs.declared.states.PrimaryState.{PrimaryState}
 use Rattle.xt_protocol.specs.Turns.{the_record, quiet, keeps, joined}
 use Rattle.xt_protocol.specs.ReplicaRows.{kept_after}
-use Rattle.xt_protocol.specs.Writes.{Standing, repeated, older, turned_away, fresh, standing}
+use Rattle.xt_protocol.specs.Writes.{WriteStanding, repeated, older, turned_away, fresh, standing}
 use Rattle.xt_protocol.specs.Primaries.{Ground, Led, is_active}
 use Rattle.xt_protocol.specs.Serving.{reads, writes, writes_under, writes_in, write_stands, issues, next_update_of, wakes, wakes_under, wakes_in}
 use Rattle.xt_protocol.specs.Asks.{Served, serves, waits, write_done, read_answer, is_read, asked_already}
@@ -85,7 +85,7 @@ issues_none : (g : Ground) (learnt : ℕ) (t : Tenure) (head : FileHead) (u : Op
 issues_none g learnt t head None = refl
 issues_none g learnt t head (Some u) = refl
 
-stands_none : (g : Ground) (learnt : ℕ) (t : Tenure) (head : FileHead) (issued : Option IssuedUpdate) (id : OpId) (epoch : ℕ) (asked : Op) (how : Standing)
+stands_none : (g : Ground) (learnt : ℕ) (t : Tenure) (head : FileHead) (issued : Option IssuedUpdate) (id : OpId) (epoch : ℕ) (asked : Op) (how : WriteStanding)
     → GivesNone (write_stands g learnt t head issued id epoch asked how)
 stands_none g learnt t head issued id epoch asked (repeated count) = refl
 stands_none g learnt t head issued id epoch asked older = refl

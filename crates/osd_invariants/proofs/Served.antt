@@ -20,7 +20,7 @@ use Rattle.xt_protocol.specs.declared.states.PrimaryState.{PrimaryState}
 use Rattle.xt_protocol.specs.declared.states.Tenure.{Tenure}
 use Rattle.xt_protocol.specs.Turns.{quiet, joined, the_record}
 use Rattle.xt_protocol.specs.ReplicaRows.{kept_after}
-use Rattle.xt_protocol.specs.Writes.{Standing, repeated, older, turned_away, fresh, update_of}
+use Rattle.xt_protocol.specs.Writes.{WriteStanding, repeated, older, turned_away, fresh, update_of}
 use Rattle.xt_protocol.specs.Primaries.{Ground, Led, is_ready, is_ready_in, is_active, is_active_in, issued_in, issued_by, nodes_of}
 use Rattle.xt_protocol.specs.Serving.{issues, issues_unless, write_stands, writes_in, writes_under, writes, next_update_of, reads}
 use Rattle.xt_protocol.specs.Asks.{Served, asks_behind, asks_follow, comes_back, is_read, no_asks, newly_issued, read_answer, serves, serves_all, serves_waiting, stays, write_done}
@@ -66,7 +66,7 @@ unless_gives g learnt t head (Some u) id epoch asked is = ap is_ready_in is
 unless_gives g learnt t head None id epoch asked is =
     issues_wrote g learnt t head id (next_update_of g t head id epoch asked) (ap issued_in is) (next_is_of g t head id epoch asked)
 
-stands_gives : (g : Ground) (learnt : ℕ) (t : Tenure) (head : FileHead) (i : Option IssuedUpdate) (id : OpId) (epoch : ℕ) (asked : Op) (how : Standing)
+stands_gives : (g : Ground) (learnt : ℕ) (t : Tenure) (head : FileHead) (i : Option IssuedUpdate) (id : OpId) (epoch : ℕ) (asked : Op) (how : WriteStanding)
     → t.progress ≡ progress.Active head i → Gives t id (write_stands g learnt t head i id epoch asked how)
 stands_gives g learnt t head i id epoch asked (repeated count) is = as_it_was refl
 stands_gives g learnt t head i id epoch asked older is = as_it_was refl

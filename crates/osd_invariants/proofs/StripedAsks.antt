@@ -19,7 +19,7 @@ use Rattle.xt_protocol.specs.declared.states.Acted.{Acted}
 use Rattle.xt_protocol.specs.FileStates.{Site}
 use Rattle.xt_protocol.specs.Heads.{head_after, plain_stamp}
 use Rattle.xt_protocol.specs.ReplicaRows.{head_fits, unanswered, only, after_record}
-use Rattle.xt_protocol.specs.Writes.{Standing, repeated, older, turned_away, fresh, standing, update_of}
+use Rattle.xt_protocol.specs.Writes.{WriteStanding, repeated, older, turned_away, fresh, standing, update_of}
 use Rattle.xt_protocol.specs.AskRows.{capability_refused, leaves_object}
 use Rattle.xt_protocol.specs.PlainRows.{plain_refusal, read_served, write_stands, write_kept, refused_or, served, plain_step}
 use Rattle.xt_protocol.specs.StripedRows.{capability_range_list, range_and_list, unless_stored, member_acts, to_client, striped_refusal, striped_handled}
@@ -34,7 +34,7 @@ keeps_update row id update =
     after_record (kept.Update row.file update) (payload.Reply id.number row.file (reply.Ok update.stamp.count update.mark []))
 
 -- how the operation stands to the head that is kept
-abbrev pub striped_standing : FileRow → OpId → Capability → Op → Standing
+abbrev pub striped_standing : FileRow → OpId → Capability → Op → WriteStanding
 striped_standing row id capability asked =
     standing (OBJECTS * length capability.location.members) capability.location.stripe row.head id capability.epoch asked
 
@@ -78,7 +78,7 @@ module _ (P : Acted → Type 0) (site : Site) (row : FileRow) (id : OpId) (capab
       at true fit = c.keeps update (record { goes = goes; stands = stands; left = is; made = so; fits = fit })
       at false fit = c.nothing
 
-  write_so : (asked : Op) → InEachCase P site row id capability asked → GoesToMember site row capability asked → (st : Standing) → striped_standing row id capability asked ≡ st
+  write_so : (asked : Op) → InEachCase P site row id capability asked → GoesToMember site row capability asked → (st : WriteStanding) → striped_standing row id capability asked ≡ st
       → P (to_client row.file id (write_stands (record { file = row.file; node = site.node; head = row.head }) capability.location.stripe (site.body row.file) id capability.epoch asked st))
   write_so asked c goes (repeated count) is = c.again count is
   write_so asked c goes older is = c.nothing

@@ -12,7 +12,7 @@ use Rattle.xt_messages.specs.declared.reply.Denial.{Denial}
 use Rattle.xt_protocol.specs.declared.states.PlainActed.{PlainActed}
 use Rattle.xt_protocol.specs.Heads.{head_after}
 use Rattle.xt_protocol.specs.ReplicaRows.{head_fits}
-use Rattle.xt_protocol.specs.Writes.{Standing, repeated, older, turned_away, fresh, standing}
+use Rattle.xt_protocol.specs.Writes.{WriteStanding, repeated, older, turned_away, fresh, standing}
 use Rattle.xt_protocol.specs.PlainRows.{PlainFile, plain_refusal, next_update, write_kept, write_stands, write_served, served, refused_or, plain_step}
 use Rattle.osd_plain.specs.Records.{IsUpdateIfAny}
 
@@ -24,7 +24,7 @@ of_update : (p : PlainFile) (o : Option Update) → IsUpdateIfAny (write_kept p 
 of_update p None = tt
 of_update p (Some update) = of_two (head_fits (head_after p.head update)) _ _ tt tt
 
-of_standing : (p : PlainFile) (stripe : ℕ) (body : ℕ → Stamp → List ℕ) (id : OpId) (epoch : ℕ) (asked : Op) (how : Standing) → IsUpdateIfAny (write_stands p stripe body id epoch asked how).rec
+of_standing : (p : PlainFile) (stripe : ℕ) (body : ℕ → Stamp → List ℕ) (id : OpId) (epoch : ℕ) (asked : Op) (how : WriteStanding) → IsUpdateIfAny (write_stands p stripe body id epoch asked how).rec
 of_standing p stripe body id epoch asked (repeated count) = tt
 of_standing p stripe body id epoch asked older = tt
 of_standing p stripe body id epoch asked (turned_away answer) = tt

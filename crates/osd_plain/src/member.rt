@@ -11,7 +11,7 @@ ghost use Rattle.xt_protocol.specs.PlainRows as rows;
 use crate::PlainActed;
 use crate::serving::{next_update, nothing, only, read_served, refusal, update_fits};
 use object_versions::{Bodies, StepErr};
-use osd_decisions::{Standing, standing_of};
+use osd_decisions::{WriteStanding, standing_of};
 use std::alloc::Global;
 use std::marker::Model;
 use xt_base::{FileId, NodeId, OBJECTS, Octets, OpId};
@@ -122,14 +122,14 @@ impl<'a> Member<'a> {
     {
         let width = location.members.as_slice().len() as u64;
         match standing_of(OBJECTS * width, location.stripe, self.head, id, epoch, op) {
-            Standing::Repeated { count } => Ok(only(Reply::Ok {
+            WriteStanding::Repeated { count } => Ok(only(Reply::Ok {
                 count,
                 mark: self.head.mark,
                 bytes: Octets::new(self.alloc),
             })),
-            Standing::Older => Ok(nothing()),
-            Standing::TurnedAway { reply } => Ok(only(reply)),
-            Standing::Fresh => self.fresh_write(bodies, id, epoch, location.stripe, op),
+            WriteStanding::Older => Ok(nothing()),
+            WriteStanding::TurnedAway { reply } => Ok(only(reply)),
+            WriteStanding::Fresh => self.fresh_write(bodies, id, epoch, location.stripe, op),
         }
     }
 

@@ -45,7 +45,7 @@ use Rattle.xt_protocol.specs.declared.states.Progress.TheVariants as progress
 use Rattle.xt_protocol.specs.declared.states.Tenure.{Tenure}
 use Rattle.xt_protocol.specs.declared.states.WaitingAsk.{WaitingAsk}
 use Rattle.xt_protocol.specs.Turns.{quiet, joined, the_record, keeps, message, reply_to}
-use Rattle.xt_protocol.specs.Writes.{Standing, repeated, older, turned_away, fresh, standing}
+use Rattle.xt_protocol.specs.Writes.{WriteStanding, repeated, older, turned_away, fresh, standing}
 use Rattle.xt_protocol.specs.Primaries.{Ground, Led, if_any, is_active, is_ready, have_in, majority_among}
 use Rattle.xt_protocol.specs.PrimaryRows.{hears, hears_in}
 use Rattle.xt_protocol.specs.ReplicaRows.{kept_after, gathered, fetched_from, staged, stage_record, headed, head_offered, head_taken, first_missing, updated, update_offered, head_fits, as_promised}
@@ -92,7 +92,7 @@ issues_small : (g : Ground) (learnt : ℕ) (t : Tenure) (head : FileHead) (o : O
 issues_small g learnt t head None small = (small, tt, refl)
 issues_small g learnt t head (Some u) small = ((small.0, tt), each_small g.place.node (λ (to : NodeId). message g.place.node to (payload.Update g.place.file u)) (g.place.node ∷ current_others g.place t.peers) (λ to. (refl, tt)), refl)
 
-stands_small : (g : Ground) (learnt : ℕ) (t : Tenure) (head : FileHead) (issued : Option IssuedUpdate) (id : OpId) (epoch : ℕ) (asked : Op) (how : Standing) → TenureSmall (Some t) → IfLedSmall g.place.node (write_stands g learnt t head issued id epoch asked how)
+stands_small : (g : Ground) (learnt : ℕ) (t : Tenure) (head : FileHead) (issued : Option IssuedUpdate) (id : OpId) (epoch : ℕ) (asked : Op) (how : WriteStanding) → TenureSmall (Some t) → IfLedSmall g.place.node (write_stands g learnt t head issued id epoch asked how)
 stands_small g learnt t head issued id epoch asked (repeated count) small = (small, ((refl, tt), tt), refl)
 stands_small g learnt t head issued id epoch asked older small = (small, tt, refl)
 stands_small g learnt t head issued id epoch asked (turned_away why) small = (small, ((refl, tt), tt), refl)

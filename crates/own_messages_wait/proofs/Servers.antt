@@ -13,9 +13,9 @@ use Rattle.xt_messages.specs.declared.registry.RegistryReq.{RegistryReq}
 use Rattle.xt_messages.specs.declared.registry.RegistryRow.{RegistryRow}
 use Rattle.xt_messages.specs.declared.registry.RegistryAnswer.{RegistryAnswer}
 use Rattle.xt_messages.specs.declared.registry.RegistryAnswer.TheVariants as told
-use Rattle.kept_answers.specs.declared.Standing.{Standing}
-use Rattle.kept_answers.specs.declared.Standing.TheVariants as standing
-use Rattle.kept_answers.specs.Standings.{standing_of}
+use Rattle.reply_cache.specs.declared.Standing.{Standing}
+use Rattle.reply_cache.specs.declared.Standing.TheVariants as standing
+use Rattle.reply_cache.specs.Standings.{standing_of}
 use Rattle.registry_table.specs.Registry as registry
 use Rattle.volume_rows.specs.declared.Asker.{Asker}
 use Rattle.server_rows.specs.Requests.{is_recorded, is_spent, outcome_of}

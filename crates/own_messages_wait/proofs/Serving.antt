@@ -30,7 +30,7 @@ use Rattle.xt_protocol.specs.declared.states.Progress.TheVariants as progress
 use Rattle.xt_protocol.specs.declared.states.Tenure.{Tenure}
 use Rattle.xt_protocol.specs.declared.states.WaitingAsk.{WaitingAsk}
 use Rattle.xt_protocol.specs.Turns.{quiet, joined, the_record, message, to_each}
-use Rattle.xt_protocol.specs.Writes.{Standing, repeated, older, turned_away, fresh, standing, update_of}
+use Rattle.xt_protocol.specs.Writes.{WriteStanding, repeated, older, turned_away, fresh, standing, update_of}
 use Rattle.xt_protocol.specs.Primaries.{Ground, Led, is_current, issued_by, issued_in, nodes_of}
 use Rattle.xt_protocol.specs.Serving.{current_others, issues, next_update_of, reads, write_stands, writes_in, writes_under, writes}
 use Rattle.xt_protocol.specs.Asks.{Served, is_read, newly_issued, no_asks, read_answer, serves, serves_all, serves_waiting, stays, write_done}
@@ -150,7 +150,7 @@ module _ (place : Place) (row : FileRow) (body : Body) where
   issued_writes learnt t head None is = answered refl refl refl
   issued_writes learnt t head (Some u) is = issues_it (record { update = u; acked = [] }) refl refl is (update_mine place t.peers (payload.Update place.file u)) refl
 
-  stands_writes : (learnt : ℕ) (t : Tenure) (head : FileHead) (issued : Option IssuedUpdate) (id : OpId) (epoch : ℕ) (asked : Op) (how : Standing) → IsApart place.node id
+  stands_writes : (learnt : ℕ) (t : Tenure) (head : FileHead) (issued : Option IssuedUpdate) (id : OpId) (epoch : ℕ) (asked : Op) (how : WriteStanding) → IsApart place.node id
       → Writes place t head issued (write_stands (ground place row body) learnt t head issued id epoch asked how)
   stands_writes learnt t head issued id epoch asked (repeated count) apart = answered refl (reply_mine place.node id (payload.Reply id.number place.file (reply.Ok count head.mark [])) apart) refl
   stands_writes learnt t head issued id epoch asked older apart = answered refl refl refl

@@ -19,7 +19,7 @@ ghost use Rattle.replica_primary.specs.Written.{ground, tenure_after, led_of, le
 
 use crate::moving::put;
 use object_versions::{Bodies, StepErr};
-use osd_decisions::{Standing, standing_of, update_of};
+use osd_decisions::{WriteStanding, standing_of, update_of};
 use std::alloc::Global;
 use xt_base::{COUNTS, Copies, NodeId, OBJECTS, Octets, OpId, OutOfMemory, Seq, Stamp};
 use xt_messages::{FileHead, Mark, Msgs, Op, Payload, Update};
@@ -267,14 +267,14 @@ fn write_stands<B: Bodies>(
 {
     let (node, file) = (place.node, &place.file);
     match standing_of(OBJECTS, place.stripe, head, id, epoch, op) {
-        Standing::Repeated { count } => {
+        WriteStanding::Repeated { count } => {
             let none = Octets::new(alloc);
             let turned = answers(alloc, node, file, id, count, head.mark, none)?;
             Ok(Some(told(turned)))
         }
-        Standing::Older => Ok(Some(told(quiet(alloc)))),
-        Standing::TurnedAway { reply } => Ok(Some(told(tells(alloc, node, file, id, reply)?))),
-        Standing::Fresh => {
+        WriteStanding::Older => Ok(Some(told(quiet(alloc)))),
+        WriteStanding::TurnedAway { reply } => Ok(Some(told(tells(alloc, node, file, id, reply)?))),
+        WriteStanding::Fresh => {
             fresh_write(bodies, alloc, place, tenure, head, issued, id, epoch, op)
         }
     }

@@ -30,7 +30,7 @@ use Rattle.xt_protocol.specs.PrimaryRows.{body_beyond}
 use Rattle.xt_protocol.specs.ReplicaRows.{kept_after}
 use Rattle.xt_protocol.specs.Serving.{reads_in, current_others, issues, next_update_of, write_stands, writes_in}
 use Rattle.xt_protocol.specs.Turns.{quiet, the_record, joined, message, answers}
-use Rattle.xt_protocol.specs.Writes.{bytes_shown, Standing, repeated, older, turned_away, fresh, standing, by_session, judged, reach, is_old_epoch, too_far, update_of}
+use Rattle.xt_protocol.specs.Writes.{bytes_shown, WriteStanding, repeated, older, turned_away, fresh, standing, by_session, judged, reach, is_old_epoch, too_far, update_of}
 use Rattle.xt_protocol.specs.declared.states.IssuedUpdate.{IssuedUpdate}
 use Rattle.xt_protocol.specs.declared.states.Peer.{Peer}
 use Rattle.xt_protocol.specs.declared.states.Progress.{Progress}
@@ -308,7 +308,7 @@ module _ (stripe : ℕ) (ops : ℕ × ℕ → Op) (members : List ℕ) (n : ℕ)
 
   -- a write by how it stands to the committed head
   stands_serves : (z : Seen) (e : Epoch) (peers : List Peer) (c : FileHead) (issued : Option IssuedUpdate) (learnt : ℕ) (ask : WaitingAsk) (led : Led) → IsFit stripe ops members n (seen_in z (tenure_of e peers (progress.Active c issued))) → AskFits stripe ops ask
-      → (how : Standing) → standing OBJECTS stripe c ask.id ask.epoch ask.op ≡ how
+      → (how : WriteStanding) → standing OBJECTS stripe c ask.id ask.epoch ask.op ≡ how
       → write_stands (ground_at stripe n z) learnt (tenure_of e peers (progress.Active c issued)) c issued ask.id ask.epoch ask.op how ≡ Some led
       → LedQuietly (seen_in z (tenure_of e peers (progress.Active c issued))) led
   stands_serves z e peers c issued learnt ask led fits of (repeated count) how is =

@@ -9,7 +9,7 @@ use Rattle.schedule_text.specs.LineText.{line_text, IsLine}
 use Rattle.schedule_text.specs.EntryText.{trace_text}
 use Rattle.world_hull.specs.declared.errors.WorldErr.{WorldErr}
 use Rattle.world_spec.specs.NodeSteps.{Room}
-use Rattle.world_core.specs.Standing.{Standing, IsDone, IsRefused, IsApplied}
+use Rattle.world_core.specs.RunStates.{RunState, IsDone, IsRefused, IsApplied}
 use Rattle.time_line.specs.declared.TheConstants.{LINES}
 use Rattle.time_line.specs.Verdicts.{IsSafe}
 use Rattle.schedule_lines.specs.NextLine.{ended, StopsReading}
@@ -32,7 +32,7 @@ shown_more old_entries new_entries printed entries grown before after =
     shown_is printed entries grown.0 (after ∙ grown.1 ∙ ap (λ (es : List Entry). es ++ grown.0) (sym before))
 
 -- no line was read
-pub stopped_end : (room : Room) (source_before source_after sink_before sink_after : Option (List ℕ)) (w : Standing) (lines : List Line) (s given : Status)
+pub stopped_end : (room : Room) (source_before source_after sink_before sink_after : Option (List ℕ)) (w : RunState) (lines : List Line) (s given : Status)
     → length w.world.lines < LINES
     → lines ≡ w.world.lines
     → (taken : List ℕ) × Takes source_before source_after taken × StopsReading (length lines) taken source_after s
@@ -45,7 +45,7 @@ stopped_end room source_before source_after sink_before sink_after w lines s giv
     record { more = []; taken = taken; put = ends.0; source = source; sink = ends.1; ending = ends.2; safe = inl refl }
 
 -- what a line comes to, done or not
-come_to : (room : Room) (old new : Standing) (l : Line) (r : Result (Unit {0}) WorldErr) (more : List Entry) (left : Option (List ℕ))
+come_to : (room : Room) (old new : RunState) (l : Line) (r : Result (Unit {0}) WorldErr) (more : List Entry) (left : Option (List ℕ))
     → length old.world.lines < LINES
     → IsLine (length old.world.lines == 0) l
     → IsApplied room old l new r
@@ -56,11 +56,11 @@ come_to room old new l (Err e) more left few formed applied same =
     inr (status_for (length old.world.lines + 1) e, refused_told (length old.world.lines + 1) e, refused_ends room old new l e more left few formed applied same)
 
 -- the line, as one after those of the world
-formed_behind : (w : Standing) (lines : List Line) (l : Line) → lines ≡ w.world.lines → IsLine (length lines == 0) l → IsLine (length w.world.lines == 0) l
+formed_behind : (w : RunState) (lines : List Line) (l : Line) → lines ≡ w.world.lines → IsLine (length lines == 0) l → IsLine (length w.world.lines == 0) l
 formed_behind w lines l same formed = subst (λ (ls : List Line). IsLine (length ls == 0) l) same formed
 
 -- what a line added couldn't be put
-pub unshown_end : (room : Room) (source_before source_after sink_before sink_after : Option (List ℕ)) (old new : Standing) (l : Line) (lines : List Line) (r : Result (Unit {0}) WorldErr) (grown : Grown old.world.entries new.world.entries) (shown : List Entry) (s : Status)
+pub unshown_end : (room : Room) (source_before source_after sink_before sink_after : Option (List ℕ)) (old new : RunState) (l : Line) (lines : List Line) (r : Result (Unit {0}) WorldErr) (grown : Grown old.world.entries new.world.entries) (shown : List Entry) (s : Status)
     → length old.world.lines < LINES
     → lines ≡ old.world.lines
     → IsLine (length lines == 0) l
@@ -85,7 +85,7 @@ unshown_end room source_before source_after sink_before sink_after old new l lin
     }
 
 -- the line is done and shown
-pub line_next : (room : Room) (source_before source_after sink_before sink_after : Option (List ℕ)) (old new : Standing) (l : Line) (lines : List Line) (grown : Grown old.world.entries new.world.entries) (shown : List Entry)
+pub line_next : (room : Room) (source_before source_after sink_before sink_after : Option (List ℕ)) (old new : RunState) (l : Line) (lines : List Line) (grown : Grown old.world.entries new.world.entries) (shown : List Entry)
     → lines ≡ old.world.lines
     → IsLine (length lines == 0) l
     → Takes source_before source_after (ended (line_text l))
@@ -105,7 +105,7 @@ line_next room source_before source_after sink_before sink_after old new l lines
     }
 
 -- the line isn't done, and what its finished steps added is shown
-pub refused_end : (room : Room) (source_before source_after sink_before sink_mid sink_after : Option (List ℕ)) (old new : Standing) (l : Line) (e : WorldErr) (lines : List Line) (grown : Grown old.world.entries new.world.entries) (shown : List Entry) (s given : Status)
+pub refused_end : (room : Room) (source_before source_after sink_before sink_mid sink_after : Option (List ℕ)) (old new : RunState) (l : Line) (e : WorldErr) (lines : List Line) (grown : Grown old.world.entries new.world.entries) (shown : List Entry) (s given : Status)
     → length old.world.lines < LINES
     → lines ≡ old.world.lines
     → IsLine (length lines == 0) l

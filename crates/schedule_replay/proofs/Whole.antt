@@ -15,7 +15,7 @@ use Rattle.world_spec.specs.World.{World, start_world}
 use Rattle.world_spec.specs.NodeSteps.{Room}
 use Rattle.world_spec.specs.Lines.{Next, so_far}
 use Rattle.world_spec.specs.Runs.{with_line, after_refusal, after, run_of}
-use Rattle.world_core.specs.Standing.{Standing, IsDone}
+use Rattle.world_core.specs.RunStates.{RunState, IsDone}
 use Rattle.time_line.specs.declared.TheConstants.{LINES}
 use Rattle.schedule_lines.specs.NextLine.{ended}
 use Rattle.schedule_replay.specs.Replay.{IsDoneFrom, AreDoneFrom, AreRun, EndsAt, IsReplay}
@@ -57,25 +57,25 @@ begun room source sink w start =
     (record { run = record { formed = tt; done = tt }; same = refl; source = Takes-nothing source; sink = Puts-nothing sink })
 
 -- the lines after one more
-pub lines_after : (room : Room) (old new : Standing) (l : Line) → IsDone room old l new → new.world.lines ≡ old.world.lines ++ l ∷ []
+pub lines_after : (room : Room) (old new : RunState) (l : Line) → IsDone room old l new → new.world.lines ≡ old.world.lines ++ l ∷ []
 lines_after room old new l is =
     let grows = done_grows room old.world l in
-    ap (λ (s : Standing). s.world.lines) is.after_it
+    ap (λ (s : RunState). s.world.lines) is.after_it
     ∙ ap (λ (ls : List Line). ls ++ l ∷ []) (sym (ap (λ (n : Next). (so_far n).lines) is.finished_in) ∙ grows.same)
 
 -- the world after one more
-pub world_after : (room : Room) (old new : Standing) (l : Line) → IsDone room old l new → new.world ≡ after room old.world l
+pub world_after : (room : Room) (old new : RunState) (l : Line) → IsDone room old l new → new.world ≡ after room old.world l
 unfolding after
 world_after room old new l is =
-    ap (λ (s : Standing). s.world) is.after_it ∙ sym (ap (λ (n : Next). with_line (so_far n) l) is.finished_in)
+    ap (λ (s : RunState). s.world) is.after_it ∙ sym (ap (λ (n : Next). with_line (so_far n) l) is.finished_in)
     ∙ sym (ap (after_refusal room old.world l) is.legal)
 
 -- a world that took a line may take another
-pub still_going : (room : Room) (old new : Standing) (l : Line) → IsDone room old l new → new.ended ≡ false
-still_going room old new l is = ap (λ (s : Standing). s.ended) is.after_it
+pub still_going : (room : Room) (old new : RunState) (l : Line) → IsDone room old l new → new.ended ≡ false
+still_going room old new l is = ap (λ (s : RunState). s.ended) is.after_it
 
 -- it goes on
-pub goes_on : (room : Room) (source_before source_now source_after sink_before sink_now sink_after : Option (List ℕ)) (old new : Standing)
+pub goes_on : (room : Room) (source_before source_now source_after sink_before sink_now sink_after : Option (List ℕ)) (old new : RunState)
     → IsSoFar room source_before source_now sink_before sink_now old.world
     → IsNext room source_now source_after sink_now sink_after old new
     → IsSoFar room source_before source_after sink_before sink_after new.world
@@ -96,7 +96,7 @@ goes_on room source_before source_now source_after sink_before sink_now sink_aft
     }
 
 -- it ends
-pub ends_so : (room : Room) (source_before source_now source_after sink_before sink_now sink_after : Option (List ℕ)) (w : Standing) (s : Status)
+pub ends_so : (room : Room) (source_before source_now source_after sink_before sink_now sink_after : Option (List ℕ)) (w : RunState) (s : Status)
     → IsSoFar room source_before source_now sink_before sink_now w.world
     → length w.world.lines ≤ LINES
     → IsEnd room source_now source_after sink_now sink_after w s
@@ -120,12 +120,12 @@ pub nothing_taken : (before after : Option (List ℕ)) → after ≡ before → 
 nothing_taken before after same = subst (λ (left : Option (List ℕ)). Takes before left []) (sym same) (Takes-nothing before)
 
 -- after the last line that a schedule may have
-pub past_end : (room : Room) (source_before source_after sink : Option (List ℕ)) (w : Standing) → Takes source_before source_after [] → IsAtEnd source_after → IsEnd room source_before source_after sink sink w status.Done
+pub past_end : (room : Room) (source_before source_after sink : Option (List ℕ)) (w : RunState) → Takes source_before source_after [] → IsAtEnd source_after → IsEnd room source_before source_after sink sink w status.Done
 unfolding trace_text last_line
 past_end room source_before source_after sink w taken end =
     record { more = []; taken = []; put = []; source = taken; sink = Puts-nothing sink; ending = ((refl, end, refl), refl); safe = inl refl }
 
-pub past_limit : (room : Room) (source_before source_after sink_before sink_after : Option (List ℕ)) (w : Standing) (byte : ℕ) (given : Status)
+pub past_limit : (room : Room) (source_before source_after sink_before sink_after : Option (List ℕ)) (w : RunState) (byte : ℕ) (given : Status)
     → length w.world.lines ≡ LINES
     → Takes source_before source_after (byte ∷ [])
     → IsFinished sink_before sink_after (status.Limit limited.Lines LINES) given
@@ -137,7 +137,7 @@ past_limit room source_before source_after sink_before sink_after w byte given f
     in
     record { more = []; taken = byte ∷ []; put = ends.0; source = taken; sink = ends.1; ending = ends.2; safe = inl refl }
 
-pub past_fault : (room : Room) (source_before source_after sink_before sink_after : Option (List ℕ)) (w : Standing) (count : ℕ) (given : Status)
+pub past_fault : (room : Room) (source_before source_after sink_before sink_after : Option (List ℕ)) (w : RunState) (count : ℕ) (given : Status)
     → length w.world.lines ≡ LINES
     → Takes source_before source_after []
     → IsFinished sink_before sink_after (status.SourceFault count) given

@@ -13,7 +13,7 @@ use Rattle.world_spec.specs.NodeSteps.{Room}
 use Rattle.world_spec.specs.Runs.{run_of}
 use Rattle.world_hull.specs.declared.errors.WorldErr.{WorldErr}
 use Rattle.world_hull.specs.declared.errors.WorldErr.TheVariants as error
-use Rattle.world_core.specs.Standing.{Standing, IsDone}
+use Rattle.world_core.specs.RunStates.{RunState, IsDone}
 use Rattle.schedule_lines.specs.NextLine.{ended}
 use Rattle.schedule_lines.specs.Causes.{HasCause}
 use Rattle.schedule_replay.specs.Replay.{AreOfSchedule, EndsAt}
@@ -24,7 +24,7 @@ pub record IsScheduleRun (room : Room) (w : World) : Type 0 where
   pub formed : AreOfSchedule 0 w.lines
 
 -- The line is done: it was taken and applied, and what it adds to the trace was put.
-pub record IsNext (room : Room) (source_before source_after sink_before sink_after : Option (List ℕ)) (old new : Standing) : Type 0 where
+pub record IsNext (room : Room) (source_before source_after sink_before sink_after : Option (List ℕ)) (old new : RunState) : Type 0 where
   pub line : Line
   pub formed : IsLine (length old.world.lines == 0) line
   pub done : IsDone room old line new
@@ -34,7 +34,7 @@ pub record IsNext (room : Room) (source_before source_after sink_before sink_aft
   pub sink : Puts sink_before sink_after (trace_text more)
 
 -- The replay ends here.
-pub record IsEnd (room : Room) (source_before source_after sink_before sink_after : Option (List ℕ)) (old : Standing) (s : Status) : Type 0 where
+pub record IsEnd (room : Room) (source_before source_after sink_before sink_after : Option (List ℕ)) (old : RunState) (s : Status) : Type 0 where
   pub more : List Entry
   pub taken : List ℕ
   pub put : List ℕ
@@ -45,7 +45,7 @@ pub record IsEnd (room : Room) (source_before source_after sink_before sink_afte
   pub safe : (more ≡ []) ⊎ IsSafe (old.world.entries ++ more)
 
 -- one line of a replay: it goes on, or it ends with a status
-abbrev pub IsStep : Room → Option (List ℕ) → Option (List ℕ) → Option (List ℕ) → Option (List ℕ) → Standing → Standing → Option Status → Type 0
+abbrev pub IsStep : Room → Option (List ℕ) → Option (List ℕ) → Option (List ℕ) → Option (List ℕ) → RunState → RunState → Option Status → Type 0
 IsStep room source_before source_after sink_before sink_after old new None = IsNext room source_before source_after sink_before sink_after old new
 IsStep room source_before source_after sink_before sink_after old new (Some s) = IsEnd room source_before source_after sink_before sink_after old s
 

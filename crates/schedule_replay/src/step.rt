@@ -1,7 +1,7 @@
 ghost use Rattle.std.specs.Prelude.{◌≡◌, ◌<◌, ◌==◌, false, length};
 ghost use Rattle.time_line.specs.Verdicts.{IsSafe};
 ghost use Rattle.schedule_text.specs.LineText.{IsLine};
-ghost use Rattle.world_core.specs.Standing.{IsApplied};
+ghost use Rattle.world_core.specs.RunStates.{IsApplied};
 ghost use Rattle.schedule_replay.specs.Steps.{IsScheduleRun, IsStep, CausesStep, Grown, status_for};
 
 use node_links::{Sink, Source};

@@ -27,10 +27,10 @@ use Rattle.xt_messages.specs.declared.event.Event.TheVariants as event
 use Rattle.xt_messages.specs.declared.record.Logged.TheVariants as logged
 use Rattle.xt_messages.specs.declared.record.Record.{Record}
 use Rattle.xt_messages.specs.declared.record.Record.TheVariants as kept
-use Rattle.kept_answers.specs.declared.Kept.{Kept}
-use Rattle.kept_answers.specs.declared.Standing.{Standing}
-use Rattle.kept_answers.specs.declared.Standing.TheVariants as standing
-use Rattle.kept_answers.specs.Standings.{compared, standing_of}
+use Rattle.reply_cache.specs.declared.Kept.{Kept}
+use Rattle.reply_cache.specs.declared.Standing.{Standing}
+use Rattle.reply_cache.specs.declared.Standing.TheVariants as standing
+use Rattle.reply_cache.specs.Standings.{compared, standing_of}
 use Rattle.registry_table.specs.declared.registry.Registered.{Registered}
 use Rattle.registry_table.specs.Registry.{Rows, row_of, with_row, without_row, shown, is_listed, page_of, version_in, Outcome, tells, row_set, row_removed, row_told, outcome_of, is_recorded, is_spent}
 use Rattle.server_rows.specs.Directory.{DirState, empty_dir, nothing, answered, after_request, recorded, fresh, by_standing, told_by, step_of_dir, after_registry, after_record, dir_of}

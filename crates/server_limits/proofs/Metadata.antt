@@ -24,10 +24,10 @@ use Rattle.xt_messages.specs.declared.event.Event.TheVariants as event
 use Rattle.xt_messages.specs.declared.record.Logged.TheVariants as logged
 use Rattle.xt_messages.specs.declared.record.Record.{Record}
 use Rattle.xt_messages.specs.declared.record.Record.TheVariants as kept
-use Rattle.kept_answers.specs.declared.Kept.{Kept}
-use Rattle.kept_answers.specs.declared.Standing.{Standing}
-use Rattle.kept_answers.specs.declared.Standing.TheVariants as standing
-use Rattle.kept_answers.specs.Standings.{compared, standing_of}
+use Rattle.reply_cache.specs.declared.Kept.{Kept}
+use Rattle.reply_cache.specs.declared.Standing.{Standing}
+use Rattle.reply_cache.specs.declared.Standing.TheVariants as standing
+use Rattle.reply_cache.specs.Standings.{compared, standing_of}
 use Rattle.volume_rows.specs.declared.Asker.{Asker}
 use Rattle.volume_rows.specs.declared.Picked.{Picked}
 use Rattle.volume_rows.specs.declared.Picked.TheVariants as place

@@ -11,7 +11,7 @@ use Rattle.xt_messages.specs.declared.record.Record.{Record}
 use Rattle.xt_messages.specs.declared.record.Record.TheVariants as kept
 use Rattle.xt_messages.specs.Limits.{FitsNode, FitsFile, FitsLocation, FitsMark, FitsMetaAnswer, FitsRegistryAnswer, FitsRow, FitsMessage, FitsRecord}
 use Rattle.xt_protocol.specs.declared.turned.Turned.{Turned}
-use Rattle.kept_answers.specs.declared.Kept.{Kept}
+use Rattle.reply_cache.specs.declared.Kept.{Kept}
 use Rattle.registry_table.specs.Registry.{Rows, shown}
 use Rattle.volume_rows.specs.declared.Entry.{Entry}
 use Rattle.volume_rows.specs.declared.Stored.{Stored}

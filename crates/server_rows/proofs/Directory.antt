@@ -11,9 +11,9 @@ use Rattle.xt_messages.specs.declared.event.Event.{Event}
 use Rattle.xt_messages.specs.declared.event.Event.TheVariants as event
 use Rattle.xt_messages.specs.declared.record.Record.{Record}
 use Rattle.xt_messages.specs.declared.registry.RegistryAnswer.{RegistryAnswer}
-use Rattle.kept_answers.specs.declared.Standing.{Standing}
-use Rattle.kept_answers.specs.declared.Standing.TheVariants as standing
-use Rattle.kept_answers.specs.Standings.{standing_of}
+use Rattle.reply_cache.specs.declared.Standing.{Standing}
+use Rattle.reply_cache.specs.declared.Standing.TheVariants as standing
+use Rattle.reply_cache.specs.Standings.{standing_of}
 use Rattle.registry_table.specs.Registry.{outcome_of, is_recorded, is_spent}
 use Rattle.server_rows.specs.Directory.{DirState, DirStep, dir_of, after_record, after_request, nothing, answered, recorded, fresh, by_standing, told_by, step_of_dir}
 

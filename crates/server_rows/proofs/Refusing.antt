@@ -20,7 +20,7 @@ use Rattle.volume_rows.specs.Paths.{Path, path_in}
 use Rattle.volume_rows.specs.Rows.{Row, Volumes, entry_at, with_row, without_row, renamed, page_of}
 use Rattle.volume_rows.specs.Rights.{reading, rule_of_read, first_of, ancestors, absent, there, directory, file, allowed, owned, parent_writable, empty, same_volume, outside}
 use Rattle.volume_rows.specs.Requests.{Outcome, done, tells, after_tests, has_names, on_path, on_paths, made, file_placed, row_told, mode_put, directory_made, file_made, path_renamed, file_unlinked, directory_removed, entry_told, names_listed, mode_set, applied}
-use Rattle.kept_answers.specs.Standings.{with_answer}
+use Rattle.reply_cache.specs.Standings.{with_answer}
 use Rattle.server_rows.specs.Laws.{IsChange, SettlesAs, Settles}
 use Rattle.capabilities.specs.Denials.{denial_of}
 use Rattle.volume_rows.specs.Grants.{sizes_in}

@@ -36,7 +36,7 @@ ghost use Rattle.xt_messages.specs.declared.record.Record.{Record};
 ghost use Rattle.xt_messages.specs.declared.meta.MetaReq.{MetaReq};
 ghost use Rattle.xt_messages.specs.declared.meta.MetaRefusal.{MetaRefusal};
 ghost use Rattle.xt_messages.specs.declared.meta.MetaAnswer.TheVariants.{Refused};
-ghost use Rattle.kept_answers.specs.Standings.{with_answer};
+ghost use Rattle.reply_cache.specs.Standings.{with_answer};
 ghost use Rattle.volume_rows.specs.declared.Asker.{Asker};
 ghost use Rattle.volume_rows.specs.declared.Picked.{Picked};
 ghost use Rattle.volume_rows.specs.Rows.{Volumes};

@@ -14,9 +14,9 @@ use Rattle.xt_messages.specs.declared.registry.RegistryAnswer.TheVariants as tol
 use Rattle.xt_messages.specs.declared.message.Msg.{Msg}
 use Rattle.xt_messages.specs.declared.message.Payload.{Payload}
 use Rattle.xt_messages.specs.declared.message.Payload.TheVariants as payload
-use Rattle.kept_answers.specs.declared.Standing.{Standing}
-use Rattle.kept_answers.specs.declared.Standing.TheVariants as standing
-use Rattle.kept_answers.specs.Standings.{standing_of}
+use Rattle.reply_cache.specs.declared.Standing.{Standing}
+use Rattle.reply_cache.specs.declared.Standing.TheVariants as standing
+use Rattle.reply_cache.specs.Standings.{standing_of}
 use Rattle.registry_table.specs.Registry.{outcome_of, is_recorded, is_spent}
 use Rattle.volume_rows.specs.declared.Asker.{Asker}
 use Rattle.server_rows.specs.Requests as meta

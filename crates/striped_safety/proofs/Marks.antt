@@ -14,7 +14,7 @@ use Rattle.xt_messages.specs.declared.message.Payload.{Payload}
 use Rattle.xt_messages.specs.declared.message.Payload.TheVariants as payload
 use Rattle.lease_safety.specs.State.{Has}
 use Rattle.truncate_epochs.specs.SizeMarks.{is_smaller}
-use Rattle.kept_answers.specs.declared.Kept.{Kept}
+use Rattle.reply_cache.specs.declared.Kept.{Kept}
 use Rattle.volume_rows.specs.declared.Content.{Content}
 use Rattle.volume_rows.specs.declared.Content.TheVariants as content
 use Rattle.volume_rows.specs.Paths.{Path}

@@ -20,7 +20,7 @@ use Rattle.xt_messages.specs.declared.reply.Denial.TheVariants as denial
 use Rattle.xt_messages.specs.declared.record.Record.TheVariants as kept
 use Rattle.xt_protocol.specs.Heads.{plain_stamp, head_after, session_of}
 use Rattle.xt_protocol.specs.ReplicaRows.{head_fits}
-use Rattle.xt_protocol.specs.Writes.{Standing, repeated, older, turned_away, fresh, is_old_epoch, too_far, room_for_client, reach, judged, by_session, standing, update_of}
+use Rattle.xt_protocol.specs.Writes.{WriteStanding, repeated, older, turned_away, fresh, is_old_epoch, too_far, room_for_client, reach, judged, by_session, standing, update_of}
 use Rattle.xt_protocol.specs.declared.states.PlainActed.{PlainActed}
 use Rattle.xt_protocol.specs.PlainRows.{PlainFile, nothing, only, owns, is_node, read_served, next_update, write_kept, write_stands, write_served, refused_or, plain_step}
 use Rattle.striped_safety.specs.Members.{Member, plain_of, has_of, number_in, number_of}
@@ -34,7 +34,7 @@ pub record Passed (objects stripe : ℕ) (head : FileHead) (session : Option Ses
   pub near : too_far objects stripe asked ≡ None
   pub newer : is_old_epoch head.mark epoch asked ≡ false
 
-abbrev StandIs : ℕ → ℕ → FileHead → Option Session → ℕ → ℕ → Op → Standing → Type 0
+abbrev StandIs : ℕ → ℕ → FileHead → Option Session → ℕ → ℕ → Op → WriteStanding → Type 0
 StandIs objects stripe head session number epoch asked (repeated count) = number ≡ number_in session
 StandIs objects stripe head session number epoch asked older = Unit {0}
 StandIs objects stripe head session number epoch asked (turned_away answer) = NotOk answer
@@ -207,7 +207,7 @@ module _ (s : Setting) (place : ℕ) (m : Member) (a : Asked) (members : are_mem
   change_does owned says =
       go (standing (limit_of s) (stripe_of s) m.head (id_of s a) a.epoch a.op) (stands_is (limit_of s) (stripe_of s) m.head (id_of s a) a.epoch a.op some)
     where
-      go : (st : Standing) → StandIs (limit_of s) (stripe_of s) m.head (session_of m.head.sessions s.client.0) a.number a.epoch a.op st
+      go : (st : WriteStanding) → StandIs (limit_of s) (stripe_of s) m.head (session_of m.head.sessions s.client.0) a.number a.epoch a.op st
           → Does s place m a (write_stands p (stripe_of s) m.body (id_of s a) a.epoch a.op st)
       go (repeated count) is = inl (refl, subst (λ (T : Type 0). T) (sym says) (refl, is))
       go older is = inl (refl, tt)

@@ -28,10 +28,10 @@ use Rattle.xt_protocol.specs.FileIds.{is_file}
 use Rattle.xt_protocol.proofs.Folds.{file-equal}
 use Rattle.truncate_epochs.specs.SizeMarks.{is_smaller, merged}
 use Rattle.lease_safety.specs.State.{Has}
-use Rattle.kept_answers.specs.declared.Kept.{Kept}
-use Rattle.kept_answers.specs.declared.Standing.{Standing}
-use Rattle.kept_answers.specs.declared.Standing.TheVariants as standing
-use Rattle.kept_answers.specs.Standings.{compared, standing_of}
+use Rattle.reply_cache.specs.declared.Kept.{Kept}
+use Rattle.reply_cache.specs.declared.Standing.{Standing}
+use Rattle.reply_cache.specs.declared.Standing.TheVariants as standing
+use Rattle.reply_cache.specs.Standings.{compared, standing_of}
 use Rattle.volume_rows.specs.declared.Asker.{Asker}
 use Rattle.volume_rows.specs.declared.Entry.{Entry}
 use Rattle.volume_rows.specs.declared.Stored.{Stored}

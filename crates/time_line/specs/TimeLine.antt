@@ -91,25 +91,25 @@ operation_begun file entries id = operation_on file (begun id entries)
 -- Running nodes.
 
 -- a running boot, what its clock reads, and the end of the lease that it held last for a file
-pub record Standing : Type 0 where
+pub record RunningBoot : Type 0 where
   pub boot : Boot
   pub clock : ℕ
   pub end : Option ℕ
 
-abbrev pub reads : ℕ → Option Standing → Option Standing
+abbrev pub reads : ℕ → Option RunningBoot → Option RunningBoot
 reads clock None = None
 reads clock (Some s) = Some (record s { clock = clock })
 
-abbrev pub advances : ℕ → Option Standing → Option Standing
+abbrev pub advances : ℕ → Option RunningBoot → Option RunningBoot
 advances count None = None
 advances count (Some s) = Some (record s { clock = s.clock + count })
 
-abbrev pub held_until : ℕ → Option Standing → Option Standing
+abbrev pub held_until : ℕ → Option RunningBoot → Option RunningBoot
 held_until end None = None
 held_until end (Some s) = Some (record s { end = Some end })
 
 -- how the node stands to the file after an entry
-abbrev pub standing_after : NodeId → ℕ → Option Standing → Entry → Option Standing
+abbrev pub standing_after : NodeId → ℕ → Option RunningBoot → Entry → Option RunningBoot
 standing_after node file before (entry.Up n boot clock) =
     if n.0 == node.0 then Some (record { boot = boot; clock = clock; end = None }) else before
 standing_after node file before (entry.Down n clock how) = if n.0 == node.0 then None else before
@@ -119,14 +119,14 @@ standing_after node file before (entry.Held n f end) = if (n.0 == node.0) && (f 
 standing_after node file before _ = before
 
 -- How a node stands to a file at a moment: none while it doesn't run.
-unfoldable pub standing : NodeId → ℕ → List Entry → Option Standing
+unfoldable pub standing : NodeId → ℕ → List Entry → Option RunningBoot
 standing node file moment = fold (standing_after node file) None moment
 
 abbrev pub is_before_end : ℕ → ℕ → Option ℕ → Bool
 is_before_end clock drift None = false
 is_before_end clock drift (Some end) = nat_lt (clock + drift) end
 
-abbrev pub holds_as : ℕ → Option Standing → Bool
+abbrev pub holds_as : ℕ → Option RunningBoot → Bool
 holds_as drift None = false
 holds_as drift (Some s) = is_before_end s.clock drift s.end
 

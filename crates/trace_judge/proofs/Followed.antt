@@ -10,7 +10,7 @@ use Rattle.xt_messages.specs.declared.event.Call.{Call}
 use Rattle.time_line.specs.declared.entry.Entry.{Entry}
 use Rattle.time_line.specs.declared.entry.Entry.TheVariants as entry
 use Rattle.time_line.specs.TimeLine as line
-use Rattle.time_line.specs.TimeLine.{Standing, standing_after, holds_as, call_begun, claim_on, operation_on, order_by}
+use Rattle.time_line.specs.TimeLine.{RunningBoot, standing_after, holds_as, call_begun, claim_on, operation_on, order_by}
 use Rattle.time_line.specs.Clauses.{acts_on}
 use Rattle.time_line.specs.Verdicts.{apart, acting, one_order, once, shown, fresh}
 use Rattle.judging.specs.Pass as pass

@@ -4,7 +4,7 @@ use Rattle.xt_base.specs.declared.ids.NodeId.{NodeId}
 use Rattle.time_line.specs.declared.entry.Entry.{Entry}
 use Rattle.time_line.specs.declared.entry.Entry.TheVariants as entry
 use Rattle.trace_judge.specs.declared.readings.Reading.{Reading}
-use Rattle.time_line.specs.TimeLine.{Standing, standing_after, holds_as, is_before_end}
+use Rattle.time_line.specs.TimeLine.{RunningBoot, standing_after, holds_as, is_before_end}
 
 -- the sum of the ticks after an entry
 abbrev pub ticks_after : ℕ → Entry → ℕ
@@ -33,7 +33,7 @@ holds_at drift ticks None = false
 holds_at drift ticks (Some r) = is_before_end (r.clock + (ticks - r.ticks)) drift r.end
 
 -- the reading tells how the node stands
-abbrev pub TellsStanding : ℕ → Option Reading → Option Standing → Type 0
+abbrev pub TellsStanding : ℕ → Option Reading → Option RunningBoot → Type 0
 TellsStanding ticks None None = Unit {0}
 TellsStanding ticks None (Some s) = ⊥
 TellsStanding ticks (Some r) None = ⊥
@@ -42,9 +42,9 @@ TellsStanding ticks (Some r) (Some s) = (r.ticks ≤ ticks) × (s.clock ≡ r.cl
 -- Readings go on telling how nodes stand, and so who holds.
 pub record ReadingsTell : Type 0 where
   pub more :
-      (node : NodeId) (file ticks : ℕ) (r : Option Reading) (s : Option Standing) (e : Entry)
+      (node : NodeId) (file ticks : ℕ) (r : Option Reading) (s : Option RunningBoot) (e : Entry)
       → TellsStanding ticks r s → TellsStanding (ticks_after ticks e) (reading_after node file ticks r e) (standing_after node file s e)
-  pub hold : (drift ticks : ℕ) (r : Option Reading) (s : Option Standing) → TellsStanding ticks r s → holds_at drift ticks r ≡ holds_as drift s
+  pub hold : (drift ticks : ℕ) (r : Option Reading) (s : Option RunningBoot) → TellsStanding ticks r s → holds_at drift ticks r ≡ holds_as drift s
   pub all_hold :
-      (drift ticks : ℕ) (row : NodeId → Option Reading) (stand : NodeId → Option Standing)
+      (drift ticks : ℕ) (row : NodeId → Option Reading) (stand : NodeId → Option RunningBoot)
       → ((n : NodeId) → TellsStanding ticks (row n) (stand n)) → ◌≡◌ {A = NodeId → Bool} (λ n. holds_at drift ticks (row n)) (λ n. holds_as drift (stand n))

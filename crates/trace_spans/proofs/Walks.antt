@@ -4,7 +4,7 @@ use Rattle.std.specs.Prelude.{option_map}
 use Rattle.std.proofs.lemmas.List.Sums.{fold_more}
 use Rattle.xt_base.specs.declared.ids.NodeId.{NodeId}
 use Rattle.time_line.specs.declared.entry.Entry.{Entry}
-use Rattle.time_line.specs.TimeLine.{Standing, standing, standing_after}
+use Rattle.time_line.specs.TimeLine.{RunningBoot, standing, standing_after}
 use Rattle.trace_spans.specs.declared.standings.Running.{Running}
 use Rattle.trace_spans.specs.Holding.{kept, clock_of, standing_at}
 
@@ -27,6 +27,6 @@ module _ (node : NodeId) (file : ℕ) (entries : List Entry) (i : ℕ) (e : Entr
       → now ≡ kept (standing_at node file entries i)
   kept_more now h is so = so ∙ ap kept (ap (standing_after node file (standing node file (take i entries))) is ∙ sym (standing_more node file entries i e h))
 
-pub clock_kept : (s : Option Standing) → option_map (λ (r : Running). r.clock) (kept s) ≡ option_map clock_of s
+pub clock_kept : (s : Option RunningBoot) → option_map (λ (r : Running). r.clock) (kept s) ≡ option_map clock_of s
 clock_kept None = refl
 clock_kept (Some s) = refl

@@ -2,7 +2,7 @@
 use Rattle.std.specs.Prelude.{ℕ, Bool, ◌+◌, min, Option, option_map, List, take}
 use Rattle.xt_base.specs.declared.ids.NodeId.{NodeId}
 use Rattle.time_line.specs.declared.entry.Entry.{Entry}
-use Rattle.time_line.specs.TimeLine.{Standing, standing, holds_as}
+use Rattle.time_line.specs.TimeLine.{RunningBoot, standing, holds_as}
 use Rattle.trace_spans.specs.declared.standings.Running.{Running}
 
 -- the greatest clock that is told: one beyond it is told as this
@@ -10,18 +10,18 @@ abbrev pub greatest : ℕ
 greatest = 18446744073709551615
 
 -- what is kept of how a node stands
-abbrev pub kept_of : Standing → Running
+abbrev pub kept_of : RunningBoot → Running
 kept_of s = record { clock = min s.clock greatest; end = s.end }
 
-abbrev pub kept : Option Standing → Option Running
+abbrev pub kept : Option RunningBoot → Option Running
 kept s = option_map kept_of s
 
 -- what its clock reads
-abbrev pub clock_of : Standing → ℕ
+abbrev pub clock_of : RunningBoot → ℕ
 clock_of s = min s.clock greatest
 
 -- how the node stands after the entry at this place
-abbrev pub standing_at : NodeId → ℕ → List Entry → ℕ → Option Standing
+abbrev pub standing_at : NodeId → ℕ → List Entry → ℕ → Option RunningBoot
 standing_at node file entries place = standing node file (take (place + 1) entries)
 
 -- whether the node holds the file after the entry at this place, where clocks differ by at most so much

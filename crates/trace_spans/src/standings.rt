@@ -1,5 +1,5 @@
 ghost use Rattle.std.specs.Prelude.{◌≡◌, Option, option_map, IfOk, length};
-ghost use Rattle.time_line.specs.TimeLine.{Standing, standing_after, reads, advances, held_until, holds_as};
+ghost use Rattle.time_line.specs.TimeLine.{RunningBoot, standing_after, reads, advances, held_until, holds_as};
 ghost use Rattle.trace_spans.specs.Listed.{IsListOf};
 ghost use Rattle.trace_spans.specs.Holding.{kept, holds_at, clock_at};
 
@@ -16,7 +16,7 @@ pub struct Running {
 
 /// A node whose clock was set.
 fn set_to(clock: u64, before: Option<Running>) -> Option<Running>
-    ensures { (s : Option Standing) → before ≡ kept s → result ≡ kept (reads clock s) }
+    ensures { (s : Option RunningBoot) → before ≡ kept s → result ≡ kept (reads clock s) }
 {
     match before {
         None => None,
@@ -29,7 +29,7 @@ fn set_to(clock: u64, before: Option<Running>) -> Option<Running>
 
 /// A node whose clock advanced. No clock is told beyond the greatest number.
 fn advanced(count: u64, before: Option<Running>) -> Option<Running>
-    ensures { (s : Option Standing) → before ≡ kept s → result ≡ kept (advances count s) }
+    ensures { (s : Option RunningBoot) → before ≡ kept s → result ≡ kept (advances count s) }
 {
     match before {
         None => None,
@@ -42,7 +42,7 @@ fn advanced(count: u64, before: Option<Running>) -> Option<Running>
 
 /// A node that holds the file up to an end.
 fn held_to(end: u64, before: Option<Running>) -> Option<Running>
-    ensures { (s : Option Standing) → before ≡ kept s → result ≡ kept (held_until end s) }
+    ensures { (s : Option RunningBoot) → before ≡ kept s → result ≡ kept (held_until end s) }
 {
     match before {
         None => None,
@@ -55,7 +55,7 @@ fn held_to(end: u64, before: Option<Running>) -> Option<Running>
 
 /// The node after an entry.
 fn running_after(node: NodeId, file: u64, before: Option<Running>, entry: &Entry) -> Option<Running>
-    ensures { (s : Option Standing) → before ≡ kept s →
+    ensures { (s : Option RunningBoot) → before ≡ kept s →
         result ≡ kept (standing_after node file s entry.now) }
 {
     match entry {
@@ -85,7 +85,7 @@ fn running_after(node: NodeId, file: u64, before: Option<Running>, entry: &Entry
 
 /// Whether the node holds the file: its clock is more than the drift before the end of its lease.
 fn holds(drift: u64, running: Option<Running>) -> bool
-    ensures { (s : Option Standing) → running ≡ kept s → result ≡ holds_as drift s }
+    ensures { (s : Option RunningBoot) → running ≡ kept s → result ≡ holds_as drift s }
 {
     match running {
         None => false,

@@ -12,7 +12,7 @@ use Rattle.world_spec.specs.Runs.{with_line, after, after_refusal, run_of, IsPar
 use Rattle.world_hull.specs.declared.errors.WorldErr.{WorldErr}
 use Rattle.world_hull.specs.declared.errors.WorldErr.TheVariants as error
 use Rattle.world_step.specs.Steps.{Working}
-use Rattle.world_core.specs.Standing.{Standing, HasRun, IsRefused, MayStand, begun_with}
+use Rattle.world_core.specs.RunStates.{RunState, HasRun, IsRefused, MayStand, begun_with}
 use Rattle.world_core.proofs.Turns.{none_yet}
 use Rattle.world_core.proofs.Whole.{begins_in, done_is}
 
@@ -95,7 +95,7 @@ module _ (room : Room) (w : World) (l : Line) (ended shown : Working)
       inl (its_entries ∙ so ∙ ap (λ (x : World). x.entries) (sym is ∙ ap so_far (none_yet room (begins w l)) ∙ begins_in w l))
   by_steps (suc k) part is so = inr (part, (suc k, omega arith, is), its_entries ∙ so)
 
-  pub refused_is : (old : Standing) (e : WorldErr) → old.world ≡ w → HasRun room begun l ended (Err e) → IsRefused room old l (record { world = shown.doing.world; ended = shown.ended }) e
+  pub refused_is : (old : RunState) (e : WorldErr) → old.world ≡ w → HasRun room begun l ended (Err e) → IsRefused room old l (record { world = shown.doing.world; ended = shown.ended }) e
   refused_is old e same so = subst (λ (x : World). IsRefused room (record { world = x; ended = old.ended }) l (record { world = shown.doing.world; ended = shown.ended }) e) (sym same) (at e so)
     where
       at : (e : WorldErr) → HasRun room begun l ended (Err e) → IsRefused room (record { world = w; ended = old.ended }) l (record { world = shown.doing.world; ended = shown.ended }) e

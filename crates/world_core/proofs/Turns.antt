@@ -6,7 +6,7 @@ use Rattle.world_limits.specs.Fits.{FitsWorld, FitsAt}
 use Rattle.world_hull.specs.declared.errors.WorldErr.{WorldErr}
 use Rattle.world_hull.specs.declared.errors.WorldErr.TheVariants as error
 use Rattle.world_step.specs.Steps.{Working, WentOn, IsUntold, Tells, IsStepped, cause_of}
-use Rattle.world_core.specs.Standing.{IsLeftIn, TellsEnd, IsTurned, HasEnded, AllFit}
+use Rattle.world_core.specs.RunStates.{IsLeftIn, TellsEnd, IsTurned, HasEnded, AllFit}
 use Rattle.world_spec.specs.World.{World}
 use Rattle.world_spec.specs.NodeSteps.{Room, Cause, came_to, has_no_room, Doing, event_comes}
 use Rattle.world_spec.specs.Lines.{Next, finished, opens, goes_on, ends, went, settles, works_on, next_step, steps, so_far}

@@ -9,7 +9,7 @@ use Rattle.world_hull.specs.declared.errors.WorldErr.{WorldErr}
 use Rattle.world_hull.specs.declared.errors.WorldErr.TheVariants as error
 use Rattle.world_limits.specs.Fits.{FitsAt, FitsWorld}
 use Rattle.world_step.specs.Steps.{Working, WentOn, IsUntold, Tells, cause_of}
-use Rattle.world_core.specs.Standing.{IsLeftIn, HasTurned, HasEnded, HasRun, AllFit, begun_with, opening_of, closing_of}
+use Rattle.world_core.specs.RunStates.{IsLeftIn, HasTurned, HasEnded, HasRun, AllFit, begun_with, opening_of, closing_of}
 use Rattle.world_core.proofs.Turns.{none_yet, steps-add, done_longer, ended_longer, went_further}
 
 opens_one : (room : Room) (l : Line) (w : World) → steps 1 room (opens l w) ≡ went w (first_step room (record { world = w; own = []; left = 0 }) l)

@@ -1,7 +1,7 @@
 //! What is to be known of a line before its first step.
 ghost use Rattle.std.specs.Prelude.{◌≡◌, ◌++◌, ◌∷◌, [], IfOk, OnOk, OnErr};
 ghost use Rattle.world_spec.specs.Lines.{events_of};
-ghost use Rattle.world_core.specs.Standing.{closing_of, left_of};
+ghost use Rattle.world_core.specs.RunStates.{closing_of, left_of};
 
 use std::alloc::Global;
 use time_line::Line;

@@ -1,6 +1,6 @@
 ghost use Rattle.std.specs.Prelude.{◌≡◌, ◌+◌, ◌<◌, ◌≤◌, ◌++◌, ◌∷◌, [], false, true, length, take, OnOk, OnErr};
 ghost use Rattle.world_spec.specs.World.{start_world};
-ghost use Rattle.world_core.specs.Standing.{resting, begun_with};
+ghost use Rattle.world_core.specs.RunStates.{resting, begun_with};
 
 mod declaring;
 mod events;

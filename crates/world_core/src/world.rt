@@ -1,7 +1,7 @@
 ghost use Rattle.std.specs.Prelude.{◌≡◌, ◌++◌, ◌∷◌, [], false};
 ghost use Rattle.world_spec.specs.World.{start_world};
 ghost use Rattle.time_line.specs.Bounds.{AreLines};
-ghost use Rattle.world_core.specs.Standing.{IsApplied};
+ghost use Rattle.world_core.specs.RunStates.{IsApplied};
 
 use crate::state::State;
 use std::alloc::Global;
@@ -19,9 +19,9 @@ pub struct World<C: NodeCore, H: Hull> {
 }
 
 impl<C: NodeCore, H: Hull> Model for World<C, H> {
-    ghost use Rattle.world_core.specs.Standing.{Standing, IsRunSoFar};
+    ghost use Rattle.world_core.specs.RunStates.{RunState, IsRunSoFar};
 
-    ghost Value = { Standing };
+    ghost Value = { RunState };
 
     ghost view = { λ w. record { world = w.state.doing.world; ended = w.state.ended } };
 

@@ -26,7 +26,7 @@ use Rattle.xt_protocol.specs.declared.states.Progress.{Progress}
 use Rattle.xt_protocol.specs.declared.states.Progress.TheVariants as progress
 use Rattle.xt_protocol.specs.declared.states.Tenure.{Tenure}
 use Rattle.xt_protocol.specs.declared.states.WaitingAsk.{WaitingAsk}
-use Rattle.xt_protocol.specs.Writes.{Standing, repeated, older, turned_away, fresh, standing}
+use Rattle.xt_protocol.specs.Writes.{WriteStanding, repeated, older, turned_away, fresh, standing}
 use Rattle.xt_protocol.specs.Primaries.{Ground, Led, is_current, if_any}
 use Rattle.xt_protocol.specs.Serving.{reads_in, reads_under, reads, current_others, issues, next_update_of, issues_unless, write_stands, writes_in, writes_under, writes, gather_unknown, unacked, sent_again, to_peers, wakes_in, wakes_under, wakes}
 use Rattle.object_versions.proofs.HeadLimits.{either, when}
@@ -95,7 +95,7 @@ module _ (g : Ground) (learnt : ℕ) (ground : GroundIs g) (number : IsCount lea
   unless_is t head (Some u) is whole near = tt
   unless_is t head None is whole near = issues_is t head (next_update_of g t head id epoch asked) is whole (next_is t head is whole near)
 
-  stands_is : (t : Tenure) (head : FileHead) (issued : Option IssuedUpdate) (how : Standing) → TenureIs t → FitsHead head → StandingIs OBJECTS g.place.stripe asked how → IfSome (write_stands g learnt t head issued id epoch asked how) Leads
+  stands_is : (t : Tenure) (head : FileHead) (issued : Option IssuedUpdate) (how : WriteStanding) → TenureIs t → FitsHead head → StandingIs OBJECTS g.place.stripe asked how → IfSome (write_stands g learnt t head issued id epoch asked how) Leads
   stands_is t head issued (repeated count) is whole how = record {
     primary = record { number = number; leads = is };
     next = tt;

@@ -21,7 +21,7 @@ use Rattle.xt_messages.specs.Limits.{FitsHead, FitsStamp, FitsOpId, FitsOp, Fits
 use Rattle.xt_base.specs.Overlay.{overlay, cut_or_filled}
 use Rattle.xt_protocol.specs.Heads.{version_of, session_of}
 use Rattle.xt_protocol.specs.Objects.{present_body, readable}
-use Rattle.xt_protocol.specs.Writes.{bytes_shown, Standing, repeated, older, turned_away, fresh, is_old_epoch, too_far, room_for_client, reach, judged, by_session, standing, written, objects_of, cuts_body, truncated, update_of}
+use Rattle.xt_protocol.specs.Writes.{bytes_shown, WriteStanding, repeated, older, turned_away, fresh, is_old_epoch, too_far, room_for_client, reach, judged, by_session, standing, written, objects_of, cuts_body, truncated, update_of}
 use Rattle.object_versions.proofs.HeadLimits.{either}
 use Rattle.client_limits.proofs.Bytes.{each_byte, are_bytes, each-take}
 use Rattle.world_limits.proofs.Bytes.{each-drop, each-overlay, each-filled, length-filled, length-overlay}
@@ -55,7 +55,7 @@ shown_is stripe body head (op.Truncate size) bodies fits = no_bytes
 -- ---- how a write stands
 
 -- what is known of a write by how it stands, for a file of so many objects of this size
-abbrev pub StandingIs : ℕ → ℕ → Op → Standing → Type 0
+abbrev pub StandingIs : ℕ → ℕ → Op → WriteStanding → Type 0
 StandingIs objects stripe asked (repeated count) = IsCount count
 StandingIs objects stripe asked older = Unit {0}
 StandingIs objects stripe asked (turned_away why) = FitsReply why

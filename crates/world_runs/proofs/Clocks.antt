@@ -31,7 +31,7 @@ use Rattle.time_line.specs.declared.entry.Entry.TheVariants as entry
 use Rattle.xt_messages.specs.declared.event.Mark.{Mark}
 use Rattle.xt_messages.specs.declared.event.Mark.TheVariants as mark
 use Rattle.server_rows.specs.Metadata.{Catalogue}
-use Rattle.time_line.specs.TimeLine.{Standing, standing, standing_after, holds, holds_as, times_of, reads, advances}
+use Rattle.time_line.specs.TimeLine.{RunningBoot, standing, standing_after, holds, holds_as, times_of, reads, advances}
 use Rattle.world_spec.specs.declared.Role.{Role}
 use Rattle.world_spec.specs.declared.Role.TheVariants as role
 use Rattle.world_spec.specs.World.{World, Node, Running, Core, osd, client, mrc, dir, world_key, node_in, with_node, known, up_of, loads, puts}
@@ -158,9 +158,9 @@ start_fits w node clock found down close fit =
           (λ y was. node_more (known w) later stay w.times y (fit.shape.nodes n y was)) is;
       stands = λ n number. elim (same n node.id.0) [
         | inl e ↦ subst (λ (f : Option Node). Stands (standing (node_id n) number next.entries) (up_of f)) (sym (ap (node_in next.nodes) e ∙ node_in-new w.nodes there node found))
-            (subst (λ (o : Option Standing). Stands o (Some running)) (sym (own_standing n number e)) (refl, starts_free w.times node boot clock node.role))
+            (subst (λ (o : Option RunningBoot). Stands o (Some running)) (sym (own_standing n number e)) (refl, starts_free w.times node boot clock node.role))
         | inr ne ↦ subst (λ (f : Option Node). Stands (standing (node_id n) number next.entries) (up_of f)) (sym (node_in-other w.nodes there n ne))
-            (subst (λ (o : Option Standing). Stands o (up_of (node_in w.nodes n))) (sym (other_standing n number ne)) (fit.shape.stands n number))
+            (subst (λ (o : Option RunningBoot). Stands o (up_of (node_in w.nodes n))) (sym (other_standing n number ne)) (fit.shape.stands n number))
       ];
       payloads = λ m h. payload_more (known w) later stay m.payload (fit.shape.payloads m h);
       declared = fit.shape.declared;
@@ -352,15 +352,15 @@ ticked_node times files count node fits = record { role_is = of_role node.up fit
     at None fits = tt
     at (Some r) fits = later_core times files node.id node.kept r (record r { clock = r.clock + count }) r.core refl (omega arith) fits
 
-ticked_stands : (count : ℕ) (o : Option Standing) (found : Option Node) → Stands o (up_of found) → Stands (advances count o) (up_of (option_map (ticked count) found))
+ticked_stands : (count : ℕ) (o : Option RunningBoot) (found : Option Node) → Stands o (up_of found) → Stands (advances count o) (up_of (option_map (ticked count) found))
 ticked_stands count o None stands = at o stands
   where
-    at : (o : Option Standing) → Stands o None → Stands (advances count o) None
+    at : (o : Option RunningBoot) → Stands o None → Stands (advances count o) None
     at None stands = tt
     at (Some st) stands = absurd stands
 ticked_stands count o (Some node) stands = at o node.up stands
   where
-    at : (o : Option Standing) (up : Option Running) → Stands o up → Stands (advances count o) (elim up [ None ↦ None | Some r ↦ Some (record r { clock = r.clock + count }) ])
+    at : (o : Option RunningBoot) (up : Option Running) → Stands o up → Stands (advances count o) (elim up [ None ↦ None | Some r ↦ Some (record r { clock = r.clock + count }) ])
     at None None stands = tt
     at None (Some r) stands = absurd stands
     at (Some st) None stands = absurd stands
@@ -406,7 +406,7 @@ tick_fits w count fit =
           subst (NodeFits w.times (known w)) from.2 (ticked_node w.times (known w) count from.0 (fit.shape.nodes n from.0 from.1));
       stands = λ n number.
           subst (λ (f : Option Node). Stands (standing (node_id n) number next.entries) (up_of f)) (sym (node_in-ticked w.nodes count n))
-          (subst (λ (o : Option Standing). Stands o (up_of (option_map (ticked count) (node_in w.nodes n)))) (sym (standing-push (node_id n) number w.entries e))
+          (subst (λ (o : Option RunningBoot). Stands o (up_of (option_map (ticked count) (node_in w.nodes n)))) (sym (standing-push (node_id n) number w.entries e))
           (ticked_stands count (standing (node_id n) number w.entries) (node_in w.nodes n) (fit.shape.stands n number)));
       payloads = fit.shape.payloads;
       declared = fit.shape.declared;
@@ -418,7 +418,7 @@ tick_fits w count fit =
     } in
     record { shape = shape; safe = safe-push w.entries e fit.safe (apart_now next [] shape) (λ number by acting. absurd (cc)) }
   where
-    same_end : (o : Option Standing) → end_in (advances count o) ≡ end_in o
+    same_end : (o : Option RunningBoot) → end_in (advances count o) ≡ end_in o
     same_end None = refl
     same_end (Some st) = refl
 
@@ -478,11 +478,11 @@ clock_fits w node r clock found is_up rises close fit =
       stands = λ n number. elim (same n node.id.0) [
         | inl x ↦
             subst (λ (f : Option Node). Stands (standing (node_id n) number next.entries) (up_of f)) (sym (ap (node_in next.nodes) x ∙ node_in-new w.nodes there node found))
-            (subst (λ (o : Option Standing). Stands o (Some (record r { clock = clock }))) (sym (standing-push (node_id n) number w.entries e ∙ own_clock (node_id n) node.id number clock _ (sym x)))
+            (subst (λ (o : Option RunningBoot). Stands o (Some (record r { clock = clock }))) (sym (standing-push (node_id n) number w.entries e ∙ own_clock (node_id n) node.id number clock _ (sym x)))
             (read_stands (standing (node_id n) number w.entries) (subst (Stands (standing (node_id n) number w.entries)) (ap up_of (ap (node_in w.nodes) x ∙ found) ∙ is_up) (fit.shape.stands n number))))
         | inr ne ↦
             subst (λ (f : Option Node). Stands (standing (node_id n) number next.entries) (up_of f)) (sym (node_in-other w.nodes there n ne))
-            (subst (λ (o : Option Standing). Stands o (up_of (node_in w.nodes n))) (sym (standing-push (node_id n) number w.entries e ∙ other_clock (node_id n) node.id number clock _ (λ x. ne (sym x)))) (fit.shape.stands n number))
+            (subst (λ (o : Option RunningBoot). Stands o (up_of (node_in w.nodes n))) (sym (standing-push (node_id n) number w.entries e ∙ other_clock (node_id n) node.id number clock _ (λ x. ne (sym x)))) (fit.shape.stands n number))
       ];
       payloads = fit.shape.payloads;
       declared = fit.shape.declared;
@@ -505,13 +505,13 @@ clock_fits w node r clock found is_up rises close fit =
         let two : Some q ≡ Some r = sym there_up ∙ (ap (λ (y : Node). y.up) (sym same_node) ∙ is_up) in
         cc
 
-    same_end : (n number : ℕ) (o : Option Standing) → end_in (standing_after (node_id n) number o (entry.Clock node.id clock)) ≡ end_in o
+    same_end : (n number : ℕ) (o : Option RunningBoot) → end_in (standing_after (node_id n) number o (entry.Clock node.id clock)) ≡ end_in o
     same_end n number None = grind (arith, nat_tests)
     same_end n number (Some st) = grind (arith, nat_tests)
 
     same_told : (n number : ℕ) → told number n (w.entries ++ entry.Clock node.id clock ∷ []) ≡ told number n w.entries
     same_told n number = ap end_in (standing-push (node_id n) number w.entries (entry.Clock node.id clock)) ∙ same_end n number (standing (node_id n) number w.entries)
 
-    read_stands : (o : Option Standing) → Stands o (Some r) → Stands (reads clock o) (Some (record r { clock = clock }))
+    read_stands : (o : Option RunningBoot) → Stands o (Some r) → Stands (reads clock o) (Some (record r { clock = clock }))
     read_stands None stands = absurd stands
     read_stands (Some st) stands = (refl, stands.1)

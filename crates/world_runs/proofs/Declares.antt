@@ -15,7 +15,7 @@ use Rattle.time_line.specs.declared.entry.Entry.{Entry}
 use Rattle.time_line.specs.declared.entry.Entry.TheVariants as entry
 use Rattle.world_spec.specs.declared.Role.{Role}
 use Rattle.world_spec.specs.declared.Role.TheVariants as role
-use Rattle.time_line.specs.TimeLine.{Standing, standing, times_of}
+use Rattle.time_line.specs.TimeLine.{RunningBoot, standing, times_of}
 use Rattle.world_spec.specs.World.{World, start_world, Node, client, node_in, known, up_of}
 use Rattle.world_spec.specs.Lines.{runs, first_boot, whole_client, declared_file, never_started, tells}
 use Rattle.world_runs.specs.View.{file_setting, node_id, end_in, told, unseen, node_seen, lease_view}
@@ -45,7 +45,7 @@ empty_shape times es ls are none =
           seen_steps.unmoved g (start_lease_world g) (lease_view g w []) starts
           (λ n. subst (λ (f : Option Node). IsSeenAs ((start_lease_world g).node n) (node_seen g n (told file.number n es) f)) (sym (nobody n)) (record { runs = refl; boot = omega arith; running = λ runs. absurd (cc) })) (λ m h. h);
       nodes = λ n node is. absurd (let none : None ≡ Some node = sym (nobody n) ∙ is in cc);
-      stands = λ n number. subst (λ (f : Option Node). Stands (standing (node_id n) number es) (up_of f)) (sym (nobody n)) (subst (λ (o : Option Standing). Stands o None) (sym (none (node_id n) number)) tt);
+      stands = λ n number. subst (λ (f : Option Node). Stands (standing (node_id n) number es) (up_of f)) (sym (nobody n)) (subst (λ (o : Option RunningBoot). Stands o None) (sym (none (node_id n) number)) tt);
       payloads = λ m h. absurd h;
       declared = λ f h. absurd h;
       made = subst (IsMadeBy []) (sym (nobody MRC_NODE.0)) refl;
@@ -90,7 +90,7 @@ declared_nodes P nodes node n x free here others is =
       | inr ne ↦ others x (sym (node_in-before nodes node n ne) ∙ is)
     ]
 
-unstood : (o : Option Standing) → Stands o None → o ≡ None
+unstood : (o : Option RunningBoot) → Stands o None → o ≡ None
 unstood None stands = refl
 unstood (Some st) stands = absurd stands
 
@@ -126,7 +126,7 @@ server_fits w id its at free fit =
                 (elim (same n id.0) [
                   | inl e ↦
                       let before = unstood (standing (node_id n) number w.entries) (subst (λ (f : Option Node). Stands (standing (node_id n) number w.entries) (up_of f)) (ap (node_in w.nodes) e ∙ free) (fit.shape.stands n number)) in
-                      subst (λ (f : Option Node). Stands (standing (node_id n) number w.entries) (up_of f)) (sym (ap (node_in (w.nodes ++ new ∷ [])) e ∙ node_in-last w.nodes new free)) (subst (λ (o : Option Standing). Stands o None) (sym before) tt)
+                      subst (λ (f : Option Node). Stands (standing (node_id n) number w.entries) (up_of f)) (sym (ap (node_in (w.nodes ++ new ∷ [])) e ∙ node_in-last w.nodes new free)) (subst (λ (o : Option RunningBoot). Stands o None) (sym before) tt)
                   | inr ne ↦ subst (λ (f : Option Node). Stands (standing (node_id n) number w.entries) (up_of f)) (sym (node_in-before w.nodes new n ne)) (fit.shape.stands n number)
                 ]);
             payloads = fit.shape.payloads;
@@ -152,9 +152,9 @@ client_fits w id clock free fit =
       nodes = λ n x is. declared_nodes (NodeFits w.times (known w)) w.nodes new n x free (record { role_is = refl; rows = no_rows (known w); up = nothing_asked (known w) clock }) (λ y was. fit.shape.nodes n y was) is;
       stands = λ n number. elim (same n id.0) [
         | inl e ↦ subst (λ (f : Option Node). Stands (standing (node_id n) number next.entries) (up_of f)) (sym (ap (node_in (w.nodes ++ new ∷ [])) e ∙ node_in-last w.nodes new free))
-            (subst (λ (o : Option Standing). Stands o (Some (runs first_boot clock (client (whole_client clock))))) (sym (standing-push (node_id n) number w.entries (entry.Up id first_boot clock) ∙ own_up (node_id n) id number first_boot clock _ (sym e))) (refl, refl))
+            (subst (λ (o : Option RunningBoot). Stands o (Some (runs first_boot clock (client (whole_client clock))))) (sym (standing-push (node_id n) number w.entries (entry.Up id first_boot clock) ∙ own_up (node_id n) id number first_boot clock _ (sym e))) (refl, refl))
         | inr ne ↦ subst (λ (f : Option Node). Stands (standing (node_id n) number next.entries) (up_of f)) (sym (node_in-before w.nodes new n ne))
-            (subst (λ (o : Option Standing). Stands o (up_of (node_in w.nodes n))) (sym (standing-push (node_id n) number w.entries (entry.Up id first_boot clock) ∙ other_up (node_id n) id number first_boot clock _ (λ e. ne (sym e)))) (fit.shape.stands n number))
+            (subst (λ (o : Option RunningBoot). Stands o (up_of (node_in w.nodes n))) (sym (standing-push (node_id n) number w.entries (entry.Up id first_boot clock) ∙ other_up (node_id n) id number first_boot clock _ (λ e. ne (sym e)))) (fit.shape.stands n number))
       ];
       payloads = fit.shape.payloads;
       declared = fit.shape.declared;
@@ -191,7 +191,7 @@ file_fits w number location low fit =
           seen_steps.unmoved g (lease_view g w []) (lease_view g next []) (fit.shape.good file members (members_before (known w) later file members stay are))
           (λ n. seen_steps.as_it_is _ _ (ap (λ (t : Option ℕ). node_seen g n t (node_in w.nodes n)) (ap end_in (still (node_id n) file.number)))) (λ m h. h);
       nodes = λ n x is. node_more (known w) later stay w.times x (fit.shape.nodes n x is);
-      stands = λ n k. subst (λ (o : Option Standing). Stands o (up_of (node_in w.nodes n))) (sym (still (node_id n) k)) (fit.shape.stands n k);
+      stands = λ n k. subst (λ (o : Option RunningBoot). Stands o (up_of (node_in w.nodes n))) (sym (still (node_id n) k)) (fit.shape.stands n k);
       payloads = λ m h. payload_more (known w) later stay m.payload (fit.shape.payloads m h);
       declared = λ f h. elim (has_in f w.files (new ∷ []) h) [
         | inl was ↦ fit.shape.declared f was

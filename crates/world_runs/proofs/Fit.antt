@@ -20,7 +20,7 @@ use Rattle.world_spec.specs.declared.PlacedFile.{PlacedFile}
 use Rattle.world_spec.specs.declared.Role.TheVariants as role
 use Rattle.time_line.specs.declared.entry.Entry.TheVariants as entry
 use Rattle.world_spec.specs.declared.Sent.{Sent}
-use Rattle.time_line.specs.TimeLine.{Standing, standing, holds, holds_as, times_of, is_before_end}
+use Rattle.time_line.specs.TimeLine.{RunningBoot, standing, holds, holds_as, times_of, is_before_end}
 use Rattle.world_spec.specs.World.{World, Node, Running, Core, osd, client, mrc, dir, node_in, with_node, file_in, known, up_of}
 use Rattle.world_spec.specs.NodeSteps.{entry_of, files_marked, pending, numbered, to_itself, one_more, after_turn, halted}
 use Rattle.world_spec.specs.Lines.{declared_file}
@@ -107,7 +107,7 @@ holder w own shape file members a holding = at (node_in w.nodes a.0) refl (shape
     no_end None c is before = cc
     no_end (Some end) c is before = cc
 
-    by_core : (node : Node) (r : Running) (core : Core) (st : Standing) → node_in w.nodes a.0 ≡ Some node → node.up ≡ Some r → r.core ≡ core → standing a number w.entries ≡ Some st → (st.clock ≡ r.clock) × EndFits st.end core
+    by_core : (node : Node) (r : Running) (core : Core) (st : RunningBoot) → node_in w.nodes a.0 ≡ Some node → node.up ≡ Some r → r.core ≡ core → standing a number w.entries ≡ Some st → (st.clock ≡ r.clock) × EndFits st.end core
         → is_before_end st.clock (times_of w.entries).drift st.end ≡ true → IsHolding g (node_seen g a.0 (told number a.0 w.entries) (Some node))
     by_core node r (osd s) st found is_up is_osd is stands before =
         let its : node.role ≡ role.Osd = sym (role_at node r (shape.nodes a.0 node found).role_is is_up) ∙ ap role_of is_osd in
@@ -117,11 +117,11 @@ holder w own shape file members a holding = at (node_in w.nodes a.0) refl (shape
     by_core node r (mrc m) st found is_up is_mrc is stands before = absurd (no_end st.end st.clock stands.1 before)
     by_core node r (dir s) st found is_up is_dir is stands before = absurd (no_end st.end st.clock stands.1 before)
 
-    at : (found : Option Node) → node_in w.nodes a.0 ≡ found → Stands (standing a number w.entries) (up_of (node_in w.nodes a.0)) → (o : Option Standing) → standing a number w.entries ≡ o
+    at : (found : Option Node) → node_in w.nodes a.0 ≡ found → Stands (standing a number w.entries) (up_of (node_in w.nodes a.0)) → (o : Option RunningBoot) → standing a number w.entries ≡ o
         → holds_as (times_of w.entries).drift (standing a number w.entries) ≡ true → IsHolding g ((lease_view g w own).node a.0)
     at found is_found stands None is before = absurd (let none = ap (holds_as (times_of w.entries).drift) is in cc (none, before))
-    at None is_found stands (Some st) is before = absurd (subst (λ (f : Option Node). Stands (Some st) (up_of f)) is_found (subst (λ (o : Option Standing). Stands o (up_of (node_in w.nodes a.0))) is stands))
-    at (Some node) is_found stands (Some st) is before = by_up node.up refl (subst (λ (f : Option Node). Stands (Some st) (up_of f)) is_found (subst (λ (o : Option Standing). Stands o (up_of (node_in w.nodes a.0))) is stands))
+    at None is_found stands (Some st) is before = absurd (subst (λ (f : Option Node). Stands (Some st) (up_of f)) is_found (subst (λ (o : Option RunningBoot). Stands o (up_of (node_in w.nodes a.0))) is stands))
+    at (Some node) is_found stands (Some st) is before = by_up node.up refl (subst (λ (f : Option Node). Stands (Some st) (up_of f)) is_found (subst (λ (o : Option RunningBoot). Stands o (up_of (node_in w.nodes a.0))) is stands))
       where
         by_up : (up : Option Running) → node.up ≡ up → Stands (Some st) node.up → IsHolding g ((lease_view g w own).node a.0)
         by_up None is_up there = absurd (subst (Stands (Some st)) is_up there)
@@ -198,9 +198,9 @@ halt_fits w own node old r how found its rows boot front fit =
           omega (arith, ap (λ (x : LeaseNode). x.boot) seen, below)) (fit.shape.good file members are);
       nodes = λ n x is. replaced (NodeFits w.times (known w)) w.nodes there old n x found (record { role_is = tt; rows = rows; up = tt }) (λ y was. fit.shape.nodes n y was) is;
       stands = λ n number. elim (same n node.id.0) [
-        | inl e ↦ subst (λ (o : Option Standing). Stands o (up_of (node_in end.nodes n))) (sym (standing-push (node_id n) number w.entries (entry.Down node.id r.clock how) ∙ own_down (node_id n) node.id number r.clock how _ (sym e)))
+        | inl e ↦ subst (λ (o : Option RunningBoot). Stands o (up_of (node_in end.nodes n))) (sym (standing-push (node_id n) number w.entries (entry.Down node.id r.clock how) ∙ own_down (node_id n) node.id number r.clock how _ (sym e)))
             (subst (λ (f : Option Node). Stands None (up_of f)) (sym (ap (node_in end.nodes) e ∙ node_in-new w.nodes there old found)) tt)
-        | inr ne ↦ subst (λ (o : Option Standing). Stands o (up_of (node_in end.nodes n))) (sym (standing-push (node_id n) number w.entries (entry.Down node.id r.clock how) ∙ other_down (node_id n) node.id number r.clock how _ (λ e. ne (sym e))))
+        | inr ne ↦ subst (λ (o : Option RunningBoot). Stands o (up_of (node_in end.nodes n))) (sym (standing-push (node_id n) number w.entries (entry.Down node.id r.clock how) ∙ other_down (node_id n) node.id number r.clock how _ (λ e. ne (sym e))))
             (subst (λ (f : Option Node). Stands (standing (node_id n) number w.entries) (up_of f)) (sym (node_in-other w.nodes there n ne)) (fit.shape.stands n number))
       ];
       payloads = λ m h. fit.shape.payloads m (has_right m own (messages w) h);
@@ -300,7 +300,7 @@ after_fits w was own node r next turned within found is_up is fit =
       stands = λ n number. elim (same n node.id.0) [
         | inl e ↦ subst (λ (id : NodeId). Stands (standing id number end.entries) (up_of (node_in end.nodes n))) (sym (id_seen n node.id e))
             (subst (λ (f : Option Node). Stands (standing node.id number end.entries) (up_of f)) (sym (ap (node_in end.nodes) e ∙ node_in-new w.nodes there node found)) (is.stands number))
-        | inr ne ↦ subst (λ (o : Option Standing). Stands o (up_of (node_in end.nodes n))) (sym (standing_elsewhere number (node_id n) node.id w.entries turned.marks ne is.marks))
+        | inr ne ↦ subst (λ (o : Option RunningBoot). Stands o (up_of (node_in end.nodes n))) (sym (standing_elsewhere number (node_id n) node.id w.entries turned.marks ne is.marks))
             (subst (λ (f : Option Node). Stands (standing (node_id n) number w.entries) (up_of f)) (sym (node_in-other w.nodes there n ne)) (fit.shape.stands n number))
       ];
       payloads = λ m h. elim (sent_then w own node.id turned.outs m h) [

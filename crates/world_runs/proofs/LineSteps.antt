@@ -17,7 +17,7 @@ use Rattle.world_runs.proofs.Forgotten.{core_then, rows_fit_then, seen_then}
 use Rattle.world_spec.specs.declared.PlacedFile.{PlacedFile}
 use Rattle.world_spec.specs.declared.Role.TheVariants as role
 use Rattle.time_line.specs.declared.line.Line.{Line}
-use Rattle.time_line.specs.TimeLine.{Standing, standing}
+use Rattle.time_line.specs.TimeLine.{RunningBoot, standing}
 use Rattle.client_rows.specs.Clients.{aimed}
 use Rattle.client_rows.specs.Rows.{WholeClient}
 use Rattle.world_spec.specs.NodeSteps.{rewritten_at}
@@ -47,7 +47,7 @@ use Rattle.world_runs.specs.Worlds.{OsdFits, ClientFits, CoreFits, UpFits, role_
 -- a running node is replaced so that nothing of its lease changes
 replaced_fits : (w : World) (own : List Msg) (node there : Node) (r q : Running) → node_in w.nodes there.id.0 ≡ Some node → node.up ≡ Some r → there.up ≡ Some q → there.role ≡ node.role
     → ((g : LeaseSetting) (n : ℕ) (end : Option ℕ) → core_seen g n end there.kept q q.core ≡ core_seen g n end node.kept r r.core) → NodeFits w.times (known w) there
-    → (there.role ≡ role.Mrc → made_in there ≡ made_in node) → ((o : Option Standing) → Stands o (Some r) → Stands o (Some q)) → IsFit w own → IsFit (record w { nodes = with_node w.nodes there }) own
+    → (there.role ≡ role.Mrc → made_in there ≡ made_in node) → ((o : Option RunningBoot) → Stands o (Some r) → Stands o (Some q)) → IsFit w own → IsFit (record w { nodes = with_node w.nodes there }) own
 replaced_fits w own node there r q found is_up now_up its seen fits makes stands fit =
     let next : World = record w { nodes = with_node w.nodes there } in
     record {
@@ -90,7 +90,7 @@ replaced_fits w own node there r q found is_up now_up its seen fits makes stands
 -- a running node is changed so that nothing of its lease changes
 changed_fits : (w : World) (own : List Msg) (node : Node) (r q : Running) → node_in w.nodes node.id.0 ≡ Some node → node.up ≡ Some r → role_of q.core ≡ role_of r.core
     → ((g : LeaseSetting) (n : ℕ) (end : Option ℕ) → core_seen g n end node.kept q q.core ≡ core_seen g n end node.kept r r.core) → CoreFits w.times (known w) node.id node.kept q q.core
-    → ((o : Option Standing) → Stands o (Some r) → Stands o (Some q)) → IsFit w own → IsFit (record w { nodes = with_node w.nodes (record node { up = Some q }) }) own
+    → ((o : Option RunningBoot) → Stands o (Some r) → Stands o (Some q)) → IsFit w own → IsFit (record w { nodes = with_node w.nodes (record node { up = Some q }) }) own
 changed_fits w own node r q found is_up its seen core stands fit =
     let was = fit.shape.nodes node.id.0 node found in
     replaced_fits w own node (record node { up = Some q }) r q found is_up refl refl seen (record { role_is = its ∙ role_at node r was.role_is is_up; rows = was.rows; up = core }) (λ server. refl) stands fit
@@ -114,7 +114,7 @@ forgotten_fits w own node r s found is_up is_osd fit =
     (λ server. absurd (let none : role.Osd ≡ role.Mrc = is_role ∙ server in cc))
     (λ o stands. forgets_stands r s keep o is_osd stands) fit
   where
-    forgets_stands : (r : Running) (s : OsdState) (keep : List KeepBody) (o : Option Standing) → r.core ≡ osd s → Stands o (Some r) → Stands o (Some (record r { core = osd (osd_without keep s) }))
+    forgets_stands : (r : Running) (s : OsdState) (keep : List KeepBody) (o : Option RunningBoot) → r.core ≡ osd s → Stands o (Some r) → Stands o (Some (record r { core = osd (osd_without keep s) }))
     forgets_stands r s keep None core stands = absurd stands
     forgets_stands r s keep (Some st) core stands = (stands.0, tt)
 
@@ -176,11 +176,11 @@ lined_fits w l fit =
       safe = fit.safe;
     }
 
-same_stands : (r q : Running) (o : Option Standing) → q.clock ≡ r.clock → q.core ≡ r.core → Stands o (Some r) → Stands o (Some q)
+same_stands : (r q : Running) (o : Option RunningBoot) → q.clock ≡ r.clock → q.core ≡ r.core → Stands o (Some r) → Stands o (Some q)
 same_stands r q None clock core stands = absurd stands
 same_stands r q (Some st) clock core stands = (stands.0 ∙ sym clock, subst (EndFits st.end) (sym core) stands.1)
 
-aimed_stands : (r : Running) (c d : WholeClient) (o : Option Standing) → r.core ≡ client c → Stands o (Some r) → Stands o (Some (record r { core = client d }))
+aimed_stands : (r : Running) (c d : WholeClient) (o : Option RunningBoot) → r.core ≡ client c → Stands o (Some r) → Stands o (Some (record r { core = client d }))
 aimed_stands r c d None core stands = absurd stands
 aimed_stands r c d (Some st) core stands = (stands.0, subst (EndFits st.end) core stands.1)
 

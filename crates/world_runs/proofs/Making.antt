@@ -41,9 +41,9 @@ use Rattle.client_rows.specs.Rows.{WholeClient, stepped, called, called_again}
 use Rattle.client_steps.specs.Asked.{ClientIs, RunningIs, MadeIs, Tells, tells_none, tells_end, CallStepIs, call_passes, call_begins}
 use Rattle.client_steps.proofs.Steps.{stepped_is, called_is, called_again_is}
 use Rattle.lease_safety.specs.State.{Has}
-use Rattle.kept_answers.specs.declared.Standing.{Standing}
-use Rattle.kept_answers.specs.declared.Standing.TheVariants as standing
-use Rattle.kept_answers.specs.Standings.{standing_of}
+use Rattle.reply_cache.specs.declared.Standing.{Standing}
+use Rattle.reply_cache.specs.declared.Standing.TheVariants as standing
+use Rattle.reply_cache.specs.Standings.{standing_of}
 use Rattle.registry_table.specs.Registry as registry
 use Rattle.volume_rows.specs.declared.Asker.{Asker}
 use Rattle.volume_rows.specs.declared.Picked.{Picked}

@@ -14,7 +14,7 @@ use Rattle.lease_runs.specs.LeaseView.{held_ends, listed}
 use Rattle.lease_runs.specs.ActsView.{AreActs, IsBusy, MarksAre, no_marks, won, acting}
 use Rattle.time_line.specs.declared.entry.Entry.{Entry}
 use Rattle.time_line.specs.declared.entry.Entry.TheVariants as entry
-use Rattle.time_line.specs.TimeLine.{Standing, standing, standing_after, held_until, holds, holds_as, times_of, is_before_end}
+use Rattle.time_line.specs.TimeLine.{RunningBoot, standing, standing_after, held_until, holds, holds_as, times_of, is_before_end}
 use Rattle.world_spec.specs.NodeSteps.{entry_of}
 use Rattle.world_runs.specs.View.{node_id, end_in, told}
 use Rattle.world_runs.proofs.Tables.{same}
@@ -46,7 +46,7 @@ one_told : (e : Option ℕ) (end : ℕ) (t : Option ℕ) → listed e ≡ end �
 one_told None end t is = absurd (cc)
 one_told (Some x) end t is = (let same_end : x ≡ end = cc in ap (λ n. Some n) same_end)
 
-end_held : (end : ℕ) (o : Option Standing) (s : Standing) → o ≡ Some s → end_in (held_until end o) ≡ Some end
+end_held : (end : ℕ) (o : Option RunningBoot) (s : RunningBoot) → o ≡ Some s → end_in (held_until end o) ≡ Some end
 end_held end o s is = ap (λ o. end_in (held_until end o)) is
 
 -- marks that are acts
@@ -62,7 +62,7 @@ won_told number n node es marks file end is other =
     ∙ ap end_in (standing-push (node_id n) number es (entry.Held node file end) ∙ other_held (node_id n) node number file end _ other)
 
 -- the end that a step of a file tells of, at the node itself
-pub told_as : (number : ℕ) (node : NodeId) (es : List Entry) (st : Standing) (file : FileId) (l : LeaseState) (marks : List Mark) (e : Option ℕ) → file.number ≡ number
+pub told_as : (number : ℕ) (node : NodeId) (es : List Entry) (st : RunningBoot) (file : FileId) (l : LeaseState) (marks : List Mark) (e : Option ℕ) → file.number ≡ number
     → standing node number es ≡ Some st → MarksAre file l marks → held_ends marks ≡ listed e
     → told number node.0 (es ++ map (entry_of node) marks) ≡ told_now e (told number node.0 es)
 told_as number node es st file l marks e of_file stands (no_marks none) ends =
@@ -92,12 +92,12 @@ standing_elsewhere number id node es marks ne (wins file end is) =
 standing_elsewhere number id node es marks ne (acts file are holding) = still_standing node marks id number es (acts_still node file marks are)
 
 -- the own node's clock stays
-pub clock_stays : (number : ℕ) (node : NodeId) (es : List Entry) (marks : List Mark) (st : Standing) → standing node number es ≡ Some st → MarksFit node es marks
-    → (after : Standing) × (standing node number (es ++ map (entry_of node) marks) ≡ Some after) × (after.clock ≡ st.clock)
+pub clock_stays : (number : ℕ) (node : NodeId) (es : List Entry) (marks : List Mark) (st : RunningBoot) → standing node number es ≡ Some st → MarksFit node es marks
+    → (after : RunningBoot) × (standing node number (es ++ map (entry_of node) marks) ≡ Some after) × (after.clock ≡ st.clock)
 clock_stays number node es marks st is (inert are) = (st, still_standing node marks node number es (inert_still node marks are) ∙ is, refl)
 clock_stays number node es marks st is (acts file are holding) = (st, still_standing node marks node number es (acts_still node file marks are) ∙ is, refl)
 clock_stays number node es marks st is (wins file end held_is) =
-    elim (same file number) as (λ o. (after : Standing) × (standing node number (es ++ map (entry_of node) marks) ≡ Some after) × (after.clock ≡ st.clock)) [
+    elim (same file number) as (λ o. (after : RunningBoot) × (standing node number (es ++ map (entry_of node) marks) ≡ Some after) × (after.clock ≡ st.clock)) [
       | inl e ↦ (record st { end = Some end }, pushed ∙ (ap (λ (k : ℕ). standing_after node number (standing node number es) (entry.Held node k end)) e ∙ (own_held node node number end (standing node number es) refl ∙ ap (held_until end) is)), refl)
       | inr ne ↦ (st, pushed ∙ (other_held node node number file end (standing node number es) (inr ne) ∙ is), refl)
     ]
@@ -136,7 +136,7 @@ expired_turn x (held h) now runs clock is = at (has_turn h now) refl is
     at false over is = absurd is
 
 -- a node that holds by its lease holds by the trace
-pub holds_true : (g : LeaseSetting) (es : List Entry) (node : NodeId) (x : LeaseNode) (st : Standing) → (times_of es).drift ≡ g.times.drift → standing node g.file.number es ≡ Some st → st.clock ≡ x.clock
+pub holds_true : (g : LeaseSetting) (es : List Entry) (node : NodeId) (x : LeaseNode) (st : RunningBoot) → (times_of es).drift ≡ g.times.drift → standing node g.file.number es ≡ Some st → st.clock ≡ x.clock
     → x.told ≡ told g.file.number node.0 es → IsHolding g x → holds es node g.file.number ≡ true
 holds_true g es node x st drift stands clock is_told holding =
     let end_is : x.told ≡ st.end = is_told ∙ ap end_in stands in

@@ -10,7 +10,7 @@ use Rattle.xt_messages.specs.declared.event.Mark.TheVariants as mark
 use Rattle.lease_runs.specs.ActsView.{AreActs}
 use Rattle.time_line.specs.declared.entry.Entry.{Entry}
 use Rattle.time_line.specs.declared.entry.Entry.TheVariants as entry
-use Rattle.time_line.specs.TimeLine.{Standing, standing, standing_after, holds, holds_as, times_of, times_told, first_times, or_defaults}
+use Rattle.time_line.specs.TimeLine.{RunningBoot, standing, standing_after, holds, holds_as, times_of, times_told, first_times, or_defaults}
 use Rattle.time_line.specs.Clauses.{IsBefore, IsMoment, AreApart, HoldersAct, acts_on}
 use Rattle.world_spec.specs.NodeSteps.{entry_of}
 use Rattle.std.proofs.lemmas.Bool.Decides.{nat_tests}
@@ -120,7 +120,7 @@ safe-push es e safe apart acting number = (
 
 -- an entry that changes how no node stands
 abbrev IsStill : Entry → Type 0
-IsStill e = ((id : NodeId) (number : ℕ) (before : Option Standing) → standing_after id number before e ≡ before) × (times_told e ≡ None)
+IsStill e = ((id : NodeId) (number : ℕ) (before : Option RunningBoot) → standing_after id number before e ≡ before) × (times_told e ≡ None)
 
 holds-still : (es : List Entry) (e : Entry) (node : NodeId) (number : ℕ) → IsStill e → holds (es ++ e ∷ []) node number ≡ holds es node number
 holds-still es e node number still =

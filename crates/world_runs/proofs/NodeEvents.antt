@@ -26,7 +26,7 @@ use Rattle.lease_runs.specs.LeaseView.{lease_row_of, is_about}
 use Rattle.world_spec.specs.declared.PlacedFile.{PlacedFile}
 use Rattle.world_spec.specs.declared.Role.{Role}
 use Rattle.world_spec.specs.declared.Role.TheVariants as role
-use Rattle.time_line.specs.TimeLine.{Standing, standing}
+use Rattle.time_line.specs.TimeLine.{RunningBoot, standing}
 use Rattle.world_spec.specs.NodeSteps.{entry_of, files_marked, one_more, outside_of}
 use Rattle.world_runs.specs.View.{file_setting, told, awake_as, unseen, core_seen, node_seen, lease_view}
 use Rattle.world_runs.proofs.Standings.{AreInert, inert_still, still_standing}
@@ -75,13 +75,13 @@ use Rattle.world_runs.proofs.Walk.{Reaches, NodeStep, of_osd, of_client, of_mrc,
 
 -- how a running node stands
 pub stood_by : (w : World) (own : List Msg) (node : Node) (r : Running) → IsShaped w own → node_in w.nodes node.id.0 ≡ Some node → node.up ≡ Some r → (number : ℕ)
-    → (st : Standing) × (standing node.id number w.entries ≡ Some st) × (st.clock ≡ r.clock) × EndFits st.end r.core
+    → (st : RunningBoot) × (standing node.id number w.entries ≡ Some st) × (st.clock ≡ r.clock) × EndFits st.end r.core
 stood_by w own node r shape found is_up number =
     at (standing node.id number w.entries) refl (subst (Stands (standing node.id number w.entries)) (ap up_of found ∙ is_up) (shape.stands node.id.0 number))
   where
-    at : (o : Option Standing) → standing node.id number w.entries ≡ o → Stands (standing node.id number w.entries) (Some r) → (st : Standing) × (standing node.id number w.entries ≡ Some st) × (st.clock ≡ r.clock) × EndFits st.end r.core
-    at None is stands = absurd (subst (λ (o : Option Standing). Stands o (Some r)) is stands)
-    at (Some st) is stands = (let there = subst (λ (o : Option Standing). Stands o (Some r)) is stands in (st, is, there.0, there.1))
+    at : (o : Option RunningBoot) → standing node.id number w.entries ≡ o → Stands (standing node.id number w.entries) (Some r) → (st : RunningBoot) × (standing node.id number w.entries ≡ Some st) × (st.clock ≡ r.clock) × EndFits st.end r.core
+    at None is stands = absurd (subst (λ (o : Option RunningBoot). Stands o (Some r)) is stands)
+    at (Some st) is stands = (let there = subst (λ (o : Option RunningBoot). Stands o (Some r)) is stands in (st, is, there.0, there.1))
 
 -- what runs at a node
 pub core_at : (w : World) (was : List Msg) (node : Node) (r : Running) → IsShaped w was → node_in w.nodes node.id.0 ≡ Some node → node.up ≡ Some r → CoreFits w.times (known w) node.id node.kept r r.core
@@ -116,7 +116,7 @@ osd_next w was node r s happens shape found is_up is_osd comes =
       stands = λ number.
           let before = stood_by w was node r shape found is_up number in
           let after = clock_stays number node.id w.entries o.turned.marks before.0 before.1 fits_all.marks in
-          subst (λ (st : Option Standing). Stands st (Some (record r { core = osd o.osd }))) (sym after.1) (after.2 ∙ before.2, tt);
+          subst (λ (st : Option RunningBoot). Stands st (Some (record r { core = osd o.osd }))) (sym after.1) (after.2 ∙ before.2, tt);
     }
   where
     is_role : node.role ≡ role.Osd
@@ -185,7 +185,7 @@ stands_other : (w : World) (was : List Msg) (node : Node) (r : Running) (next : 
 stands_other w was node r next turned shape found is_up marks ends number =
     let before = stood_by w was node r shape found is_up number in
     let still = still_standing node.id turned.marks node.id number w.entries (inert_still node.id turned.marks marks) in
-    subst (λ (st : Option Standing). Stands st (Some (record r { core = next }))) (sym (still ∙ before.1)) (before.2, ends before.0.end before.3)
+    subst (λ (st : Option RunningBoot). Stands st (Some (record r { core = next }))) (sym (still ∙ before.1)) (before.2, ends before.0.end before.3)
 
 -- ---- clients
 

@@ -37,7 +37,7 @@ use Rattle.lease_runs.proofs.LeaseSteps as lease_steps
 use Rattle.lease_runs.proofs.OsdLeases as osd_leases
 use Rattle.lease_runs.proofs.ActSteps as act_steps
 use Rattle.world_spec.specs.declared.PlacedFile.{PlacedFile}
-use Rattle.time_line.specs.TimeLine.{Standing, standing, holds, times_of}
+use Rattle.time_line.specs.TimeLine.{RunningBoot, standing, holds, times_of}
 use Rattle.world_spec.specs.declared.Role.TheVariants as role
 use Rattle.world_spec.specs.World.{World, Node, Running, osd, node_in, file_in, known}
 use Rattle.world_spec.specs.NodeSteps.{entry_of, one_more, outside_of}
@@ -121,7 +121,7 @@ pub record Shows (g : LeaseSetting) (w : World) (was : List Msg) (node : Node) (
 
 -- how the node stands in the trace
 pub record Stood (w : World) (node : Node) (r : Running) (number : ℕ) : Type 0 where
-  pub at : Standing
+  pub at : RunningBoot
   pub stands : standing node.id number w.entries ≡ Some at
   pub clock : at.clock ≡ r.clock
 

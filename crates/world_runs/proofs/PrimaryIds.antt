@@ -29,7 +29,7 @@ use Rattle.xt_protocol.specs.declared.states.PrimaryState.{PrimaryState}
 use Rattle.xt_protocol.specs.declared.states.Tenure.{Tenure}
 use Rattle.xt_protocol.specs.ReplicaRows.{stage_record}
 use Rattle.xt_protocol.specs.Turns.{message}
-use Rattle.xt_protocol.specs.Writes.{Standing, repeated, older, turned_away, fresh, standing, by_session, judged, reach, room_for_client, is_old_epoch, too_far, update_of}
+use Rattle.xt_protocol.specs.Writes.{WriteStanding, repeated, older, turned_away, fresh, standing, by_session, judged, reach, room_for_client, is_old_epoch, too_far, update_of}
 use Rattle.xt_protocol.specs.Primaries.{Ground, Led, carries, fed, if_any, is_unknown, known_of_report, majority_among, nodes_of, peer_in, reports_of, statuses_counted, target_of, with_node}
 use Rattle.xt_protocol.specs.PrimaryRows.{epoch_drawn, epoch_above, installs, peers_fed, fetches, head_chosen, chooses, status_counted, feeds, status_told, with_state, hears_status, body_fetched, body_beyond, hears_object, body_staged, body_missed, hears_missing, target_in, head_acked, update_acked, acked_below, hears_ack, makes_current, outpromised, hears_peer, hears_member, hears_epoch, hears_in, epoch_told, hears}
 use Rattle.xt_protocol.specs.Serving.{issues, issues_unless, write_stands, writes_in, writes_under, writes, next_update_of, current_others, gather_unknown, unacked, sent_again, wakes_in, wakes_under, wakes}
@@ -60,11 +60,11 @@ LedSaidIfAny Q file (Some led) = LedSaid Q file led
 
 -- ---- writes that are turned away
 
-abbrev pub StandingIs : Standing → Type 0
+abbrev pub StandingIs : WriteStanding → Type 0
 StandingIs (turned_away why) = IsNo why
 StandingIs _ = Unit {0}
 
-either_stands : (b : Bool) (x y : Standing) → StandingIs x → StandingIs y → StandingIs (cond b x y)
+either_stands : (b : Bool) (x y : WriteStanding) → StandingIs x → StandingIs y → StandingIs (cond b x y)
 either_stands true x y p q = p
 either_stands false x y p q = q
 
@@ -257,7 +257,7 @@ module _ (Q : OpId → Type 0) where
   unless_said g learnt t head (Some issued) id epoch asked h q = tt
   unless_said g learnt t head None id epoch asked h q = issues_said g learnt t head (next_update_of g t head id epoch asked) h (next_is g t head id epoch asked q)
 
-  stands_said : (g : Ground) (learnt : ℕ) (t : Tenure) (head : FileHead) (issued : Option IssuedUpdate) (id : OpId) (epoch : ℕ) (asked : Op) (how : Standing) → ProgressIs Q t.progress → Q id → StandingIs how
+  stands_said : (g : Ground) (learnt : ℕ) (t : Tenure) (head : FileHead) (issued : Option IssuedUpdate) (id : OpId) (epoch : ℕ) (asked : Op) (how : WriteStanding) → ProgressIs Q t.progress → Q id → StandingIs how
       → LedSaidIfAny Q g.place.file.number (write_stands g learnt t head issued id epoch asked how)
   stands_said g learnt t head issued id epoch asked (repeated count) h q is = record { tenure = h; said = ((q, inl refl), tt); marks = ((refl, q), tt) }
   stands_said g learnt t head issued id epoch asked older h q is = record { tenure = h; said = tt; marks = tt }

@@ -11,7 +11,7 @@ use Rattle.xt_messages.specs.declared.event.Mark.TheVariants as mark
 use Rattle.time_line.specs.declared.entry.Halt.{Halt}
 use Rattle.time_line.specs.declared.entry.Entry.{Entry}
 use Rattle.time_line.specs.declared.entry.Entry.TheVariants as entry
-use Rattle.time_line.specs.TimeLine.{Standing, standing, standing_after, held_until, reads}
+use Rattle.time_line.specs.TimeLine.{RunningBoot, standing, standing_after, held_until, reads}
 use Rattle.world_spec.specs.NodeSteps.{entry_of}
 use Rattle.lease_runs.specs.ActsView.{AreActs}
 
@@ -24,29 +24,29 @@ unfolding standing
 standing-none id number = refl
 
 -- an entry of another node changes nothing
-pub other_up : (id other : NodeId) (number : ℕ) (boot : Boot) (clock : ℕ) (before : Option Standing) → other.0 ≢ id.0 → standing_after id number before (entry.Up other boot clock) ≡ before
+pub other_up : (id other : NodeId) (number : ℕ) (boot : Boot) (clock : ℕ) (before : Option RunningBoot) → other.0 ≢ id.0 → standing_after id number before (entry.Up other boot clock) ≡ before
 other_up id other number boot clock before ne = grind (arith, nat_tests)
 
-pub other_down : (id other : NodeId) (number clock : ℕ) (how : Halt) (before : Option Standing) → other.0 ≢ id.0 → standing_after id number before (entry.Down other clock how) ≡ before
+pub other_down : (id other : NodeId) (number clock : ℕ) (how : Halt) (before : Option RunningBoot) → other.0 ≢ id.0 → standing_after id number before (entry.Down other clock how) ≡ before
 other_down id other number clock how before ne = grind (arith, nat_tests)
 
-pub other_clock : (id other : NodeId) (number clock : ℕ) (before : Option Standing) → other.0 ≢ id.0 → standing_after id number before (entry.Clock other clock) ≡ before
+pub other_clock : (id other : NodeId) (number clock : ℕ) (before : Option RunningBoot) → other.0 ≢ id.0 → standing_after id number before (entry.Clock other clock) ≡ before
 other_clock id other number clock before ne = grind (arith, nat_tests)
 
-pub own_up : (id other : NodeId) (number : ℕ) (boot : Boot) (clock : ℕ) (before : Option Standing) → other.0 ≡ id.0
+pub own_up : (id other : NodeId) (number : ℕ) (boot : Boot) (clock : ℕ) (before : Option RunningBoot) → other.0 ≡ id.0
     → standing_after id number before (entry.Up other boot clock) ≡ Some (record { boot = boot; clock = clock; end = None })
 own_up id other number boot clock before e = grind (arith, nat_tests)
 
-pub own_down : (id other : NodeId) (number clock : ℕ) (how : Halt) (before : Option Standing) → other.0 ≡ id.0 → standing_after id number before (entry.Down other clock how) ≡ None
+pub own_down : (id other : NodeId) (number clock : ℕ) (how : Halt) (before : Option RunningBoot) → other.0 ≡ id.0 → standing_after id number before (entry.Down other clock how) ≡ None
 own_down id other number clock how before e = grind (arith, nat_tests)
 
-pub own_clock : (id other : NodeId) (number clock : ℕ) (before : Option Standing) → other.0 ≡ id.0 → standing_after id number before (entry.Clock other clock) ≡ reads clock before
+pub own_clock : (id other : NodeId) (number clock : ℕ) (before : Option RunningBoot) → other.0 ≡ id.0 → standing_after id number before (entry.Clock other clock) ≡ reads clock before
 own_clock id other number clock before e = grind (arith, nat_tests)
 
-pub own_held : (id other : NodeId) (number end : ℕ) (before : Option Standing) → other.0 ≡ id.0 → standing_after id number before (entry.Held other number end) ≡ held_until end before
+pub own_held : (id other : NodeId) (number end : ℕ) (before : Option RunningBoot) → other.0 ≡ id.0 → standing_after id number before (entry.Held other number end) ≡ held_until end before
 own_held id other number end before e = grind (arith, nat_tests)
 
-pub other_held : (id other : NodeId) (number file end : ℕ) (before : Option Standing) → (other.0 ≢ id.0) ⊎ (file ≢ number) → standing_after id number before (entry.Held other file end) ≡ before
+pub other_held : (id other : NodeId) (number file end : ℕ) (before : Option RunningBoot) → (other.0 ≢ id.0) ⊎ (file ≢ number) → standing_after id number before (entry.Held other file end) ≡ before
 other_held id other number file end before (inl ne) = grind (arith, nat_tests)
 other_held id other number file end before (inr ne) = grind (arith, nat_tests)
 
@@ -65,7 +65,7 @@ AreInert (m ∷ ms) = IsInert m × AreInert ms
 
 -- marks that change how no node stands to any file
 abbrev pub StandStill : NodeId → List Mark → Type 0
-StandStill node ms = (id : NodeId) (number : ℕ) (before : Option Standing) → fold (standing_after id number) before (map (entry_of node) ms) ≡ before
+StandStill node ms = (id : NodeId) (number : ℕ) (before : Option RunningBoot) → fold (standing_after id number) before (map (entry_of node) ms) ≡ before
 
 pub inert_still : (node : NodeId) (ms : List Mark) → AreInert ms → StandStill node ms
 inert_still node [] are id number before = refl

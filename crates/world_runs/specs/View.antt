@@ -10,7 +10,7 @@ use Rattle.xt_protocol.specs.LeaseRows.{Silent, Awake}
 use Rattle.xt_protocol.specs.OsdSteps.{file_at}
 use Rattle.time_line.specs.declared.entry.Entry.{Entry}
 use Rattle.world_spec.specs.declared.Sent.{Sent}
-use Rattle.time_line.specs.TimeLine.{Standing, standing}
+use Rattle.time_line.specs.TimeLine.{RunningBoot, standing}
 use Rattle.world_spec.specs.declared.Role.{Role}
 use Rattle.world_spec.specs.declared.Role.TheVariants as role
 use Rattle.world_spec.specs.World.{World, Node, Running, Core, osd, client, mrc, dir, node_in}
@@ -25,7 +25,7 @@ abbrev pub node_id : ℕ → NodeId
 node_id n = record { 0 = n }
 
 -- the end of the lease that a node held last since its start, as the trace tells it
-abbrev pub end_in : Option Standing → Option ℕ
+abbrev pub end_in : Option RunningBoot → Option ℕ
 end_in None = None
 end_in (Some s) = s.end
 

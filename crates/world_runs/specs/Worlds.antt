@@ -37,7 +37,7 @@ use Rattle.client_rows.specs.declared.requests.Request.{Request}
 use Rattle.client_rows.specs.declared.requests.Request.TheVariants as request
 use Rattle.client_rows.specs.Rows.{WholeClient}
 use Rattle.client_steps.specs.Asked.{ClientIs, AllHeld}
-use Rattle.time_line.specs.TimeLine.{Standing, standing, holds, times_of}
+use Rattle.time_line.specs.TimeLine.{RunningBoot, standing, holds, times_of}
 use Rattle.world_spec.specs.World.{World, Node, Running, Core, osd, client, mrc, dir, world_key, node_in, file_in, known, up_of}
 use Rattle.world_spec.specs.NodeSteps.{outside_of}
 use Rattle.world_spec.specs.Lines.{Next, finished, opens, goes_on, ends, declared_file, files_in}
@@ -195,7 +195,7 @@ EndFits end (client c) = end ≡ None
 EndFits end (mrc m) = end ≡ None
 EndFits end (dir s) = end ≡ None
 
-abbrev pub Stands : Option Standing → Option Running → Type 0
+abbrev pub Stands : Option RunningBoot → Option Running → Type 0
 Stands None None = Unit {0}
 Stands None (Some r) = ⊥
 Stands (Some st) None = ⊥

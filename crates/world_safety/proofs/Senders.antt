@@ -51,7 +51,7 @@ use Rattle.xt_protocol.specs.Turns.{quiet, keeps, message, reply_to}
 use Rattle.xt_protocol.specs.Primaries.{Ground, Led, carries, fed, if_any, is_active, is_ready, is_unknown, known_of_report, last_sent, last_to_each, have_in, majority_among, nodes_of, peer_in, reports_of, statuses_counted, target_of, with_node}
 use Rattle.xt_protocol.specs.PrimaryRows.{epoch_drawn, epoch_above, installs, peers_fed, fetches, head_chosen, chooses, status_counted, feeds, status_told, with_state, hears_status, body_fetched, body_beyond, hears_object, body_staged, body_missed, hears_missing, target_in, head_acked, update_acked, acked_below, hears_ack, makes_current, outpromised, hears_peer, hears_member, hears_epoch, hears_in, epoch_told, hears}
 use Rattle.xt_protocol.specs.ReplicaRows.{kept_after, gathered, fetched_from, staged, headed, updated, as_promised, head_offered, head_taken, head_fits, first_missing, update_offered, stage_record}
-use Rattle.xt_protocol.specs.Writes.{Standing, repeated, older, turned_away, fresh, standing}
+use Rattle.xt_protocol.specs.Writes.{WriteStanding, repeated, older, turned_away, fresh, standing}
 use Rattle.xt_protocol.specs.Serving.{reads, issues, issues_unless, write_stands, writes_in, writes_under, writes, next_update_of, current_others, gather_unknown, unacked, sent_again, wakes_in, wakes_under, wakes}
 use Rattle.xt_protocol.specs.Asks.{Served, is_read, read_answer, write_done, serves, serves_waiting, serves_all, stays, waits, no_asks, asks_follow, asked_already, tells_each, tells_untold}
 use Rattle.xt_protocol.specs.FileStates.{FileState, Site, FileStep, steps_to, and_then, members_of, ground_of}
@@ -234,7 +234,7 @@ module _ (g : Ground) (learnt : ℕ) where
   unless_from t head (Some issued) id epoch asked = tt
   unless_from t head None id epoch asked = issues_from t head (next_update_of g t head id epoch asked)
 
-  stands_from : (t : Tenure) (head : FileHead) (issued : Option IssuedUpdate) (id : OpId) (epoch : ℕ) (asked : Op) (how : Standing) → LedFromIfAny g.place.node g.place.file (write_stands g learnt t head issued id epoch asked how)
+  stands_from : (t : Tenure) (head : FileHead) (issued : Option IssuedUpdate) (id : OpId) (epoch : ℕ) (asked : Op) (how : WriteStanding) → LedFromIfAny g.place.node g.place.file (write_stands g learnt t head issued id epoch asked how)
   stands_from t head issued id epoch asked (repeated count) = record { outs = ((refl, refl), tt) }
   stands_from t head issued id epoch asked older = record { outs = tt }
   stands_from t head issued id epoch asked (turned_away why) = record { outs = ((refl, refl), tt) }

@@ -21,7 +21,7 @@ use Rattle.xt_base.specs.declared.TheConstants.{OBJECTS, COUNTS}
 use Rattle.xt_protocol.specs.Heads.{plain_stamp, version_of, head_after}
 use Rattle.xt_protocol.specs.Objects.{present_body}
 use Rattle.xt_protocol.specs.ReplicaRows.{kept_after, head_fits}
-use Rattle.xt_protocol.specs.Writes.{Standing, repeated, older, turned_away, fresh, standing, update_of}
+use Rattle.xt_protocol.specs.Writes.{WriteStanding, repeated, older, turned_away, fresh, standing, update_of}
 use Rattle.xt_protocol.specs.declared.states.PlainActed.{PlainActed}
 
 -- what a member of a striped file keeps: the file, the node itself, and the head over the objects that it owns
@@ -91,7 +91,7 @@ write_kept p (Some update) =
     else nothing
 
 -- by how it stands to the head: repeated, it is answered with its own count; older, nothing comes of it; refused; or kept
-abbrev pub write_stands : PlainFile → ℕ → (ℕ → Stamp → List ℕ) → OpId → ℕ → Op → Standing → PlainActed
+abbrev pub write_stands : PlainFile → ℕ → (ℕ → Stamp → List ℕ) → OpId → ℕ → Op → WriteStanding → PlainActed
 write_stands p stripe body id epoch asked (repeated count) = only (reply.Ok count p.head.mark [])
 write_stands p stripe body id epoch asked older = nothing
 write_stands p stripe body id epoch asked (turned_away answer) = only answer

@@ -25,7 +25,7 @@ use Rattle.xt_protocol.specs.declared.states.Progress.TheVariants as progress
 use Rattle.xt_protocol.specs.declared.states.Tenure.{Tenure}
 use Rattle.xt_protocol.specs.declared.states.PrimaryState.{PrimaryState}
 use Rattle.xt_protocol.specs.Turns.{quiet, sends, message, to_each, tells, answers}
-use Rattle.xt_protocol.specs.Writes.{bytes_shown, Standing, repeated, older, turned_away, fresh, standing, update_of}
+use Rattle.xt_protocol.specs.Writes.{bytes_shown, WriteStanding, repeated, older, turned_away, fresh, standing, update_of}
 use Rattle.xt_protocol.specs.Primaries.{Ground, Led, is_current, nodes_of, last_sent, if_any}
 use Rattle.xt_protocol.specs.PrimaryRows.{goes_on, unmoved}
 
@@ -73,7 +73,7 @@ issues_unless g learnt t head (Some issued) id epoch asked = None
 issues_unless g learnt t head None id epoch asked = Some (issues g learnt t head (next_update_of g t head id epoch asked))
 
 -- a write by how it stands to the committed head
-abbrev pub write_stands : Ground → ℕ → Tenure → FileHead → Option IssuedUpdate → OpId → ℕ → Op → Standing → Option Led
+abbrev pub write_stands : Ground → ℕ → Tenure → FileHead → Option IssuedUpdate → OpId → ℕ → Op → WriteStanding → Option Led
 write_stands g learnt t head issued id epoch asked (repeated count) =
     Some (goes_on learnt t (answers g.place.node g.place.file id count head.mark []))
 write_stands g learnt t head issued id epoch asked older = Some (unmoved learnt t)

@@ -4,7 +4,7 @@ ghost use Rattle.world_spec.specs.Rules.{refusal};
 ghost use Rattle.world_spec.specs.Lines.{first_step, next_step, goes_on, begins, settles, OWN};
 ghost use Rattle.world_limits.specs.Fits.{FitsWorld};
 ghost use Rattle.world_step.specs.Steps.{IsStepped};
-ghost use Rattle.world_core.specs.Standing.{begun_with, IsTurned, HasTurned, HasRun, AllFit, MayStand};
+ghost use Rattle.world_core.specs.RunStates.{begun_with, IsTurned, HasTurned, HasRun, AllFit, MayStand};
 
 use crate::lines::{closing_of, events_of};
 use crate::state::State;

@@ -4,7 +4,7 @@ use Rattle.time_line.specs.declared.line.Line.TheVariants as line
 use Rattle.world_spec.specs.NodeSteps.{Doing}
 use Rattle.world_spec.specs.Lines.{first_step}
 use Rattle.world_limits.proofs.Coming.{coming, delivered, calling, calling_again, kept_fits}
-use Rattle.world_core.specs.Standing.{MayStand}
+use Rattle.world_core.specs.RunStates.{MayStand}
 use Rattle.world_core.proofs.FirstSteps.{from_view}
 use Rattle.world_core.proofs.Opening.{legal_so, osd_own, mrc_own, dir_own, osd_first, mrc_first, dir_first, client_own, file_own, tick_ends, call_usable, call_free, again_free, again_may, deliver_number, drop_number, wake_first, call_first, again_first, deliver_first, drop_first, settle_first, steps_as}
 use Rattle.world_core.proofs.state.State.open.Goals as goal

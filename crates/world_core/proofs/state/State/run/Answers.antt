@@ -1,7 +1,7 @@
 use Rattle.std.proofs.Common.{◌≡◌, ◌<◌, ℕ, Bool, Ok, refl, subst, ◌∙◌, arith}
 use Rattle.std.proofs.lemmas.Result.{err_from_is_err_and}
 use Rattle.world_spec.specs.Lines.{goes_on, enough}
-use Rattle.world_core.specs.Standing.{HasTurned}
+use Rattle.world_core.specs.RunStates.{HasTurned}
 use Rattle.world_core.proofs.Turns.{went_further}
 use Rattle.world_core.proofs.Whole.{first_fits, first_ends, some_enough, event_fits, event_ends, event_done, last_turns, event_more, event_none}
 use Rattle.world_core.proofs.state.State.run.Goals as goal

@@ -1,7 +1,7 @@
 use Rattle.std.proofs.Common.{◌+◌, Bool, Ok, refl, subst, arith}
 use Rattle.std.proofs.lemmas.Result.{err_from_is_err_and}
 use Rattle.world_spec.specs.Lines.{finished, goes_on, next_step}
-use Rattle.world_core.specs.Standing.{IsTurned}
+use Rattle.world_core.specs.RunStates.{IsTurned}
 use Rattle.world_core.proofs.Turns.{none_yet, done_longer, one_more, went_further, has_ended}
 use Rattle.world_core.proofs.state.State.turns.Goals as goal
 

@@ -15,7 +15,7 @@ use Rattle.world_hull.specs.declared.errors.WorldErr.{WorldErr}
 use Rattle.world_hull.specs.declared.errors.WorldErr.TheVariants as error
 
 -- a world, and whether a line of it ended early: then it takes no line again
-pub record Standing : Type 0 where
+pub record RunState : Type 0 where
   pub world : World
   pub ended : Bool
 
@@ -24,7 +24,7 @@ abbrev pub resting : World → Working
 resting w = record { doing = record { world = w; own = []; left = 0 }; begun = []; ended = false }
 
 -- Until a line ends early, the world is the run of its lines, each of which is within its limits.
-abbrev pub IsRunSoFar : Room → Standing → Type 0
+abbrev pub IsRunSoFar : Room → RunState → Type 0
 IsRunSoFar room s = s.ended ≡ false → (s.world ≡ run_of room s.world.lines) × AreLines s.world.lines
 
 -- the line ended early in this world, and an error tells why
@@ -112,7 +112,7 @@ pub record CameTo (room : Room) (old : World) (l : Line) (cause : Cause) (new : 
 
 -- Why a line isn't done: it breaks a rule, and nothing has changed; it came to a limit; a record of it had no room; or memory
 -- ran out.
-abbrev pub IsRefused : Room → Standing → Line → Standing → WorldErr → Type 0
+abbrev pub IsRefused : Room → RunState → Line → RunState → WorldErr → Type 0
 IsRefused room old l new (error.Illegal rule) = (refusal old.world l ≡ Some rule) × (new ≡ old)
 IsRefused room old l new (error.Limit what limit) =
     (refusal old.world l ≡ None) × CameTo room old.world l (came_to what) new.world × (limit ≡ limit_of what) × (new.ended ≡ true)
@@ -121,13 +121,13 @@ IsRefused room old l new (error.Full need limit) =
 IsRefused room old l new error.OutOfMemory = (refusal old.world l ≡ None) × IsLeft room old.world l new.world × (new.ended ≡ true)
 
 -- The line is done: it broke no rule, and the world is the one after it.
-pub record IsDone (room : Room) (old : Standing) (l : Line) (new : Standing) : Type 0 where
+pub record IsDone (room : Room) (old : RunState) (l : Line) (new : RunState) : Type 0 where
   pub legal : refusal old.world l ≡ None
   pub whole : World
   pub finished_in : done room old.world l ≡ finished whole
   pub after_it : new ≡ record { world = with_line whole l; ended = false }
 
 -- What `apply` does with a line.
-abbrev pub IsApplied : {T : Type 0} → Room → Standing → Line → Standing → Result T WorldErr → Type 0
+abbrev pub IsApplied : {T : Type 0} → Room → RunState → Line → RunState → Result T WorldErr → Type 0
 IsApplied room old l new (Ok value) = IsDone room old l new
 IsApplied room old l new (Err e) = IsRefused room old l new e

@@ -3,9 +3,9 @@ use Rattle.std.specs.Prelude.{ℕ, ◌==◌, nat_eq, nat_lt, if◌then◌else◌
 use Rattle.std.specs.Map.{lookup}
 use Rattle.indexmap.specs.IndexMap.{insert_entry}
 use Rattle.xt_base.specs.declared.ids.NodeId.{NodeId}
-use Rattle.kept_answers.specs.declared.Kept.{Kept}
-use Rattle.kept_answers.specs.declared.Standing.{Standing}
-use Rattle.kept_answers.specs.declared.Standing.TheVariants as standing
+use Rattle.reply_cache.specs.declared.Kept.{Kept}
+use Rattle.reply_cache.specs.declared.Standing.{Standing}
+use Rattle.reply_cache.specs.declared.Standing.TheVariants as standing
 
 -- what is kept, by client, and how many more clients there is room for
 pub record Clients (A : Type 0) : Type 0 where

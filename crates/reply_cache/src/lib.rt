@@ -6,7 +6,7 @@
 #![tactic(auto)]
 
 ghost use Rattle.std.specs.Prelude.{◌≡◌, ◌<◌, [], IfOk, OnOk};
-ghost use Rattle.kept_answers.specs.Standings.{standing_of, with_answer};
+ghost use Rattle.reply_cache.specs.Standings.{standing_of, with_answer};
 
 use indexmap::IndexMap;
 use std::alloc::Global;
@@ -34,25 +34,25 @@ pub enum Standing<A> {
 /// What is kept of each client. Contracts see it by the client, in the order of their first recorded requests, and how many more
 /// clients there is room for.
 #[derive(Drop)]
-pub struct KeptAnswers<A> {
+pub struct ReplyCache<A> {
     clients: IndexMap<u32, Kept<A>>,
 }
 
-impl<A> Model for KeptAnswers<A> {
+impl<A> Model for ReplyCache<A> {
     ghost use Rattle.indexmap.specs.IndexMap.{spare};
-    ghost use Rattle.kept_answers.specs.Standings.{Clients};
+    ghost use Rattle.reply_cache.specs.Standings.{Clients};
 
     ghost Value = { Clients A };
 
     ghost view = { λ k. record { kept = k.clients.entries; room = spare k.clients } };
 }
 
-impl<A> KeptAnswers<A> {
+impl<A> ReplyCache<A> {
     /// Nothing is kept.
-    pub fn new(alloc: Global) -> KeptAnswers<A>
+    pub fn new(alloc: Global) -> ReplyCache<A>
         ensures { result.kept ≡ [] }
     {
-        KeptAnswers {
+        ReplyCache {
             clients: IndexMap::new(alloc),
         }
     }

@@ -2,7 +2,7 @@ use Rattle.std.proofs.Common.{rules, nat_le, not, filter, ap, ◌∙◌}
 use Rattle.std.proofs.lemmas.Fn.{filter_same}
 use Rattle.xt_protocol.specs.declared.states.WaitingAsk.{WaitingAsk}
 use Rattle.xt_protocol.specs.Overdue.{is_due}
-use Rattle.osd_asks.proofs.open.drop_due.Goals as goal
+use Rattle.osd_requests.proofs.open.drop_due.Goals as goal
 
 pub returns : goal.returns
 returns c =
