@@ -55,7 +55,7 @@ times_kept =
       begins = tt;
       times = λ lease drift are. tt;
       server_declared = λ w id its is_server stands fits free first. still_first w.entries _ first tt;
-      client_declared = λ w id clock fits free first. still_first w.entries _ first (refl, tt);
+      client_declared = λ w id clock fits free close first. still_first w.entries _ first (refl, tt);
       file_declared = λ w number location fits free first. still_first w.entries _ first (refl, tt);
       started = λ w node clock is_server bound found down close first. still_first w.entries _ first (refl, files_untimed (files_left w.made node));
       planned = λ w node r q found is_up boot clock core first. first;
@@ -69,7 +69,7 @@ times_kept =
           still_first w.entries (map (entry_of node.id) turned.marks) first (marks_untimed node.id turned.marks);
       stopped_keeping = λ w own node r next turned rec found is_up step is_rec first. still_first w.entries _ first (refl, tt);
       forgotten = λ w own node r s found is_up is_osd first. first;
-      lined = λ w l first. first;
+      lined = λ w l ended first. first;
     }
 
 pub run_times : (room : Room) (lines : List Line) → AreLines lines → TimesStandFirst (run_of room lines).entries

@@ -1,4 +1,4 @@
-ghost use Rattle.std.specs.Prelude.{◌≡◌, ◌≢◌, false, MatchResult};
+ghost use Rattle.std.specs.Prelude.{◌≡◌, ◌≢◌, MatchResult};
 ghost use Rattle.xt_messages.specs.declared.status.Status.TheVariants as status;
 ghost use Rattle.time_line.specs.Bounds.{AreLines};
 ghost use Rattle.world_spec.specs.World.{start_world};
@@ -19,12 +19,11 @@ pub fn replay_lines<C: NodeCore, H: Hull>(
     world: &mut World<C, H>,
     lines: &[Line],
 ) -> Result<(), Status>
-    requires start { world.old.world ≡ start_world }
-    requires going { world.old.ended ≡ false }
+    requires start { world.old ≡ start_world }
     requires values { AreLines lines.now }
     ensures { MatchResult result
         (λ _. AreDoneFrom H.room start_world lines.now ×
-        (world.new.world ≡ run_of H.room lines.now))
+        (world.new ≡ run_of H.room lines.now))
         (λ s. EndsWith H.room lines.now s × (s ≢ status.Done)) }
 {
     for line in lines {

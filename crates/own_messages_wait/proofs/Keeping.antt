@@ -564,8 +564,8 @@ stood_kept =
         stage = stage_kept.server_declared w id its serves stands bound free p.stage;
         mine = add_node w.nodes (messages w) (never_started id its) free (record { place = stands; rows = no_files; up = tt }) p.mine;
       };
-      client_declared = λ w id clock bound free p. record {
-        stage = stage_kept.client_declared w id clock bound free p.stage;
+      client_declared = λ w id clock bound free close p. record {
+        stage = stage_kept.client_declared w id clock bound free close p.stage;
         mine = add_node w.nodes (messages w) (record { id = id; role = role.Client; kept = []; past = []; up = Some (runs first_boot clock (client (whole_client clock))) }) free (record { place = tt; rows = no_files; up = tt }) p.mine;
       };
       file_declared = λ w number location bound free p. record {
@@ -627,5 +627,5 @@ stood_kept =
         stage = stage_kept.forgotten w own node r s found is_up is_osd p.stage;
         mine = forgotten_mine w own node r s found is_up is_osd p.mine;
       };
-      lined = λ w l p. record { stage = stage_kept.lined w l p.stage; mine = p.mine };
+      lined = λ w l ended p. record { stage = stage_kept.lined w l ended p.stage; mine = p.mine };
     }

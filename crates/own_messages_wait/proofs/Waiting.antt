@@ -388,7 +388,7 @@ waiting_kept = record {
   begins = record { stood = stood_kept.begins; waits = none_waits refl };
   times = λ lease drift bound. record { stood = stood_kept.times lease drift bound; waits = none_waits refl };
   server_declared = λ w id its serves stands bound free p. record { stood = stood_kept.server_declared w id its serves stands bound free p.stood; waits = none_waits refl };
-  client_declared = λ w id clock bound free p. record { stood = stood_kept.client_declared w id clock bound free p.stood; waits = none_waits refl };
+  client_declared = λ w id clock bound free close p. record { stood = stood_kept.client_declared w id clock bound free close p.stood; waits = none_waits refl };
   file_declared = λ w number location bound free p. record { stood = stood_kept.file_declared w number location bound free p.stood; waits = none_waits refl };
   started = λ w node clock serves bound found down close p. record { stood = stood_kept.started w node clock serves bound found down close p.stood; waits = none_waits refl };
   planned = λ w node r q found is_up boot clock core p. record { stood = stood_kept.planned w node r q found is_up boot clock core p.stood; waits = none_waits refl };
@@ -407,7 +407,7 @@ waiting_kept = record {
   };
   stopped_keeping = λ w own node r next turned rec found is_up step e p. record { stood = stood_kept.stopped_keeping w own node r next turned rec found is_up step e p.stood; waits = none_waits refl };
   forgotten = λ w own node r s found is_up is_osd p. record { stood = stood_kept.forgotten w own node r s found is_up is_osd p.stood; waits = forgotten_waits w own node r s found is_up is_osd p.waits };
-  lined = λ w l p. record { stood = stood_kept.lined w l p.stood; waits = none_waits refl };
+  lined = λ w l ended p. record { stood = stood_kept.lined w l ended p.stood; waits = none_waits refl };
 }
 
 -- ---- statuses

@@ -1,5 +1,5 @@
 -- a schedule whose lines are all good is replayed whole
-use Rattle.std.proofs.Common.{◌≡◌, ◌≢◌, ◌∙◌, ℕ, suc, ◌+◌, ◌≤◌, ◌==◌, ◌⊎◌, Option, Some, None, List, [], ◌∷◌, ◌++◌, length, length-append, refl, sym, ap, subst, inl, inr, append_assoc, append-nil, arith}
+use Rattle.std.proofs.Common.{◌≡◌, ◌≢◌, ◌∙◌, ℕ, suc, ◌+◌, ◌≤◌, ◌==◌, ◌⊎◌, Option, Some, None, false, List, [], ◌∷◌, ◌++◌, length, length-append, refl, sym, ap, subst, inl, inr, append_assoc, append-nil, arith}
 use Rattle.std.specs.List.{fold}
 use Rattle.xt_messages.specs.declared.status.Limited.{Limited}
 use Rattle.xt_messages.specs.declared.status.Limited.TheVariants as limited
@@ -18,8 +18,8 @@ use Rattle.schedule_text.proofs.InLine.{same_line}
 use Rattle.world_spec.specs.World.{World, start_world}
 use Rattle.world_spec.specs.Rules.{refusal}
 use Rattle.world_spec.specs.NodeSteps.{Room, Cause, came_to, has_no_room}
-use Rattle.world_spec.specs.Lines.{finished, ends, done}
-use Rattle.world_spec.specs.Runs.{after, after_refusal, run_of}
+use Rattle.world_spec.specs.Lines.{Next, finished, ends, so_far, done}
+use Rattle.world_spec.specs.Runs.{after, run_of}
 use Rattle.time_line.specs.declared.TheConstants.{LINES, LINE_BYTES}
 use Rattle.schedule_lines.specs.RawLine.{line_feed, IsInLine}
 use Rattle.schedule_lines.specs.NextLine.{ended, IsNoLine, StopsReading}
@@ -27,6 +27,7 @@ use Rattle.schedule_lines.specs.Causes.{HasCause}
 use Rattle.schedule_replay.specs.Replay.{AreOfSchedule, IsDoneFrom, AreDoneFrom, AreRun, EndsEarly, EndsWith, EndsAt, IsReplay, IsWhole, Completes}
 use Rattle.schedule_lines.proofs.LineBytes.{line_fits}
 use Rattle.schedule_replay.proofs.Growth.{done_grows}
+use Rattle.schedule_replay.proofs.Whole.{after_done, goes_after}
 
 -- what is in a line at the front of a line is no longer than it
 no_longer : (xs first ys second : List ℕ) → IsInLine xs → xs ++ first ≡ ys ++ line_feed ∷ second → length xs ≤ length ys
@@ -82,20 +83,23 @@ run_done-rest : (room : Room) (lines rest : List Line) → AreDoneFrom room star
 unfolding run_of
 run_done-rest room lines rest all = are_done-rest room start_world lines rest all
 
-line_after : (room : Room) (w : World) (l : Line) → refusal w l ≡ None → (after room w l).lines ≡ w.lines ++ l ∷ []
-unfolding after
-line_after room w l legal =
-    let grows = done_grows room w l in
-    ap (λ (r : Option Rule). (after_refusal room w l r).lines) legal ∙ ap (λ (ls : List Line). ls ++ l ∷ []) grows.same
+-- the world after a line that is done has that line more, and takes another
+line_after : (room : Room) (w : World) (l : Line) → w.ended ≡ false → IsDoneFrom room w l → ((after room w l).lines ≡ w.lines ++ l ∷ []) × ((after room w l).ended ≡ false)
+line_after room w l going (legal, (whole, is)) =
+    let so = after_done room w whole l going legal is in (
+      ap (λ (v : World). v.lines) so ∙ ap (λ (n : Next). (so_far n).lines ++ l ∷ []) (sym is) ∙ ap (λ (ls : List Line). ls ++ l ∷ []) (done_grows room w l).same,
+      ap (λ (v : World). v.ended) so ∙ goes_after room w whole l is ∙ going,
+    )
 
-lines_after : (room : Room) (w : World) (lines : List Line) → AreDoneFrom room w lines → (fold (after room) w lines).lines ≡ w.lines ++ lines
-lines_after room w [] all = sym (append-nil w.lines)
-lines_after room w (l ∷ ls) all =
-    lines_after room (after room w l) ls all.1 ∙ ap (λ (ms : List Line). ms ++ ls) (line_after room w l all.0.0) ∙ append_assoc w.lines (l ∷ []) ls
+lines_after : (room : Room) (w : World) (lines : List Line) → w.ended ≡ false → AreDoneFrom room w lines → (fold (after room) w lines).lines ≡ w.lines ++ lines
+lines_after room w [] going all = sym (append-nil w.lines)
+lines_after room w (l ∷ ls) going all =
+    let one = line_after room w l going all.0 in
+    lines_after room (after room w l) ls one.1 all.1 ∙ ap (λ (ms : List Line). ms ++ ls) one.0 ∙ append_assoc w.lines (l ∷ []) ls
 
 pub run_lines : (room : Room) (lines : List Line) → AreRun room lines → (run_of room lines).lines ≡ lines
 unfolding run_of
-run_lines room lines run = lines_after room start_world lines run.done
+run_lines room lines run = lines_after room start_world lines refl run.done
 
 -- The line that is taken is the first of those that are left.
 first_taken : (before : ℕ) (rest : List Line) (line : Line) (taken behind : List ℕ) → AreOfSchedule before rest → schedule_text rest ≡ taken ++ behind → IsLine (before == 0) line → taken ≡ ended (line_text line) → (others : List Line) × (rest ≡ line ∷ others)

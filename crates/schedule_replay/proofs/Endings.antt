@@ -13,7 +13,7 @@ use Rattle.world_spec.specs.NodeSteps.{Room, Cause}
 use Rattle.world_spec.specs.Lines.{Next, so_far}
 use Rattle.world_hull.specs.declared.errors.WorldErr.{WorldErr}
 use Rattle.world_hull.specs.declared.errors.WorldErr.TheVariants as error
-use Rattle.world_core.specs.RunStates.{RunState, IsDone, IsRefused, IsLeft, CameTo, IsApplied}
+use Rattle.world_core.specs.RunStates.{IsDone, IsRefused, IsLeft, CameTo, IsApplied}
 use Rattle.time_line.specs.declared.TheConstants.{LINES}
 use Rattle.schedule_lines.specs.Fronts.{IsFrontOf}
 use Rattle.schedule_lines.specs.NextLine.{ended, StopsReading}
@@ -113,14 +113,14 @@ put_ends room w taken left more status.OutOfMemory before after put (inr (said, 
 put_ends room w taken left more _ before after put comes = absurd put
 
 -- a line that is done adds what all its steps add
-pub done_adds : (room : Room) (old new : RunState) (l : Line) (more : List Entry)
-    → length old.world.lines < LINES
-    → IsLine (length old.world.lines == 0) l
+pub done_adds : (room : Room) (old new : World) (l : Line) (more : List Entry)
+    → length old.lines < LINES
+    → IsLine (length old.lines == 0) l
     → IsDone room old l new
-    → new.world.entries ≡ old.world.entries ++ more
-    → AddsAll room old.world (ended (line_text l)) more
+    → new.entries ≡ old.entries ++ more
+    → AddsAll room old (ended (line_text l)) more
 done_adds room old new l more few formed is same =
-    (l, ((few, formed, refl), is.legal), (is.whole, is.finished_in, sym (ap (λ (s : RunState). s.world.entries) is.after_it) ∙ same))
+    (l, ((few, formed, refl), is.legal), (is.whole, is.finished_in, sym (ap (λ (s : World). s.entries) is.after_it) ∙ same))
 
 -- one that came to its end by a cause, what its finished steps add
 ends_early : (room : Room) (old new : World) (l : Line) (cause : Cause) (more : List Entry) → CameTo room old l cause new → new.entries ≡ old.entries ++ more → EndsEarly room old l cause more
@@ -133,20 +133,20 @@ left_adds room old new l more (inr (lines, inl kept)) same = inl (nothing_added 
 left_adds room old new l more (inr (lines, inr (part, is, kept))) same = inr (part, is, sym kept ∙ same)
 
 -- a line that isn't done ends the replay after what its finished steps add
-pub refused_ends : (room : Room) (old new : RunState) (l : Line) (e : WorldErr) (more : List Entry) (left : Option (List ℕ))
-    → length old.world.lines < LINES
-    → IsLine (length old.world.lines == 0) l
+pub refused_ends : (room : Room) (old new : World) (l : Line) (e : WorldErr) (more : List Entry) (left : Option (List ℕ))
+    → length old.lines < LINES
+    → IsLine (length old.lines == 0) l
     → IsRefused room old l new e
-    → new.world.entries ≡ old.world.entries ++ more
-    → EndsWith room old.world (ended (line_text l)) left more (status_for (length old.world.lines + 1) e)
+    → new.entries ≡ old.entries ++ more
+    → EndsWith room old (ended (line_text l)) left more (status_for (length old.lines + 1) e)
 refused_ends room old new l (error.Illegal rule) more left few formed r same =
-    (l, (few, formed, refl), r.0, refl, nothing_added old.world.entries more (sym (ap (λ (s : RunState). s.world.entries) r.1) ∙ same))
+    (l, (few, formed, refl), r.0, refl, nothing_added old.entries more (sym (ap (λ (s : World). s.entries) r.1) ∙ same))
 refused_ends room old new l (error.Limit what limit) more left few formed r same =
-    inr (inr (l, ((few, formed, refl), r.0), ends_early room old.world new.world l _ more r.1 same, r.2))
+    inr (inr (l, ((few, formed, refl), r.0), ends_early room old new l _ more r.1 same, r.2))
 refused_ends room old new l (error.Full need limit) more left few formed r same =
-    (l, ((few, formed, refl), r.0), ends_early room old.world new.world l _ more r.1 same)
+    (l, ((few, formed, refl), r.0), ends_early room old new l _ more r.1 same)
 refused_ends room old new l error.OutOfMemory more left few formed r same =
-    inr (l, ((few, formed, refl), r.0), left_adds room old.world new.world l more r.1 same)
+    inr (l, ((few, formed, refl), r.0), left_adds room old new l more r.1 same)
 
 pub refused_told : (number : ℕ) (e : WorldErr) → IsTold (status_for number e)
 refused_told number (error.Illegal rule) = tt
@@ -167,12 +167,12 @@ left_grown room old new l (inr (lines, inr (part, is, kept))) =
     (grows.more, kept ∙ grows.entries)
 
 -- entries only grow
-pub applied_grown : (room : Room) (old new : RunState) (l : Line) (r : Result (Unit {0}) WorldErr) → IsApplied room old l new r → Grown old.world.entries new.world.entries
+pub applied_grown : (room : Room) (old new : World) (l : Line) (r : Result (Unit {0}) WorldErr) → IsApplied room old l new r → Grown old.entries new.entries
 applied_grown room old new l (Ok u) is =
-    let grows = done_grows room old.world l in
-    (grows.more, ap (λ (s : RunState). s.world.entries) is.after_it ∙ sym (ap (λ (n : Next). (so_far n).entries) is.finished_in) ∙ grows.entries)
+    let grows = done_grows room old l in
+    (grows.more, ap (λ (s : World). s.entries) is.after_it ∙ sym (ap (λ (n : Next). (so_far n).entries) is.finished_in) ∙ grows.entries)
 applied_grown room old new l (Err (error.Illegal rule)) r =
-    ([], ap (λ (s : RunState). s.world.entries) r.1 ∙ sym (append-nil old.world.entries))
-applied_grown room old new l (Err (error.Limit what limit)) r = came_grown room old.world new.world l _ r.1
-applied_grown room old new l (Err (error.Full need limit)) r = came_grown room old.world new.world l _ r.1
-applied_grown room old new l (Err error.OutOfMemory) r = left_grown room old.world new.world l r.1
+    ([], ap (λ (s : World). s.entries) r.1 ∙ sym (append-nil old.entries))
+applied_grown room old new l (Err (error.Limit what limit)) r = came_grown room old new l _ r.1
+applied_grown room old new l (Err (error.Full need limit)) r = came_grown room old new l _ r.1
+applied_grown room old new l (Err error.OutOfMemory) r = left_grown room old new l r.1

@@ -1,4 +1,4 @@
--- The steps of a line add entries after those that are there, and leave the lines so far as they are.
+-- The steps of a line add entries after those that are there, leave the lines so far as they are, and end no world.
 use Rattle.std.proofs.Common.{◌≡◌, ◌∙◌, ℕ, zero, suc, Bool, true, false, if◌then◌else◌, ◌-◌, arith, nat_lt, take, length, slice_get, Option, Some, None, Result, Ok, Err, List, [], ◌∷◌, ◌++◌, refl, sym, ap, subst, append_assoc, append-nil}
 use Rattle.xt_base.specs.declared.ids.NodeId.{NodeId}
 use Rattle.xt_messages.specs.declared.event.Call.{Call}
@@ -22,23 +22,25 @@ use Rattle.world_spec.specs.declared.Sent.{Sent}
 use Rattle.client_rows.specs.Steps.{Step}
 use Rattle.world_spec.specs.World.{World, Node, puts, loads, Running, Core, osd, client, mrc, dir, node_in, with_node}
 use Rattle.world_spec.specs.NodeSteps.{Room, Overflow, Cause, came_to, has_no_room, Doing, frame_bytes, core_step, after_turn, halted, keeps_record, one_more, one_put, forgets_if, cut_in_sending, sends, appends, within_limits, overflow_of, end_of_step, event_at, event_comes}
-use Rattle.world_spec.specs.Lines.{Next, finished, opens, goes_on, ends, begins, does, declares, next_boot, starts, starts_as, changed, stops, crashes, cuts, reads_clock, core_calls, calls, core_calls_again, calls_again, aims, no_longer_pending, delivers, least_pending, first_step, went, settles, works_on, next_step, steps, so_far, enough, done}
+use Rattle.world_spec.specs.Lines.{Next, finished, opens, goes_on, ends, opening, begins, does, declares, next_boot, starts, starts_as, changed, stops, crashes, cuts, reads_clock, core_calls, calls, core_calls_again, calls_again, aims, no_longer_pending, delivers, least_pending, first_step, went, settles, works_on, next_step, steps, so_far, enough, done}
 use Rattle.world_spec.specs.Runs.{IsPartOf}
 use Rattle.world_step.proofs.Forgetting.{only_nodes}
 
--- the later world has the lines of the earlier one, and its entries with more after them
+-- the later world has the lines of the earlier one, has ended where that had, and has its entries with more after them
 pub record Grows (old new : World) : Type 0 where
   pub same : new.lines ≡ old.lines
+  pub ended : new.ended ≡ old.ended
   pub more : List Entry
   pub entries : new.entries ≡ old.entries ++ more
 
 stays : (w : World) → Grows w w
-stays w = record { same = refl; more = []; entries = sym (append-nil w.entries) }
+stays w = record { same = refl; ended = refl; more = []; entries = sym (append-nil w.entries) }
 
 grows_on : (a b c : World) → Grows a b → Grows b c → Grows a c
 grows_on a b c first second =
     record {
       same = second.same ∙ first.same;
+      ended = second.ended ∙ first.ended;
       more = first.more ++ second.more;
       entries = second.entries ∙ ap (λ (es : List Entry). es ++ second.more) first.entries ∙ append_assoc a.entries first.more second.more;
     }
@@ -48,11 +50,16 @@ abbrev GoesOn : World → Result Doing Cause → Type 0
 GoesOn w (Ok d) = Grows w d.world
 GoesOn w (Err cause) = Unit {0}
 
--- a world with the same lines and entries may stand in its place
-goes_from : (w v : World) (r : Result Doing Cause) → v.lines ≡ w.lines → v.entries ≡ w.entries → GoesOn v r → GoesOn w r
-goes_from w v (Ok d) lines entries grows =
-    record { same = grows.same ∙ lines; more = grows.more; entries = grows.entries ∙ ap (λ (es : List Entry). es ++ grows.more) entries }
-goes_from w v (Err cause) lines entries grows = tt
+-- a world with the same lines and entries, that has ended as well, may stand in its place
+goes_from : (w v : World) (r : Result Doing Cause) → v.lines ≡ w.lines → v.ended ≡ w.ended → v.entries ≡ w.entries → GoesOn v r → GoesOn w r
+goes_from w v (Ok d) lines ended entries grows =
+    record {
+      same = grows.same ∙ lines;
+      ended = grows.ended ∙ ended;
+      more = grows.more;
+      entries = grows.entries ∙ ap (λ (es : List Entry). es ++ grows.more) entries;
+    }
+goes_from w v (Err cause) lines ended entries grows = tt
 
 either : {A : Type 0} (P : A → Type 0) (here : Bool) (x y : A) → P x → P y → P (if here then x else y)
 either P true x y first second = first
@@ -61,10 +68,10 @@ either P false x y first second = second
 -- ---- the end of a node's step
 
 turn_grows : (w : World) (node : Node) (running : Running) (turned : Turned) → Grows w (after_turn w node running turned)
-turn_grows w node running turned = record { same = refl; more = _; entries = refl }
+turn_grows w node running turned = record { same = refl; ended = refl; more = _; entries = refl }
 
 halted_grows : (w : World) (node : Node) (running : Running) (how : Halt) → Grows w (halted w node running how)
-halted_grows w node running how = record { same = refl; more = _; entries = refl }
+halted_grows w node running how = record { same = refl; ended = refl; more = _; entries = refl }
 
 sends_grows : (d : Doing) (node : Node) (running : Running) (cut : Option ℕ) (outs : List Msg) (turned : Turned) → Grows d.world (sends d node running cut outs turned).world
 sends_grows d node running None outs turned = turn_grows d.world node running turned
@@ -100,7 +107,12 @@ forgets_grows room w id None r goes = goes
 forgets_grows room w id (Some rec) (Err cause) goes = tt
 forgets_grows room w id (Some rec) (Ok d) goes =
     let only = only_nodes room d.world (node_in d.world.nodes id.0) in
-    record { same = ap (λ (v : World). v.lines) only ∙ goes.same; more = goes.more; entries = ap (λ (v : World). v.entries) only ∙ goes.entries }
+    record {
+      same = ap (λ (v : World). v.lines) only ∙ goes.same;
+      ended = ap (λ (v : World). v.ended) only ∙ goes.ended;
+      more = goes.more;
+      entries = ap (λ (v : World). v.entries) only ∙ goes.entries;
+    }
 
 step_grows : (room : Room) (d : Doing) (node : Node) (running : Running) (step : Step Core) → GoesOn d.world (end_of_step room d node running step)
 step_grows room d node running step =
@@ -132,23 +144,23 @@ delivers_grows : (room : Room) (d : Doing) (number : ℕ) → GoesOn d.world (de
 delivers_grows room d number = found (slice_get d.world.sent (number - 1))
   where
     found : (o : Option Sent) → GoesOn d.world (elim o [ None ↦ Ok (without d number) | Some s ↦ event_comes room (without d number) s.message.to (event.Deliver s.message) ])
-    found None = record { same = refl; more = []; entries = sym (append-nil d.world.entries) }
+    found None = record { same = refl; ended = refl; more = []; entries = sym (append-nil d.world.entries) }
     found (Some s) =
-        goes_from d.world (without d number).world (event_comes room (without d number) s.message.to (event.Deliver s.message)) refl refl
+        goes_from d.world (without d number).world (event_comes room (without d number) s.message.to (event.Deliver s.message)) refl refl refl
         (event_grows room (without d number) s.message.to (event.Deliver s.message))
 
 -- ---- the first steps of lines
 
 declares_grows : (d : Doing) (node : Node) (entries : List Entry) → GoesOn d.world (declares d node entries)
 declares_grows d node entries =
-    either (GoesOn d.world) (nat_lt (length d.world.nodes) NODES) _ _ (record { same = refl; more = entries; entries = refl }) tt
+    either (GoesOn d.world) (nat_lt (length d.world.nodes) NODES) _ _ (record { same = refl; ended = refl; more = entries; entries = refl }) tt
 
 starts_grows : (room : Room) (d : Doing) (clock : ℕ) (node : Option Node) → GoesOn d.world (starts room d clock node)
 starts_grows room d clock None = stays d.world
 starts_grows room d clock (Some node) =
     let boot = next_boot node.kept in
     either (GoesOn d.world) (nat_lt boot.0 COUNTS) _ (Err (came_to limited.Boots))
-    (with_room d.world (room.overflow (node.past ++ loads ∷ []) (kept.Boot boot)) (does d (starts_as d.world node boot clock)) (record { same = refl; more = _; entries = refl })) tt
+    (with_room d.world (room.overflow (node.past ++ loads ∷ []) (kept.Boot boot)) (does d (starts_as d.world node boot clock)) (record { same = refl; ended = refl; more = _; entries = refl })) tt
 
 stops_grow : (w : World) (node : Option Node) → Grows w (stops w node)
 stops_grow w None = stays w
@@ -163,18 +175,24 @@ abbrev changed_up : World → Node → (Running → Running) → Option Running 
 changed_up w node change o =
     elim o [ None ↦ w | Some running ↦ record w { nodes = with_node w.nodes (record node { up = Some (change running) }) } ]
 
-changed_as_before : (w : World) (node : Option Node) (change : Running → Running) → ((changed w node change).lines ≡ w.lines) × ((changed w node change).entries ≡ w.entries)
-changed_as_before w None change = (refl, refl)
+-- a world is as before, but for its nodes
+record AsBefore (w v : World) : Type 0 where
+  lines : v.lines ≡ w.lines
+  ended : v.ended ≡ w.ended
+  entries : v.entries ≡ w.entries
+
+changed_as_before : (w : World) (node : Option Node) (change : Running → Running) → AsBefore w (changed w node change)
+changed_as_before w None change = record { lines = refl; ended = refl; entries = refl }
 changed_as_before w (Some node) change = up node.up
   where
-    up : (o : Option Running) → ((changed_up w node change o).lines ≡ w.lines) × ((changed_up w node change o).entries ≡ w.entries)
-    up None = (refl, refl)
-    up (Some running) = (refl, refl)
+    up : (o : Option Running) → AsBefore w (changed_up w node change o)
+    up None = record { lines = refl; ended = refl; entries = refl }
+    up (Some running) = record { lines = refl; ended = refl; entries = refl }
 
 changed_grows : (w : World) (node : Option Node) (change : Running → Running) → Grows w (changed w node change)
 changed_grows w node change =
     let before = changed_as_before w node change in
-    record { same = before.0; more = []; entries = before.1 ∙ sym (append-nil w.entries) }
+    record { same = before.lines; ended = before.ended; more = []; entries = before.entries ∙ sym (append-nil w.entries) }
 
 core_grows : (room : Room) (d : Doing) (node : Node) (running : Running) (core : Core) (c : Call) → GoesOn d.world (core_calls room d node running core c)
 core_grows room d node running (client state) c = step_grows room d node running _
@@ -206,26 +224,31 @@ calls_again_grow room d (Some node) = up node.up
 
 first_grows : (room : Room) (d : Doing) (l : Line) → GoesOn d.world (first_step room d l)
 unfolding first_step
-first_grows room d (line.Times lease drift) = record { same = refl; more = _; entries = refl }
+first_grows room d (line.Times lease drift) = record { same = refl; ended = refl; more = _; entries = refl }
 first_grows room d (line.Osd node) = declares_grows d _ []
 first_grows room d line.Mrc = declares_grows d _ []
 first_grows room d line.Dir = declares_grows d _ []
 first_grows room d (line.Client node clock) = declares_grows d _ _
-first_grows room d (line.File number location) = record { same = refl; more = _; entries = refl }
+first_grows room d (line.File number location) = record { same = refl; ended = refl; more = _; entries = refl }
 first_grows room d (line.Start node clock) = starts_grows room d clock (node_in d.world.nodes node.0)
 first_grows room d (line.Stop node) = stops_grow d.world (node_in d.world.nodes node.0)
 first_grows room d (line.Crash node k fill) = changed_grows d.world (node_in d.world.nodes node.0) (crashes k fill)
 first_grows room d (line.Cut node count) = changed_grows d.world (node_in d.world.nodes node.0) (cuts count)
 first_grows room d (line.Clock node clock) =
     let before = changed_as_before d.world (node_in d.world.nodes node.0) (reads_clock clock) in
-    record { same = before.0; more = entry.Clock node clock ∷ []; entries = ap (λ (es : List Entry). es ++ entry.Clock node clock ∷ []) before.1 }
-first_grows room d (line.Tick count) = record { same = refl; more = _; entries = refl }
+    record {
+      same = before.lines;
+      ended = before.ended;
+      more = entry.Clock node clock ∷ [];
+      entries = ap (λ (es : List Entry). es ++ entry.Clock node clock ∷ []) before.entries;
+    }
+first_grows room d (line.Tick count) = record { same = refl; ended = refl; more = _; entries = refl }
 first_grows room d (line.Wake node) = event_grows room d node event.Wake
 first_grows room d (line.Call id c) = calls_grow room d (node_in d.world.nodes id.0) c
 first_grows room d (line.Again id) = calls_again_grow room d (node_in d.world.nodes id.0)
 first_grows room d (line.Aim id file node) = changed_grows d.world (node_in d.world.nodes id.0) (aims d.world.files file node)
 first_grows room d (line.Deliver number) = delivers_grows room d number
-first_grows room d (line.Drop number) = record { same = refl; more = []; entries = sym (append-nil d.world.entries) }
+first_grows room d (line.Drop number) = record { same = refl; ended = refl; more = []; entries = sym (append-nil d.world.entries) }
 first_grows room d (line.Settle count) = stays d.world
 
 -- ---- steps
@@ -266,9 +289,16 @@ steps_grow (suc k) room (opens l w) =
 steps_grow (suc k) room (goes_on d) =
     grows_on d.world (so_far (next_step room (goes_on d))) (so_far (steps k room (next_step room (goes_on d)))) (next_grows room (goes_on d)) (steps_grow k room (next_step room (goes_on d)))
 
+opening_at : (w : World) (l : Line) → so_far (opening w l) ≡ w
+opening_at w (line.Settle count) = refl
+opening_at w _ = refl
+
 begins_at : (w : World) (l : Line) → so_far (begins w l) ≡ w
-begins_at w (line.Settle count) = refl
-begins_at w _ = refl
+begins_at w l = at w.ended
+  where
+    at : (ended : Bool) → so_far (if ended then finished w else opening w l) ≡ w
+    at true = refl
+    at false = opening_at w l
 
 -- the world after some finished steps of a line
 pub part_grows : (room : Room) (w : World) (l : Line) (part : World) → IsPartOf room w l part → Grows w part

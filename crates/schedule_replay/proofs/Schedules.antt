@@ -16,7 +16,7 @@ use Rattle.world_spec.specs.Runs.{run_of, IsPartOf}
 use Rattle.world_safety.proofs.Whole.{runs_safe, parts_safe}
 use Rattle.world_hull.specs.declared.errors.WorldErr.{WorldErr}
 use Rattle.world_hull.specs.declared.errors.WorldErr.TheVariants as error
-use Rattle.world_core.specs.RunStates.{RunState, IsDone, IsLeft, CameTo, IsApplied}
+use Rattle.world_core.specs.RunStates.{IsDone, IsLeft, CameTo, IsApplied}
 use Rattle.schedule_replay.specs.Replay.{AreOfSchedule}
 use Rattle.schedule_replay.specs.Steps.{IsScheduleRun}
 use Rattle.schedule_replay.proofs.Growth.{done_part}
@@ -82,14 +82,14 @@ left_safe room w new l run formed legal (inl kept) = subst IsSafe (sym kept.0) (
 left_safe room w new l run formed legal (inr (lines, inl kept)) = subst IsSafe (sym kept) (kept_safe room w run)
 left_safe room w new l run formed legal (inr (lines, inr (part, is, same))) = subst IsSafe (sym same) (part_safe room w l part run formed legal is)
 
-done_safe : (room : Room) (old new : RunState) (l : Line) → IsScheduleRun room old.world → IsLine (length old.world.lines == 0) l → IsDone room old l new → IsSafe new.world.entries
+done_safe : (room : Room) (old new : World) (l : Line) → IsScheduleRun room old → IsLine (length old.lines == 0) l → IsDone room old l new → IsSafe new.entries
 done_safe room old new l run formed is =
-    let part = subst (IsPartOf room old.world l) (ap so_far is.finished_in) (done_part room old.world l) in
-    subst (λ (s : RunState). IsSafe s.world.entries) (sym is.after_it) (part_safe room old.world l is.whole run formed is.legal part)
+    let part = subst (IsPartOf room old l) (ap so_far is.finished_in) (done_part room old l) in
+    subst (λ (s : World). IsSafe s.entries) (sym is.after_it) (part_safe room old l is.whole run formed is.legal part)
 
-pub applied_safe : (room : Room) (old new : RunState) (l : Line) (r : Result (Unit {0}) WorldErr) → IsScheduleRun room old.world → IsLine (length old.world.lines == 0) l → IsApplied room old l new r → IsSafe new.world.entries
+pub applied_safe : (room : Room) (old new : World) (l : Line) (r : Result (Unit {0}) WorldErr) → IsScheduleRun room old → IsLine (length old.lines == 0) l → IsApplied room old l new r → IsSafe new.entries
 applied_safe room old new l (Ok u) run formed is = done_safe room old new l run formed is
-applied_safe room old new l (Err (error.Illegal rule)) run formed is = subst (λ (s : RunState). IsSafe s.world.entries) (sym is.1) (kept_safe room old.world run)
-applied_safe room old new l (Err (error.Limit what limit)) run formed is = came_safe room old.world new.world l _ run formed is.0 is.1
-applied_safe room old new l (Err (error.Full need limit)) run formed is = came_safe room old.world new.world l _ run formed is.0 is.1
-applied_safe room old new l (Err error.OutOfMemory) run formed is = left_safe room old.world new.world l run formed is.0 is.1
+applied_safe room old new l (Err (error.Illegal rule)) run formed is = subst (λ (s : World). IsSafe s.entries) (sym is.1) (kept_safe room old run)
+applied_safe room old new l (Err (error.Limit what limit)) run formed is = came_safe room old new l _ run formed is.0 is.1
+applied_safe room old new l (Err (error.Full need limit)) run formed is = came_safe room old new l _ run formed is.0 is.1
+applied_safe room old new l (Err error.OutOfMemory) run formed is = left_safe room old new l run formed is.0 is.1

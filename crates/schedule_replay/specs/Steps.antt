@@ -13,7 +13,7 @@ use Rattle.world_spec.specs.NodeSteps.{Room}
 use Rattle.world_spec.specs.Runs.{run_of}
 use Rattle.world_hull.specs.declared.errors.WorldErr.{WorldErr}
 use Rattle.world_hull.specs.declared.errors.WorldErr.TheVariants as error
-use Rattle.world_core.specs.RunStates.{RunState, IsDone}
+use Rattle.world_core.specs.RunStates.{IsDone}
 use Rattle.schedule_lines.specs.NextLine.{ended}
 use Rattle.schedule_lines.specs.Causes.{HasCause}
 use Rattle.schedule_replay.specs.Replay.{AreOfSchedule, EndsAt}
@@ -24,28 +24,28 @@ pub record IsScheduleRun (room : Room) (w : World) : Type 0 where
   pub formed : AreOfSchedule 0 w.lines
 
 -- The line is done: it was taken and applied, and what it adds to the trace was put.
-pub record IsNext (room : Room) (source_before source_after sink_before sink_after : Option (List ℕ)) (old new : RunState) : Type 0 where
+pub record IsNext (room : Room) (source_before source_after sink_before sink_after : Option (List ℕ)) (old new : World) : Type 0 where
   pub line : Line
-  pub formed : IsLine (length old.world.lines == 0) line
+  pub formed : IsLine (length old.lines == 0) line
   pub done : IsDone room old line new
   pub source : Takes source_before source_after (ended (line_text line))
   pub more : List Entry
-  pub added : new.world.entries ≡ old.world.entries ++ more
+  pub added : new.entries ≡ old.entries ++ more
   pub sink : Puts sink_before sink_after (trace_text more)
 
 -- The replay ends here.
-pub record IsEnd (room : Room) (source_before source_after sink_before sink_after : Option (List ℕ)) (old : RunState) (s : Status) : Type 0 where
+pub record IsEnd (room : Room) (source_before source_after sink_before sink_after : Option (List ℕ)) (old : World) (s : Status) : Type 0 where
   pub more : List Entry
   pub taken : List ℕ
   pub put : List ℕ
   pub source : Takes source_before source_after taken
   pub sink : Puts sink_before sink_after put
-  pub ending : EndsAt room old.world taken source_after more put s
+  pub ending : EndsAt room old taken source_after more put s
   -- a trace that has more is safe
-  pub safe : (more ≡ []) ⊎ IsSafe (old.world.entries ++ more)
+  pub safe : (more ≡ []) ⊎ IsSafe (old.entries ++ more)
 
 -- one line of a replay: it goes on, or it ends with a status
-abbrev pub IsStep : Room → Option (List ℕ) → Option (List ℕ) → Option (List ℕ) → Option (List ℕ) → RunState → RunState → Option Status → Type 0
+abbrev pub IsStep : Room → Option (List ℕ) → Option (List ℕ) → Option (List ℕ) → Option (List ℕ) → World → World → Option Status → Type 0
 IsStep room source_before source_after sink_before sink_after old new None = IsNext room source_before source_after sink_before sink_after old new
 IsStep room source_before source_after sink_before sink_after old new (Some s) = IsEnd room source_before source_after sink_before sink_after old s
 

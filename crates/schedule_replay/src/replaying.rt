@@ -1,8 +1,8 @@
-ghost use Rattle.std.specs.Prelude.{◌≡◌, false, length};
+ghost use Rattle.std.specs.Prelude.{◌≡◌, length};
 ghost use Rattle.xt_base.specs.Faults.{Rose};
+ghost use Rattle.world_spec.specs.World as spec;
 ghost use Rattle.world_spec.specs.World.{start_world};
 ghost use Rattle.world_spec.specs.NodeSteps.{Room};
-ghost use Rattle.world_core.specs.RunStates.{RunState};
 ghost use Rattle.schedule_lines.specs.Causes.{HasCause};
 ghost use Rattle.schedule_replay.specs.Replay.{IsReplay, Completes};
 ghost use Rattle.schedule_replay.specs.Steps.{IsEnd};
@@ -20,7 +20,7 @@ use xt_messages::{Limited, Status};
 
 /// Ends a replay after as many lines as a schedule may have.
 fn past_last<S: Source, K: Sink>(alloc: Global, src: &mut S, out: &mut K) -> Status
-    ensures end { (room : Room) → (w : RunState) → length w.world.lines ≡ LINES →
+    ensures end { (room : Room) → (w : spec.World) → length w.lines ≡ LINES →
         IsEnd room (S.left src.old) (S.left src.new) (K.held out.old) (K.held out.new) w result }
     ensures cause { HasCause (S.fault_count src.old) (S.fault_count src.new) (K.fault_count out.old)
         (K.fault_count out.new) result }
@@ -52,8 +52,7 @@ pub fn replay<C: NodeCore, H: Hull, S: Source, K: Sink>(
     src: &mut S,
     out: &mut K,
 ) -> Status
-    requires start { world.old.world ≡ start_world }
-    requires going { world.old.ended ≡ false }
+    requires { world.old ≡ start_world }
     // The trace is that of a run of the lines that were taken, over journals that have the hull's room, and it is safe.
     ensures replay { IsReplay H.room (S.left src.old) (S.left src.new) (K.held out.old)
         (K.held out.new) result }

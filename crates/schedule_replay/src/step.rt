@@ -28,11 +28,11 @@ pub fn status_of(number: u64, error: WorldErr) -> Status
 /// Applies a line to a world that is the run of its lines. Its entries stand after those that were there, and the trace is safe.
 fn apply<C: NodeCore, H: Hull>(world: &mut World<C, H>, line: Line) -> Result<(), WorldErr>
     requires going { world.old.ended ≡ false }
-    requires run { IsScheduleRun H.room world.old.world }
-    requires formed { IsLine (length world.old.world.lines == 0) line }
+    requires run { IsScheduleRun H.room world.old }
+    requires formed { IsLine (length world.old.lines == 0) line }
     ensures applied { IsApplied H.room world.old line world.new result }
-    ensures grown { Grown world.old.world.entries world.new.world.entries }
-    ensures safe { IsSafe world.new.world.entries }
+    ensures grown { Grown world.old.entries world.new.entries }
+    ensures safe { IsSafe world.new.entries }
 {
     world.apply(&line)
 }
@@ -47,8 +47,8 @@ pub fn replay_line<C: NodeCore, H: Hull, S: Source, K: Sink>(
     raw: &mut Vec<u8>,
 ) -> Option<Status>
     requires going { world.old.ended ≡ false }
-    requires run { IsScheduleRun H.room world.old.world }
-    requires few { length world.old.world.lines < LINES }
+    requires run { IsScheduleRun H.room world.old }
+    requires few { length world.old.lines < LINES }
     ensures step { IsStep H.room (S.left src.old) (S.left src.new) (K.held out.old)
         (K.held out.new) world.old world.new result }
     ensures cause { CausesStep (S.fault_count src.old) (S.fault_count src.new)

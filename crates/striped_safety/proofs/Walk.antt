@@ -656,7 +656,7 @@ whole_kept =
             shows = shows_rest w after [] [] [] refl none_still (seen_same w after (λ file. declared_rest file w node (view file w) new refl refl)) (λ k h. h)
                 (λ file n. add_callers file n w after node new refl (λ r c e up core. absurd (cc up))) (λ n none. add_absent w.nodes node n new none) (all_stay (known w)) (add_records w after node new refl refl) p.shows;
           };
-      client_declared = λ w id clock bound new p. record { fits = ends_kept.client_declared w id clock bound new p.fits; shows = client_shows w id clock new p.fits p.shows };
+      client_declared = λ w id clock bound new close p. record { fits = ends_kept.client_declared w id clock bound new close p.fits; shows = client_shows w id clock new p.fits p.shows };
       file_declared = λ w number location bound new p.
           let f : PlacedFile = record { file = declared_file number; location = location } in
           let after = tells (record w { files = w.files ++ f ∷ [] }) (entry.File number location ∷ []) in
@@ -741,9 +741,10 @@ whole_kept =
                   forgotten_follows vol number location who setting w own node r s (in_order w own p.fits.fit) (record { found = found; up = up; core = is_osd }) (p.shows.files vol number location who of_kind setting listed);
             };
           };
-      lined = λ w l p.
+      lined = λ w l ended p.
+          let later : World = record (with_line w l) { ended = ended } in
           record {
-            fits = ends_kept.lined w l p.fits;
-            shows = shows_rest w (with_line w l) [] [] [] (same_entries w (with_line w l) refl) none_still (λ file n. (refl, refl)) (λ k h. h) (λ file n. nodes_callers file n w (with_line w l) refl) (λ n none. none) (all_stay (known w)) (nodes_records w (with_line w l) refl) p.shows;
+            fits = ends_kept.lined w l ended p.fits;
+            shows = shows_rest w later [] [] [] (same_entries w later refl) none_still (λ file n. (refl, refl)) (λ k h. h) (λ file n. nodes_callers file n w later refl) (λ n none. none) (all_stay (known w)) (nodes_records w later refl) p.shows;
           };
     }

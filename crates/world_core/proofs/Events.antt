@@ -75,6 +75,7 @@ took_ends T room was between new place node running step after turned r at took 
       record {
         rest = so.1.rest ∙ ap (λ (x : Working). record x { doing = new.doing }) is_moved;
         lines = so.1.lines ∙ ap (λ (x : Working). x.doing.world.lines) is_moved;
+        ended = so.1.ended ∙ ap (λ (x : Working). x.doing.world.ended) is_moved;
       },
     )
     goes (Err e) so = (
@@ -83,7 +84,7 @@ took_ends T room was between new place node running step after turned r at took 
         entries = so.1.entries ∙ ap (λ (x : Working). x.doing.world.entries) is_moved;
         lines = so.1.lines ∙ ap (λ (x : Working). x.doing.world.lines) is_moved;
         begun = so.1.begun ∙ ap (λ (x : Working). x.begun) is_moved;
-        ended = so.1.ended ∙ ap (λ (x : Working). x.ended) is_moved;
+        ended = so.1.ended ∙ ap (λ (x : Working). x.doing.world.ended) is_moved;
       },
     )
 
@@ -161,5 +162,5 @@ delivered_so T room was self new number message copy sent r is sent_as same is_s
         ∙ ap (λ (m : Msg). event_comes room settled.doing m.to (event.Deliver m)) (sym same)
 
     ways : (r : Result T WorldErr) → IsStepped {T = T} settled (event_comes room settled.doing copy.to (event.Deliver copy)) new r → IsStepped {T = T} was (delivers room was.doing number) new r
-    ways (Ok value) p = (its ∙ p.0, record { rest = p.1.rest; lines = p.1.lines })
+    ways (Ok value) p = (its ∙ p.0, record { rest = p.1.rest; lines = p.1.lines; ended = p.1.ended })
     ways (Err e) p = (subst (λ (k : Result Doing Cause). Tells (cause_of k) e) (sym its) p.0, record { entries = p.1.entries; lines = p.1.lines; begun = p.1.begun; ended = p.1.ended })

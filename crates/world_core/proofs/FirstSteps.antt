@@ -46,7 +46,7 @@ at_view was self f d is so = subst (λ (x : Working). f x.doing ≡ Ok d) is so
 
 -- a state that stays as it is
 pub stayed : (was self : Working) (f : Doing → Result Doing Cause) → was ≡ self → f was.doing ≡ Ok was.doing → (f self.doing ≡ Ok self.doing) × WentOn self self
-stayed was self f is so = subst (λ (x : Working). (f x.doing ≡ Ok x.doing) × WentOn x x) is (so, record { rest = refl; lines = refl })
+stayed was self f is so = subst (λ (x : Working). (f x.doing ≡ Ok x.doing) × WentOn x x) is (so, record { rest = refl; lines = refl; ended = refl })
 
 pub same_untold : (s : Working) → IsUntold s s
 same_untold s = record { entries = refl; lines = refl; begun = refl; ended = refl }
@@ -259,7 +259,7 @@ pub stop_told : (room : Room) (s new : Working) (id : NodeId) (place : ℕ) (is 
 stop_told room s new id place is moment es told said idle so =
     let w : World = record s.doing.world { nodes = with_node s.doing.world.nodes (record is.0 { up = None }); entries = es } in
     stepped_ok s (first_step room s.doing (line.Stop id)) (record s.doing { world = w }) new (stop_done room s.doing id place is moment es told said)
-    (so ∙ ap (λ (own : List Msg). record s { doing = record s.doing { world = w; own = own } }) (sym idle)) refl
+    (so ∙ ap (λ (own : List Msg). record s { doing = record s.doing { world = w; own = own } }) (sym idle)) refl refl
 
 -- the times that a line gives
 pub times_are : (result : Result TimeSettings BadTimes) (times : TimeSettings) (lease drift : ℕ) → result ≡ Ok times → IfOk result (λ (t : TimeSettings). (t.lease ≡ lease) × (t.drift ≡ drift))

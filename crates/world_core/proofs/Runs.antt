@@ -1,20 +1,21 @@
 -- the run that a world is
-use Rattle.std.proofs.Common.{◌≡◌, ◌⊎◌, inl, inr, ℕ, zero, suc, true, None, Ok, Err, List, [], ◌∷◌, ◌++◌, refl, ap, sym, ◌∙◌, subst, arith}
+use Rattle.std.proofs.Common.{◌≡◌, ◌⊎◌, inl, inr, ℕ, zero, suc, Bool, true, false, if◌then◌else◌, None, Ok, Err, List, [], ◌∷◌, ◌++◌, refl, ap, sym, ◌∙◌, subst, arith}
 use Rattle.std.specs.List.{fold, AllByRecursion}
 use Rattle.time_line.specs.declared.line.Line.{Line}
 use Rattle.time_line.specs.declared.line.Line.TheVariants as line
 use Rattle.world_spec.specs.World.{World, start_world}
 use Rattle.world_spec.specs.Rules.{refusal}
-use Rattle.world_spec.specs.NodeSteps.{Room}
-use Rattle.world_spec.specs.Lines.{Next, finished, begins, steps, so_far, done}
+use Rattle.world_spec.specs.NodeSteps.{Room, Doing}
+use Rattle.world_spec.specs.Lines.{Next, finished, goes_on, opening, begins, steps, so_far, done}
 use Rattle.time_line.specs.Bounds.{AreLines, FitsLine, FitsLater, sets_times}
-use Rattle.world_spec.specs.Runs.{with_line, after, after_refusal, run_of, IsPartOf}
+use Rattle.world_spec.specs.Runs.{with_line, left_by, after, after_refusal, run_of, IsPartOf, IsOver, IsEnough}
 use Rattle.world_hull.specs.declared.errors.WorldErr.{WorldErr}
 use Rattle.world_hull.specs.declared.errors.WorldErr.TheVariants as error
 use Rattle.world_step.specs.Steps.{Working}
-use Rattle.world_core.specs.RunStates.{RunState, HasRun, IsRefused, MayStand, begun_with}
+use Rattle.world_limits.specs.Fits.{FitsAt, DoStepsFit}
+use Rattle.world_core.specs.RunStates.{HasRun, IsDone, IsRefused, MayStand, AllFit, begun_with, made_of}
 use Rattle.world_core.proofs.Turns.{none_yet}
-use Rattle.world_core.proofs.Whole.{begins_in, done_is}
+use Rattle.world_core.proofs.Whole.{opening_in, takes, done_is}
 
 pub no_run : (room : Room) → start_world ≡ run_of room []
 unfolding run_of
@@ -28,17 +29,17 @@ run_last : (room : Room) (ls : List Line) (l : Line) → run_of room (ls ++ l �
 unfolding run_of
 run_last room ls l = fold_last room start_world ls l
 
-after_is : (room : Room) (w : World) (l : Line) → refusal w l ≡ None → after room w l ≡ with_line (so_far (done room w l)) l
+after_is : (room : Room) (w : World) (l : Line) → w.ended ≡ false → refusal w l ≡ None → after room w l ≡ left_by l (done room w l)
 unfolding after
-after_is room w l legal = ap (after_refusal room w l) legal
+after_is room w l going legal = ap (λ (b : Bool). if b then w else after_refusal room w l (refusal w l)) going ∙ ap (after_refusal room w l) legal
 
 -- the world after a line that is done is the run with that line
-pub applied_run : (room : Room) (w whole : World) (l : Line) → w ≡ run_of room w.lines → refusal w l ≡ None → done room w l ≡ finished whole → whole.lines ≡ w.lines
+pub applied_run : (room : Room) (w whole : World) (l : Line) → w.ended ≡ false → w ≡ run_of room w.lines → refusal w l ≡ None → done room w l ≡ finished whole → whole.lines ≡ w.lines
     → with_line whole l ≡ run_of room (whole.lines ++ l ∷ [])
-applied_run room w whole l is legal ended same =
+applied_run room w whole l going is legal ended same =
     sym
-    (ap (λ (ls : List Line). run_of room (ls ++ l ∷ [])) same ∙ run_last room w.lines l ∙ ap (λ (x : World). after room x l) (sym is) ∙ after_is room w l legal
-    ∙ ap (λ (n : Next). with_line (so_far n) l) ended)
+    (ap (λ (ls : List Line). run_of room (ls ++ l ∷ [])) same ∙ run_last room w.lines l ∙ ap (λ (x : World). after room x l) (sym is) ∙ after_is room w l going legal
+    ∙ ap (left_by l) ended)
 
 -- ---- the line may stand there
 
@@ -73,12 +74,27 @@ may_stand room w (line.Deliver number) is are = (last_fits w.lines (line.Deliver
 may_stand room w (line.Drop number) is are = (last_fits w.lines (line.Drop number) are).0
 may_stand room w (line.Settle count) is are = (last_fits w.lines (line.Settle count) are).0
 
+-- ---- what is so of the steps of a line of a run
+
+-- each is made in a world that fits
+pub all_fit : (room : Room) (w : World) (l : Line) → w.ended ≡ false → w ≡ run_of room w.lines → refusal w l ≡ None → AreLines (w.lines ++ l ∷ []) → DoStepsFit room → AllFit room (opening w l)
+all_fit room w l going is legal are fit = λ k.
+    subst (λ (n : Next). FitsAt (steps k room n)) (takes w l going)
+    (subst (λ (x : World). FitsAt (steps k room (begins x l))) (sym is) (fit w.lines l k are (subst (λ (x : World). refusal x l ≡ None) is legal)))
+
+-- and after those that it is allowed it is over
+pub is_over : (room : Room) (w : World) (l : Line) (d : Doing) → w.ended ≡ false → w ≡ run_of room w.lines → refusal w l ≡ None → AreLines (w.lines ++ l ∷ []) → IsEnough room → made_of room w l ≡ goes_on d → ⊥
+is_over room w l d going is legal are enough_so so =
+    subst IsOver (done_is room w l going ∙ so)
+    (subst (λ (x : World). IsOver (done room x l)) (sym is) (enough_so w.lines l are (subst (λ (x : World). refusal x l ≡ None) is legal)))
+
 -- ---- the end of a line, which is shown
 
-module _ (room : Room) (w : World) (l : Line) (ended shown : Working)
-    (is_shown : shown ≡ record ended { doing = record ended.doing { world = record ended.doing.world { lines = ended.doing.world.lines ++ ended.begun } }; begun = [] }) (legal : refusal w l ≡ None) where
+module _ (room : Room) (w : World) (l : Line) (ended shown : Working) (early : Bool)
+    (is_shown : shown ≡ record ended { doing = record ended.doing { world = record ended.doing.world { lines = ended.doing.world.lines ++ ended.begun; ended = early } }; begun = [] })
+    (legal : refusal w l ≡ None) (going : w.ended ≡ false) where
   abbrev begun : Working
-  begun = record { doing = begun_with w l; begun = l ∷ []; ended = true }
+  begun = record { doing = begun_with w l; begun = l ∷ [] }
 
   its_lines : ended.doing.world.lines ≡ w.lines → ended.begun ≡ l ∷ [] → shown.doing.world.lines ≡ w.lines ++ l ∷ []
   its_lines lines last = ap (λ (x : Working). x.doing.world.lines) is_shown ∙ ap (λ (ls : List Line). ls ++ ended.begun) lines ∙ ap (λ (ls : List Line). w.lines ++ ls) last
@@ -86,44 +102,63 @@ module _ (room : Room) (w : World) (l : Line) (ended shown : Working)
   its_entries : shown.doing.world.entries ≡ ended.doing.world.entries
   its_entries = ap (λ (x : Working). x.doing.world.entries) is_shown
 
-  its_end : ended.ended ≡ true → shown.ended ≡ true
-  its_end is = ap (λ (x : Working). x.ended) is_shown ∙ is
+  its_end : (b : Bool) → early ≡ b → shown.doing.world.ended ≡ b
+  its_end b is = ap (λ (x : Working). x.doing.world.ended) is_shown ∙ is
 
-  by_steps : (k : ℕ) (part : World) → so_far (steps k room (begins w l)) ≡ part → ended.doing.world.entries ≡ part.entries
+  by_steps : (k : ℕ) (part : World) → so_far (steps k room (opening w l)) ≡ part → ended.doing.world.entries ≡ part.entries
       → (shown.doing.world.entries ≡ w.entries) ⊎ ((p : World) × IsPartOf room w l p × (shown.doing.world.entries ≡ p.entries))
   by_steps zero part is so =
-      inl (its_entries ∙ so ∙ ap (λ (x : World). x.entries) (sym is ∙ ap so_far (none_yet room (begins w l)) ∙ begins_in w l))
-  by_steps (suc k) part is so = inr (part, (suc k, omega arith, is), its_entries ∙ so)
+      inl (its_entries ∙ so ∙ ap (λ (x : World). x.entries) (sym is ∙ ap so_far (none_yet room (opening w l)) ∙ opening_in w l))
+  by_steps (suc k) part is so =
+      inr (part, (suc k, omega arith, ap (λ (n : Next). so_far (steps (suc k) room n)) (takes w l going) ∙ is), its_entries ∙ so)
 
-  pub refused_is : (old : RunState) (e : WorldErr) → old.world ≡ w → HasRun room begun l ended (Err e) → IsRefused room old l (record { world = shown.doing.world; ended = shown.ended }) e
-  refused_is old e same so = subst (λ (x : World). IsRefused room (record { world = x; ended = old.ended }) l (record { world = shown.doing.world; ended = shown.ended }) e) (sym same) (at e so)
+  pub refused_is : (old : World) (e : WorldErr) → old ≡ w → early ≡ true → HasRun room begun l ended (Err e) → IsRefused room old l shown.doing.world e
+  refused_is old e same late so = subst (λ (x : World). IsRefused room x l shown.doing.world e) (sym same) (at e so)
     where
-      at : (e : WorldErr) → HasRun room begun l ended (Err e) → IsRefused room (record { world = w; ended = old.ended }) l (record { world = shown.doing.world; ended = shown.ended }) e
+      at : (e : WorldErr) → HasRun room begun l ended (Err e) → IsRefused room w l shown.doing.world e
       at (error.Illegal rule) is = absurd (is)
       at (error.Limit what limit) is = (
         legal,
-        record { part = is.0; ended = done_is room w l ∙ is.1; entries = its_entries ∙ is.3.entries; lines = its_lines is.3.lines is.3.begun },
+        record { part = is.0; ended = done_is room w l going ∙ is.1; entries = its_entries ∙ is.3.entries; lines = its_lines is.3.lines is.3.begun },
         is.2,
-        its_end is.3.ended,
+        its_end true late,
       )
       at (error.Full need limit) is = (
         legal,
-        record { part = is.0; ended = done_is room w l ∙ is.1; entries = its_entries ∙ is.2.entries; lines = its_lines is.2.lines is.2.begun },
-        its_end is.2.ended,
+        record { part = is.0; ended = done_is room w l going ∙ is.1; entries = its_entries ∙ is.2.entries; lines = its_lines is.2.lines is.2.begun },
+        its_end true late,
       )
       at error.OutOfMemory is = (
         legal,
-        inr (its_lines is.2.lines is.2.begun, by_steps is.0 (so_far (steps is.0 room (begins w l))) refl is.2.entries),
-        its_end is.2.ended,
+        inr (its_lines is.2.lines is.2.begun, by_steps is.0 (so_far (steps is.0 room (opening w l))) refl is.2.entries),
+        its_end true late,
       )
 
-  pub finished_run : w ≡ run_of room w.lines → AreLines (w.lines ++ l ∷ []) → HasRun room begun l ended (Ok true)
+  -- the line is done
+  left_whole : early ≡ false → HasRun room begun l ended (Ok true) → shown.doing.world ≡ with_line ended.doing.world l
+  left_whole none so =
+      let last : ended.begun ≡ l ∷ [] = ap (λ (x : Working). x.begun) so.1.rest in
+      ap (λ (x : Working). x.doing.world) is_shown
+      ∙ ap (λ (ls : List Line). record ended.doing.world { lines = ended.doing.world.lines ++ ls; ended = early }) last
+      ∙ ap (λ (b : Bool). record (with_line ended.doing.world l) { ended = b }) (none ∙ sym (so.1.ended ∙ going))
+
+  pub done_so : (old : World) → old ≡ w → early ≡ false → HasRun room begun l ended (Ok true) → IsDone room old l shown.doing.world
+  done_so old same none so =
+      subst (λ (x : World). IsDone room x l shown.doing.world) (sym same)
+      (record {
+        legal = legal;
+        whole = ended.doing.world;
+        finished_in = done_is room w l going ∙ so.0;
+        after_it = left_whole none so;
+        going = its_end false none;
+      })
+
+  pub finished_run : early ≡ false → w ≡ run_of room w.lines → AreLines (w.lines ++ l ∷ []) → HasRun room begun l ended (Ok true)
       → (shown.doing.world ≡ run_of room shown.doing.world.lines) × AreLines shown.doing.world.lines
-  finished_run is are so =
+  finished_run none is are so =
       let last : ended.begun ≡ l ∷ [] = ap (λ (x : Working). x.begun) so.1.rest in
       let lines : shown.doing.world.lines ≡ w.lines ++ l ∷ [] = its_lines so.1.lines last in (
-        ap (λ (x : Working). x.doing.world) is_shown ∙ ap (λ (ls : List Line). record ended.doing.world { lines = ended.doing.world.lines ++ ls }) last
-            ∙ applied_run room w ended.doing.world l is legal so.0 so.1.lines
+        left_whole none so ∙ applied_run room w ended.doing.world l going is legal (done_is room w l going ∙ so.0) so.1.lines
             ∙ ap (run_of room) (ap (λ (ls : List Line). ls ++ l ∷ []) so.1.lines ∙ sym lines),
         subst AreLines (sym lines) are,
       )

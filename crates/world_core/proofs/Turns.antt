@@ -99,7 +99,7 @@ pub turn_ok : (T : Type 0) (room : Room) (was self new : Working) (m : Msg) (res
 turn_ok T room was self new m rest value is own so =
     subst (λ (x : Working). IsTurned x (next_step room (goes_on x.doing)) new (Ok false)) is (
       next_is_own room was.doing m rest own ∙ ap (went was.doing.world) so.0,
-      record { rest = so.1.rest; lines = so.1.lines },
+      record { rest = so.1.rest; lines = so.1.lines; ended = so.1.ended },
     )
 
 -- ---- so many steps
@@ -109,7 +109,11 @@ unfolding steps
 none_yet room next = refl
 
 pub went_further : (a b c : Working) → WentOn a b → WentOn b c → WentOn a c
-went_further a b c one two = record { rest = two.rest ∙ ap (λ (x : Working). record x { doing = c.doing }) one.rest; lines = two.lines ∙ one.lines }
+went_further a b c one two = record {
+  rest = two.rest ∙ ap (λ (x : Working). record x { doing = c.doing }) one.rest;
+  lines = two.lines ∙ one.lines;
+  ended = two.ended ∙ one.ended;
+}
 
 pub fits_at : (room : Room) (next : Next) (k : ℕ) (d : Doing) → AllFit room next → steps k room next ≡ goes_on d → FitsWorld d.world d.own
 fits_at room next k d fits is = subst FitsAt is (fits k)
@@ -124,7 +128,7 @@ has_ended room old now new next k count e lt came went_on so = at e so.0
       entries = so.1.entries;
       lines = so.1.lines ∙ went_on.lines;
       begun = so.1.begun ∙ ap (λ (x : Working). x.begun) went_on.rest;
-      ended = so.1.ended ∙ ap (λ (x : Working). x.ended) went_on.rest;
+      ended = so.1.ended ∙ went_on.ended;
     }
 
     ends_so : (cause : Cause) → next_step room (goes_on now.doing) ≡ ends cause now.doing.world → steps count room next ≡ ends cause now.doing.world

@@ -1,10 +1,10 @@
 -- a whole line
-use Rattle.std.proofs.Common.{◌⊎◌, inl, inr, ◌≡◌, ℕ, zero, suc, ◌+◌, ◌*◌, ◌<◌, ◌≤◌, lit≤, Bool, true, false, Some, Result, Ok, Err, [], refl, ap, sym, ◌∙◌, subst, arith, length}
+use Rattle.std.proofs.Common.{◌⊎◌, inl, inr, ◌≡◌, ℕ, zero, suc, ◌+◌, ◌*◌, ◌<◌, ◌≤◌, lit≤, Bool, true, false, if◌then◌else◌, Some, Result, Ok, Err, [], refl, ap, sym, ◌∙◌, subst, arith, length}
 use Rattle.time_line.specs.declared.line.Line.{Line}
 use Rattle.time_line.specs.declared.line.Line.TheVariants as line
 use Rattle.world_spec.specs.World.{World}
 use Rattle.world_spec.specs.NodeSteps.{Room, Cause, came_to, has_no_room, Doing}
-use Rattle.world_spec.specs.Lines.{Next, finished, opens, goes_on, ends, begins, went, next_step, steps, so_far, first_step, events_of, enough, done, OWN}
+use Rattle.world_spec.specs.Lines.{Next, finished, opens, goes_on, ends, opening, begins, went, next_step, steps, so_far, first_step, events_of, enough, done, OWN}
 use Rattle.world_hull.specs.declared.errors.WorldErr.{WorldErr}
 use Rattle.world_hull.specs.declared.errors.WorldErr.TheVariants as error
 use Rattle.world_limits.specs.Fits.{FitsAt, FitsWorld}
@@ -24,7 +24,7 @@ the_doing : (a b : Doing) (so : Result Doing Cause) → so ≡ Ok a → so ≡ O
 the_doing a b so one two = cc
 
 -- the first step leaves the line at work
-pub opened : (room : Room) (w : World) (l : Line) (d : Doing) → first_step room (begun_with w l) l ≡ Ok d → steps (opening_of l) room (begins w l) ≡ goes_on d
+pub opened : (room : Room) (w : World) (l : Line) (d : Doing) → first_step room (begun_with w l) l ≡ Ok d → steps (opening_of l) room (opening w l) ≡ goes_on d
 opened room w (line.Settle count) d is = none_yet room _ ∙ ap goes_on (the_doing (begun_with w (line.Settle count)) d _ (settling room (begun_with w (line.Settle count)) count _ refl) is)
 opened room w (line.Times lease drift) d is = opens_one room (line.Times lease drift) w ∙ ap (went w) is
 opened room w (line.Osd node) d is = opens_one room (line.Osd node) w ∙ ap (went w) is
@@ -89,7 +89,7 @@ two_in_all (line.Deliver number) = refl
 two_in_all (line.Drop number) = refl
 
 -- or ends it
-pub opened_err : (room : Room) (w : World) (l : Line) (cause : Cause) → first_step room (begun_with w l) l ≡ Err cause → steps 1 room (begins w l) ≡ ends cause w
+pub opened_err : (room : Room) (w : World) (l : Line) (cause : Cause) → first_step room (begun_with w l) l ≡ Err cause → steps 1 room (opening w l) ≡ ends cause w
 opened_err room w (line.Settle count) cause is = absurd (let e : Ok (begun_with w (line.Settle count)) ≡ Err cause = sym (settling room _ count _ refl) ∙ is in cc e)
 opened_err room w (line.Times lease drift) cause is = opens_one room (line.Times lease drift) w ∙ ap (went w) is
 opened_err room w (line.Osd node) cause is = opens_one room (line.Osd node) w ∙ ap (went w) is
@@ -110,26 +110,26 @@ opened_err room w (line.Aim id file node) cause is = opens_one room (line.Aim id
 opened_err room w (line.Deliver number) cause is = opens_one room (line.Deliver number) w ∙ ap (went w) is
 opened_err room w (line.Drop number) cause is = opens_one room (line.Drop number) w ∙ ap (went w) is
 
-pub begins_in : (w : World) (l : Line) → so_far (begins w l) ≡ w
-begins_in w (line.Settle count) = refl
-begins_in w (line.Times lease drift) = refl
-begins_in w (line.Osd node) = refl
-begins_in w line.Mrc = refl
-begins_in w line.Dir = refl
-begins_in w (line.Client node clock) = refl
-begins_in w (line.File number location) = refl
-begins_in w (line.Start node clock) = refl
-begins_in w (line.Stop node) = refl
-begins_in w (line.Crash node k fill) = refl
-begins_in w (line.Cut node count) = refl
-begins_in w (line.Clock node clock) = refl
-begins_in w (line.Tick count) = refl
-begins_in w (line.Wake node) = refl
-begins_in w (line.Call id c) = refl
-begins_in w (line.Again id) = refl
-begins_in w (line.Aim id file node) = refl
-begins_in w (line.Deliver number) = refl
-begins_in w (line.Drop number) = refl
+pub opening_in : (w : World) (l : Line) → so_far (opening w l) ≡ w
+opening_in w (line.Settle count) = refl
+opening_in w (line.Times lease drift) = refl
+opening_in w (line.Osd node) = refl
+opening_in w line.Mrc = refl
+opening_in w line.Dir = refl
+opening_in w (line.Client node clock) = refl
+opening_in w (line.File number location) = refl
+opening_in w (line.Start node clock) = refl
+opening_in w (line.Stop node) = refl
+opening_in w (line.Crash node k fill) = refl
+opening_in w (line.Cut node count) = refl
+opening_in w (line.Clock node clock) = refl
+opening_in w (line.Tick count) = refl
+opening_in w (line.Wake node) = refl
+opening_in w (line.Call id c) = refl
+opening_in w (line.Again id) = refl
+opening_in w (line.Aim id file node) = refl
+opening_in w (line.Deliver number) = refl
+opening_in w (line.Drop number) = refl
 
 -- ---- the end of a line
 
@@ -139,18 +139,18 @@ caused (Err c) cause is = (let same : c ≡ cause = cc in ap Err same)
 
 -- by its first step
 pub first_ends : (room : Room) (old new : Working) (l : Line) (total : ℕ) (e : WorldErr) → old.doing ≡ begun_with old.doing.world l → 1 ≤ total
-    → Tells (cause_of (first_step room old.doing l)) e × IsUntold old new → HasEnded room old total (begins old.doing.world l) new e
+    → Tells (cause_of (first_step room old.doing l)) e × IsUntold old new → HasEnded room old total (opening old.doing.world l) new e
 first_ends room old new l total e begun some so = at e so.0
   where
     left : IsLeftIn old new old.doing.world
     left = record { entries = so.1.entries; lines = so.1.lines; begun = so.1.begun; ended = so.1.ended }
 
-    ends_so : (cause : Cause) → cause_of (first_step room old.doing l) ≡ Some cause → steps total room (begins old.doing.world l) ≡ ends cause old.doing.world
+    ends_so : (cause : Cause) → cause_of (first_step room old.doing l) ≡ Some cause → steps total room (opening old.doing.world l) ≡ ends cause old.doing.world
     ends_so cause is =
-        ended_longer 1 total room (begins old.doing.world l) cause old.doing.world
+        ended_longer 1 total room (opening old.doing.world l) cause old.doing.world
         (opened_err room old.doing.world l cause (sym (ap (λ (d : Doing). first_step room d l) begun) ∙ caused (first_step room old.doing l) cause is)) some
 
-    at : (e : WorldErr) → Tells (cause_of (first_step room old.doing l)) e → HasEnded room old total (begins old.doing.world l) new e
+    at : (e : WorldErr) → Tells (cause_of (first_step room old.doing l)) e → HasEnded room old total (opening old.doing.world l) new e
     at (error.Illegal rule) is = is
     at (error.Limit what limit) is = (old.doing.world, ends_so (came_to what) is.0, is.1, left)
     at (error.Full need limit) is = (old.doing.world, ends_so (has_no_room (record { need = need; limit = limit })) is, left)
@@ -158,7 +158,7 @@ first_ends room old new l total e begun some so = at e so.0
       0,
       omega arith,
       record {
-        entries = left.entries ∙ ap (λ (w : World). w.entries) (sym (begins_in old.doing.world l)) ∙ ap (λ (n : Next). (so_far n).entries) (sym (none_yet room (begins old.doing.world l)));
+        entries = left.entries ∙ ap (λ (w : World). w.entries) (sym (opening_in old.doing.world l)) ∙ ap (λ (n : Next). (so_far n).entries) (sym (none_yet room (opening old.doing.world l)));
         lines = left.lines;
         begun = left.begun;
         ended = left.ended;
@@ -181,7 +181,7 @@ module _ (room : Room) (old now : Working) (next : Next) (k : ℕ) (came : steps
         entries = left.entries;
         lines = left.lines ∙ on.lines;
         begun = left.begun ∙ ap (λ (x : Working). x.begun) on.rest;
-        ended = left.ended ∙ ap (λ (x : Working). x.ended) on.rest;
+        ended = left.ended ∙ on.ended;
       }
 
       ends_so : (cause : Cause) (part : World) → steps n room (goes_on now.doing) ≡ ends cause part → steps total room next ≡ ends cause part
@@ -231,7 +231,7 @@ all_enough w l i count same is =
     let two : opening_of l + closing_of l ≡ 2 = two_in_all l in
     omega arith
 
-begin_fits : (w : World) (l : Line) → FitsAt (begins w l) → FitsWorld w []
+begin_fits : (w : World) (l : Line) → FitsAt (opening w l) → FitsWorld w []
 begin_fits w (line.Times lease drift) fits = fits
 begin_fits w (line.Osd node) fits = fits
 begin_fits w line.Mrc fits = fits
@@ -252,42 +252,45 @@ begin_fits w (line.Deliver number) fits = fits
 begin_fits w (line.Drop number) fits = fits
 begin_fits w (line.Settle count) fits = fits
 
-pub first_fits : (room : Room) (w : World) (l : Line) → AllFit room (begins w l) → FitsWorld w []
-first_fits room w l fits = begin_fits w l (subst FitsAt (none_yet room (begins w l)) (fits 0))
+pub first_fits : (room : Room) (w : World) (l : Line) → AllFit room (opening w l) → FitsWorld w []
+first_fits room w l fits = begin_fits w l (subst FitsAt (none_yet room (opening w l)) (fits 0))
 
-pub done_is : (room : Room) (w : World) (l : Line) → done room w l ≡ steps (enough w l) room (begins w l)
+-- a world that hasn't ended takes a line
+pub takes : (w : World) (l : Line) → w.ended ≡ false → begins w l ≡ opening w l
+takes w l going = ap (λ (b : Bool). if b then finished w else opening w l) going
+
+pub done_is : (room : Room) (w : World) (l : Line) → w.ended ≡ false → done room w l ≡ steps (enough w l) room (opening w l)
 unfolding done
-done_is room w l = refl
+done_is room w l going = ap (steps (enough w l) room) (takes w l going)
 
 -- ---- the loop over events
 
 module _ (room : Room) (old started now : Working) (l : Line) (i count : ℕ) (begun : old.doing ≡ begun_with old.doing.world l) (first : (first_step room old.doing l ≡ Ok started.doing) × WentOn old started)
     (is_count : count ≡ 1 + OWN * (1 + length old.doing.world.files + length old.doing.world.made)) (came : steps (i * count) room (goes_on started.doing) ≡ goes_on now.doing) (on : WentOn started now) where
-  start : steps (opening_of l) room (begins old.doing.world l) ≡ goes_on started.doing
+  start : steps (opening_of l) room (opening old.doing.world l) ≡ goes_on started.doing
   start = opened room old.doing.world l started.doing (ap (λ (d : Doing). first_step room d l) (sym begun) ∙ first.0)
 
   bound : opening_of l + i * count ≤ 1 + i * count
   bound = (let le = opening_few l in omega arith)
 
-  all_came : steps (opening_of l + i * count) room (begins old.doing.world l) ≡ goes_on now.doing
-  all_came = steps-add (opening_of l) (i * count) room (begins old.doing.world l) ∙ ap (steps (i * count) room) start ∙ came
+  all_came : steps (opening_of l + i * count) room (opening old.doing.world l) ≡ goes_on now.doing
+  all_came = steps-add (opening_of l) (i * count) room (opening old.doing.world l) ∙ ap (steps (i * count) room) start ∙ came
 
   all_on : WentOn old now
   all_on = went_further old started now first.1 on
 
-  pub event_fits : AllFit room (begins old.doing.world l) → AllFit room (goes_on now.doing)
-  event_fits fits = later_fits room old now (begins old.doing.world l) (opening_of l + i * count) all_came all_on fits
+  pub event_fits : AllFit room (opening old.doing.world l) → AllFit room (goes_on now.doing)
+  event_fits fits = later_fits room old now (opening old.doing.world l) (opening_of l + i * count) all_came all_on fits
 
-  pub event_ends : (new : Working) (e : WorldErr) → i < events_of l → HasEnded room now count (goes_on now.doing) new e → HasEnded room old (enough old.doing.world l) (begins old.doing.world l) new e
+  pub event_ends : (new : Working) (e : WorldErr) → i < events_of l → HasEnded room now count (goes_on now.doing) new e → HasEnded room old (enough old.doing.world l) (opening old.doing.world l) new e
   event_ends new e less so =
-      ended_behind room old now (begins old.doing.world l) (opening_of l + i * count) all_came all_on count (enough old.doing.world l) new e
+      ended_behind room old now (opening old.doing.world l) (opening_of l + i * count) all_came all_on count (enough old.doing.world l) new e
       (within_enough old.doing.world l i count (opening_of l + i * count) less is_count bound) so
 
   pub event_done : (new : Working) → i < events_of l → (steps count room (goes_on now.doing) ≡ finished new.doing.world) × WentOn now new
-      → (done room old.doing.world l ≡ finished new.doing.world) × WentOn old new
+      → (steps (enough old.doing.world l) room (opening old.doing.world l) ≡ finished new.doing.world) × WentOn old new
   event_done new less so = (
-    done_is room old.doing.world l
-        ∙ done_behind room old now (begins old.doing.world l) (opening_of l + i * count) all_came all_on count (enough old.doing.world l) new.doing.world
+    done_behind room old now (opening old.doing.world l) (opening_of l + i * count) all_came all_on count (enough old.doing.world l) new.doing.world
         (within_enough old.doing.world l i count (opening_of l + i * count) less is_count bound) so.0,
     went_further old now new all_on so.1,
   )
@@ -297,18 +300,17 @@ module _ (room : Room) (old started now : Working) (l : Line) (i count : ℕ) (b
 
   pub last_turns : (new : Working) (r : Result Bool WorldErr) → i ≡ events_of l → HasTurned room now (closing_of l) (goes_on now.doing) new r → HasRun room old l new r
   last_turns new (Ok true) same so = (
-    done_is room old.doing.world l
-        ∙ done_behind room old now (begins old.doing.world l) (opening_of l + i * count) all_came all_on (closing_of l) (enough old.doing.world l) new.doing.world
+    done_behind room old now (opening old.doing.world l) (opening_of l + i * count) all_came all_on (closing_of l) (enough old.doing.world l) new.doing.world
         (let all = whole same in omega arith) so.0,
     went_further old now new all_on so.1,
   )
   last_turns new (Ok false) same so = (
-    done_is room old.doing.world l ∙ ap (λ (n : ℕ). steps n room (begins old.doing.world l)) (sym (whole same))
-        ∙ steps-add (opening_of l + i * count) (closing_of l) room (begins old.doing.world l) ∙ ap (steps (closing_of l) room) all_came ∙ so.0,
+    ap (λ (n : ℕ). steps n room (opening old.doing.world l)) (sym (whole same))
+        ∙ steps-add (opening_of l + i * count) (closing_of l) room (opening old.doing.world l) ∙ ap (steps (closing_of l) room) all_came ∙ so.0,
     went_further old now new all_on so.1,
   )
   last_turns new (Err e) same so =
-      ended_behind room old now (begins old.doing.world l) (opening_of l + i * count) all_came all_on (closing_of l) (enough old.doing.world l) new e
+      ended_behind room old now (opening old.doing.world l) (opening_of l + i * count) all_came all_on (closing_of l) (enough old.doing.world l) new e
       (let all = whole same in omega arith) so
 
 pub some_enough : (w : World) (l : Line) → 1 ≤ enough w l

@@ -6,7 +6,7 @@ use Rattle.time_line.specs.declared.line.Line.TheVariants as line
 use Rattle.world_spec.specs.World.{World}
 use Rattle.world_spec.specs.Rules.{refusal}
 use Rattle.world_spec.specs.NodeSteps.{Room, Cause, came_to, has_no_room, Doing}
-use Rattle.world_spec.specs.Lines.{Next, finished, goes_on, ends, begins, steps, so_far, enough, done}
+use Rattle.world_spec.specs.Lines.{Next, finished, goes_on, ends, opening, steps, so_far, enough, done}
 use Rattle.time_line.specs.Bounds.{AreLines, FitsLine}
 use Rattle.world_spec.specs.Runs.{with_line, run_of, IsPartOf}
 use Rattle.world_limits.specs.Fits.{FitsAt}
@@ -14,18 +14,13 @@ use Rattle.world_step.specs.Steps.{Working, IsUntold, WentOn, limit_of}
 use Rattle.world_hull.specs.declared.errors.WorldErr.{WorldErr}
 use Rattle.world_hull.specs.declared.errors.WorldErr.TheVariants as error
 
--- a world, and whether a line of it ended early: then it takes no line again
-pub record RunState : Type 0 where
-  pub world : World
-  pub ended : Bool
-
 -- a world between two lines
 abbrev pub resting : World → Working
-resting w = record { doing = record { world = w; own = []; left = 0 }; begun = []; ended = false }
+resting w = record { doing = record { world = w; own = []; left = 0 }; begun = [] }
 
 -- Until a line ends early, the world is the run of its lines, each of which is within its limits.
-abbrev pub IsRunSoFar : Room → RunState → Type 0
-IsRunSoFar room s = s.ended ≡ false → (s.world ≡ run_of room s.world.lines) × AreLines s.world.lines
+abbrev pub IsRunSoFar : Room → World → Type 0
+IsRunSoFar room w = w.ended ≡ false → (w ≡ run_of room w.lines) × AreLines w.lines
 
 -- the line ended early in this world, and an error tells why
 abbrev pub TellsEnd : Next → World → WorldErr → Type 0
@@ -47,7 +42,7 @@ pub record IsLeftIn (old new : Working) (part : World) : Type 0 where
   pub entries : new.doing.world.entries ≡ part.entries
   pub lines : new.doing.world.lines ≡ old.doing.world.lines
   pub begun : new.begun ≡ old.begun
-  pub ended : new.ended ≡ old.ended
+  pub ended : new.doing.world.ended ≡ old.doing.world.ended
 
 -- A line at this place came to its end by a limit or a full journal; or memory ran out after so many more steps.
 abbrev pub HasEnded : Room → Working → ℕ → Next → Working → WorldErr → Type 0
@@ -91,11 +86,15 @@ MayStand w l = FitsLine l
 abbrev pub begun_with : World → Line → Doing
 begun_with w l = record { world = w; own = []; left = left_of l }
 
+-- what comes of a line of a world that takes one
+abbrev pub made_of : Room → World → Line → Next
+made_of room w l = steps (enough w l) room (opening w l)
+
 -- A line of this world came to its end; or it isn't done after the steps that it is allowed.
 abbrev pub HasRun : Room → Working → Line → Working → Result Bool WorldErr → Type 0
-HasRun room old l new (Ok true) = (done room old.doing.world l ≡ finished new.doing.world) × WentOn old new
-HasRun room old l new (Ok false) = (done room old.doing.world l ≡ goes_on new.doing) × WentOn old new
-HasRun room old l new (Err e) = HasEnded room old (enough old.doing.world l) (begins old.doing.world l) new e
+HasRun room old l new (Ok true) = (made_of room old.doing.world l ≡ finished new.doing.world) × WentOn old new
+HasRun room old l new (Ok false) = (made_of room old.doing.world l ≡ goes_on new.doing) × WentOn old new
+HasRun room old l new (Err e) = HasEnded room old (enough old.doing.world l) (opening old.doing.world l) new e
 
 -- the line isn't taken up; or it is the last line, after the entries of the steps that it finished, if any
 abbrev pub IsLeft : Room → World → Line → World → Type 0
@@ -112,22 +111,23 @@ pub record CameTo (room : Room) (old : World) (l : Line) (cause : Cause) (new : 
 
 -- Why a line isn't done: it breaks a rule, and nothing has changed; it came to a limit; a record of it had no room; or memory
 -- ran out.
-abbrev pub IsRefused : Room → RunState → Line → RunState → WorldErr → Type 0
-IsRefused room old l new (error.Illegal rule) = (refusal old.world l ≡ Some rule) × (new ≡ old)
+abbrev pub IsRefused : Room → World → Line → World → WorldErr → Type 0
+IsRefused room old l new (error.Illegal rule) = (refusal old l ≡ Some rule) × (new ≡ old)
 IsRefused room old l new (error.Limit what limit) =
-    (refusal old.world l ≡ None) × CameTo room old.world l (came_to what) new.world × (limit ≡ limit_of what) × (new.ended ≡ true)
+    (refusal old l ≡ None) × CameTo room old l (came_to what) new × (limit ≡ limit_of what) × (new.ended ≡ true)
 IsRefused room old l new (error.Full need limit) =
-    (refusal old.world l ≡ None) × CameTo room old.world l (has_no_room (record { need = need; limit = limit })) new.world × (new.ended ≡ true)
-IsRefused room old l new error.OutOfMemory = (refusal old.world l ≡ None) × IsLeft room old.world l new.world × (new.ended ≡ true)
+    (refusal old l ≡ None) × CameTo room old l (has_no_room (record { need = need; limit = limit })) new × (new.ended ≡ true)
+IsRefused room old l new error.OutOfMemory = (refusal old l ≡ None) × IsLeft room old l new × (new.ended ≡ true)
 
--- The line is done: it broke no rule, and the world is the one after it.
-pub record IsDone (room : Room) (old : RunState) (l : Line) (new : RunState) : Type 0 where
-  pub legal : refusal old.world l ≡ None
+-- The line is done: it broke no rule, the world is the one after it, and it takes another line.
+pub record IsDone (room : Room) (old : World) (l : Line) (new : World) : Type 0 where
+  pub legal : refusal old l ≡ None
   pub whole : World
-  pub finished_in : done room old.world l ≡ finished whole
-  pub after_it : new ≡ record { world = with_line whole l; ended = false }
+  pub finished_in : done room old l ≡ finished whole
+  pub after_it : new ≡ with_line whole l
+  pub going : new.ended ≡ false
 
 -- What `apply` does with a line.
-abbrev pub IsApplied : {T : Type 0} → Room → RunState → Line → RunState → Result T WorldErr → Type 0
+abbrev pub IsApplied : {T : Type 0} → Room → World → Line → World → Result T WorldErr → Type 0
 IsApplied room old l new (Ok value) = IsDone room old l new
 IsApplied room old l new (Err e) = IsRefused room old l new e

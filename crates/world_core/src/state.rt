@@ -31,6 +31,7 @@ pub struct State<C: NodeCore, H: Hull> {
     shown: usize,
     /// How many deliveries the line still has.
     left: u128,
+    /// Whether a line ended early: then the world takes no other.
     ended: bool,
 }
 
@@ -50,12 +51,12 @@ impl<C: NodeCore, H: Hull> Model for State<C, H> {
           sent = s.stepper.sent;
           entries = s.stepper.entries.items;
           lines = take s.shown s.lines.items;
+          ended = s.ended;
         };
         own = s.stepper.own;
         left = s.left;
       };
       begun = drop s.shown s.lines.items;
-      ended = s.ended;
     } };
 
     ghost invariant = { λ s. s.shown ≤ length s.lines.items };
@@ -99,42 +100,39 @@ impl<C: NodeCore, H: Hull> State<C, H> {
         &self.lines[..self.shown]
     }
 
-    /// A line begins: it isn't shown yet, and until it is done the world takes no other.
+    /// A line begins: it isn't shown yet. Where it can't begin, it was the last one.
     pub fn begin(&mut self, line: &Line) -> Result<(), OutOfMemory>
         ensures begun { OnOk result (self.new ≡
-            record {
-              doing = begun_with self.old.doing.world line.now;
-              begun = line.now ∷ [];
-              ended = true;
-            }) }
-        ensures failed { OnErr result ((self.new.doing.world ≡ self.old.doing.world)
-            × (self.new.ended ≡ true)) }
+            record { doing = begun_with self.old.doing.world line.now; begun = line.now ∷ [] }) }
+        ensures failed { OnErr result
+            (self.new.doing.world ≡ record self.old.doing.world { ended = true }) }
     {
-        self.ended = true;
         self.stepper.own.lose();
         self.left = left_of(line);
         self.lines.truncate(self.shown);
-        push_copy(self.alloc, &mut self.lines, line)
+        match push_copy(self.alloc, &mut self.lines, line) {
+            Ok(()) => Ok(()),
+            Err(error) => {
+                self.ended = true;
+                Err(error)
+            }
+        }
     }
 
-    /// The line that has begun is shown.
-    pub fn show(&mut self)
+    /// The line that has begun is shown; it is the last one where it ended early.
+    pub fn show(&mut self, ended: bool)
         ensures { self.new ≡
             record self.old {
               doing = record self.old.doing {
-                world = record self.old.doing.world
-                    { lines = self.old.doing.world.lines ++ self.old.begun };
+                world = record self.old.doing.world {
+                  lines = self.old.doing.world.lines ++ self.old.begun;
+                  ended = ended;
+                };
               };
               begun = [];
             } }
     {
         self.shown = self.lines.len();
-    }
-
-    /// The world takes lines again.
-    pub fn go_on(&mut self)
-        ensures { self.new ≡ record self.old { ended = false } }
-    {
-        self.ended = false;
+        self.ended = ended;
     }
 }

@@ -19,14 +19,14 @@ pub struct World<C: NodeCore, H: Hull> {
 }
 
 impl<C: NodeCore, H: Hull> Model for World<C, H> {
-    ghost use Rattle.world_core.specs.RunStates.{RunState, IsRunSoFar};
+    ghost use Rattle.world_spec.specs.World as spec;
+    ghost use Rattle.world_core.specs.RunStates.{IsRunSoFar};
 
-    ghost Value = { RunState };
+    ghost Value = { spec.World };
 
-    ghost view = { λ w. record { world = w.state.doing.world; ended = w.state.ended } };
+    ghost view = { λ w. w.state.doing.world };
 
-    ghost invariant = { λ w.
-        IsRunSoFar H.room (record { world = w.state.doing.world; ended = w.state.ended }) };
+    ghost invariant = { λ w. IsRunSoFar H.room w.state.doing.world };
 }
 
 impl<C: NodeCore, H: Hull> World<C, H> {
@@ -34,7 +34,7 @@ impl<C: NodeCore, H: Hull> World<C, H> {
     pub fn new(alloc: Global, hull: H) -> World<C, H>
         requires kept { H.kept hull ≡ λ _. [] }
         requires past { H.past hull ≡ λ _. [] }
-        ensures { result ≡ record { world = start_world; ended = false } }
+        ensures { result ≡ start_world }
     {
         World {
             state: State::new(alloc, hull),
@@ -43,14 +43,14 @@ impl<C: NodeCore, H: Hull> World<C, H> {
 
     /// The trace so far.
     pub fn entries(&self) -> &[Entry]
-        ensures { result.now ≡ self.now.world.entries }
+        ensures { result.now ≡ self.now.entries }
     {
         self.state.entries()
     }
 
     /// The lines so far.
     pub fn lines(&self) -> &[Line]
-        ensures { result.now ≡ self.now.world.lines }
+        ensures { result.now ≡ self.now.lines }
     {
         self.state.lines()
     }
@@ -60,7 +60,7 @@ impl<C: NodeCore, H: Hull> World<C, H> {
     /// lines are to be used: they are those of the steps that the line had finished.
     pub fn apply(&mut self, line: &Line) -> Result<(), WorldErr>
         requires going { self.old.ended ≡ false }
-        requires values { AreLines (self.old.world.lines ++ line.now ∷ []) }
+        requires values { AreLines (self.old.lines ++ line.now ∷ []) }
         ensures { IsApplied H.room self.old line.now self.new result }
     {
         if let Some(rule) = self.state.refusal(line) {
@@ -70,11 +70,10 @@ impl<C: NodeCore, H: Hull> World<C, H> {
         steps_fit();
         lines_are_over();
         let end = self.state.run(line);
-        self.state.show();
+        self.state.show(end.is_err());
         if !end? {
             unreachable!()
         }
-        self.state.go_on();
         Ok(())
     }
 }

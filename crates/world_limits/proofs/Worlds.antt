@@ -372,8 +372,8 @@ stage_kept = record {
       sent = p.is.sent;
     };
   };
-  client_declared = λ w id clock bound free p. record {
-    fit = fits_kept.client_declared w id clock bound free p.fit;
+  client_declared = λ w id clock bound free close p. record {
+    fit = fits_kept.client_declared w id clock bound free close p.fit;
     is = record {
       short = p.is.short;
       files = p.is.files;
@@ -561,8 +561,8 @@ stage_kept = record {
           sent = p.is.sent;
         };
       };
-  lined = λ w l p. record {
-    fit = fits_kept.lined w l p.fit;
+  lined = λ w l ended p. record {
+    fit = fits_kept.lined w l ended p.fit;
     is = record { short = p.is.short; files = p.is.files; made = p.is.made; each = p.is.each; sent = p.is.sent };
   };
 }

@@ -25,7 +25,7 @@ pub record NodesView : Type 0 where
 
 -- a world of these nodes in which nothing else is
 abbrev pub bare : NodesView → World
-bare view = record { times = view.times; nodes = view.nodes; files = []; made = []; sent = []; entries = []; lines = [] }
+bare view = record { times = view.times; nodes = view.nodes; files = []; made = []; sent = []; entries = []; lines = []; ended = false }
 
 -- whether one of them has this id
 abbrev pub has_host : List HostView → ℕ → Bool

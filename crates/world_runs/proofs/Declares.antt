@@ -1,5 +1,5 @@
 -- the lines that declare: the times, nodes and files
-use Rattle.std.proofs.Common.{◌≡◌, ◌≢◌, ℕ, inl, inr, List, [], ◌∷◌, ◌++◌, refl, arith, ap, sym, ◌∙◌, subst, Option, Some, None}
+use Rattle.std.proofs.Common.{false, ◌≡◌, ◌≢◌, ℕ, inl, inr, List, [], ◌∷◌, ◌++◌, refl, arith, ap, sym, ◌∙◌, subst, Option, Some, None}
 use Rattle.std.specs.Prelude.{◌<◌}
 use Rattle.std.proofs.lemmas.List.{append-nil}
 use Rattle.xt_base.specs.TimeSettings.{TimeSettings}
@@ -36,9 +36,9 @@ use Rattle.world_runs.specs.Worlds.{NodeFits, MadeByRole, IsMadeBy, Stands}
 
 -- no node is there yet
 empty_shape : (times : TimeSettings) (es : List Entry) (ls : List Line) → times_of es ≡ times → ((id : NodeId) (number : ℕ) → standing id number es ≡ None)
-    → IsShaped (record { times = times; nodes = []; files = []; made = []; sent = []; entries = es; lines = ls }) []
+    → IsShaped (record { times = times; nodes = []; files = []; made = []; sent = []; entries = es; lines = ls; ended = false }) []
 empty_shape times es ls are none =
-    let w : World = record { times = times; nodes = []; files = []; made = []; sent = []; entries = es; lines = ls } in
+    let w : World = record { times = times; nodes = []; files = []; made = []; sent = []; entries = es; lines = ls; ended = false } in
     record {
       good = λ file members are_members.
           let g = file_setting times file members in

@@ -224,10 +224,10 @@ ends_kept =
           both_fit (tells (record w { nodes = w.nodes ++ new ∷ [] }) []) [] (fits_kept.server_declared w id its serves stands bound free fit.fit)
           (subst (λ (es : List Entry). EndsFit (known w) (w.nodes ++ never_started id its ∷ []) es (messages w)) (sym (append-nil w.entries))
           (changed_fit (known w) w.nodes (w.nodes ++ new ∷ []) w.entries (messages w) (add_fit (known w) w.nodes w.entries (messages w) new free tt ends) ends));
-      client_declared = λ w id clock bound free fit.
+      client_declared = λ w id clock bound free close fit.
           let new : Node = record { id = id; role = role.Client; kept = []; past = []; up = Some (runs first_boot clock (client (whole_client clock))) } in
           let ends = ends_of w [] fit in
-          both_fit (tells (record w { nodes = w.nodes ++ new ∷ [] }) (entry.Up id first_boot clock ∷ [])) [] (fits_kept.client_declared w id clock bound free fit.fit)
+          both_fit (tells (record w { nodes = w.nodes ++ new ∷ [] }) (entry.Up id first_boot clock ∷ [])) [] (fits_kept.client_declared w id clock bound free close fit.fit)
           (told_fit (known w) w.nodes (w.nodes ++ new ∷ []) w.entries (messages w) (entry.Up id first_boot clock) (record { begins = λ id. refl; ends = λ es. tt; places = λ number. refl })
           (add_fit (known w) w.nodes w.entries (messages w) new free (record { calls = record { running = tt; made = tt }; held = tt; fresh = λ k above. fit.strangers id.0 free k (omega arith) }) ends) ends);
       file_declared = λ w number location bound free fit.
@@ -283,7 +283,7 @@ ends_kept =
           (changed_fit (known w) w.nodes (with_node w.nodes (rewritten_at node r s)) w.entries (own ++ messages w)
           (put_fit (known w) w.nodes w.entries (own ++ messages w) there node found
           (files_then w.entries (keep_of s) s (subst (CoreIs w.entries node.id) is_osd (core_of w own node r found is_up ends))) ends) ends);
-      lined = λ w l fit. both_fit (with_line w l) [] (fits_kept.lined w l fit.fit) (ends_of w [] fit);
+      lined = λ w l ended fit. both_fit (record (with_line w l) { ended = ended }) [] (fits_kept.lined w l ended fit.fit) (ends_of w [] fit);
     }
 
 -- ---- every run

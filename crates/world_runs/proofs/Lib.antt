@@ -19,6 +19,7 @@ pub mod Declares
 pub mod Clocks
 pub mod Forgotten
 pub mod LineSteps
+pub mod CloseClocks
 pub mod Order
 pub mod Runs
 pub mod Entries

@@ -1,5 +1,5 @@
 -- a world that fits is what every run keeps
-use Rattle.std.proofs.Common.{◌≡◌, ℕ, ◌≤◌, inl, inr, List, [], ◌∷◌, ◌++◌, refl, arith, ap, sym, ◌∙◌, subst, Option, Some, None}
+use Rattle.std.proofs.Common.{Bool, ◌≡◌, ℕ, ◌≤◌, inl, inr, List, [], ◌∷◌, ◌++◌, refl, arith, ap, sym, ◌∙◌, subst, Option, Some, None}
 use Rattle.xt_base.specs.TimeSettings.{TimeSettings}
 use Rattle.xt_base.specs.declared.ids.NodeId.{NodeId}
 use Rattle.xt_base.specs.declared.ids.Boot.{Boot}
@@ -160,8 +160,8 @@ less_sent w own number fit =
     }
 
 -- a line more
-lined_fits : (w : World) (l : Line) → IsFit w [] → IsFit (with_line w l) []
-lined_fits w l fit =
+lined_fits : (w : World) (l : Line) (ended : Bool) → IsFit w [] → IsFit (record (with_line w l) { ended = ended }) []
+lined_fits w l ended fit =
     record {
       shape = record {
         good = fit.shape.good;
@@ -207,7 +207,7 @@ fits_kept =
       begins = declares.start_fits;
       times = λ lease drift bound. declares.times_fit lease drift;
       server_declared = λ w id its serves at bound free fit. declares.server_fits w id its at free fit;
-      client_declared = λ w id clock bound free fit. declares.client_fits w id clock free fit;
+      client_declared = λ w id clock bound free close fit. declares.client_fits w id clock free fit;
       file_declared = λ w number location bound free fit. declares.file_fits w number location bound.0 fit;
       started = λ w node clock serves bound found down close fit. clocks.start_fits w node clock found down close fit;
       planned = λ w node r q found is_up boot clock core fit.

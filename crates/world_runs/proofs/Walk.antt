@@ -1,5 +1,5 @@
 -- What every run keeps: it begins so, and each thing that may happen in a line leaves it so.
-use Rattle.std.proofs.Common.{◌≡◌, ◌≢◌, ℕ, zero, suc, ◌≤◌, ◌-◌, inl, inr, List, [], ◌∷◌, ◌++◌, map, refl, arith, ap, sym, ◌∙◌, subst, Option, Some, None, Bool, true, false}
+use Rattle.std.proofs.Common.{◌≡◌, ◌≢◌, ℕ, zero, suc, ◌≤◌, ◌-◌, inl, inr, List, [], ◌∷◌, ◌++◌, map, refl, arith, ap, sym, ◌∙◌, subst, Option, Some, None, Bool, true, false, if◌then◌else◌}
 use Rattle.disk_model.specs.declared.plan.Stop.{Stop}
 use Rattle.std.specs.Prelude.{◌⊎◌, not, cond, nat_lt, Result, Ok, Err, length, slice_get, slice_set, is_some}
 use Rattle.std.specs.Option.{option_or}
@@ -32,7 +32,7 @@ use Rattle.world_spec.specs.World.{World, start_world, Node, Running, Core, osd,
 use Rattle.world_spec.specs.Rules.{refusal, if_so, no_server, no_node, node_twice, usable, runs_already, runs_not, drifts, drifts_inside, goes_back, clock_ends}
 use Rattle.client_rows.specs.Called.{called_file}
 use Rattle.world_spec.specs.NodeSteps.{Room, Cause, came_to, has_no_room, Overflow, Doing, halted, client_steps, mrc_steps, dir_steps, event_comes, forgets_at, forgets_in, forgets_if, rewritten_at}
-use Rattle.world_spec.specs.Lines.{does, tells, declares, never_started, declared_file, runs, first_boot, next_boot, starts_as, starts, changed, stops, crashes, cuts, reads_clock, whole_client, ready_for, core_calls, calls, core_calls_again, calls_again, aimed_on, aims_at, aims, no_longer_pending, delivers, least_pending, first_step, Next, finished, opens, goes_on, ends, begins, went, settles, works_on, next_step, steps, so_far}
+use Rattle.world_spec.specs.Lines.{does, tells, declares, never_started, declared_file, runs, first_boot, next_boot, starts_as, starts, changed, stops, crashes, cuts, reads_clock, whole_client, ready_for, core_calls, calls, core_calls_again, calls_again, aimed_on, aims_at, aims, no_longer_pending, delivers, least_pending, first_step, Next, finished, opens, goes_on, ends, opening, begins, went, settles, works_on, next_step, steps, so_far}
 use Rattle.world_runs.specs.View.{messages}
 use Rattle.world_runs.proofs.Lists.{set_same}
 use Rattle.world_runs.proofs.Tables.{node_in-new, node_in-id}
@@ -49,7 +49,7 @@ use Rattle.client_rows.specs.Steps.{Step}
 use Rattle.world_spec.specs.NodeSteps.{to_itself, after_turn, appends, within_limits, frame_bytes, end_of_step, overflow_of, core_step, osd_steps, outside_of, event_at}
 use Rattle.world_spec.specs.Lines.{ticked}
 use Rattle.world_spec.specs.Rules.{first_stranger, file_twice}
-use Rattle.world_spec.specs.Runs.{with_line, after, after_refusal, run_of}
+use Rattle.world_spec.specs.Runs.{with_line, left_by, after, after_refusal, run_of}
 use Rattle.std.specs.Prelude.{◌<◌, ◌^◌}
 use Rattle.xt_base.specs.TimeSettings.{AreTimes}
 use Rattle.xt_messages.specs.Limits.{FitsNode, FitsLocation}
@@ -162,7 +162,7 @@ pub record IsKept (P : World → List Msg → Type 0) : Type 0 where
   -- declarations
   pub server_declared : (w : World) (id : NodeId) (its : Role) → is_server (Some (never_started id its)) ≡ true → StandsAt id its → FitsNode id → node_in w.nodes id.0 ≡ None → P w []
       → P (tells (record w { nodes = w.nodes ++ never_started id its ∷ [] }) []) []
-  pub client_declared : (w : World) (id : NodeId) (clock : ℕ) → FitsNode id × (clock < 2 ^ 62) → node_in w.nodes id.0 ≡ None → P w []
+  pub client_declared : (w : World) (id : NodeId) (clock : ℕ) → FitsNode id × (clock < 2 ^ 62) → node_in w.nodes id.0 ≡ None → IsCloseToOthers w id clock → P w []
       → P (tells (record w { nodes = w.nodes ++ record { id = id; role = role.Client; kept = []; past = []; up = Some (runs first_boot clock (client (whole_client clock))) } ∷ [] }) (entry.Up id first_boot clock ∷ [])) []
   pub file_declared : (w : World) (number : ℕ) (location : Location) → (number < 1000000) × FitsLocation location → file_in w.files number ≡ None → P w []
       → P (tells (record w { files = w.files ++ record { file = declared_file number; location = location } ∷ [] }) (entry.File number location ∷ [])) []
@@ -189,8 +189,8 @@ pub record IsKept (P : World → List Msg → Type 0) : Type 0 where
   -- an OSD that has put a record forgets the bodies that it doesn't need
   pub forgotten : (w : World) (own : List Msg) (node : Node) (r : Running) (s : OsdState) → node_in w.nodes node.id.0 ≡ Some node → node.up ≡ Some r → r.core ≡ osd s → P w own
       → P (record w { nodes = with_node w.nodes (rewritten_at node r s) }) own
-  -- a line is added
-  pub lined : (w : World) (l : Line) → P w [] → P (with_line w l) []
+  -- a line is added, perhaps as the last one
+  pub lined : (w : World) (l : Line) (ended : Bool) → P w [] → P (record (with_line w l) { ended = ended }) []
 
 -- the times are set in the first line alone
 abbrev pub OpensFirst : World → Line → Type 0
@@ -521,6 +521,19 @@ module _ (P : World → List Msg → Type 0) (keeps : IsKept P) where
       at true = subst (P (tells (record d.world { nodes = d.world.nodes ++ node ∷ [] }) es)) (sym idle) fit
       at false = tt
 
+  -- a client is declared where there is room for it, and then its clock is close to the others
+  client_kept : (w : World) (id : NodeId) (clock : ℕ) → FitsNode id × (clock < 2 ^ 62) → node_in w.nodes id.0 ≡ None → drifts_inside w id clock ≡ None → P w []
+      → ResultIs (declares (record { world = w; own = []; left = 0 }) (record { id = id; role = role.Client; kept = []; past = []; up = Some (runs first_boot clock (client (whole_client clock))) }) (entry.Up id first_boot clock ∷ []))
+  client_kept w id clock bound free inside fit = at (nat_lt (length w.nodes) NODES) inside
+    where
+      new : Node
+      new = record { id = id; role = role.Client; kept = []; past = []; up = Some (runs first_boot clock (client (whole_client clock))) }
+
+      at : (b : Bool) → cond b (drifts w id clock) None ≡ None
+          → ResultIs (cond b (does (record { world = w; own = []; left = 0 }) (tells (record w { nodes = w.nodes ++ new ∷ [] }) (entry.Up id first_boot clock ∷ []))) (Err (came_to limited.Nodes)))
+      at true close = keeps.client_declared w id clock bound free (λ n other q ne there up. close_by w id clock n other q close ne there up) fit
+      at false close = tt
+
   -- ---- the first step of a line
 
   clock_line : (w : World) (id : NodeId) (clock : ℕ) → clock < 2 ^ 62 → runs_not w.nodes id ≡ None → goes_back clock (up_of (node_in w.nodes id.0)) ≡ None → drifts w id clock ≡ None → P w []
@@ -556,8 +569,8 @@ module _ (P : World → List Msg → Type 0) (keeps : IsKept P) where
   first_kept room w line.Mrc allowed first fit = declares_kept _ (never_started MRC_NODE role.Mrc) [] refl (keeps.server_declared w MRC_NODE role.Mrc refl refl (omega arith) (none_there _ (not_so _ _ allowed)) fit)
   first_kept room w line.Dir allowed first fit = declares_kept _ (never_started DIR_NODE role.Dir) [] refl (keeps.server_declared w DIR_NODE role.Dir refl refl (omega arith) (none_there _ (not_so _ _ allowed)) fit)
   first_kept room w (line.Client node clock) allowed first fit =
-      let free = (either_none (node_twice w.nodes node) (drifts_inside w node clock) allowed).0 in
-      declares_kept _ (record { id = node; role = role.Client; kept = []; past = []; up = Some (runs first_boot clock (client (whole_client clock))) }) (entry.Up node first_boot clock ∷ []) refl (keeps.client_declared w node clock first.0 (none_there _ (not_so _ _ free)) fit)
+      let parts = either_none (node_twice w.nodes node) (drifts_inside w node clock) allowed in
+      client_kept w node clock first.0 (none_there _ (not_so _ _ parts.0)) parts.1 fit
   first_kept room w (line.File number location) allowed first fit = keeps.file_declared w number location first.0 (none_there _ (not_so _ _ (either_none (file_twice w.files number) (first_stranger w.nodes location.members) allowed).0)) fit
   first_kept room w (line.Start node clock) allowed first fit =
       let both = either_none (no_server w.nodes node) (option_or (runs_already w.nodes node) (drifts w node clock)) allowed in
@@ -639,36 +652,51 @@ module _ (P : World → List Msg → Type 0) (keeps : IsKept P) where
   so_far_kept (goes_on d) fit = idle_of d.world d.own fit
   so_far_kept (ends cause w) fit = fit
 
+  opening_kept : (w : World) (l : Line) → refusal w l ≡ None → Opens w l → P w [] → NextIs (opening w l)
+  opening_kept w (line.Settle count) allowed first fit = fit
+  opening_kept w (line.Times lease drift) allowed first fit = (fit, allowed, first)
+  opening_kept w (line.Osd node) allowed first fit = (fit, allowed, first)
+  opening_kept w line.Mrc allowed first fit = (fit, allowed, first)
+  opening_kept w line.Dir allowed first fit = (fit, allowed, first)
+  opening_kept w (line.Client node clock) allowed first fit = (fit, allowed, first)
+  opening_kept w (line.File number location) allowed first fit = (fit, allowed, first)
+  opening_kept w (line.Start node clock) allowed first fit = (fit, allowed, first)
+  opening_kept w (line.Stop node) allowed first fit = (fit, allowed, first)
+  opening_kept w (line.Crash node k fill) allowed first fit = (fit, allowed, first)
+  opening_kept w (line.Cut node count) allowed first fit = (fit, allowed, first)
+  opening_kept w (line.Clock node clock) allowed first fit = (fit, allowed, first)
+  opening_kept w (line.Tick count) allowed first fit = (fit, allowed, first)
+  opening_kept w (line.Wake node) allowed first fit = (fit, allowed, first)
+  opening_kept w (line.Call id k) allowed first fit = (fit, allowed, first)
+  opening_kept w (line.Again id) allowed first fit = (fit, allowed, first)
+  opening_kept w (line.Aim id file node) allowed first fit = (fit, allowed, first)
+  opening_kept w (line.Deliver number) allowed first fit = (fit, allowed, first)
+  opening_kept w (line.Drop number) allowed first fit = (fit, allowed, first)
+
   pub begins_kept : (w : World) (l : Line) → refusal w l ≡ None → Opens w l → P w [] → NextIs (begins w l)
-  begins_kept w (line.Settle count) allowed first fit = fit
-  begins_kept w (line.Times lease drift) allowed first fit = (fit, allowed, first)
-  begins_kept w (line.Osd node) allowed first fit = (fit, allowed, first)
-  begins_kept w line.Mrc allowed first fit = (fit, allowed, first)
-  begins_kept w line.Dir allowed first fit = (fit, allowed, first)
-  begins_kept w (line.Client node clock) allowed first fit = (fit, allowed, first)
-  begins_kept w (line.File number location) allowed first fit = (fit, allowed, first)
-  begins_kept w (line.Start node clock) allowed first fit = (fit, allowed, first)
-  begins_kept w (line.Stop node) allowed first fit = (fit, allowed, first)
-  begins_kept w (line.Crash node k fill) allowed first fit = (fit, allowed, first)
-  begins_kept w (line.Cut node count) allowed first fit = (fit, allowed, first)
-  begins_kept w (line.Clock node clock) allowed first fit = (fit, allowed, first)
-  begins_kept w (line.Tick count) allowed first fit = (fit, allowed, first)
-  begins_kept w (line.Wake node) allowed first fit = (fit, allowed, first)
-  begins_kept w (line.Call id k) allowed first fit = (fit, allowed, first)
-  begins_kept w (line.Again id) allowed first fit = (fit, allowed, first)
-  begins_kept w (line.Aim id file node) allowed first fit = (fit, allowed, first)
-  begins_kept w (line.Deliver number) allowed first fit = (fit, allowed, first)
-  begins_kept w (line.Drop number) allowed first fit = (fit, allowed, first)
+  begins_kept w l allowed first fit = at w.ended
+    where
+      at : (ended : Bool) → NextIs (if ended then finished w else opening w l)
+      at true = fit
+      at false = opening_kept w l allowed first fit
 
   -- ---- runs
 
+  left_kept : (l : Line) (next : Next) → P (so_far next) [] → P (left_by l next) []
+  left_kept l (finished w) p = keeps.lined w l w.ended p
+  left_kept l (opens o w) p = keeps.lined w l true p
+  left_kept l (goes_on d) p = keeps.lined d.world l true p
+  left_kept l (ends cause w) p = keeps.lined w l true p
+
   after_kept : (room : Room) (w : World) (l : Line) → Opens w l → P w [] → P (after room w l) []
   unfolding after done
-  after_kept room w l first p = at (refusal w l) refl
+  after_kept room w l first p = at w.ended (refusal w l) refl
     where
-      at : (o : Option Rule) → refusal w l ≡ o → P (after_refusal room w l o) []
-      at (Some rule) is = p
-      at None is = keeps.lined (so_far (done room w l)) l (so_far_kept (steps (enough w l) room (begins w l)) (steps_kept (enough w l) room (begins w l) (begins_kept w l is first p)))
+      at : (ended : Bool) (o : Option Rule) → refusal w l ≡ o → P (if ended then w else after_refusal room w l o) []
+      at true o is = p
+      at false (Some rule) is = p
+      at false None is =
+          left_kept l (done room w l) (so_far_kept (steps (enough w l) room (begins w l)) (steps_kept (enough w l) room (begins w l) (begins_kept w l is first p)))
 
   later_kept : (room : Room) (w : World) (lines : List Line) → AllByRecursion FitsLater lines → P w [] → P (fold (after room) w lines) []
   later_kept room w [] are p = p

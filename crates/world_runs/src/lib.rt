@@ -1,5 +1,5 @@
 //! What every run of the world keeps to: at no moment do two nodes hold one file, a node acts as a file's primary only while it
-//! holds the file, what OSDs are asked, act for and answer has begun before, and calls on replicated files end well only as they were
+//! holds the file, the clocks of nodes stay within the drift, what OSDs are asked, act for and answer has begun before, and calls on replicated files end well only as they were
 //! answered before.
 //!
 //! The walk over lines, steps and ways to end is done once, for any property of worlds. All is said of every list of lines and every
@@ -11,7 +11,7 @@ ghost use Rattle.time_line.specs.declared.entry.Entry.{Entry};
 ghost use Rattle.time_line.specs.declared.line.Line.{Line};
 ghost use Rattle.world_spec.specs.NodeSteps.{Room};
 ghost use Rattle.world_spec.specs.Rules.{refusal};
-ghost use Rattle.world_spec.specs.Lines.{begins, steps};
+ghost use Rattle.world_spec.specs.Lines.{begins, steps, so_far};
 ghost use Rattle.time_line.specs.Bounds.{AreLines};
 ghost use Rattle.world_runs.specs.Worlds.{IsInOrder, IsNextInOrder};
 ghost use Rattle.world_spec.specs.Runs.{run_of, IsRunInto};
@@ -19,6 +19,7 @@ ghost use Rattle.time_line.specs.Clauses.{AreApart, HoldersAct, AreOnce, Answers
 ghost use Rattle.time_line.specs.TimeLine.{is_replicated, holds};
 ghost use Rattle.world_spec.specs.Examples.{node, trace_of, vanished};
 ghost use Rattle.world_runs.specs.Acts.{ActsHaveBegun};
+ghost use Rattle.world_runs.specs.Clocks.{ClocksAreClose};
 ghost use Rattle.world_runs.specs.Asks.{AsksHaveBegun, NextHasBegun};
 
 /// At no moment of a run of any lines do two nodes hold a file; nor after some steps of a line more.
@@ -49,6 +50,16 @@ pub fn worlds_are_in_order()
     ensures steps { (room : Room) (lines : List Line) (l : Line) (k : ℕ) →
         AreLines (lines ++ l ∷ []) → refusal (run_of room lines) l ≡ None →
         IsNextInOrder (steps k room (begins (run_of room lines) l)) }
+{}
+
+/// The clocks of the nodes that run, OSDs, servers and clients, are at most the drift of the world's times apart: in every run of any
+/// lines, and after each step of a line more. The lease rests on it, and each rule on clocks is for it.
+pub fn clocks_stay_close()
+    ensures whole { (room : Room) (lines : List Line) → AreLines lines →
+        ClocksAreClose (run_of room lines) }
+    ensures steps { (room : Room) (lines : List Line) (l : Line) (k : ℕ) →
+        AreLines (lines ++ l ∷ []) → refusal (run_of room lines) l ≡ None →
+        ClocksAreClose (so_far (steps k room (begins (run_of room lines) l))) }
 {}
 
 /// Leases are held, and pass on: in a run of three replicas one holds the file, and when its lease is over another does.

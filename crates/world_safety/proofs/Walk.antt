@@ -372,13 +372,13 @@ stage_kept =
             waiting = waiting_kept.server_declared w id its serves stands bound new p.waiting;
             runs = declared_runs w node [] new (λ file. refl) (λ file. down_leads_not file after id.0 node (node_in-last w.nodes node new) refl) none_says p.runs;
           };
-      client_declared = λ w id clock bound new p.
+      client_declared = λ w id clock bound new close p.
           let node : Node = record { id = id; role = role.Client; kept = []; past = []; up = Some (runs first_boot clock (client (whole_client clock))) } in
           let after = tells (record w { nodes = w.nodes ++ node ∷ [] }) (entry.Up id first_boot clock ∷ []) in
           record {
-            fit = fits_kept.client_declared w id clock bound new p.fit;
-            ends = ends_kept.client_declared w id clock bound new p.ends;
-            waiting = waiting_kept.client_declared w id clock bound new p.waiting;
+            fit = fits_kept.client_declared w id clock bound new close p.fit;
+            ends = ends_kept.client_declared w id clock bound new close p.ends;
+            waiting = waiting_kept.client_declared w id clock bound new close p.waiting;
             runs = declared_runs w node (entry.Up id first_boot clock ∷ []) new (λ file. refl)
                 (λ file. other_leads_not file after id.0 node (runs first_boot clock (client (whole_client clock))) (node_in-last w.nodes node new) refl tt)
                 (λ number. one_says number (entry.Up id first_boot clock) refl) p.runs;
@@ -494,11 +494,11 @@ stage_kept =
             runs = forgotten_runs w own node r s (record { found = found; up = is_up; core = is_osd }) (in_order w own p.fit)
                 (in_order (record w { nodes = with_node w.nodes (rewritten_at node r s) }) own fit) p.runs;
           };
-      lined = λ w l p.
+      lined = λ w l ended p.
           record {
-            fit = fits_kept.lined w l p.fit;
-            ends = ends_kept.lined w l p.ends;
-            waiting = waiting_kept.lined w l p.waiting;
-            runs = fewer_runs w (with_line w l) [] [] refl refl refl (λ m h. h) p.runs;
+            fit = fits_kept.lined w l ended p.fit;
+            ends = ends_kept.lined w l ended p.ends;
+            waiting = waiting_kept.lined w l ended p.waiting;
+            runs = fewer_runs w (record (with_line w l) { ended = ended }) [] [] refl refl refl (λ m h. h) p.runs;
           };
     }

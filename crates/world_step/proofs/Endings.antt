@@ -31,7 +31,7 @@ use Rattle.world_limits.specs.Fits.{MayForget}
 use Rattle.xt_messages.specs.Limits.{FitsMessage}
 use Rattle.world_nodes.specs.Nodes.{NodesView, IsAt, after_append, after_put}
 use Rattle.world_step.specs.Steps.{Around, Working, WentOn, IsStepped, IsUntold, Tells, cause_of}
-use Rattle.world_step.proofs.Forgetting.{forgot, forgot_is, forgot_to, forgot_entries, forgot_made, forgot_lines, forgot_own, told_later, stays_down, forgets_cause, tells_any}
+use Rattle.world_step.proofs.Forgetting.{forgot, forgot_is, forgot_to, forgot_entries, forgot_made, forgot_lines, forgot_ended, forgot_own, told_later, stays_down, forgets_cause, tells_any}
 use Rattle.world_step.specs.Endings.{given, hindrance, cause_against, IsGiven, Halts, ended, ended_whole, ended_sending, ended_in_append, halt_of}
 
 -- ---- tables of nodes
@@ -107,11 +107,15 @@ numbered_same nodes x id outs =
 -- ---- what is told
 
 pub stepped_ok : (old : Working) (stepped : Result Doing Cause) (d : Doing) (new : Working) → stepped ≡ Ok d → new ≡ record old { doing = d }
-    → d.world.lines ≡ old.doing.world.lines → (stepped ≡ Ok new.doing) × WentOn old new
-stepped_ok old stepped d new done is lines =
+    → d.world.lines ≡ old.doing.world.lines → d.world.ended ≡ old.doing.world.ended → (stepped ≡ Ok new.doing) × WentOn old new
+stepped_ok old stepped d new done is lines ended =
     let at : d ≡ new.doing = ap (λ (x : Working). x.doing) (sym is) in (
       done ∙ ap (λ (x : Doing). Ok x) at,
-      record { rest = is ∙ ap (λ (x : Doing). record old { doing = x }) at; lines = ap (λ (x : Doing). x.world.lines) (sym at) ∙ lines },
+      record {
+        rest = is ∙ ap (λ (x : Doing). record old { doing = x }) at;
+        lines = ap (λ (x : Doing). x.world.lines) (sym at) ∙ lines;
+        ended = ap (λ (x : Doing). x.world.ended) (sym at) ∙ ended;
+      },
     )
 
 by_limit : (d : Doing) (passed : Option Limited) → cause_of (within d passed) ≡ hindrance passed
@@ -259,7 +263,7 @@ whole_done room old new node running turned told files is_up is_told is_files no
     ∙ ap (λ (up : Option Running).
     record old { doing = forgot room node.id turned.rec (record old.doing { world = record w { nodes = with_node w.nodes (record (after_put turned.rec node) { up = up }); made = made; entries = marks; sent = w.sent ++ numbered w.nodes node.id turned.outs }; own = own }) })
     is_up)
-    (forgot_lines room node.id turned.rec after)
+    (forgot_lines room node.id turned.rec after) (forgot_ended room node.id turned.rec after)
 
 pub sending_done : (room : Room) (old new : Working) (place : ℕ) (node : Node) (running : Running) (count : ℕ) (turned : Turned) (told : List Entry) (files : List PlacedFile)
     → IsAt old.doing.world.nodes place node → node.up ≡ Some running
@@ -292,7 +296,7 @@ sending_done room old new place node running count turned told files at is_up is
     (ap (λ (es : List Entry). w.entries ++ es) is_told ∙ sym (append_assoc w.entries marks (down ∷ [])))
     ∙ ap (λ (fs : List PlacedFile). record old { doing = record old.doing { world = record (given w node turned.rec outs) { nodes = with_node (with_node w.nodes put) (record put { up = None }); made = w.made ++ fs; entries = (w.entries ++ marks) ++ down ∷ [] }; own = [] } }) is_files
     ∙ ap (λ (up : Option Running). record old { doing = record old.doing { world = record (given w node turned.rec outs) { nodes = with_node (with_node w.nodes (record put { up = up })) (record put { up = None }); made = w.made ++ files_marked turned.marks; entries = (w.entries ++ marks) ++ down ∷ [] }; own = [] } }) is_up)
-    refl
+    refl refl
 
 pub append_sent : (d : Doing) (node : Node) (running : Running) (stop : Stop) (rec : Record) → (stopped_in_append d.world node running stop rec).sent ≡ d.world.sent ++ []
 append_sent d node running stop rec = at (keeps_record stop)
@@ -325,7 +329,7 @@ append_done room old new place node running stop rec end there is_end none is =
     (twice w.nodes (after_append rec end node) (record (after_append rec end node) { up = None }) refl)
     ∙ ap (λ (e : Kept). record old { doing = record old.doing { world = record w { nodes = with_node w.nodes (record (after_append rec e node) { up = None }); entries = w.entries ++ entry.Down node.id running.clock (halt_of e) ∷ [] }; own = [] } }) is_end
     ∙ ap (λ (x : World). record old { doing = record old.doing { world = x; own = [] } }) (by_keeps (keeps_record stop)))
-    (same_lines (keeps_record stop))
+    (same_lines (keeps_record stop)) (same_ended (keeps_record stop))
   where
     w : World
     w = old.doing.world
@@ -337,6 +341,10 @@ append_done room old new place node running stop rec end there is_end none is =
     same_lines : (keeps : Bool) → (stopped keeps).lines ≡ w.lines
     same_lines true = refl
     same_lines false = refl
+
+    same_ended : (keeps : Bool) → (stopped keeps).ended ≡ w.ended
+    same_ended true = refl
+    same_ended false = refl
 
     by_keeps : (keeps : Bool)
         → (let e : Kept = cond keeps kept.StoppedKept kept.StoppedLost in
@@ -389,7 +397,7 @@ given_untold T room was gave new node rec outs value gives untold =
       entries = untold.entries ∙ ap (λ (x : Working). x.doing.world.entries) gives.1;
       lines = untold.lines ∙ ap (λ (x : Working). x.doing.world.lines) gives.1;
       begun = untold.begun ∙ ap (λ (x : Working). x.begun) gives.1;
-      ended = untold.ended ∙ ap (λ (x : Working). x.ended) gives.1;
+      ended = untold.ended ∙ ap (λ (x : Working). x.doing.world.ended) gives.1;
     }
 
 -- the node is still there
@@ -428,7 +436,7 @@ forgot_untold T S room was gave between new place node rec outs value done at gi
       entries = untold.entries ∙ ap (λ (d : Doing). d.world.entries) (sym (forgot_to room node.id rec gave.doing between.doing so.0)) ∙ forgot_entries room node.id rec gave.doing;
       lines = untold.lines ∙ so.1.lines;
       begun = untold.begun ∙ ap (λ (x : Working). x.begun) so.1.rest;
-      ended = untold.ended ∙ ap (λ (x : Working). x.ended) so.1.rest;
+      ended = untold.ended ∙ so.1.ended;
     })
 
 -- all comes of it

@@ -41,7 +41,7 @@ only_nodes room w None = refl
 only_nodes room w (Some node) = by_up node.up
   where
     bare_world : World
-    bare_world = record { times = w.times; nodes = w.nodes; files = []; made = []; sent = []; entries = []; lines = [] }
+    bare_world = record { times = w.times; nodes = w.nodes; files = []; made = []; sent = []; entries = []; lines = []; ended = false }
 
     by_bool : (running : Running) (s : OsdState) (now : Bool)
         → cond now (record w { nodes = with_node w.nodes (rewritten_at node running s) }) w
@@ -76,6 +76,10 @@ forgot_own room id (Some rec) d = refl
 pub forgot_lines : (room : Room) (id : NodeId) (rec : Option Record) (d : Doing) → (forgot room id rec d).world.lines ≡ d.world.lines
 forgot_lines room id None d = refl
 forgot_lines room id (Some rec) d = ap (λ (w : World). w.lines) (only_nodes room d.world (node_in d.world.nodes id.0))
+
+pub forgot_ended : (room : Room) (id : NodeId) (rec : Option Record) (d : Doing) → (forgot room id rec d).world.ended ≡ d.world.ended
+forgot_ended room id None d = refl
+forgot_ended room id (Some rec) d = ap (λ (w : World). w.ended) (only_nodes room d.world (node_in d.world.nodes id.0))
 
 -- what is told, made and queued then doesn't matter to it
 pub told_later : (room : Room) (id : NodeId) (rec : Option Record) (d : Doing) (entries : List Entry) (made : List PlacedFile) (own : List Msg)

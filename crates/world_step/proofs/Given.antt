@@ -57,7 +57,7 @@ give_done {T} told was self new place node id rec outs r between after sent is a
         entries = ap (λ (x : Working). x.doing.world.entries) is_new;
         lines = ap (λ (x : Working). x.doing.world.lines) is_new;
         begun = ap (λ (x : Working). x.begun) is_new;
-        ended = ap (λ (x : Working). x.ended) is_new;
+        ended = ap (λ (x : Working). x.doing.world.ended) is_new;
       },
     )
 

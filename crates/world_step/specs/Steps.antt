@@ -12,11 +12,10 @@ use Rattle.world_hull.specs.declared.errors.WorldErr.{WorldErr}
 use Rattle.world_hull.specs.declared.errors.WorldErr.TheVariants as error
 use Rattle.world_step.specs.declared.stepper.Stepper.{Stepper}
 
--- a line at work, that line where it isn't among the world's lines yet, and whether one ended early
+-- a line at work, and that line where it isn't among the world's lines yet
 pub record Working : Type 0 where
   pub doing : Doing
   pub begun : List Line
-  pub ended : Bool
 
 -- what the steps of nodes leave as it is, in a world and in the line at work
 pub record Around : Type 0 where
@@ -31,12 +30,11 @@ abbrev pub working : {C H : Type 0} → Around → Stepper C H → Working
 working around s =
     record {
       doing = record {
-        world = record { times = s.nodes.times; nodes = s.nodes.nodes; files = around.files; made = s.made.items; sent = s.sent; entries = s.entries.items; lines = around.lines };
+        world = record { times = s.nodes.times; nodes = s.nodes.nodes; files = around.files; made = s.made.items; sent = s.sent; entries = s.entries.items; lines = around.lines; ended = around.ended };
         own = s.own;
         left = around.left;
       };
       begun = around.begun;
-      ended = around.ended;
     }
 
 -- the value that a limited count may not pass
@@ -56,7 +54,7 @@ pub record IsUntold (old new : Working) : Type 0 where
   pub entries : new.doing.world.entries ≡ old.doing.world.entries
   pub lines : new.doing.world.lines ≡ old.doing.world.lines
   pub begun : new.begun ≡ old.begun
-  pub ended : new.ended ≡ old.ended
+  pub ended : new.doing.world.ended ≡ old.doing.world.ended
 
 -- an error tells of this cause; want of memory may come for any, and no rule is broken within a line
 abbrev pub Tells : Option Cause → WorldErr → Type 0
@@ -74,6 +72,7 @@ cause_of (Err cause) = Some cause
 pub record WentOn (old new : Working) : Type 0 where
   pub rest : new ≡ record old { doing = new.doing }
   pub lines : new.doing.world.lines ≡ old.doing.world.lines
+  pub ended : new.doing.world.ended ≡ old.doing.world.ended
 
 -- The step is done; or it isn't finished, and nothing is told of it.
 abbrev pub IsStepped : {T : Type 0} → Working → Result Doing Cause → Working → Result T WorldErr → Type 0

@@ -121,7 +121,7 @@ pub fn entries_to_cut(
 }
 
 /// Lines of the trace are told, after the others, and files are made. What they were taken from is empty then.
-/// Where memory runs out no line is told; whether the files are made then isn't said.
+/// Where memory runs out no line is told and no file is made.
 pub fn tell_all(
     entries: &mut Vec<Entry>,
     made: &mut Vec<PlacedFile>,
@@ -131,7 +131,9 @@ pub fn tell_all(
     ensures entries { OnOk result (entries.new.items ≡ entries.old.items ++ told.old.items) }
     ensures made { OnOk result (made.new.items ≡ made.old.items ++ files.old.items) }
     ensures err { OnErr result (entries.new.items ≡ entries.old.items) }
+    ensures unmade { OnErr result (made.new.items ≡ made.old.items) }
 {
+    entries.reserve(told.len())?;
     made.append(files)?;
     entries.append(told)?;
     Ok(())

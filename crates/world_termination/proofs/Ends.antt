@@ -1,5 +1,5 @@
 -- In every run a line is over after its steps.
-use Rattle.std.proofs.Common.{◌≡◌, ℕ, ◌≤◌, ◌+◌, inl, inr, Bool, true, false, List, [], ◌∷◌, ◌++◌, map, refl, sym, ap, ap₂, subst, ◌∙◌, arith, Option, Some, None}
+use Rattle.std.proofs.Common.{◌≡◌, ℕ, ◌≤◌, ◌+◌, inl, inr, Bool, true, false, List, [], ◌∷◌, ◌++◌, map, refl, sym, ap, ap₂, subst, ◌∙◌, arith, Option, Some, None, if◌then◌else◌}
 use Rattle.std.specs.Prelude.{cond, ◌==◌, max, length}
 use Rattle.std.proofs.lemmas.Bool.{eqb-true}
 use Rattle.xt_base.specs.declared.ids.NodeId.{NodeId}
@@ -42,7 +42,7 @@ use Rattle.own_messages_wait.proofs.Keeping.{Stood, stands_here, stood_kept}
 use Rattle.time_line.specs.declared.line.Line.{Line}
 use Rattle.time_line.specs.declared.line.Line.TheVariants as line
 use Rattle.world_spec.specs.Rules.{refusal}
-use Rattle.world_spec.specs.Lines.{Next, finished, opens, goes_on, ends, begins, went, settles, works_on, next_step, steps, first_step, enough, events_of, done, least_pending, starts, starts_as, declares, calls, core_calls, calls_again, core_calls_again, does, tells}
+use Rattle.world_spec.specs.Lines.{Next, finished, opens, goes_on, ends, opening, begins, went, settles, works_on, next_step, steps, first_step, enough, events_of, done, least_pending, starts, starts_as, declares, calls, core_calls, calls_again, core_calls_again, does, tells}
 use Rattle.world_spec.specs.Runs.{IsOver, IsEnough, run_of}
 use Rattle.time_line.specs.Bounds.{AreLines, FitsLine}
 use Rattle.world_runs.proofs.Walk.{NextIs, steps_kept, steps_into}
@@ -400,35 +400,40 @@ module _ (room : Room) where
 
   -- ---- lines
 
-  abbrev pub Begun : World → Line → Type 0
-  Begun w l = Fits (begins w l) → IsOver (steps (enough w l) room (begins w l))
-
-  opening : (w : World) (l : Line) → events_of l ≡ 1 → Fits (opens l w) → IsOver (steps (enough w l) room (opens l w))
-  opening w l one fit = subst (λ (k : ℕ). IsOver (steps k room (opens l w))) (sym same) (opens_over (2 + most_of w) l w fit (omega arith))
+  one_opens : (w : World) (l : Line) → events_of l ≡ 1 → Fits (opens l w) → IsOver (steps (enough w l) room (opens l w))
+  one_opens w l one fit = subst (λ (k : ℕ). IsOver (steps k room (opens l w))) (sym same) (opens_over (2 + most_of w) l w fit (omega arith))
     where
       same : enough w l ≡ suc (2 + most_of w)
       same = (let single = ap (λ (n : ℕ). n * (1 + most_of w)) one in omega (arith, single))
 
-  line_over : (w : World) (l : Line) → Begun w l
-  line_over w (line.Settle count) fit = over (most_of w) (omega arith) (enough w (line.Settle count)) (record { world = w; own = []; left = count }) 0 fit (no_own refl) (omega arith)
-  line_over w (line.Times lease drift) fit = opening w (line.Times lease drift) refl fit
-  line_over w (line.Osd node) fit = opening w (line.Osd node) refl fit
-  line_over w line.Mrc fit = opening w line.Mrc refl fit
-  line_over w line.Dir fit = opening w line.Dir refl fit
-  line_over w (line.Client node clock) fit = opening w (line.Client node clock) refl fit
-  line_over w (line.File number location) fit = opening w (line.File number location) refl fit
-  line_over w (line.Start node clock) fit = opening w (line.Start node clock) refl fit
-  line_over w (line.Stop node) fit = opening w (line.Stop node) refl fit
-  line_over w (line.Crash node k fill) fit = opening w (line.Crash node k fill) refl fit
-  line_over w (line.Cut node count) fit = opening w (line.Cut node count) refl fit
-  line_over w (line.Clock node clock) fit = opening w (line.Clock node clock) refl fit
-  line_over w (line.Tick count) fit = opening w (line.Tick count) refl fit
-  line_over w (line.Wake node) fit = opening w (line.Wake node) refl fit
-  line_over w (line.Call id c) fit = opening w (line.Call id c) refl fit
-  line_over w (line.Again id) fit = opening w (line.Again id) refl fit
-  line_over w (line.Aim id file node) fit = opening w (line.Aim id file node) refl fit
-  line_over w (line.Deliver number) fit = opening w (line.Deliver number) refl fit
-  line_over w (line.Drop number) fit = opening w (line.Drop number) refl fit
+  opening_over : (w : World) (l : Line) → Fits (opening w l) → IsOver (steps (enough w l) room (opening w l))
+  opening_over w (line.Settle count) fit = over (most_of w) (omega arith) (enough w (line.Settle count)) (record { world = w; own = []; left = count }) 0 fit (no_own refl) (omega arith)
+  opening_over w (line.Times lease drift) fit = one_opens w (line.Times lease drift) refl fit
+  opening_over w (line.Osd node) fit = one_opens w (line.Osd node) refl fit
+  opening_over w line.Mrc fit = one_opens w line.Mrc refl fit
+  opening_over w line.Dir fit = one_opens w line.Dir refl fit
+  opening_over w (line.Client node clock) fit = one_opens w (line.Client node clock) refl fit
+  opening_over w (line.File number location) fit = one_opens w (line.File number location) refl fit
+  opening_over w (line.Start node clock) fit = one_opens w (line.Start node clock) refl fit
+  opening_over w (line.Stop node) fit = one_opens w (line.Stop node) refl fit
+  opening_over w (line.Crash node k fill) fit = one_opens w (line.Crash node k fill) refl fit
+  opening_over w (line.Cut node count) fit = one_opens w (line.Cut node count) refl fit
+  opening_over w (line.Clock node clock) fit = one_opens w (line.Clock node clock) refl fit
+  opening_over w (line.Tick count) fit = one_opens w (line.Tick count) refl fit
+  opening_over w (line.Wake node) fit = one_opens w (line.Wake node) refl fit
+  opening_over w (line.Call id c) fit = one_opens w (line.Call id c) refl fit
+  opening_over w (line.Again id) fit = one_opens w (line.Again id) refl fit
+  opening_over w (line.Aim id file node) fit = one_opens w (line.Aim id file node) refl fit
+  opening_over w (line.Deliver number) fit = one_opens w (line.Deliver number) refl fit
+  opening_over w (line.Drop number) fit = one_opens w (line.Drop number) refl fit
+
+  -- a world that has ended takes no line
+  line_over : (w : World) (l : Line) → Fits (begins w l) → IsOver (steps (enough w l) room (begins w l))
+  line_over w l fit = at w.ended fit
+    where
+      at : (ended : Bool) → Fits (if ended then finished w else opening w l) → IsOver (steps (enough w l) room (if ended then finished w else opening w l))
+      at true fit = stays_finished (enough w l) w
+      at false fit = opening_over w l fit
 
   begins_fit : (lines : List Line) (l : Line) → AreLines (lines ++ l ∷ []) → refusal (run_of room lines) l ≡ None → Fits (begins (run_of room lines) l)
   unfolding steps

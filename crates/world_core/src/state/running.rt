@@ -1,7 +1,7 @@
 //! The steps of a line.
 ghost use Rattle.std.specs.Prelude.{◌≡◌, ◌+◌, ◌*◌, ◌<◌, [], false, true, Some, None, length};
 ghost use Rattle.world_spec.specs.Rules.{refusal};
-ghost use Rattle.world_spec.specs.Lines.{first_step, next_step, goes_on, begins, settles, OWN};
+ghost use Rattle.world_spec.specs.Lines.{first_step, next_step, goes_on, opening, settles, OWN};
 ghost use Rattle.world_limits.specs.Fits.{FitsWorld};
 ghost use Rattle.world_step.specs.Steps.{IsStepped};
 ghost use Rattle.world_core.specs.RunStates.{begun_with, IsTurned, HasTurned, HasRun, AllFit, MayStand};
@@ -120,7 +120,7 @@ impl<C: NodeCore, H: Hull> State<C, H> {
         requires legal { refusal self.old.doing.world line.now ≡ None }
         requires values { MayStand self.old.doing.world line.now }
         requires begun { self.old.doing ≡ begun_with self.old.doing.world line.now }
-        requires fits { AllFit H.room (begins self.old.doing.world line.now) }
+        requires fits { AllFit H.room (opening self.old.doing.world line.now) }
         ensures { HasRun H.room self.old line.now self.new result }
     {
         let count = self.turns_of_event();

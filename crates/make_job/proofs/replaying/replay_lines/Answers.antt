@@ -7,7 +7,7 @@ use Rattle.make_job.proofs.Replayed.{begun, goes_on, parted, one_more, next_fits
 use Rattle.make_job.proofs.replaying.replay_lines.Goals as goal
 
 pub loop-line-init : goal.loop-line-init
-loop-line-init g c = begun g.H.Hull.room c.args.world.now c.requires.start c.requires.going
+loop-line-init g c = begun g.H.Hull.room c.args.world.now c.requires.start
 
 pub apply-requires-clause-values : goal.apply-requires-clause-values
 apply-requires-clause-values g c =

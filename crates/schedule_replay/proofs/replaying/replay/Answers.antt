@@ -1,7 +1,7 @@
 use Rattle.std.proofs.Common.{◌≡◌, ◌∙◌, ◌∷◌, [], length, length-append, ap, sym, subst, refl, arith}
 use Rattle.time_line.specs.declared.TheConstants.{LINES}
 use Rattle.world_spec.specs.World.{World}
-use Rattle.schedule_replay.proofs.Whole.{begun, goes_on, ends_so, lines_after, still_going}
+use Rattle.schedule_replay.proofs.Whole.{begun, goes_on, ends_so, lines_after}
 use Rattle.schedule_replay.proofs.Causes.{moved_cause}
 use Rattle.schedule_replay.proofs.Complete.{complete}
 use Rattle.schedule_replay.proofs.replaying.replay.Goals as goal
@@ -9,9 +9,9 @@ use Rattle.schedule_replay.proofs.replaying.replay.Goals as goal
 pub loop-line-init : goal.loop-line-init
 loop-line-init g c =
     record {
-      so_far = begun g.H.Hull.room _ _ c.args.world.now.world c.requires.start;
-      count = subst (λ (w : World). length w.lines ≡ 0) (sym c.requires.start) refl;
-      going = c.requires.going;
+      so_far = begun g.H.Hull.room _ _ c.args.world.now c.requires;
+      count = subst (λ (w : World). length w.lines ≡ 0) (sym c.requires) refl;
+      going = ap (λ (w : World). w.ended) c.requires;
       source = refl;
       sink = refl;
     }
@@ -24,15 +24,15 @@ loop-line-preserved g c =
     let next = c.in-None.ensures.step in
     record {
       so_far = goes_on g.H.Hull.room _ _ _ _ _ _ c.loop-line.world c.replay_line.new.world c.loop-line.invariant.so_far next;
-      count = ap length (lines_after g.H.Hull.room c.loop-line.world c.replay_line.new.world next.line next.done) ∙ omega (arith, length-append c.loop-line.world.world.lines (next.line ∷ []), c.loop-line.invariant.count);
-      going = still_going g.H.Hull.room c.loop-line.world c.replay_line.new.world next.line next.done;
+      count = ap length (lines_after g.H.Hull.room c.loop-line.world c.replay_line.new.world next.line next.done) ∙ omega (arith, length-append c.loop-line.world.lines (next.line ∷ []), c.loop-line.invariant.count);
+      going = next.done.going;
       source = c.in-None.ensures.cause.0 ∙ c.loop-line.invariant.source;
       sink = c.in-None.ensures.cause.1 ∙ c.loop-line.invariant.sink;
     }
 
 pub returns-clause-replay : goal.returns-clause-replay
 returns-clause-replay g c =
-    let full : length c.loop-line.world.world.lines ≡ LINES = omega (arith, c.loop-line.invariant.count) in
+    let full : length c.loop-line.world.lines ≡ LINES = omega (arith, c.loop-line.invariant.count) in
     ends_so g.H.Hull.room _ _ _ _ _ _ c.loop-line.world c.past_last.result c.loop-line.invariant.so_far (omega (arith, full)) (c.past_last.ensures.end g.H.Hull.room c.loop-line.world full)
 
 pub returns-clause-cause : goal.returns-clause-cause
@@ -51,7 +51,7 @@ returns-in-Some-clause-complete g c = λ no_source no_sink.
 
 pub returns-clause-complete : goal.returns-clause-complete
 returns-clause-complete g c = λ no_source no_sink.
-    let full : length c.loop-line.world.world.lines ≡ LINES = omega (arith, c.loop-line.invariant.count) in
+    let full : length c.loop-line.world.lines ≡ LINES = omega (arith, c.loop-line.invariant.count) in
     complete g.H.Hull.room _ _ _ _ _ _ _ _ c.past_last.result
     (ends_so g.H.Hull.room _ _ _ _ _ _ c.loop-line.world c.past_last.result c.loop-line.invariant.so_far (omega (arith, full)) (c.past_last.ensures.end g.H.Hull.room c.loop-line.world full))
     (moved_cause _ _ _ _ _ _ c.past_last.result c.loop-line.invariant.source c.loop-line.invariant.sink c.past_last.ensures.cause)

@@ -6,8 +6,8 @@ use Rattle.schedule_replay.proofs.replaying.replay.Given as goal
 abbrev pub invariant-loop-line : goal.invariant-loop-line
 invariant-loop-line g l =
     record {
-      so_far : IsSoFar g.H.Hull.room (g.S.Source.left l.fn.src) (g.S.Source.left l.src) (g.K.Sink.held l.fn.out) (g.K.Sink.held l.out) l.world.world;
-      count : length l.world.world.lines ≡ l._line;
+      so_far : IsSoFar g.H.Hull.room (g.S.Source.left l.fn.src) (g.S.Source.left l.src) (g.K.Sink.held l.fn.out) (g.K.Sink.held l.out) l.world;
+      count : length l.world.lines ≡ l._line;
       going : l.world.ended ≡ false;
       source : g.S.Source.fault_count l.src ≡ g.S.Source.fault_count l.fn.src;
       sink : g.K.Sink.fault_count l.out ≡ g.K.Sink.fault_count l.fn.out;

@@ -22,7 +22,7 @@ pub returns-in-Some-clause-step : goal.returns-in-Some-clause-step
 returns-in-Some-clause-step g c =
     unshown_end g.H.Hull.room _ _ _ _ c.args.world.now c.apply-applied.new.world c.in-Line.line c.lines.result.now c.apply-applied.result c.apply-applied.ensures.grown _ c.in-Some.status
     c.requires.few c.lines.ensures c.in-Line.ensures.reading.1 c.in-Line.ensures.reading.0 c.apply-applied.ensures.applied c.apply-applied.ensures.safe
-    (shown_more c.args.world.now.world.entries c.apply-applied.new.world.world.entries c.entries-printed.result.now c.entries.result.now c.apply-applied.ensures.grown c.entries-printed.ensures c.entries.ensures)
+    (shown_more c.args.world.now.entries c.apply-applied.new.world.entries c.entries-printed.result.now c.entries.result.now c.apply-applied.ensures.grown c.entries-printed.ensures c.entries.ensures)
     c.in-Some.ensures.put
 
 pub returns-in-Some-clause-cause : goal.returns-in-Some-clause-cause
@@ -32,7 +32,7 @@ pub returns-in-Ok-clause-step : goal.returns-in-Ok-clause-step
 returns-in-Ok-clause-step g c =
     line_next g.H.Hull.room _ _ _ _ c.args.world.now c.apply-applied.new.world c.in-Line.line c.lines.result.now c.apply-applied.ensures.grown _ c.lines.ensures
     c.in-Line.ensures.reading.1 c.in-Line.ensures.reading.0 c.in-Ok.ensures.applied
-    (shown_more c.args.world.now.world.entries c.apply-applied.new.world.world.entries c.entries-printed.result.now c.entries.result.now c.apply-applied.ensures.grown c.entries-printed.ensures c.entries.ensures)
+    (shown_more c.args.world.now.entries c.apply-applied.new.world.entries c.entries-printed.result.now c.entries.result.now c.apply-applied.ensures.grown c.entries-printed.ensures c.entries.ensures)
     c.in-None.ensures.put
 
 pub returns-in-Ok-clause-cause : goal.returns-in-Ok-clause-cause
@@ -43,7 +43,7 @@ pub returns-in-Err-clause-step : goal.returns-in-Err-clause-step
 returns-in-Err-clause-step g c =
     refused_end g.H.Hull.room _ _ _ _ _ c.args.world.now c.apply-applied.new.world c.in-Line.line c.in-Err.error c.lines.result.now c.apply-applied.ensures.grown _ c.status_of.result c.finish-in-Err.result c.requires.few c.lines.ensures
     c.in-Line.ensures.reading.1 c.in-Line.ensures.reading.0 c.in-Err.ensures.applied c.apply-applied.ensures.safe
-    (shown_more c.args.world.now.world.entries c.apply-applied.new.world.world.entries c.entries-printed.result.now c.entries.result.now c.apply-applied.ensures.grown c.entries-printed.ensures c.entries.ensures)
+    (shown_more c.args.world.now.entries c.apply-applied.new.world.entries c.entries-printed.result.now c.entries.result.now c.apply-applied.ensures.grown c.entries-printed.ensures c.entries.ensures)
     c.in-None.ensures.put c.status_of.ensures c.finish-in-Err.ensures.finished
 
 pub returns-in-Err-clause-cause : goal.returns-in-Err-clause-cause

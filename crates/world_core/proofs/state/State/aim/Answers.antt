@@ -10,7 +10,7 @@ returns-in_ok-aim g c =
     from_view _ _ _ (λ (d : Doing). first_step g.H.Hull.room d (line.Aim c.args.client c.args.file c.args.node)) c.self.view_is (
       aim_placed g.H.Hull.room _ c.args.client c.args.file c.args.node c.in-Some.place c.find-declared.result c.aim.new.self c.in-Some.ensures
           c.find-declared.ensures c.in_ok-aim.ensures,
-      record { rest = refl; lines = refl },
+      record { rest = refl; lines = refl; ended = refl },
     )
 
 pub returns-in_default : goal.returns-in_default

@@ -15,4 +15,4 @@ returns-then-len-ge-NODES g c = (
 pub returns : goal.returns
 returns g c =
     from_view _ _ _ (λ (d : Doing). declares d (never_started c.args.node c.args.role) []) c.self.view_is
-    (resting_declared _ c.args.node c.args.role c.declare.new.self (subst (λ (n : ℕ). n < 64) c.len.ensures c.if-len-ge-NODES.false) c.in_ok-declare.ensures, record { rest = refl; lines = refl })
+    (resting_declared _ c.args.node c.args.role c.declare.new.self (subst (λ (n : ℕ). n < 64) c.len.ensures c.if-len-ge-NODES.false) c.in_ok-declare.ensures, record { rest = refl; lines = refl; ended = refl })

@@ -17,4 +17,4 @@ returns-then-len-ge-NODES g c = (
 pub returns : goal.returns
 returns g c =
     from_view _ _ _ (λ (d : Doing). first_step g.H.Hull.room d (line.Client c.args.node c.args.clock)) c.self.view_is
-    (client_declared g.H.Hull.room _ c.args.node c.args.clock c.declare_client.new.self _ (subst (λ (n : ℕ). n < 64) c.len.ensures c.if-len-ge-NODES.false) c.in_ok-declare_client.ensures c.in_ok-tell.ensures.items, record { rest = refl; lines = refl })
+    (client_declared g.H.Hull.room _ c.args.node c.args.clock c.declare_client.new.self _ (subst (λ (n : ℕ). n < 64) c.len.ensures c.if-len-ge-NODES.false) c.in_ok-declare_client.ensures c.in_ok-tell.ensures.items, record { rest = refl; lines = refl; ended = refl })

@@ -9,4 +9,4 @@ use Rattle.world_core.proofs.state.State.declare_file.Goals as goal
 pub returns : goal.returns
 returns g c =
     from_view _ _ _ (λ (d : Doing). first_step g.H.Hull.room d (line.File c.args.number c.args.location.now)) c.self.view_is
-    (file_declared g.H.Hull.room _ c.args.number c.args.location.now c.declare.new.self _ (c.in_ok-declare.ensures.ok ∙ ap (λ (f : FileId). c.self.inside.files ++ record { file = f; location = c.args.location.now } ∷ []) c.declared_file.ensures) c.in_ok-tell.ensures.items, record { rest = refl; lines = refl })
+    (file_declared g.H.Hull.room _ c.args.number c.args.location.now c.declare.new.self _ (c.in_ok-declare.ensures.ok ∙ ap (λ (f : FileId). c.self.inside.files ++ record { file = f; location = c.args.location.now } ∷ []) c.declared_file.ensures) c.in_ok-tell.ensures.items, record { rest = refl; lines = refl; ended = refl })

@@ -45,9 +45,10 @@ returns-in-None g c =
               sent = c.self.inside.stepper.sent;
               entries = c.self.inside.stepper.entries.items;
               lines = take c.self.inside.shown c.self.inside.lines.items;
+              ended = c.self.inside.ended;
             };
             own = c.self.inside.stepper.own;
             left = c.self.inside.left;
           })) (sym handles.1),
-      record { rest = refl; lines = refl },
+      record { rest = refl; lines = refl; ended = refl },
     )

@@ -109,8 +109,8 @@ returns-in-Deliver g c =
 pub returns-in-Drop : goal.returns-in-Drop
 returns-in-Drop g c =
     from_view _ _ _ (λ (d : Doing). first_step g.H.Hull.room d c.args.line.now) c.self.view_is
-    (ap (first_step g.H.Hull.room _) c.in-Drop.is ∙ drop_first g.H.Hull.room _ c.in-Drop.number c.settle.new.self c.settle.ensures, record { rest = refl; lines = refl })
+    (ap (first_step g.H.Hull.room _) c.in-Drop.is ∙ drop_first g.H.Hull.room _ c.in-Drop.number c.settle.new.self c.settle.ensures, record { rest = refl; lines = refl; ended = refl })
 
 pub returns-in-Settle : goal.returns-in-Settle
 returns-in-Settle g c =
-    (ap (first_step g.H.Hull.room c.args.self.now.doing) c.in-Settle.is ∙ settle_first g.H.Hull.room c.args.self.now.doing c.in-Settle.count, record { rest = refl; lines = refl })
+    (ap (first_step g.H.Hull.room c.args.self.now.doing) c.in-Settle.is ∙ settle_first g.H.Hull.room c.args.self.now.doing c.in-Settle.count, record { rest = refl; lines = refl; ended = refl })

@@ -7,7 +7,7 @@ use Rattle.world_core.proofs.Whole.{first_fits, first_ends, some_enough, event_f
 use Rattle.world_core.proofs.state.State.run.Goals as goal
 
 pub loop-event-init : goal.loop-event-init
-loop-event-init g c = record { came = event_none g.H.Hull.room c.open.new.self.doing c.turns_of_event-count.result; went_on = record { rest = refl; lines = refl } }
+loop-event-init g c = record { came = event_none g.H.Hull.room c.open.new.self.doing c.turns_of_event-count.result; went_on = record { rest = refl; lines = refl; ended = refl } }
 
 pub turns-requires : goal.turns-requires
 turns-requires g c = event_fits g.H.Hull.room c.args.self.now c.open.new.self c.loop-event.self c.args.line.now c.loop-event.event c.turns_of_event-count.result c.requires.begun c.in_ok-open.ensures c.turns_of_event-count.ensures c.loop-event.invariant.came c.loop-event.invariant.went_on c.requires.fits

@@ -9,4 +9,4 @@ use Rattle.world_core.proofs.state.State.set_times.Goals as goal
 pub returns : goal.returns
 returns g c =
     from_view _ _ _ (λ (d : Doing). first_step g.H.Hull.room d (line.Times c.args.lease c.args.drift)) c.self.view_is
-    (times_set g.H.Hull.room _ c.args.lease c.args.drift c.set_times.new.self _ (c.set_times.ensures ∙ ap (λ (t : TimeSettings). record { times = t; nodes = c.self.inside.stepper.nodes.nodes }) (times_are c.new.result c.unwrap.result c.args.lease c.args.drift c.unwrap.ensures c.new.ensures.value)) c.in_ok-tell.ensures.items, record { rest = refl; lines = refl })
+    (times_set g.H.Hull.room _ c.args.lease c.args.drift c.set_times.new.self _ (c.set_times.ensures ∙ ap (λ (t : TimeSettings). record { times = t; nodes = c.self.inside.stepper.nodes.nodes }) (times_are c.new.result c.unwrap.result c.args.lease c.args.drift c.unwrap.ensures c.new.ensures.value)) c.in_ok-tell.ensures.items, record { rest = refl; lines = refl; ended = refl })

@@ -27,7 +27,7 @@ returns-in_default-next_boot g c =
         entries = ap (λ (x : Working). x.doing.world.entries) c.self.view_is;
         lines = ap (λ (x : Working). x.doing.world.lines) c.self.view_is;
         begun = ap (λ (x : Working). x.begun) c.self.view_is;
-        ended = ap (λ (x : Working). x.ended) c.self.view_is;
+        ended = ap (λ (x : Working). x.doing.world.ended) c.self.view_is;
       },
     )
 
@@ -55,6 +55,7 @@ files_left-requires g c =
         sent = c.self.inside.stepper.sent;
         entries = c.self.inside.stepper.entries.items;
         lines = take c.self.inside.shown c.self.inside.lines.items;
+        ended = c.self.inside.ended;
       };
       own = c.self.inside.stepper.own;
       left = c.self.inside.left;
@@ -77,6 +78,7 @@ keep_boot-requires-clause-inside g c =
         sent = c.self.inside.stepper.sent;
         entries = c.self.inside.stepper.entries.items;
         lines = take c.self.inside.shown c.self.inside.lines.items;
+        ended = c.self.inside.ended;
       };
       own = c.self.inside.stepper.own;
       left = c.self.inside.left;
@@ -100,6 +102,7 @@ returns-in_err-keep_boot g c =
         sent = c.self.inside.stepper.sent;
         entries = c.self.inside.stepper.entries.items;
         lines = take c.self.inside.shown c.self.inside.lines.items;
+        ended = c.self.inside.ended;
       };
       own = c.self.inside.stepper.own;
       left = c.self.inside.left;
@@ -116,7 +119,7 @@ returns-in_err-keep_boot g c =
         entries = c.reserve.ensures.items ∙ ap (λ (x : Working). x.doing.world.entries) c.self.view_is;
         lines = ap (λ (x : Working). x.doing.world.lines) c.self.view_is;
         begun = ap (λ (x : Working). x.begun) c.self.view_is;
-        ended = ap (λ (x : Working). x.ended) c.self.view_is;
+        ended = ap (λ (x : Working). x.doing.world.ended) c.self.view_is;
       },
     )
 
@@ -132,6 +135,7 @@ returns g c =
         sent = c.self.inside.stepper.sent;
         entries = c.self.inside.stepper.entries.items;
         lines = take c.self.inside.shown c.self.inside.lines.items;
+        ended = c.self.inside.ended;
       };
       own = c.self.inside.stepper.own;
       left = c.self.inside.left;
@@ -151,5 +155,5 @@ returns g c =
           (c.in_ok-tell_all.ensures.made ∙ ap (λ (ms : List PlacedFile). ms ++ c.in_ok-left.left.items) c.reserve-2.ensures.items)
           (c.in_ok-tell_all.ensures.entries ∙ ap (λ (es : List Entry). es ++ c.in_ok-told.told.items) c.reserve.ensures.items
           ∙ ap (λ (es : List Entry). c.self.inside.stepper.entries.items ++ es) (c.in_ok-told.ensures ∙ ap told c.as_slice.ensures.value)),
-      record { rest = refl; lines = refl },
+      record { rest = refl; lines = refl; ended = refl },
     )

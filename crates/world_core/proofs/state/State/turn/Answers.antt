@@ -25,12 +25,12 @@ returns-in_default g c =
           sent = c.self.inside.stepper.sent;
           entries = c.self.inside.stepper.entries.items;
           lines = take c.self.inside.shown c.self.inside.lines.items;
+          ended = c.self.inside.ended;
         };
         own = own;
         left = c.self.inside.left;
       };
       begun = drop c.self.inside.shown c.self.inside.lines.items;
-      ended = c.self.inside.ended;
     }) (c.in_default.ensures.1 ∙ sym c.in_default.ensures.0))
     c.settle.ensures
 

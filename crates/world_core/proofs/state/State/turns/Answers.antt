@@ -6,7 +6,7 @@ use Rattle.world_core.proofs.Turns.{none_yet, done_longer, one_more, went_furthe
 use Rattle.world_core.proofs.state.State.turns.Goals as goal
 
 pub loop-made-init : goal.loop-made-init
-loop-made-init g c = record { came = none_yet g.H.Hull.room _; went_on = record { rest = refl; lines = refl } }
+loop-made-init g c = record { came = none_yet g.H.Hull.room _; went_on = record { rest = refl; lines = refl; ended = refl } }
 
 pub returns-in_err-turn : goal.returns-in_err-turn
 returns-in_err-turn g c =
