@@ -1,2 +1,3 @@
 pub mod Registry
 pub mod Plans
+pub mod Index

@@ -2,9 +2,10 @@ ghost use Rattle.std.specs.Prelude.{◌≡◌, ◌++◌, ◌∷◌, [], IfOk, On
 ghost use Rattle.std.specs.Option.{option_map};
 ghost use Rattle.registry_table.specs.Registry.{row_of, with_row, without_row, page_of, version_in, shown};
 ghost use Rattle.registry_table.specs.Plans.{applied};
+ghost use Rattle.registry_table.specs.Index.{IsFirstListed};
 
-use std::alloc::Global;
-use std::collections::BTreeMap;
+use std::alloc::{AllocError, Global};
+use std::collections::{BTreeMap, BTreeSet};
 use std::marker::Model;
 use std::ops::Bound;
 use xt_base::{Copies, Name, NodeId, OutOfMemory, Seq};
@@ -29,10 +30,12 @@ pub enum Change {
     Remove { node: NodeId },
 }
 
-/// The registered nodes, rising. Contracts see the list of them.
+/// The registered nodes, rising, and beside them the nodes of each kind, rising, so that a page of a kind passes by no row of
+/// another. Contracts see the list of the rows.
 #[derive(Drop)]
 pub struct Registry {
     rows: BTreeMap<u32, Registered>,
+    kinds: BTreeSet<(u8, u32)>,
 }
 
 impl Model for Registry {
@@ -41,7 +44,11 @@ impl Model for Registry {
 
     ghost Value = { List (ℕ × Registered) };
 
+    ghost use Rattle.registry_table.specs.Index.{IsIndexed};
+
     ghost view = { λ r. r.rows.entries };
+
+    ghost invariant = { λ r. IsIndexed r.rows r.kinds };
 }
 
 /// A row as it is told.
@@ -75,6 +82,7 @@ impl Registry {
     {
         Registry {
             rows: BTreeMap::new(alloc),
+            kinds: BTreeSet::new(alloc),
         }
     }
 
@@ -104,32 +112,62 @@ impl Registry {
         ensures ok { OnOk result (self.new ≡ with_row self.old node.0 row) }
         ensures err { OnErr result (self.new ≡ self.old) }
     {
-        self.rows.insert(node.0, row)?;
-        Ok(())
+        let kind = row.kind;
+        self.kinds.insert((kind, node.0))?;
+        match self.rows.insert(node.0, row) {
+            Ok(Some(old)) => {
+                if old.kind != kind {
+                    self.kinds.remove(&(old.kind, node.0));
+                }
+                Ok(())
+            }
+            Ok(None) => Ok(()),
+            Err(_) => {
+                self.kinds.remove(&(kind, node.0));
+                Err(AllocError)
+            }
+        }
     }
 
     /// Takes a node's row out.
     pub fn remove(&mut self, node: NodeId)
         ensures { self.new ≡ without_row self.old node.0 }
     {
-        self.rows.remove(&node.0);
+        if let Some(row) = self.rows.remove(&node.0) {
+            self.kinds.remove(&(row.kind, node.0));
+        }
     }
 
-    /// A page of the rows of a kind, with nodes above `after`.
+    /// The first row of a kind with a node above `after`, if there is one.
+    fn next_of(&self, kind: u8, after: u32) -> Option<(u32, &Registered)>
+        ensures { IsFirstListed self.now kind after (option_map (λ r. (r.0, r.1.now)) result) }
+    {
+        let above = (Bound::Excluded((kind, after)), Bound::Unbounded);
+        let Some(key) = self.kinds.range(above).next() else {
+            return None;
+        };
+        let (of, node) = *key;
+        if of != kind {
+            return None;
+        }
+        match self.rows.get(&node) {
+            Some(row) => Some((node, row)),
+            None => None,
+        }
+    }
+
+    /// A page of the rows of a kind, with nodes above `after`. Rows of other kinds cost nothing.
     pub fn page(&self, alloc: Global, kind: u8, after: NodeId) -> Result<RegistryRows, OutOfMemory>
         ensures { IfOk result (λ page. page ≡ page_of self.now kind after.0) }
     {
         let mut page = Seq::new(alloc);
-        for (node, row) in self
-            .rows
-            .range((Bound::Excluded(after.0), Bound::Unbounded))
-        {
-            if page.len() == PAGE {
+        let mut last = after.0;
+        for _count in 0..PAGE {
+            let Some((node, row)) = self.next_of(kind, last) else {
                 return Ok(page);
-            }
-            if row.kind == kind {
-                push_shown(alloc, &mut page, *node, row)?;
-            }
+            };
+            push_shown(alloc, &mut page, node, row)?;
+            last = node;
         }
         Ok(page)
     }

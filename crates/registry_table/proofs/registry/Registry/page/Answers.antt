@@ -1,12 +1,19 @@
-use Rattle.std.proofs.Common.{◌∙◌, sym}
-use Rattle.registry_table.proofs.Pages.{start, at_end, at_full}
+use Rattle.std.proofs.Common.{ℕ, Option, arith, subst, Bor}
+use Rattle.std.specs.Option.{option_map}
+use Rattle.registry_table.specs.declared.registry.Registered.{Registered}
+use Rattle.registry_table.specs.Index.{IsFirstListed}
+use Rattle.registry_table.proofs.Pages.{told_after, at_end, at_full}
 use Rattle.registry_table.proofs.registry.Registry.page.Goals as goal
 
-pub loop-node-init : goal.loop-node-init
-loop-node-init c = start c.args.kind c.args.after.0 c.new-page.result c.into_iter-node-iterator.result c.self.inside.rows.entries c.args.self.now c.new-page.ensures (c.into_iter-node-iterator.ensures.into_iter_gives ∙ c.range-node-items.ensures.between tt) c.self.view_is
-
-pub returns-then-len-eq-PAGE : goal.returns-then-len-eq-PAGE
-returns-then-len-eq-PAGE c = at_full c.args.kind c.loop-node.page c.loop-node.node-iterator _ c.loop-node.invariant (sym c.len.ensures ∙ c.if-len-eq-PAGE.true)
+pub returns-in_default : goal.returns-in_default
+returns-in_default c =
+    let rows = c.args.self.now in
+    let l = c.loop-count in
+    let none = subst (λ (o : Option (ℕ × Bor Registered)). IsFirstListed rows c.args.kind l.last (option_map (λ r. (r.0, r.1.now)) o)) c.in_default.is c.next_of.ensures in
+    at_end rows c.args.kind l.last l.page l._count (told_after rows c.args.kind c.args.after.0) l.invariant (omega (arith, c.loop-count-test.true)) none
 
 pub returns : goal.returns
-returns c = at_end c.args.kind c.loop-node.page c.loop-node.node-iterator _ c.loop-node.invariant c.in-None.ensures.steps.0
+returns c =
+    let rows = c.args.self.now in
+    let l = c.loop-count in
+    at_full rows c.args.kind l.last l.page l._count (told_after rows c.args.kind c.args.after.0) l.invariant (omega (arith, c.loop-count-test.false, l.auto._count-end))
