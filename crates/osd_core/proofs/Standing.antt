@@ -1,305 +1,163 @@
--- slots that rise by file: where a file's slot stands, and what a slot that is put there makes
-use Rattle.std.proofs.Common.{◌≡◌, ◌⊎◌, inl, inr, ℕ, zero, suc, ◌<◌, ◌≤◌, Bool, true, false, ◌&&◌, cond, List, [], ◌∷◌, length, map, get_or, set, drop, Result, Ok, Err, refl, ap, sym, subst, ◌∙◌, arith, add-one, drop-cons}
-use Rattle.std.proofs.lemmas.Bool.{cases_lt, and_from, and_parts}
-use Rattle.std.proofs.lemmas.List.Sorted.{searchable_from_sorted}
-use Rattle.std.specs.List.{insert}
-use Rattle.std.specs.List.Sorted.{IsBinarySearchResult, IsSearchInRange, IsNonDecreasingBy, IsSortedBy}
-use Rattle.std.specs.Ordering.{is_eq, is_lt, ordering_index, ordering_reverse}
-use Rattle.std.specs.declared.cmp.Ordering.{Ordering}
-use Rattle.std.specs.declared.cmp.Ordering.TheVariants.{Less, Equal, Greater}
+-- the slots of an OSD by their files: where a file's slot stands, and what a slot that is put there makes
+use Rattle.std.proofs.Common.{◌≡◌, Bool, true, false, cond, List, [], ◌∷◌, Option, Some, None, Ordering, Less, Equal, Greater, is_eq, is_lt, refl, ap, sym, subst, ◌∙◌, true≢false}
+use Rattle.std.specs.List.{AllByRecursion}
+use Rattle.std.specs.List.Sorted.{IsStrictlySortedBy}
+use Rattle.std.specs.Ordering.{match_ordering, ordering_reverse}
+use Rattle.std.specs.Map.{keys_of, lookup, set_value}
+use Rattle.std.specs.BTreeMap.{insert_entry, is_at}
+use Rattle.std.proofs.lemmas.Map.Keys.{sorted_head, sorted_tail}
 use Rattle.xt_base.specs.declared.ids.FileId.{FileId}
-use Rattle.xt_messages.specs.declared.record.FileRow.{FileRow}
 use Rattle.xt_protocol.specs.FileIds.{is_file, is_before, file_cmp}
 use Rattle.xt_protocol.specs.Folds.{new_row}
 use Rattle.xt_protocol.specs.LeaseRows.{Awake}
-use Rattle.xt_protocol.proofs.Folds.{file-equal, file-symmetric, is_file-file_cmp, file_cmp_total}
-use Rattle.object_versions.specs.Rising.{rises}
-use Rattle.object_versions.proofs.Puts.{Orders, IsPlace, put, far, set_there, insert_there, found_at, none_same}
+use Rattle.xt_protocol.proofs.Folds.{file-equal, file-itself, file-symmetric, is_file-file_cmp, file_cmp_total}
 use Rattle.xt_protocol.specs.FileStates.{FileState, file_from}
 use Rattle.xt_protocol.specs.OsdSteps.{file_at, with_file}
 use Rattle.osd_core.specs.declared.slot.Slot.{Slot}
 use Rattle.osd_core.specs.declared.slot.Slot.TheVariants as slot
-use Rattle.osd_files.specs.Whole.{RowRises}
-use Rattle.osd_core.specs.FileSlots.{id_of, state_of, IsSoundSlot}
-use Rattle.osd_core.specs.Slots.{states_of, slots_rise, AreSound, IsSlotPlace, IsMade}
+use Rattle.osd_core.specs.FileSlots.{id_of, state_of}
+use Rattle.osd_core.specs.Slots.{Slots, states_of}
 
--- ---- the order of files, and of slots by their files
+-- ---- the order of files
 
 less : (o : Ordering) → is_lt o ≡ true → o ≡ Less
 less Less h = refl
 less Equal h = absurd cc
 less Greater h = absurd cc
 
-neither : (o : Ordering) → is_lt o ≡ false → is_eq o ≡ false → is_lt (ordering_reverse o) ≡ true
-neither Less a b = absurd cc
-neither Equal a b = absurd cc
-neither Greater a b = refl
-
-is_less : (a b : FileId) → is_before a b ≡ true → file_cmp a b ≡ Less
+pub is_less : (a b : FileId) → is_before a b ≡ true → file_cmp a b ≡ Less
 is_less a b is = less (file_cmp a b) is
 
-equal_files : (a b : FileId) → file_cmp a b ≡ Equal → a ≡ b
-equal_files a b is = file-equal a b (is_file-file_cmp a b ∙ ap is_eq is)
+pub same_file : (a b : FileId) → is_eq (file_cmp a b) ≡ true → a ≡ b
+same_file a b is = file-equal a b (is_file-file_cmp a b ∙ is)
 
-file_order : Orders is_file is_before
-file_order =
-    record {
-      apart = λ a b is. is_file-file_cmp a b ∙ ap is_eq (is_less a b is);
-      one_way = λ a b is. ap is_lt (file_cmp_total.antisymm b a) ∙ ap (λ o. is_lt (ordering_reverse o)) (is_less a b is);
-      chain = λ a b c first second. ap is_lt (file_cmp_total.trans a b c (is_less a b first) (is_less b c second));
-      total = λ a b none differ. ap is_lt (file_cmp_total.antisymm b a) ∙ neither (file_cmp a b) none (sym (is_file-file_cmp a b) ∙ differ);
-      back = λ a b. file-symmetric a b;
-    }
+pub own_file : (a : FileId) → is_eq (file_cmp a a) ≡ true
+own_file a = sym (is_file-file_cmp a a) ∙ file-itself a
 
-abbrev same_slot : Slot → Slot → Bool
-same_slot a b = is_file (id_of a) (id_of b)
+turned_round : (a b : FileId) → is_file a b ≡ is_eq (file_cmp b a)
+turned_round a b = file-symmetric a b ∙ is_file-file_cmp b a
 
-abbrev slot_before : Slot → Slot → Bool
-slot_before a b = is_before (id_of a) (id_of b)
+pub either_way : (a b : FileId) → is_eq (file_cmp a b) ≡ is_eq (file_cmp b a)
+either_way a b = sym (is_file-file_cmp a b) ∙ turned_round a b
 
-slot_order : Orders same_slot slot_before
-slot_order =
-    record {
-      apart = λ a b is. file_order.apart (id_of a) (id_of b) is;
-      one_way = λ a b is. file_order.one_way (id_of a) (id_of b) is;
-      chain = λ a b c first second. file_order.chain (id_of a) (id_of b) (id_of c) first second;
-      total = λ a b none differ. file_order.total (id_of a) (id_of b) none differ;
-      back = λ a b. file_order.back (id_of a) (id_of b);
-    }
+never_both : (a b : FileId) → file_cmp a b ≡ Less → file_cmp b a ≡ Less → ⊥
+never_both a b one other = absurd (let round = sym one ∙ file_cmp_total.antisymm a b ∙ ap ordering_reverse other in cc)
 
--- slots rise as their files do
-rise_by : (slots : List Slot) → rises slot_before slots ≡ slots_rise slots
-rise_by [] = refl
-rise_by (a ∷ []) = refl
-rise_by (a ∷ b ∷ rest) = ap (λ t. slot_before a b && t) (rise_by (b ∷ rest))
+-- a file isn't one that comes before it
+pub not_same : (a b : FileId) → file_cmp a b ≡ Less → is_eq (file_cmp b a) ≡ false
+not_same a b is = ap is_eq (file_cmp_total.antisymm b a) ∙ ap (λ o. is_eq (ordering_reverse o)) is
+
+-- ---- what a look-up finds
+
+abbrev pub slot_at : FileId → Slots → Option Slot
+slot_at file slots = lookup (is_at (file_cmp file)) slots
+
+-- what the test at the first slot makes of a look-up
+pub looks : (file : FileId) (e : FileId × Slot) (es : Slots) (t : Bool) → is_eq (file_cmp file e.0) ≡ t → slot_at file (e ∷ es) ≡ cond t (Some e.1) (slot_at file es)
+looks file e es t is = ap (λ b. cond b (Some e.1) (slot_at file es)) is
+
+-- a file that is found among those after another comes after it
+pub found_after : (a file : FileId) (es : Slots) (s : Slot) → AllByRecursion (λ y. file_cmp a y ≡ Less) (keys_of es) → slot_at file es ≡ Some s → file_cmp a file ≡ Less
+found_after a file [] s all found = absurd cc
+found_after a file (e ∷ es) s all found = go (λ later. found_after a file es s all.1 later) (is_eq (file_cmp file e.0)) refl
+  where
+    go : (slot_at file es ≡ Some s → file_cmp a file ≡ Less) → (t : Bool) → is_eq (file_cmp file e.0) ≡ t → file_cmp a file ≡ Less
+    go of_rest true is = subst (λ f. file_cmp a f ≡ Less) (sym (same_file file e.0 is)) all.0
+    go of_rest false is = of_rest (sym (looks file e es false is) ∙ found)
+
+-- a file isn't among those after it
+pub none_after : (a : FileId) (es : Slots) → AllByRecursion (λ y. file_cmp a y ≡ Less) (keys_of es) → slot_at a es ≡ None
+none_after a es all = go (slot_at a es) refl
+  where
+    go : (o : Option Slot) → slot_at a es ≡ o → slot_at a es ≡ None
+    go None is = is
+    go (Some s) is = absurd (true≢false (sym (own_file a) ∙ ap is_eq (found_after a a es s all is)))
+
+-- what holds of each slot that a look-up finds, holds of each
+pub each_slot : (P : FileId → Slot → Type 0) (es : Slots) → IsStrictlySortedBy file_cmp (keys_of es) → ((file : FileId) (s : Slot) → slot_at file es ≡ Some s → P file s) → AllByRecursion (λ e. P e.0 e.1) es
+each_slot P [] up holds = tt
+each_slot P (e ∷ es) up holds = (
+  holds e.0 e.1 (looks e.0 e es true (own_file e.0)),
+  each_slot P es (sorted_tail file_cmp e.0 (keys_of es) up) (λ file s found.
+      holds file s (looks file e es false (not_same e.0 file (found_after e.0 file es s (sorted_head file_cmp e.0 (keys_of es) up) found)) ∙ found)),
+)
 
 -- ---- the definitions of an OSD on slots
+
+-- each slot is of its file
+abbrev pub AreOwn : Slots → Type 0
+AreOwn slots = AllByRecursion (λ e. id_of e.1 ≡ e.0) slots
 
 pub state_of-file : (awake : Awake) (s : Slot) → (state_of awake s).kept.file ≡ id_of s
 state_of-file awake (slot.Row row) = refl
 state_of-file awake (slot.File file) = refl
 
--- a file is put like any item
-files_put : (awake : Awake) (slots : List Slot) (s : Slot) → with_file (states_of awake slots) (state_of awake s) ≡ states_of awake (put same_slot slot_before slots s)
+-- the state of a file that has this slot, if any
+abbrev pub state_in : Awake → FileId → Option Slot → FileState
+state_in awake file None = file_from awake (new_row file)
+state_in awake file (Some s) = state_of awake s
+
+pub file_is : (awake : Awake) (es : Slots) (file : FileId) → AreOwn es → file_at awake (states_of awake es) file ≡ state_in awake file (slot_at file es)
+unfolding file_at
+file_is awake [] file own = refl
+file_is awake (e ∷ es) file own =
+    let rest = file_at awake (states_of awake es) file in
+    ap (λ f. cond (is_file f file) (state_of awake e.1) rest) (state_of-file awake e.1 ∙ own.0)
+    ∙ ap (λ t. cond t (state_of awake e.1) rest) (turned_round e.0 file)
+    ∙ at (file_is awake es file own.1) (is_eq (file_cmp file e.0))
+  where
+    at : file_at awake (states_of awake es) file ≡ state_in awake file (slot_at file es) → (t : Bool)
+        → cond t (state_of awake e.1) (file_at awake (states_of awake es) file) ≡ state_in awake file (cond t (Some e.1) (slot_at file es))
+    at later true = refl
+    at later false = later
+
+-- a file is put like any entry
+pub file_put : (awake : Awake) (es : Slots) (file : FileId) (s : Slot) → AreOwn es → id_of s ≡ file
+    → with_file (states_of awake es) (state_of awake s) ≡ states_of awake (insert_entry file_cmp es file s)
 unfolding with_file
-files_put awake [] s = refl
-files_put awake (x ∷ xs) s =
+file_put awake [] file s own its = refl
+file_put awake (e ∷ es) file s own its =
     let new = state_of awake s in
-    let rest = states_of awake xs in
-    let tests : FileId → FileId → List FileState = λ a b. cond (is_file a b) (new ∷ rest) (cond (is_before b a) (new ∷ state_of awake x ∷ rest) (state_of awake x ∷ with_file rest new)) in
-    ap (λ a. tests a (state_of awake s).kept.file) (state_of-file awake x)
-    ∙ ap (λ b. tests (id_of x) b) (state_of-file awake s)
-    ∙ at (files_put awake xs s) (same_slot x s) (slot_before s x)
+    let rest = states_of awake es in
+    let old = state_of awake e.1 in
+    let tests : Bool → FileId → FileId → List FileState = λ t a b. cond t (new ∷ rest) (cond (is_before b a) (new ∷ old ∷ rest) (old ∷ with_file rest new)) in
+    ap (λ a. tests (is_file a (state_of awake s).kept.file) a (state_of awake s).kept.file) (state_of-file awake e.1 ∙ own.0)
+    ∙ ap (λ b. tests (is_file e.0 b) e.0 b) (state_of-file awake s ∙ its)
+    ∙ ap (λ t. tests t e.0 file) (turned_round e.0 file)
+    ∙ at (file_put awake es file s own.1 its) (file_cmp file e.0)
   where
-    at : with_file (states_of awake xs) (state_of awake s) ≡ states_of awake (put same_slot slot_before xs s) → (same before : Bool)
-        → cond same (state_of awake s ∷ states_of awake xs) (cond before (state_of awake s ∷ state_of awake x ∷ states_of awake xs) (state_of awake x ∷ with_file (states_of awake xs) (state_of awake s)))
-        ≡ states_of awake (cond same (s ∷ xs) (cond before (s ∷ x ∷ xs) (x ∷ put same_slot slot_before xs s)))
-    at later true before = refl
-    at later false true = refl
-    at later false false = ap (λ others. state_of awake x ∷ others) later
+    at : with_file (states_of awake es) (state_of awake s) ≡ states_of awake (insert_entry file_cmp es file s) → (o : Ordering)
+        → cond (is_eq o) (state_of awake s ∷ states_of awake es) (cond (is_lt o) (state_of awake s ∷ state_of awake e.1 ∷ states_of awake es) (state_of awake e.1 ∷ with_file (states_of awake es) (state_of awake s)))
+        ≡ states_of awake (match_ordering o ((file, s) ∷ e ∷ es) ((e.0, s) ∷ es) (e ∷ insert_entry file_cmp es file s))
+    at later Less = refl
+    at later Equal = refl
+    at later Greater = ap (λ others. state_of awake e.1 ∷ others) later
 
--- the test that a look-up makes at a slot
-looks : (awake : Awake) (x : Slot) (xs : List Slot) (file : FileId) (t : Bool) → is_file (id_of x) file ≡ t
-    → file_at awake (states_of awake (x ∷ xs)) file ≡ cond t (state_of awake x) (file_at awake (states_of awake xs) file)
-unfolding file_at
-looks awake x xs file t is =
-    ap (λ a. cond (is_file a file) (state_of awake x) (file_at awake (states_of awake xs) file)) (state_of-file awake x)
-    ∙ ap (λ b. cond b (state_of awake x) (file_at awake (states_of awake xs) file)) is
-
-none_there : (awake : Awake) (slots : List Slot) (file : FileId) → ((k : ℕ) (d : Slot) → k < length slots → is_file (id_of (get_or slots k d)) file ≡ false)
-    → file_at awake (states_of awake slots) file ≡ file_from awake (new_row file)
-unfolding file_at
-none_there awake [] file none = refl
-none_there awake (x ∷ xs) file none =
-    looks awake x xs file false (none 0 x (omega arith)) ∙ none_there awake xs file (λ k d lt. none (suc k) d (omega arith))
-
-some_there : (awake : Awake) (slots : List Slot) (file : FileId) (i : ℕ) (d : Slot) → i < length slots → is_file (id_of (get_or slots i d)) file ≡ true
-    → file_at awake (states_of awake (drop i slots)) file ≡ state_of awake (get_or slots i d)
-some_there awake slots file i d lt here =
-    ap (λ rest. file_at awake (states_of awake rest) file) (drop-cons slots i d lt)
-    ∙ looks awake (get_or slots i d) (drop (suc i) slots) file true here
-
--- ---- slots that rise still
-
--- over a slot of the same file
-ids_set : (slots : List Slot) (i : ℕ) (s : Slot) → ((d : Slot) → i < length slots → id_of (get_or slots i d) ≡ id_of s) → map id_of (set slots i s) ≡ map id_of slots
-ids_set [] i s same = refl
-ids_set (x ∷ xs) zero s same = ap (λ f. f ∷ map id_of xs) (sym (same x (omega arith)))
-ids_set (x ∷ xs) (suc i) s same = ap (λ fs. id_of x ∷ fs) (ids_set xs i s (λ d lt. same d (omega arith)))
-
--- between those that come before and those that come after
-rise_insert : (slots : List Slot) (i : ℕ) (s : Slot) → rises slot_before slots ≡ true → i ≤ length slots
-    → ((k : ℕ) (d : Slot) → k < i → slot_before (get_or slots k d) s ≡ true) → ((d : Slot) → i < length slots → slot_before s (get_or slots i d) ≡ true)
-    → rises slot_before (insert slots i s) ≡ true
-rise_insert [] zero s up le below above = refl
-rise_insert [] (suc i) s up le below above = absurd (omega arith)
-rise_insert (x ∷ xs) zero s up le below above = and_from (slot_before s x) (rises slot_before (x ∷ xs)) (above x (omega arith)) up
-rise_insert (x ∷ []) (suc zero) s up le below above = and_from (slot_before x s) true (below 0 x (omega arith)) refl
-rise_insert (x ∷ []) (suc (suc i)) s up le below above = absurd (omega arith)
-rise_insert (x ∷ y ∷ ys) (suc zero) s up le below above =
-    and_from (slot_before x s) (slot_before s y && rises slot_before (y ∷ ys)) (below 0 x (omega arith))
-    (and_from (slot_before s y) (rises slot_before (y ∷ ys)) (above y (omega arith)) (tail up))
+-- the slot of a file that has one is changed
+pub put_found : (es : Slots) (file : FileId) (p q : Slot) → IsStrictlySortedBy file_cmp (keys_of es) → slot_at file es ≡ Some p → set_value (is_at (file_cmp file)) es q ≡ insert_entry file_cmp es file q
+put_found [] file p q up found = absurd cc
+put_found (e ∷ es) file p q up found =
+    go (λ later. ap (λ rest. e ∷ rest) (put_found es file p q (sorted_tail file_cmp e.0 (keys_of es) up) later)) (file_cmp file e.0) refl
   where
-    tail : (slot_before x y && rises slot_before (y ∷ ys)) ≡ true → rises slot_before (y ∷ ys) ≡ true
-    tail all = (and_parts (slot_before x y) (rises slot_before (y ∷ ys)) all).1
-rise_insert (x ∷ y ∷ ys) (suc (suc i)) s up le below above =
-    let parts = and_parts (slot_before x y) (rises slot_before (y ∷ ys)) up in
-    and_from (slot_before x y) (rises slot_before (y ∷ insert ys i s)) parts.0
-    (rise_insert (y ∷ ys) (suc i) s parts.1 (omega arith) (λ k d lt. below (suc k) d (omega arith)) (λ d lt. above d (omega arith)))
+    later_found : (o : Ordering) → file_cmp file e.0 ≡ o → cond (is_eq o) (Some e.1) (slot_at file es) ≡ Some p
+    later_found o is = sym (ap (λ r. cond (is_eq r) (Some e.1) (slot_at file es)) is) ∙ found
 
--- ---- what a search finds
+    go : (slot_at file es ≡ Some p → ◌≡◌ {A = Slots} (e ∷ set_value (is_at (file_cmp file)) es q) (e ∷ insert_entry file_cmp es file q)) → (o : Ordering) → file_cmp file e.0 ≡ o
+        → ◌≡◌ {A = Slots} (cond (is_eq o) ((e.0, q) ∷ es) (e ∷ set_value (is_at (file_cmp file)) es q)) (match_ordering o ((file, q) ∷ e ∷ es) ((e.0, q) ∷ es) (e ∷ insert_entry file_cmp es file q))
+    go of_rest Less is = absurd (never_both file e.0 is (found_after e.0 file es p (sorted_head file_cmp e.0 (keys_of es) up) (later_found Less is)))
+    go of_rest Equal is = refl
+    go of_rest Greater is = of_rest (later_found Greater is)
 
-sorted : (slots : List Slot) → slots_rise slots ≡ true → IsSortedBy (λ a b. is_lt (file_cmp (id_of a) (id_of b))) slots
-sorted slots up k d low lt =
-    let first : slot_before (get_or slots k d) (get_or slots (suc k) d) ≡ true = far same_slot slot_before slot_order slots k (suc k) d (rise_by slots ∙ up) (omega arith) (omega arith) in
-    let second : slot_before (get_or slots (suc k) d) (get_or slots k d) ≡ false = slot_order.one_way (get_or slots k d) (get_or slots (suc k) d) first in
-    rw add-one second
-
-searchable : (slots : List Slot) (file : FileId) → slots_rise slots ≡ true → IsNonDecreasingBy (λ y. ordering_index (file_cmp (id_of y) file)) slots
-searchable slots file up = searchable_from_sorted file_cmp_total id_of slots file (sorted slots up)
-
-module _ (slots : List Slot) (file : FileId) (i : ℕ) (up : slots_rise slots ≡ true) where
-  -- a slot of the file
-  abbrev wanted : Slot
-  wanted = slot.Row (new_row file)
-
-  rising : rises slot_before slots ≡ true
-  rising = rise_by slots ∙ up
-
-  -- where one stands
-  module _ (lt : i < length slots) (here : (d : Slot) → file_cmp (id_of (get_or slots i d)) file ≡ Equal) where
-    own : (d : Slot) → id_of (get_or slots i d) ≡ file
-    own d = equal_files (id_of (get_or slots i d)) file (here d)
-
-    is_same : (d s : Slot) → id_of s ≡ file → same_slot (get_or slots i d) s ≡ true
-    is_same d s is = ap (is_file (id_of (get_or slots i d))) is ∙ is_file-file_cmp (id_of (get_or slots i d)) file ∙ ap is_eq (here d)
-
-    at_it : (k : ℕ) (d s : Slot) → id_of s ≡ file → i ≤ k → k < length slots → (i < k) ⊎ (k ≤ i) → slot_before (get_or slots k d) s ≡ false
-    at_it k d s is ge within (inl behind) =
-        subst (λ f. is_before (id_of (get_or slots k d)) f ≡ false) (own d ∙ sym is)
-        (slot_order.one_way (get_or slots i d) (get_or slots k d) (far same_slot slot_before slot_order slots i k d rising behind within))
-    at_it k d s is ge within (inr le) =
-        let same_place : i ≡ k = omega arith in
-        subst (λ j. slot_before (get_or slots j d) s ≡ false) same_place (ap (is_before (id_of (get_or slots i d))) is ∙ ap is_lt (here d))
-
-    place_there : (s : Slot) → id_of s ≡ file → IsPlace slot_before slots s i
-    place_there s is =
-        record {
-          inside = omega arith;
-          earlier = λ k d before. subst (λ f. is_before (id_of (get_or slots k d)) f ≡ true) (own d ∙ sym is) (far same_slot slot_before slot_order slots k i d rising before lt);
-          later = λ k d ge within. at_it k d s is ge within (cases_lt i k);
-        }
-
-    slot_found : IsSlotPlace slots file (Ok i)
-    slot_found = (
-      lt,
-      own,
-      λ awake d.
-          found_at same_slot slot_before slot_order (λ rest. file_at awake (states_of awake rest) file) slots wanted i (λ x xs differ. looks awake x xs file false differ) (place_there wanted refl)
-          ∙ some_there awake slots file i d lt (is_same d wanted refl),
-      λ awake s is. files_put awake slots s ∙ ap (states_of awake) (set_there same_slot slot_before slot_order slots s i (place_there s is) lt (λ d. is_same d s is)),
-      λ s is. ap (rises is_before) (ids_set slots i s (λ d within. own d ∙ sym is)) ∙ up,
-    )
-
-  -- where none stands
-  module _ (le : i ≤ length slots) (below : (k : ℕ) (d : Slot) → k < i → file_cmp (id_of (get_or slots k d)) file ≡ Less)
-      (above : (k : ℕ) (d : Slot) → i ≤ k → k < length slots → file_cmp (id_of (get_or slots k d)) file ≡ Greater) where
-    between : (s : Slot) → id_of s ≡ file → IsPlace slot_before slots s i
-    between s is =
-        record {
-          inside = le;
-          earlier = λ k d lt. ap (is_before (id_of (get_or slots k d))) is ∙ ap is_lt (below k d lt);
-          later = λ k d ge lt. ap (is_before (id_of (get_or slots k d))) is ∙ ap is_lt (above k d ge lt);
-        }
-
-    other : (d s : Slot) → id_of s ≡ file → i < length slots → same_slot (get_or slots i d) s ≡ false
-    other d s is lt =
-        ap (is_file (id_of (get_or slots i d))) is ∙ is_file-file_cmp (id_of (get_or slots i d)) file ∙ ap is_eq (above i d (omega arith) lt)
-
-    slot_missing : IsSlotPlace slots file (Err i)
-    slot_missing = (
-      le,
-      λ awake. none_there awake slots file (λ k d lt. none_same same_slot slot_before slot_order slots wanted i rising (between wanted refl) (λ e within. other e wanted refl within) k d lt),
-      λ awake s is. files_put awake slots s ∙ ap (states_of awake) (insert_there same_slot slot_before slot_order slots s i (between s is) (λ d lt. other d s is lt)),
-      λ s is.
-          sym (rise_by (insert slots i s))
-          ∙ rise_insert slots i s rising le (λ k d lt. (between s is).earlier k d lt)
-          (λ d lt. slot_order.total (get_or slots i d) s ((between s is).later i d (omega arith) lt) (other d s is lt)),
-    )
-
--- what the search of slots that rise answers
-pub searched : (slots : List Slot) (file : FileId) (r : Result ℕ ℕ) → slots_rise slots ≡ true → IsBinarySearchResult (λ y. file_cmp (id_of y) file) slots r
-    → IsSearchInRange r (length slots) → IsSlotPlace slots file r
-searched slots file (Ok i) up here bound = slot_found slots file i up bound here
-searched slots file (Err i) up there bound =
-    let parts = there (searchable slots file up) in
-    slot_missing slots file i up bound (λ k d lt. parts.0 k d (omega arith) lt) (λ k d ge lt. parts.1 k d ge lt)
-
--- ---- the slot that a message finds, or that is made for it
-
-get_or-insert : (slots : List Slot) (i : ℕ) (s d : Slot) → i ≤ length slots → get_or (insert slots i s) i d ≡ s
-get_or-insert [] zero s d le = refl
-get_or-insert [] (suc i) s d le = absurd (omega arith)
-get_or-insert (x ∷ xs) zero s d le = refl
-get_or-insert (x ∷ xs) (suc i) s d le = get_or-insert xs i s d (omega arith)
-
-set-insert : (slots : List Slot) (i : ℕ) (s t : Slot) → i ≤ length slots → set (insert slots i s) i t ≡ insert slots i t
-set-insert [] zero s t le = refl
-set-insert [] (suc i) s t le = absurd (omega arith)
-set-insert (x ∷ xs) zero s t le = refl
-set-insert (x ∷ xs) (suc i) s t le = ap (λ rest. x ∷ rest) (set-insert xs i s t (omega arith))
-
-within-insert : (slots : List Slot) (i : ℕ) (s : Slot) → i ≤ length slots → i < length (insert slots i s)
-within-insert [] zero s le = omega arith
-within-insert [] (suc i) s le = absurd (omega arith)
-within-insert (x ∷ xs) zero s le = omega arith
-within-insert (x ∷ xs) (suc i) s le =
-    let rest = within-insert xs i s (omega arith) in
-    omega arith
-
-sound-insert : (awake : Awake) (slots : List Slot) (i : ℕ) (s : Slot) → i ≤ length slots → AreSound awake slots → IsSoundSlot awake s → AreSound awake (insert slots i s)
-sound-insert awake [] zero s le all one = (one, tt)
-sound-insert awake [] (suc i) s le all one = absurd (omega arith)
-sound-insert awake (x ∷ xs) zero s le all one = (one, all)
-sound-insert awake (x ∷ xs) (suc i) s le all one = (all.0, sound-insert awake xs i s (omega arith) all.1 one)
-
-pub sound-set : (awake : Awake) (slots : List Slot) (i : ℕ) (s : Slot) → AreSound awake slots → IsSoundSlot awake s → AreSound awake (set slots i s)
-sound-set awake [] i s all one = tt
-sound-set awake (x ∷ xs) zero s all one = (one, all.1)
-sound-set awake (x ∷ xs) (suc i) s all one = (all.0, sound-set awake xs i s all.1 one)
-
-pub sound_at : (awake : Awake) (slots : List Slot) (i : ℕ) (d : Slot) → i < length slots → AreSound awake slots → IsSoundSlot awake (get_or slots i d)
-sound_at awake [] i d lt all = absurd (omega arith)
-sound_at awake (x ∷ xs) zero d lt all = all.0
-sound_at awake (x ∷ xs) (suc i) d lt all = sound_at awake xs i d (omega arith) all.1
-
--- what a file begins as rises
-new_row_rises : (file : FileId) → RowRises (new_row file)
-new_row_rises file =
-    record {
-      head =
-          record {
-            promise = record { place = omega arith; primary = omega arith };
-            place = record { tenure = record { place = omega arith; primary = omega arith }; writes = omega arith };
-            operation = record { who = omega arith; operation = omega arith };
-            after = record { truncation = omega arith; bytes = omega arith };
-            objects = record { few = omega arith; each = tt; rising = refl };
-            clients = record { few = omega arith; each = tt; rising = refl };
-            kept = refl;
-          };
-      list = tt;
-    }
-
--- a new row is put where the file has none
-pub put_made : (file : FileId) (slots : List Slot) (i : ℕ) (row : FileRow) → IsSlotPlace slots file (Err i) → row ≡ new_row file → IsMade file slots (insert slots i (slot.Row row)) i
-put_made file slots i row place is =
-    let s : Slot = slot.Row row in
-    let own : id_of s ≡ file = ap (λ (r : FileRow). r.file) is in
-    record {
-      inside = within-insert slots i s place.0;
-      own = λ d. ap id_of (get_or-insert slots i s d place.0) ∙ own;
-      state = λ awake d. ap (state_of awake) (get_or-insert slots i s d place.0) ∙ ap (file_from awake) is ∙ sym (place.1 awake);
-      put = λ awake t its. ap (states_of awake) (set-insert slots i s t place.0) ∙ sym (place.2 awake t its);
-      rising = λ t its. ap slots_rise (set-insert slots i s t place.0) ∙ place.3 t its;
-      sound = λ awake all. sound-insert awake slots i s place.0 all (subst RowRises (sym is) (new_row_rises file));
-    }
+-- the slot that was made for a file is changed
+pub put_made : (es : Slots) (file : FileId) (s q : Slot) → set_value (is_at (file_cmp file)) (insert_entry file_cmp es file s) q ≡ insert_entry file_cmp es file q
+put_made [] file s q = ap (λ t. let made : Slots = cond t ((file, q) ∷ []) ((file, s) ∷ []) in made) (own_file file)
+put_made (e ∷ es) file s q = go (put_made es file s q) (file_cmp file e.0) refl
+  where
+    go : set_value (is_at (file_cmp file)) (insert_entry file_cmp es file s) q ≡ insert_entry file_cmp es file q → (o : Ordering) → file_cmp file e.0 ≡ o
+        → set_value (is_at (file_cmp file)) (match_ordering o ((file, s) ∷ e ∷ es) ((e.0, s) ∷ es) (e ∷ insert_entry file_cmp es file s)) q
+        ≡ match_ordering o ((file, q) ∷ e ∷ es) ((e.0, q) ∷ es) (e ∷ insert_entry file_cmp es file q)
+    go later Less is = ap (λ t. let made : Slots = cond t ((file, q) ∷ e ∷ es) ((file, s) ∷ set_value (is_at (file_cmp file)) (e ∷ es) q) in made) (own_file file)
+    go later Equal is = ap (λ o. let made : Slots = cond (is_eq o) ((e.0, q) ∷ es) ((e.0, s) ∷ set_value (is_at (file_cmp file)) es q) in made) is
+    go later Greater is =
+        ap (λ o. let made : Slots = cond (is_eq o) ((e.0, q) ∷ insert_entry file_cmp es file s) (e ∷ set_value (is_at (file_cmp file)) (insert_entry file_cmp es file s) q) in made) is
+        ∙ ap (λ (rest : Slots). e ∷ rest) later

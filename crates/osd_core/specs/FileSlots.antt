@@ -1,5 +1,5 @@
 -- a file of an OSD: its row, until it is used, and a file from then on
-use Rattle.std.specs.Prelude.{ℕ, ◌≡◌, List}
+use Rattle.std.specs.Prelude.{ℕ, ◌≡◌, Bool, true, false, List}
 use Rattle.xt_base.specs.declared.ids.FileId.{FileId}
 use Rattle.xt_messages.specs.declared.record.KeepBody.{KeepBody}
 use Rattle.xt_protocol.specs.Forgetting.{file_without}
@@ -29,13 +29,19 @@ abbrev pub IsSoundSlot : Awake → Slot → Type 0
 IsSoundSlot awake (slot.Row row) = RowRises row
 IsSoundSlot awake (slot.File file) = file.awake ≡ awake
 
+-- whether its file rests, so that a Wake has nothing to do at it: one that is a row does
+abbrev pub slot_rests : Slot → Bool
+slot_rests (slot.Row row) = true
+slot_rests (slot.File file) = false
+
 -- A Wake of a slot: what a Wake gives at its file.
 pub record WakesSlot (now : ℕ) (awake : Awake) (old new : Slot) (woken : Woken) : Type 0 where
   pub sound : IsSoundSlot awake new
   pub file : IsWoken now (view_of awake old) (view_of awake new) woken
 
--- A slot whose file has forgotten the held bodies that aren't among these. It is of the same file, and stays as sound.
+-- A slot whose file has forgotten the held bodies that aren't among these. It is of the same file, stays as sound, and rests if it did.
 pub record ForgetsSlot (keep : List KeepBody) (old new : Slot) : Type 0 where
   pub file : id_of new ≡ id_of old
   pub state : (awake : Awake) → state_of awake new ≡ file_without keep (state_of awake old)
   pub sound : (awake : Awake) → IsSoundSlot awake old → IsSoundSlot awake new
+  pub rests : slot_rests new ≡ slot_rests old

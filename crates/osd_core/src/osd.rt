@@ -6,11 +6,11 @@ ghost use Rattle.xt_protocol.specs.OsdSteps.{event_handled, osd_from, step_of_os
 ghost use Rattle.osd_files.specs.Views.{site_at};
 ghost use Rattle.xt_messages.specs.Limits.{FitsEvent};
 ghost use Rattle.osd_core.specs.Keys.{FitsKey, sealed_by, stops_by, outside_of};
-ghost use Rattle.osd_core.specs.Slots.{AreRows, AreSlots, StepsFiles};
+ghost use Rattle.osd_core.specs.Slots.{AreMet, AreRows, StepsFiles};
 
 use crate::messages::{is_sealed, stops};
-use crate::slot::Slot;
-use crate::slots::{forget_all, keep_all, slots_from, take, wake};
+use crate::met::MetFiles;
+use crate::slots::{clear, forget_all, keep_all, met_from, take, wake};
 use flease::{Awake, Silent};
 use object_versions::{Bodies, SoughtBodies, StepErr};
 use std::alloc::Global;
@@ -27,7 +27,7 @@ pub struct Osd {
     silent: Silent,
     /// The clock that was used last.
     last: u64,
-    slots: Vec<Slot>,
+    met: MetFiles,
 }
 
 // A derived drop is part of the code of each function that may drop a value. This one is proved once.
@@ -39,7 +39,7 @@ impl Drop for Osd {
             node: _,
             silent: _,
             last: _,
-            slots: _,
+            met: _,
         } = self;
     }
 }
@@ -56,39 +56,39 @@ impl Model for Osd {
           state = record {
             started = o.silent;
             last = o.last;
-            files = states_of (awake_of o.silent) o.slots.items;
+            files = states_of (awake_of o.silent) o.met.slots.entries;
           };
         } };
 
-    ghost invariant = { λ o. IsOsd o.key o.node o.silent o.last o.slots.items };
+    ghost invariant = { λ o. IsOsd o.key o.node o.silent o.last o.met };
 }
 
-/// An event at a clock, when the silence is over. After an error the slots aren't to be used again.
+/// An event at a clock, when the silence is over. After an error the files aren't to be used again.
 fn handle<B: Bodies>(
     alloc: Global,
     key: &Option<Octets>,
-    slots: &mut Vec<Slot>,
+    met: &mut MetFiles,
     awake: Awake,
     bodies: &mut B,
     now: u64,
     ev: &Event,
 ) -> Result<Turned, StepErr>
     requires key { IfSome key.now FitsKey }
-    requires slots { AreSlots awake slots.old.items }
+    requires met { AreMet awake met.old }
     requires clock { now < 2 ^ 62 }
     requires fits { FitsEvent ev.now }
     ensures step { IfOk result (λ turned.
         StepsFiles (λ files.
         event_handled (site_at awake now (sealed_by key.now) (body_by (B.records bodies.old))) awake
-        files ev.now) awake slots.old.items slots.new.items turned) }
+        files ev.now) awake met.old met.new turned) }
     ensures reads { ReadsOnly B.records B.fault_count bodies.old bodies.new (fault_of result) }
 {
     match ev {
         Event::Deliver(msg) => {
             let sealed = is_sealed(alloc, key, &msg.payload)?;
-            take(alloc, slots, awake, bodies, now, sealed, msg)
+            take(alloc, met, awake, bodies, now, sealed, msg)
         }
-        Event::Wake => Ok(wake(alloc, slots, awake, now)?),
+        Event::Wake => Ok(wake(alloc, met, awake, now)?),
         Event::Call(_) => Ok(quiet(alloc)),
     }
 }
@@ -121,7 +121,7 @@ impl Osd {
             node,
             silent: Silent::new(times, node, boot, now),
             last: now,
-            slots: slots_from(alloc, folded.files)?,
+            met: met_from(alloc, folded.files)?,
         })
     }
 
@@ -146,18 +146,10 @@ impl Osd {
             return Ok(quiet(self.alloc));
         };
         self.last = now;
-        match handle(
-            self.alloc,
-            &self.key,
-            &mut self.slots,
-            awake,
-            bodies,
-            now,
-            ev,
-        ) {
+        match handle(self.alloc, &self.key, &mut self.met, awake, bodies, now, ev) {
             Ok(turned) => Ok(turned),
             Err(error) => {
-                self.slots.clear();
+                clear(&mut self.met);
                 Err(error)
             }
         }
@@ -168,7 +160,7 @@ impl Osd {
         ensures { IfOk result (λ keep. keep ≡ keep_of self.now.state) }
     {
         let mut keep = Seq::new(self.alloc);
-        match keep_all(self.alloc, self.slots.as_slice(), &mut keep) {
+        match keep_all(self.alloc, &self.met, &mut keep) {
             Ok(()) => Ok(keep),
             Err(error) => {
                 drop(keep);
@@ -182,7 +174,7 @@ impl Osd {
         ensures { self.new ≡ record self.old { state = osd_without keep.now self.old.state } }
     {
         let keep = SoughtBodies::of(keep);
-        forget_all(self.slots.as_mut_slice(), &keep);
+        forget_all(&mut self.met, &keep);
     }
 
     /// The node.

@@ -9,7 +9,7 @@ ghost use Rattle.xt_protocol.specs.FileSteps.{step_of_file};
 ghost use Rattle.xt_protocol.specs.Forgetting.{needed_of, row_without};
 ghost use Rattle.osd_files.specs.Whole.{IsRowOn};
 ghost use Rattle.object_versions.specs.Keeping.{needed_among};
-ghost use Rattle.osd_core.specs.FileSlots.{id_of, state_of, view_of, ForgetsSlot, IsSoundSlot, WakesSlot};
+ghost use Rattle.osd_core.specs.FileSlots.{slot_rests, state_of, view_of, ForgetsSlot, IsSoundSlot, WakesSlot};
 
 use flease::Awake;
 use object_versions::{
@@ -84,13 +84,13 @@ fn forget_in(row: &mut FileRow, keep: &SoughtBodies<'_>)
 }
 
 impl Slot {
-    /// The file that it is of.
-    pub fn id(&self) -> FileId
-        ensures { result ≡ id_of self.now }
+    /// Whether its file rests, so that a Wake has nothing to do at it: a row does.
+    pub fn rests(&self) -> bool
+        ensures { result ≡ slot_rests self.now }
     {
         match self {
-            Slot::Row(row) => row.file,
-            Slot::File(file) => file.id(),
+            Slot::Row(_) => true,
+            Slot::File(_) => false,
         }
     }
 

@@ -1,8 +1,10 @@
-ghost use Rattle.std.specs.Prelude.{◌≡◌, ◌<◌, ◌^◌, ◌++◌, ℕ, List, Bool, IfOk, OnOk, IsTrue, flat_map};
+ghost use Rattle.std.specs.Prelude.{◌≡◌, ◌<◌, ◌^◌, ◌++◌, ℕ, List, Bool, [], IfOk, OnOk, flat_map};
+ghost use Rattle.std.specs.BTreeMap.{get};
 ghost use Rattle.xt_messages.specs.Limits.{FitsPayload};
 ghost use Rattle.xt_base.specs.declared.ids.FileId.{FileId};
 ghost use Rattle.xt_base.specs.declared.ids.Stamp.{Stamp};
 ghost use Rattle.xt_messages.specs.declared.file.Capability.{Capability};
+ghost use Rattle.xt_protocol.specs.FileIds.{file_cmp};
 ghost use Rattle.xt_protocol.specs.Forgetting.{needed_of};
 ghost use Rattle.xt_protocol.specs.LeaseRows.{Awake};
 ghost use Rattle.xt_protocol.specs.SeenBodies.{body_by};
@@ -11,14 +13,17 @@ ghost use Rattle.xt_protocol.specs.Turns.{joined, quiet};
 ghost use Rattle.xt_protocol.specs.OsdSteps.{asks_dir, file_concerned, message_handled, woken};
 ghost use Rattle.osd_files.specs.Views.{site_at};
 ghost use Rattle.osd_files.specs.Whole.{IsSealedBy};
-ghost use Rattle.osd_core.specs.Slots.{slots_rise, slots_from, states_of, AreSound, ForgetsSlots, AreSlots, IsSlotPlace, IsMade, WakesMore, WakesSlots, WakesBehind, StepsFiles};
+ghost use Rattle.osd_core.specs.Slots.{slots_from, states_of, AreMet, AreRows, ForgetsMet, IsMade, IsMet, StaysBusy, StepsFiles, WakesBehind, WakesBusy, WakesIfMet, WakesMet, WakesMore};
 
 use crate::messages::file_concerned;
+use crate::met::MetFiles;
 use crate::slot::{Slot, new_row, no_news};
 use flease::Awake;
 use object_versions::{Bodies, SoughtBodies, StepErr};
 use osd_files::Woken;
 use std::alloc::Global;
+use std::collections::{BTreeMap, BTreeSet};
+use std::mem;
 use xt_base::{DIR_NODE, FileId, NodeId, OutOfMemory};
 use xt_messages::{FileTable, Keep, Msg, Payload, RegistryReq};
 use xt_protocol::{Turned, extend, message, quiet, sends_one};
@@ -26,65 +31,84 @@ use xt_protocol::{Turned, extend, message, quiet, sends_one};
 /// The kind of an OSD in the registry.
 const OSD: u8 = 1;
 
-/// Rows as the slots of an OSD.
-pub fn slots_from(alloc: Global, rows: FileTable) -> Result<Vec<Slot>, OutOfMemory>
-    ensures { IfOk result (λ slots. slots.items ≡ slots_from rows) }
+/// The files that records tell of, as an OSD meets them at its start: all rest.
+pub fn met_from(alloc: Global, rows: FileTable) -> Result<MetFiles, OutOfMemory>
+    requires { AreRows rows }
+    ensures { IfOk result (λ met. met.slots.entries ≡ slots_from rows) }
 {
-    let mut slots = Vec::with_capacity(alloc, rows.len())?;
+    let mut slots = BTreeMap::new(alloc);
     for row in rows.items {
-        slots.push(Slot::Row(row))?;
+        slots.insert(row.file, Slot::Row(row))?;
     }
-    Ok(slots)
+    Ok(MetFiles {
+        slots,
+        busy: BTreeSet::new(alloc),
+    })
 }
 
-/// Where the slot of a file stands, or else belongs.
-fn slot_place(slots: &[Slot], file: &FileId) -> Result<usize, usize>
-    requires { IsTrue (slots_rise slots.now) }
-    ensures { IsSlotPlace slots.now file.now result }
+/// No files.
+pub fn clear(met: &mut MetFiles)
+    ensures { (awake : Awake) → AreMet awake met.new }
 {
-    slots.binary_search_by_key(file, |slot| slot.id())
+    met.slots.clear();
+    met.busy.clear();
 }
 
-/// Where the slot of a file stands: a new one, in its place, where there was none.
-fn slot_made(alloc: Global, slots: &mut Vec<Slot>, file: &FileId) -> Result<usize, OutOfMemory>
-    requires { IsTrue (slots_rise slots.old.items) }
-    ensures { IfOk result (λ place. IsMade file.now slots.old.items slots.new.items place) }
+/// Makes a slot for a file that has none: a new row's.
+fn make_slot(
+    alloc: Global,
+    slots: &mut BTreeMap<FileId, Slot>,
+    file: &FileId,
+) -> Result<(), OutOfMemory>
+    ensures { OnOk result (IsMade file.now slots.old slots.new (get file_cmp slots.old file.now)) }
 {
-    match slot_place(slots.as_slice(), file) {
-        Ok(place) => Ok(place),
-        Err(place) => {
-            slots.insert(place, Slot::Row(new_row(alloc, *file)))?;
-            Ok(place)
+    match slots.get(file) {
+        Some(_) => Ok(()),
+        None => {
+            slots.insert(*file, Slot::Row(new_row(alloc, *file)))?;
+            Ok(())
         }
     }
 }
 
+/// Meets a file: it has a slot then, and is busy.
+fn meet(alloc: Global, met: &mut MetFiles, file: &FileId) -> Result<(), OutOfMemory>
+    ensures { OnOk result (IsMet file.now met.old met.new) }
+{
+    make_slot(alloc, &mut met.slots, file)?;
+    met.busy.insert(*file)?;
+    Ok(())
+}
+
 /// A message at a clock: the step of the file that it concerns, if it concerns one. `sealed` says whether the tag of an ask's
-/// capability is the key's. After an error the slots aren't to be used again.
+/// capability is the key's. After an error the files aren't to be used again.
 pub fn take<B: Bodies>(
     alloc: Global,
-    slots: &mut Vec<Slot>,
+    met: &mut MetFiles,
     awake: Awake,
     bodies: &mut B,
     now: u64,
     sealed: bool,
     msg: &Msg,
 ) -> Result<Turned, StepErr>
-    requires slots { AreSlots awake slots.old.items }
+    requires met { AreMet awake met.old }
     requires clock { now < 2 ^ 62 }
     requires fits { FitsPayload msg.now.payload }
     ensures step { IfOk result (λ turned. (test : Capability → Bool) →
         IsSealedBy test msg.now.payload sealed →
         StepsFiles (λ files.
         message_handled (site_at awake now test (body_by (B.records bodies.old))) awake files
-        msg.now (file_concerned msg.now.payload)) awake slots.old.items slots.new.items turned) }
+        msg.now (file_concerned msg.now.payload)) awake met.old met.new turned) }
     ensures reads { ReadsOnly B.records B.fault_count bodies.old bodies.new (fault_of result) }
 {
     let Some(file) = file_concerned(&msg.payload) else {
         return Ok(quiet(alloc));
     };
-    let place = slot_made(alloc, slots, &file)?;
-    slots[place].take(alloc, awake, bodies, now, sealed, msg)
+    meet(alloc, met, &file)?;
+    let Some(slot) = met.slots.get_mut(&file) else {
+        unreachable!()
+    };
+    slot.take(alloc, awake, bodies, now, sealed, msg)
 }
 
 /// A Wake at the next file: what it gives stands after what others gave.
@@ -107,33 +131,70 @@ fn take_woken(woken: &mut Woken, next: &mut Woken) -> Result<(), OutOfMemory>
     extend(&mut woken.again, &mut next.again)
 }
 
-/// A Wake at each file, in order: what each gives stands after what others gave.
+/// A file stays busy unless it rests.
+fn stay_busy(busy: &mut BTreeSet<FileId>, file: &FileId, rests: bool) -> Result<(), OutOfMemory>
+    ensures { OnOk result (StaysBusy file.now rests busy.old busy.new) }
+{
+    if rests {
+        return Ok(());
+    }
+    busy.insert(*file)?;
+    Ok(())
+}
+
+/// A Wake at a file, if it has a slot: what it gives stands after what others gave, and the file stays busy unless it rests then.
+fn wake_at(
+    alloc: Global,
+    slots: &mut BTreeMap<FileId, Slot>,
+    busy: &mut BTreeSet<FileId>,
+    woken: &mut Woken,
+    file: &FileId,
+    now: u64,
+) -> Result<(), OutOfMemory>
+    requires { now < 2 ^ 62 }
+    ensures { OnOk result (WakesIfMet now file.now slots.old slots.new busy.old busy.new woken.old
+        woken.new (get file_cmp slots.old file.now)) }
+{
+    match slots.get_mut(file) {
+        Some(slot) => {
+            wake_more(alloc, slot, woken, now)?;
+            stay_busy(busy, file, slot.rests())?;
+            Ok(())
+        }
+        None => Ok(()),
+    }
+}
+
+/// A Wake at each of these files, in order: what each gives stands after what others gave. Those that don't rest afterwards are
+/// busy then.
 fn wake_all(
     alloc: Global,
-    slots: &mut [Slot],
+    slots: &mut BTreeMap<FileId, Slot>,
+    files: BTreeSet<FileId>,
+    busy: &mut BTreeSet<FileId>,
     woken: &mut Woken,
     now: u64,
 ) -> Result<(), OutOfMemory>
     requires clock { now < 2 ^ 62 }
+    requires none { busy.old.keys ≡ [] }
     requires overdue { woken.old.overdue ≡ quiet }
     requires again { woken.old.again ≡ quiet }
-    ensures { OnOk result ((awake : Awake) → AreSound awake slots.old →
-        WakesSlots now awake slots.old slots.new woken.new) }
+    ensures { OnOk result (WakesBusy now files.keys slots.old slots.new busy.new woken.new) }
 {
-    for slot in slots.iter_mut() {
-        wake_more(alloc, slot, woken, now)?;
+    for file in files {
+        wake_at(alloc, slots, busy, woken, &file, now)?;
     }
     Ok(())
 }
 
-/// What a Wake gives at each file, in order: what is overdue, and apart from it the rows of a Wake.
-fn wake_each(alloc: Global, slots: &mut [Slot], now: u64) -> Result<Woken, OutOfMemory>
+/// What a Wake gives at each file, in order: what is overdue, and apart from it the rows of a Wake. Only busy files are looked at.
+fn wake_each(alloc: Global, met: &mut MetFiles, now: u64) -> Result<Woken, OutOfMemory>
     requires { now < 2 ^ 62 }
-    ensures { IfOk result (λ woken. (awake : Awake) → AreSound awake slots.old →
-        WakesSlots now awake slots.old slots.new woken) }
+    ensures { IfOk result (λ woken. WakesMet now met.old met.new woken) }
 {
+    let files = mem::replace(&mut met.busy, BTreeSet::new(alloc));
     let mut woken = no_news(alloc);
-    match wake_all(alloc, slots, &mut woken, now) {
+    match wake_all(alloc, &mut met.slots, files, &mut met.busy, &mut woken, now) {
         Ok(()) => Ok(woken),
         Err(error) => {
             drop(woken);
@@ -155,22 +216,21 @@ fn asks_dir(node: NodeId) -> Msg
 }
 
 /// A Wake at a clock: the DIR is asked for the OSDs; then what is overdue at each file; then the rows of a Wake for each file.
-/// After an error the slots aren't to be used again.
+/// After an error the files aren't to be used again.
 pub fn wake(
     alloc: Global,
-    slots: &mut Vec<Slot>,
+    met: &mut MetFiles,
     awake: Awake,
     now: u64,
 ) -> Result<Turned, OutOfMemory>
-    requires slots { AreSlots awake slots.old.items }
+    requires met { AreMet awake met.old }
     requires clock { now < 2 ^ 62 }
     ensures { IfOk result (λ turned.
         (sealed : Capability → Bool) (body : FileId → ℕ → Stamp → List ℕ) →
-        StepsFiles (woken (site_at awake now sealed body)) awake slots.old.items slots.new.items
-        turned) }
+        StepsFiles (woken (site_at awake now sealed body)) awake met.old met.new turned) }
 {
     let mut turned = sends_one(alloc, asks_dir(awake.node()))?;
-    match wake_behind(alloc, slots.as_mut_slice(), &mut turned, now) {
+    match wake_behind(alloc, met, &mut turned, now) {
         Ok(()) => Ok(turned),
         Err(error) => Err(error),
     }
@@ -179,14 +239,14 @@ pub fn wake(
 /// A Wake at the files, after what was asked: what is overdue at each, and then the rows of a Wake.
 fn wake_behind(
     alloc: Global,
-    slots: &mut [Slot],
+    met: &mut MetFiles,
     turned: &mut Turned,
     now: u64,
 ) -> Result<(), OutOfMemory>
     requires { now < 2 ^ 62 }
-    ensures { OnOk result (WakesBehind now slots.old slots.new turned.old turned.new) }
+    ensures { OnOk result (WakesBehind now met.old met.new turned.old turned.new) }
 {
-    let mut woken = wake_each(alloc, slots, now)?;
+    let mut woken = wake_each(alloc, met, now)?;
     let taken = take_files(turned, &mut woken);
     drop(woken);
     taken
@@ -202,21 +262,23 @@ fn take_files(turned: &mut Turned, woken: &mut Woken) -> Result<(), OutOfMemory>
 }
 
 /// Puts the held bodies that the files need after those that are to be kept already, file by file.
-pub fn keep_all(alloc: Global, slots: &[Slot], keep: &mut Keep) -> Result<(), OutOfMemory>
-    ensures { OnOk result ((awake : Awake) → AreSound awake slots.now →
-        keep.new ≡ keep.old ++ flat_map (needed_of awake.node) (states_of awake slots.now)) }
+pub fn keep_all(alloc: Global, met: &MetFiles, keep: &mut Keep) -> Result<(), OutOfMemory>
+    ensures { OnOk result ((awake : Awake) → AreMet awake met.now →
+        keep.new ≡ keep.old ++
+        flat_map (needed_of awake.node) (states_of awake met.now.slots.entries)) }
 {
-    for slot in slots {
+    for slot in met.slots.values() {
         slot.keep(alloc, keep)?;
     }
     Ok(())
 }
 
 /// Forgets the held bodies of all files that aren't to be kept. It takes no memory.
-pub fn forget_all(slots: &mut [Slot], keep: &SoughtBodies<'_>)
-    ensures { ForgetsSlots keep.now slots.old slots.new }
+pub fn forget_all(met: &mut MetFiles, keep: &SoughtBodies<'_>)
+    ensures { ForgetsMet keep.now met.old met.new }
 {
-    for slot in slots.iter_mut() {
+    met.slots.retain(|_, slot| {
         slot.forget(keep);
-    }
+        true
+    });
 }

@@ -1,18 +1,24 @@
-use Rattle.std.proofs.Common.{arith, subst, sym}
-use Rattle.xt_protocol.specs.LeaseRows.{Awake}
-use Rattle.osd_core.specs.declared.slot.Slot.{Slot}
-use Rattle.osd_core.specs.FileSlots.{IsSoundSlot, WakesSlot}
-use Rattle.osd_core.proofs.Waking.{none_so_far, more_so_far, all_so_far}
+use Rattle.std.proofs.Common.{subst, List}
+use Rattle.std.proofs.lemmas.Map.Iter.{rest_all, rest_more}
+use Rattle.xt_base.specs.declared.ids.FileId.{FileId}
+use Rattle.osd_core.proofs.Waking.{WokeSoFar, none_so_far, more_so_far, all_so_far}
 use Rattle.osd_core.proofs.slots.wake_all.Goals as goal
 
-pub loop-slot-init : goal.loop-slot-init
-loop-slot-init c = none_so_far c.args.now c.args.slots.now c.args.woken.now c.requires.overdue c.requires.again
+pub loop-file-init : goal.loop-file-init
+loop-file-init c =
+    let begins = c.into_iter-file-iterator.ensures.into_iter_gives in
+    none_so_far c.args.now c.args.files.keys c.into_iter-file-iterator.result c.args.slots.now c.args.busy.now c.args.woken.now begins.4 begins.0 c.requires.none c.requires.overdue c.requires.again
 
-pub loop-slot-preserved : goal.loop-slot-preserved
-loop-slot-preserved c =
-    let more = c.in_ok-wake_more.ensures in
-    more_so_far c.args.now c.args.slots.now c.loop-slot.slots c.loop-slot.slot-index c.slot-item.result c.wake_more.new.slot c.loop-slot.woken more.next (omega (arith, c.loop-slot-test.true, c.loop-slot.auto.slots)) c.slot-item.is
-    (subst (λ (s : Slot). (awake : Awake) → IsSoundSlot awake s → WakesSlot c.args.now awake s c.wake_more.new.slot more.next) (sym c.slot-item.is) more.woke) c.loop-slot.invariant c.wake_more.new.woken more.overdue more.again
+pub loop-file-preserved : goal.loop-file-preserved
+loop-file-preserved c =
+    let l = c.loop-file in
+    let file = c.in-Some.file in
+    let next = rest_more (λ (x : FileId). x) l.file-iterator c.next.new.self c.next.result file c.in-Some.is c.next.ensures.steps in
+    let so_far = subst (λ (left : List FileId). WokeSoFar c.args.now c.args.files.keys left c.args.slots.now l.slots l.busy l.woken) next l.invariant in
+    more_so_far c.args.now c.args.files.keys c.next.new.self file c.args.slots.now l.slots c.wake_at.new.slots l.busy c.wake_at.new.busy l.woken c.wake_at.new.woken so_far c.in_ok-wake_at.ensures
 
 pub returns : goal.returns
-returns c = all_so_far c.args.now c.args.slots.now c.loop-slot.slots c.loop-slot.slot-index c.loop-slot.woken (omega (arith, c.loop-slot-test.false, c.loop-slot.auto.slots)) c.loop-slot.invariant
+returns c =
+    let l = c.loop-file in
+    let none = rest_all (λ (x : FileId). x) l.file-iterator c.next.new.self c.next.result c.in-None.is c.next.ensures.steps in
+    all_so_far c.args.now c.args.files.keys l.file-iterator c.args.slots.now l.slots l.busy l.woken none l.invariant

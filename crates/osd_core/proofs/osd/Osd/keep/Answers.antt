@@ -1,9 +1,8 @@
-use Rattle.std.proofs.Common.{◌≡◌, ◌++◌, ◌∙◌, ap, subst, sym, List}
+use Rattle.std.proofs.Common.{◌≡◌, ◌++◌, ◌∙◌, ap, subst, List}
 use Rattle.std.specs.Prelude.{flat_map}
 use Rattle.xt_messages.specs.declared.record.KeepBody.{KeepBody}
 use Rattle.xt_protocol.specs.Forgetting.{keep_of, needed_of}
-use Rattle.osd_core.specs.declared.slot.Slot.{Slot}
-use Rattle.osd_core.specs.Slots.{awake_of, states_of, AreSound}
+use Rattle.osd_core.specs.Slots.{awake_of, states_of}
 use Rattle.osd_core.specs.Views.{OsdView}
 use Rattle.osd_core.proofs.osd.Osd.keep.Goals as goal
 
@@ -13,9 +12,6 @@ returns-in-Ok c =
     let o = c.self.inside in
     let awake = awake_of o.silent in
     let made = c.keep_all.new.keep in
-    let needed : List Slot → List KeepBody = λ slots. flat_map (needed_of awake.node) (states_of awake slots) in
-    let sound = subst (λ (slots : List Slot). AreSound awake slots) (sym c.as_slice.ensures.value) c.self.invariant.files.each in
+    let needed : List KeepBody = flat_map (needed_of awake.node) (states_of awake o.met.slots.entries) in
     subst (λ (v : OsdView). made ≡ keep_of v.state) c.self.view_is
-    (c.in-Ok.ensures awake sound
-    ∙ ap (λ (xs : List KeepBody). xs ++ needed c.as_slice.result.now) c.new-keep.ensures
-    ∙ ap needed c.as_slice.ensures.value)
+    (c.in-Ok.ensures awake c.self.invariant.files ∙ ap (λ (xs : List KeepBody). xs ++ needed) c.new-keep.ensures)

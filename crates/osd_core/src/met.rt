@@ -1,0 +1,17 @@
+use crate::slot::Slot;
+use std::collections::{BTreeMap, BTreeSet};
+use xt_base::FileId;
+
+/// The files that an OSD has met, by their order, and beside them those that are busy: those that a message has concerned. All
+/// others are rows of the records, and rest, so that a Wake looks at the busy ones alone.
+pub struct MetFiles {
+    pub slots: BTreeMap<FileId, Slot>,
+    pub busy: BTreeSet<FileId>,
+}
+
+// A derived drop is part of the code of each function that may drop a value. This one is proved once.
+impl Drop for MetFiles {
+    fn drop(self) {
+        let MetFiles { slots: _, busy: _ } = self;
+    }
+}
