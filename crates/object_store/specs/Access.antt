@@ -2,6 +2,8 @@
 use Rattle.std.specs.Prelude.{List}
 use Rattle.disk_model.specs.declared.disk.Disk.{Ghosts}
 use Rattle.xt_messages.specs.declared.record.Record.{Record}
+use Rattle.journal_areas.specs.declared.site.Area.{Area}
+use Rattle.journal_areas.specs.Sites as sites
 use Rattle.xt_journal.specs.declared.journal.Journal.{Journal}
 use Rattle.xt_journal.specs.Access as journal
 use Rattle.replica_records.specs.Logs.{records_in}
@@ -17,3 +19,7 @@ module _ {D : Type 0} {g : Ghosts D} where
   -- the records that it keeps, in order
   abbrev pub records_of : Store D g → List Record
   records_of store = records_in store.log
+
+  -- the area of its journal that counts
+  abbrev pub area_of : Store D g → Area
+  area_of store = sites.area_of (journal.superblock_of store.journal) (journal.place_of store.journal)

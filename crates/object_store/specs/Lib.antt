@@ -6,3 +6,4 @@ pub mod Access
 pub mod Loading
 pub mod Answers
 pub mod Puts
+pub mod Swaps

@@ -4,7 +4,7 @@ use Rattle.disk_model.specs.declared.disk.Disk.{Ghosts}
 use Rattle.disk_model.specs.Disk.{IsImage, LeavesOnly}
 use Rattle.xt_base.specs.Faults.{counted, fault_count_after}
 use Rattle.xt_messages.specs.declared.record.Record.{Record}
-use Rattle.xt_journal.specs.Access.{place_of, limit_of}
+use Rattle.xt_journal.specs.Access.{place_of, limit_of, superblock_of}
 use Rattle.xt_journal.specs.Append.{IsStopped, IsWithOrWithout}
 use Rattle.journal_records.specs.Calls.{AllSucceed, GoesOn}
 use Rattle.xt_journal.specs.Format.{StandsFor}
@@ -20,12 +20,14 @@ use Rattle.object_store.specs.Texts.{texts_of}
 abbrev pub needed_for : {D : Type 0} {g : Ghosts D} → Store D g → Record → ℕ
 needed_for old rec = place_of (journal_of old) + (6 + length (record_text rec))
 
--- The record comes after the others, in memory and on the disk, and each crash leaves it from now on. All four calls succeeded.
+-- The record comes after the others, in memory and on the disk, and each crash leaves it from now on. The journal's superblock is as it was.
+-- All four calls succeeded.
 pub record IsPut {D : Type 0} {g : Ghosts D} (old : Store D g) (rec : Record) (new : Store D g) : Type 0 where
   pub records : records_of new ≡ records_of old ++ rec ∷ []
   pub acknowledged : IsTrue g.is_told → (image : List ℕ) → IsImage (g.kept (disk_of new)) image → StandsFor image (texts_of (records_of old ++ rec ∷ []))
   pub place : place_of (journal_of new) ≡ place_of (journal_of old) + (5 + length (record_text rec))
   pub limit : limit_of (journal_of new) ≡ limit_of (journal_of old)
+  pub superblock : superblock_of (journal_of new) ≡ superblock_of (journal_of old)
   pub succeeded : IsTrue g.is_told → AllSucceed (g.fails (disk_of old)) 4
   pub plan : IsTrue g.is_told → GoesOn 0 4 (g.fails (disk_of old)) (g.fails (disk_of new))
   pub room : needed_for old rec ≤ limit_of (journal_of old)
@@ -33,7 +35,7 @@ pub record IsPut {D : Type 0} {g : Ghosts D} (old : Store D g) (rec : Record) (n
 -- One of the four calls failed, which tells what a crash leaves: the old records, with the new one or without it.
 pub record IsBroken {D : Type 0} {g : Ghosts D} (old : Store D g) (rec : Record) (count : ℕ) (disk : D) : Type 0 where
   pub left : IsTrue g.is_told → (image : List ℕ) → IsImage (g.kept disk) image → IsWithOrWithout (texts_of (records_of old)) (record_text rec) image
-  pub stopped : IsTrue g.is_told → IsStopped (g.fails (disk_of old)) (g.kept disk) (texts_of (records_of old)) (record_text rec)
+  pub stopped : IsTrue g.is_told → IsStopped (superblock_of (journal_of old)) (g.fails (disk_of old)) (g.kept disk) (texts_of (records_of old)) (record_text rec)
   pub fault : count ≡ g.fault_count disk
   pub room : needed_for old rec ≤ limit_of (journal_of old)
 
@@ -51,6 +53,7 @@ pub record IsUntried {D : Type 0} {g : Ghosts D} (old new : Store D g) : Type 0 
   pub kept : g.kept (disk_of new) ≡ g.kept (disk_of old)
   pub place : place_of (journal_of new) ≡ place_of (journal_of old)
   pub limit : limit_of (journal_of new) ≡ limit_of (journal_of old)
+  pub superblock : superblock_of (journal_of new) ≡ superblock_of (journal_of old)
   pub no_call : IsTrue g.is_told → GoesOn 0 0 (g.fails (disk_of old)) (g.fails (disk_of new))
 
 -- what comes of it

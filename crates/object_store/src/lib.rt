@@ -2,7 +2,8 @@
 //!
 //! A store is loaded from a journal whose payloads are records, each in its place after those before it; else the first
 //! payload that isn't is told. A record that is put is on the disk before it is in the store, and a crash at any moment
-//! leaves the records from before, with the new one or without it. A body is found by its file, object and version.
+//! leaves the records from before, with the new one or without it. All records may be swapped for others at once, and a crash then leaves
+//! the old ones or the new ones. A body is found by its file, object and version.
 #![tactic(auto)]
 
 mod bodies;
@@ -11,6 +12,7 @@ mod laws;
 mod loading;
 mod preparing;
 mod store;
+mod swapping;
 
 pub use errors::{AppendErr, StoreErr};
 pub use laws::loads_what_was_put;

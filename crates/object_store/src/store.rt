@@ -9,6 +9,7 @@ use crate::errors::{AppendErr, StoreErr};
 use crate::loading::{Trouble, read_all};
 use crate::preparing::prepared;
 use disk_model::Disk;
+use journal_areas::Area;
 use replica_records::RecordLog;
 use std::alloc::Global;
 use xt_journal::{Journal, Placed};
@@ -100,6 +101,20 @@ impl<D: Disk> Store<D> {
         ensures { result.now ≡ store.records_of self.now }
     {
         self.log.as_slice()
+    }
+
+    /// The records, each with the place of the body that it puts.
+    pub fn log(&self) -> &RecordLog
+        ensures { records_in result.now ≡ store.records_of self.now }
+    {
+        &self.log
+    }
+
+    /// The area of its journal that counts.
+    pub fn area(&self) -> Area
+        ensures { result ≡ store.area_of self.now }
+    {
+        self.journal.area()
     }
 
     /// The disk, to be looked at.

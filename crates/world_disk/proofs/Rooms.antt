@@ -10,10 +10,11 @@ use Rattle.xt_messages.specs.Limits.{FitsRecord}
 use Rattle.xt_messages.specs.declared.record.Record.{Record}
 use Rattle.replica_records.specs.RecordText.{record_text}
 use Rattle.replica_records.proofs.PayloadLength.{text_bound}
-use Rattle.xt_journal.specs.Access.{place_of, limit_of}
-use Rattle.xt_journal.specs.Format.{end_of}
+use Rattle.xt_journal.specs.Access.{place_of, limit_of, superblock_of}
+use Rattle.journal_areas.specs.declared.superblock.Superblock.{Superblock}
+use Rattle.xt_journal.specs.Format.{end_in, end_of, KeepsIn}
 use Rattle.xt_journal.proofs.Push.{end_of-push}
-use Rattle.xt_journal.proofs.Steps.{place_of_end}
+use Rattle.xt_journal.proofs.Steps.{keeps_in, place_of_end}
 use Rattle.object_store.specs.declared.store.Store.{Store}
 use Rattle.object_store.specs.Access.{journal_of, disk_of, records_of}
 use Rattle.object_store.specs.Texts.{texts_of}
@@ -33,8 +34,16 @@ past n limit over lt = grind (arith, nat_tests)
 uncounted : (n len : ℕ) → n ≤ JOURNAL → len ≤ 262144 → counted (n + (6 + len)) ≡ n + (6 + len)
 uncounted n len short few = omega arith
 
+-- what the disk of a store keeps whose journal has no superblock
+pub keeps_plain : {D : Type 0} {g : Ghosts D} (store : Store D g) → IsTrue g.is_told → superblock_of (journal_of store) ≡ None
+    → KeepsIn None (g.kept (disk_of store)) (texts_of (records_of store))
+keeps_plain {g = g} store told plain =
+    subst (λ (super : Option Superblock). KeepsIn super (g.kept (disk_of store)) (texts_of (records_of store))) plain
+    (keeps_in (superblock_of (journal_of store)) (g.kept (disk_of store)) (place_of (journal_of store)) (texts_of (records_of store)) (store.journal.ends told) (store.keeps told))
+
 -- what a put into a store tells of its room
-module _ {D : Type 0} {g : Ghosts D} (store : Store D g) (told : IsTrue g.is_told) (rec : Record) (limited : limit_of (journal_of store) ≡ JOURNAL) where
+module _ {D : Type 0} {g : Ghosts D} (store : Store D g) (told : IsTrue g.is_told) (rec : Record) (limited : limit_of (journal_of store) ≡ JOURNAL)
+    (plain : superblock_of (journal_of store) ≡ None) where
   abbrev records : List Record
   records = records_of store
 
@@ -42,7 +51,9 @@ module _ {D : Type 0} {g : Ghosts D} (store : Store D g) (told : IsTrue g.is_tol
   place = place_of (journal_of store)
 
   ends : place ≡ end_of (texts_of records)
-  ends = place_of_end (g.kept (disk_of store)) place (texts_of records) (store.journal.ends told) (store.keeps told)
+  ends =
+      place_of_end (superblock_of (journal_of store)) (g.kept (disk_of store)) place (texts_of records) (store.journal.ends told) (store.keeps told)
+      ∙ ap (λ (super : Option Superblock). end_in super (texts_of records)) plain
 
   needed : journal_need records rec ≡ place + (6 + length (record_text rec))
   unfolding journal_need

@@ -14,7 +14,8 @@ use Rattle.xt_protocol.specs.Folds.{fold_of, IsInPlace}
 use Rattle.replica_records.specs.RecordText.{record_text}
 use Rattle.xt_journal.specs.Append.{IsStopped, payloads_after_stop}
 use Rattle.journal_records.specs.Calls.{IsFirstFailure, AllSucceed}
-use Rattle.xt_journal.specs.Format.{StandsFor, end_of}
+use Rattle.journal_areas.specs.declared.superblock.Superblock.{Superblock}
+use Rattle.xt_journal.specs.Format.{StandsIn, StandsFor, end_of}
 use Rattle.xt_journal.specs.Loaded.{MadeCalls}
 use Rattle.object_store.specs.Texts.{texts_of, AreRecords}
 use Rattle.world_hull.specs.declared.hull.Kept.TheVariants.{StoppedKept, StoppedLost}
@@ -67,27 +68,33 @@ module _ (fails : ℕ → ℕ → Bool) (call : ℕ) (stops : IsToStop call fail
       at true high = omega (arith, low, leb-true failed call high)
       at false later = absurd (false_ne_true (sym (first.not_before call some (leb-false failed call later)) ∙ fails_then))
 
-  -- a crash leaves what stands for what the call tells
-  pub told_by_call : (records : List Record) (rec : Record) (kept : Kept) → IsStopped fails kept (texts_of records) (record_text rec)
-      → (fill : ℕ) (bytes : List ℕ) → IsFilled fill kept bytes → StandsFor bytes (payloads_after_stop call fill (texts_of records) (record_text rec))
-  told_by_call records rec kept stopped fill bytes filled =
-      subst (λ (c : ℕ). StandsFor bytes (payloads_after_stop c fill (texts_of records) (record_text rec)))
+  told_in : (super : Option Superblock) (records : List Record) (rec : Record) (kept : Kept) → IsStopped super fails kept (texts_of records) (record_text rec)
+      → (fill : ℕ) (bytes : List ℕ) → IsFilled fill kept bytes → StandsIn super bytes (payloads_after_stop call fill (texts_of records) (record_text rec))
+  told_in super records rec kept stopped fill bytes filled =
+      subst (λ (c : ℕ). StandsIn super bytes (payloads_after_stop c fill (texts_of records) (record_text rec)))
       (the_call stopped.call stopped.four stopped.first) (stopped.image fill bytes filled)
 
+  -- a crash leaves what stands for what the call tells
+  pub told_by_call : (super : Option Superblock) (records : List Record) (rec : Record) (kept : Kept) → IsStopped super fails kept (texts_of records) (record_text rec)
+      → (fill : ℕ) (bytes : List ℕ) → IsFilled fill kept bytes → StandsFor bytes (payloads_after_stop call fill (texts_of records) (record_text rec))
+  told_by_call super records rec kept stopped fill bytes filled = ∣ (super, told_in super records rec kept stopped fill bytes filled) ∣₁
+
   -- what stands is what the stop leaves of the records
-  pub left_on : (fill : ℕ) (records : List Record) (rec : Record) (kept : Kept) (bytes : List ℕ)
-      → IsStopped fails kept (texts_of records) (record_text rec) → IsFilled fill kept bytes
+  pub left_on : (super : Option Superblock) → super ≡ None → (fill : ℕ) (records : List Record) (rec : Record) (kept : Kept) (bytes : List ℕ)
+      → IsStopped super fails kept (texts_of records) (record_text rec) → IsFilled fill kept bytes
       → ∥ AreRecords records ∥₁ → FitsRecord rec → IsInPlace (fold_of records) rec
       → end_of (texts_of records) ≤ JOURNAL → end_of (texts_of (records ++ rec ∷ [])) ≤ JOURNAL
       → ∥ AreOn bytes (own_after records rec (kept_by (Some (record { call = call; fill = fill })))) ∥₁
-  left_on fill records rec kept bytes stopped filled sound fits place short short_with =
-      at (nat_le 3 call && (fill == open_gate)) (told_by_call records rec kept stopped fill bytes filled)
+  left_on super plain fill records rec kept bytes stopped filled sound fits place short short_with =
+      at (nat_le 3 call && (fill == open_gate))
+      (subst (λ (s : Option Superblock). StandsIn s bytes (payloads_after_stop call fill (texts_of records) (record_text rec))) plain
+      (told_in super records rec kept stopped fill bytes filled))
     where
-      at : (b : Bool) → StandsFor bytes (if b then texts_of records ++ record_text rec ∷ [] else texts_of records)
+      at : (b : Bool) → StandsIn None bytes (if b then texts_of records ++ record_text rec ∷ [] else texts_of records)
           → ∥ AreOn bytes (own_after records rec (if b then StoppedKept else StoppedLost)) ∥₁
       at true stands =
           ∥∥₁_map sound (λ are. record {
-            stand = subst (λ (ps : List (List ℕ)). StandsFor bytes ps) (sym (map-append record_text records (rec ∷ []))) stands;
+            stand = subst (λ (ps : List (List ℕ)). StandsIn None bytes ps) (sym (map-append record_text records (rec ∷ []))) stands;
             sound = are-push records rec are fits place;
             short = short_with;
           })

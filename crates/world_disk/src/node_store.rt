@@ -1,5 +1,5 @@
 //! The records of one node, on a disk in memory.
-ghost use Rattle.std.specs.Prelude.{◌≡◌, ◌++◌, ◌∷◌, ◌≤◌, [], List, Some, IfOk, IfErr};
+ghost use Rattle.std.specs.Prelude.{◌≡◌, ◌++◌, ◌∷◌, ◌≤◌, [], List, None, Some, IfOk, IfErr};
 ghost use Rattle.disk_model.specs.Changes.{memory_kept};
 ghost use Rattle.disk_model.specs.Disk.{IsImage};
 ghost use Rattle.disk_model.specs.Plan.{planned};
@@ -7,7 +7,7 @@ ghost use Rattle.xt_messages.specs.Limits.{FitsRecord};
 ghost use Rattle.xt_messages.specs.declared.record.Record.{Record};
 ghost use Rattle.xt_protocol.specs.Folds.{fold_of, IsInPlace, body_kept};
 ghost use Rattle.xt_journal.specs.Access as journal;
-ghost use Rattle.xt_journal.specs.Format.{StandsFor, KeepsJournal, end_of};
+ghost use Rattle.xt_journal.specs.Format.{StandsIn, KeepsJournal, end_of};
 ghost use Rattle.xt_journal.specs.Loaded.{FailedCall, MadeCalls, IsReady};
 ghost use Rattle.xt_journal.specs.Reading.{payloads_of};
 ghost use Rattle.object_store.specs.Access.{records_of, disk_of, journal_of};
@@ -42,7 +42,7 @@ impl Drop for NodeStore {
 }
 
 impl Model for NodeStore {
-    ghost use Rattle.xt_journal.specs.Access.{limit_of};
+    ghost use Rattle.xt_journal.specs.Access.{limit_of, superblock_of};
     ghost use Rattle.object_store.specs.Access.{records_of, disk_of, journal_of};
     ghost use Rattle.world_disk.specs.Disks.{IsCalm};
     ghost use Rattle.world_disk.specs.Stored.{Stored};
@@ -52,7 +52,8 @@ impl Model for NodeStore {
     ghost view = { λ node. record { records = records_of node.store; disk = disk_of node.store } };
 
     ghost invariant = { λ node.
-        IsCalm (disk_of node.store) (records_of node.store) (limit_of (journal_of node.store)) };
+        IsCalm (disk_of node.store) (records_of node.store) (limit_of (journal_of node.store))
+        (superblock_of (journal_of node.store)) };
 }
 
 /// The journal on a new disk on which records stand, and its payloads. The disk doesn't fail while it is loaded.
@@ -64,7 +65,8 @@ fn journal_on(
     requires stands { HasRecords (memory_kept disk).read }
     requires passes { FailedCall (planned disk.plan) (memory_kept disk).read → ⊥ }
     ensures reads { IfOk result (λ found.
-        StandsFor (memory_kept disk).read (payloads_of found.1.items)) }
+        StandsIn None (memory_kept disk).read (payloads_of found.1.items)) }
+    ensures plain { IfOk result (λ found. journal.superblock_of found.0 ≡ None) }
     ensures keeps { IfOk result (λ found.
         KeepsJournal (memory_kept (journal.disk_of found.0)) (payloads_of found.1.items)) }
     ensures ready { IfOk result (λ found. IsReady (memory_kept (journal.disk_of found.0)).read) }
@@ -95,6 +97,7 @@ fn store_on(alloc: Global, disk: MemoryDisk) -> Result<Store<MemoryDisk>, OutOfM
     ensures plan { IfOk result (λ store.
         MadeCalls (planned disk.plan) (planned (disk_of store).plan) (memory_kept disk).read) }
     ensures limit { IfOk result (λ store. journal.limit_of (journal_of store) ≡ JOURNAL) }
+    ensures plain { IfOk result (λ store. journal.superblock_of (journal_of store) ≡ None) }
 {
     let (journal, payloads) = journal_on(alloc, disk)?;
     match Store::load(alloc, journal, payloads.as_slice()) {
@@ -130,6 +133,7 @@ fn left_by_stop(
     requires stops { IsToStop stop.call (planned (disk_of store).plan) }
     requires short { end_of (texts_of (records_of store)) ≤ JOURNAL }
     requires limit { journal.limit_of (journal_of store) ≡ JOURNAL }
+    requires plain { journal.superblock_of (journal_of store) ≡ None }
     ensures left { IfOk result (λ bytes. IsLeftBy stop (records_of store) rec.now bytes) }
     ensures stands { IfOk result (λ bytes.
         ∥ AreOn bytes (own_after (records_of store) rec.now (kept_by (Some stop))) ∥₁) }

@@ -1,4 +1,5 @@
 pub mod Outcomes
+pub mod Located
 pub mod Push
 pub mod Records
 pub mod Ready
@@ -6,3 +7,5 @@ pub mod Taken
 pub mod Found
 pub mod Unique
 pub mod Steps
+pub mod Swapping
+pub mod Slices

@@ -1,5 +1,5 @@
 -- A fact on a result, from another one.
-use Rattle.std.proofs.Common.{◌≡◌, ℕ, ◌+◌, ◌-◌, ◌<◌, ◌≤◌, ⊎_elim, Bool, false, sym, ◌∙◌, ap, arith, Result, Ok, Err, OnOk, OnErr, IfOk, IfErr}
+use Rattle.std.proofs.Common.{◌≡◌, ℕ, ◌+◌, ◌-◌, ◌<◌, ◌≤◌, ⊎_elim, Bool, false, sym, ◌∙◌, ap, arith, Result, Ok, Err, OnOk, OnErr}
 use Rattle.journal_records.specs.Calls.{GoesOn, IsFirstFailure, AllSucceed}
 use Rattle.std.proofs.lemmas.Bool.{cases_lt}
 

@@ -1,5 +1,5 @@
 -- What a load leaves of a disk that it makes ready.
-use Rattle.std.proofs.Common.{◌≡◌, ◌≢◌, ◌+◌, Bool, true, false, ◌⊎◌, inl, inr, ⊎_elim, ◌<◌, ◌≤◌, ℕ, List, [], length, sym, ◌∙◌, ap, subst, arith, take, drop, refl, Result, Ok, Err, IsErrOf}
+use Rattle.std.proofs.Common.{◌≡◌, ◌≢◌, ◌+◌, Bool, true, false, ◌⊎◌, inl, inr, ⊎_elim, ◌≤◌, ℕ, List, [], length, sym, ◌∙◌, ap, subst, arith, take, refl, None, Result, Ok, Err, IsErrOf}
 use Rattle.std.proofs.lemmas.List.{take_all}
 use Rattle.disk_model.specs.Disk.{Kept, IsImage, at_rest}
 use Rattle.disk_model.proofs.Images.{rest_stays}
@@ -7,7 +7,7 @@ use Rattle.xt_journal.specs.declared.format.Trouble.{Trouble}
 use Rattle.xt_journal.specs.declared.format.Trouble.TheVariants.{DiskFault, NotOurs, Layout, Damaged, OutOfMemory}
 use Rattle.journal_records.specs.Calls.{GoesOn, MayBeTorn, IsTornAt}
 use Rattle.xt_journal.specs.Parsed.{is_fault}
-use Rattle.xt_journal.specs.Format.{journal_of}
+use Rattle.xt_journal.specs.Format.{journal_of, IsJournal, KeepsIn}
 use Rattle.xt_journal.specs.Loaded.{IsReady, IsUnready, FailedCall, LeavesAsBefore, LeavesDisk, MadeCalls, TellsFresh}
 
 -- a buffer of a disk's length takes all of it
@@ -28,6 +28,18 @@ image_later old mid image rests is left =
     ⊎_elim (λ was. inl (subst (IsImage old) (sym (rest_stays old.read image (subst (λ (k : Kept). IsImage k image) rests was))) is))
     (λ torn. inr (subst (λ (k : Kept). IsUnready k.read × MayBeTorn 0 (journal_of []) k.read image) rests torn))
     left
+
+-- a journal with no record
+pub ready_keeps : (kept : Kept) → kept ≡ at_rest (journal_of []) → KeepsIn None kept []
+ready_keeps kept is = record {
+  rests = is ∙ ap (λ (k : Kept). at_rest k.read) (sym is);
+  journal = subst (λ (k : Kept). ∥ IsJournal None k.read [] ∥₁) (sym is) ∣ record {
+    gate = 0;
+    rest = [];
+    shut = omega arith;
+    reached = record { given = λ k d less. absurd (omega (arith, less)); are = refl };
+  } ∣₁;
+}
 
 pub not_fresh : (bytes : List ℕ) (fresh : Bool) → TellsFresh bytes fresh → fresh ≡ false → bytes ≢ journal_of []
 not_fresh bytes true tells is = absurd cc

@@ -1,26 +1,28 @@
 -- What a crash leaves in each half of an append.
-use Rattle.std.proofs.Common.{◌≡◌, ◌≢◌, ◌⊎◌, inl, inr, ⊎_elim, ℕ, ◌+◌, ◌-◌, ◌^◌, ◌<◌, ◌≤◌, ◌&&◌, ◌==◌, nat_le, if◌then◌else◌, true, false, Bool, List, [], ◌∷◌, ◌++◌, length, get_or, take, drop, replicate, refl, sym, ◌∙◌, ap, subst, arith, append_assoc, length-append, take-append-drop, Err}
-use Rattle.std.specs.List.{All, list_any}
-use Rattle.std.proofs.lemmas.List.{append-nil, take_at, drop_at, drop_more}
-use Rattle.std.proofs.lemmas.List.Elements.{All-push}
+use Rattle.std.proofs.Common.{◌≡◌, ◌≢◌, inl, inr, ℕ, ◌+◌, ◌-◌, ◌^◌, ◌<◌, ◌≤◌, true, false, Bool, List, [], ◌∷◌, ◌++◌, length, get_or, take, drop, sym, ◌∙◌, ap, subst, arith, append_assoc, length-append, take-append-drop, Option, Err}
+use Rattle.std.specs.Prelude.{slice_index}
+use Rattle.std.specs.List.{list_any}
+use Rattle.std.proofs.lemmas.List.{append-nil, take_at, drop_more, length-drop}
 use Rattle.std.proofs.lemmas.Bool.{cases_eq, cond-true, cond-false, eq-eqb, ne_eqb, and_from, and_left, and_right, le-leb, lt-leb, lt-ltb, not_from_true, or_left}
 use Rattle.std.proofs.Math.Seq.{drop-append-add}
+use Rattle.std.proofs.Math.Logic.{∥∥₁_elim, ∥∥₁_map}
+use Rattle.std.proofs.Props.{props}
 use Rattle.disk_model.specs.Disk.{Kept, IsImage, IsFilled, Elapses, LeavesOnly, at_rest, after_write, range_of, is_inside, is_synced, reach, greatest_end}
 use Rattle.xt_base.specs.Overlay.{overlay, zeros}
 use Rattle.disk_model.proofs.Filled.{filled_is_image}
 use Rattle.disk_model.proofs.Moments.{elapsed}
 use Rattle.disk_model.proofs.Images.{front_stays, back_stays, rest_stays, size_stays, same_images}
+use Rattle.journal_areas.specs.declared.superblock.Superblock.{Superblock}
+use Rattle.journal_areas.proofs.Reaching.{reached_front, reached_more, reached_stays}
 use Rattle.xt_journal.specs.declared.append.Refusal.{Refusal}
 use Rattle.xt_journal.specs.declared.append.Refusal.TheVariants.{Broken, OutOfMemory}
 use Rattle.xt_journal.specs.Appended.{Appends}
 use Rattle.xt_journal.specs.Append.{GoesAt, IsTurn, IsWithOrWithout, IsStopped, payloads_after_stop}
 use Rattle.journal_records.specs.Calls.{MayBeTorn, IsTornAt}
-use Rattle.xt_journal.specs.Format.{header, open_gate, record_of, records, end_of, IsPayload, IsJournal, KeepsJournal, EndsAt, StandsFor}
+use Rattle.xt_journal.specs.Format.{open_gate, record_of, superblock_kind, IsGiven, Reached, end_in, IsJournal, StandsIn, StandsFor, KeepsIn, KeepsJournal, EndsAt}
 use Rattle.xt_journal.proofs.Records.{length-record}
-use Rattle.xt_journal.proofs.Push.{records-push, end_of-push}
+use Rattle.xt_journal.proofs.Push.{end_in-push}
 use Rattle.xt_journal.proofs.Unique.{stands_for_one}
-use Rattle.std.proofs.Math.Logic.{∥∥₁_elim, ∥∥₁_map}
-use Rattle.std.proofs.Props.{props}
 
 -- a piece over the bytes after a front
 over : (place : ℕ) (front piece tail : List ℕ) → length front ≡ place → overlay (front ++ tail) place piece ≡ front ++ (piece ++ drop (length piece) tail)
@@ -34,82 +36,120 @@ over place front piece tail size =
     ap (λ (l : List ℕ). (l ++ piece) ++ drop (place + length piece) bytes) whole ∙ ap (λ (l : List ℕ). (front ++ piece) ++ l) rest
     ∙ append_assoc front piece (drop (length piece) tail)
 
-module _ (payloads : List (List ℕ)) (payload : List ℕ) (fit : All IsPayload payloads) (is_payload : IsPayload payload) (end : ℕ) (place : end ≡ end_of payloads) where
-  front : List ℕ
-  front = header ++ records payloads
+-- ---- on a disk with this journal
 
-  size : length front ≡ end
-  unfolding front
-  size = omega (arith, place, length-append header (records payloads))
+module _ (super : Option Superblock) (payloads : List (List ℕ)) (payload bytes front : List ℕ) (gate : ℕ) (rest : List ℕ) (end : ℕ)
+    (reached : Reached super bytes payloads (gate ∷ rest)) (are : bytes ≡ front ++ gate ∷ rest) (size : length front ≡ end) (given : IsGiven payload) where
+  -- bytes that are no shorter, with the same front, are read as far
+  as_far : (other : ℕ) (later image : List ℕ) → length bytes ≤ length image → image ≡ front ++ other ∷ later → Reached super image payloads (other ∷ later)
+  as_far other later image longer is =
+      reached_stays bytes image front (gate ∷ rest) (other ∷ later) are is
+      (omega (arith, longer, ap length are, ap length is, length-append front (gate ∷ rest), length-append front (other ∷ later))) super payloads reached
 
-  regroup : (tail : List ℕ) → header ++ (records payloads ++ tail) ≡ front ++ tail
-  unfolding front
-  regroup tail = sym (append_assoc header (records payloads) tail)
+  closed : (other : ℕ) (later image : List ℕ) → length bytes ≤ length image → other ≢ open_gate → image ≡ front ++ other ∷ later → IsJournal super image payloads
+  closed other later image longer shut is = record { gate = other; rest = later; shut = shut; reached = as_far other later image longer is }
 
-  closed : (gate : ℕ) (rest bytes : List ℕ) → gate ≢ open_gate → bytes ≡ front ++ gate ∷ rest → IsJournal bytes payloads
-  closed gate rest bytes shut are = record { fit = fit; gate = gate; rest = rest; shut = shut; are = are ∙ sym (regroup (gate ∷ rest)) }
-
-  opened : (more bytes : List ℕ) → bytes ≡ front ++ open_gate ∷ (record_of payload ++ 0 ∷ more) → IsJournal bytes (payloads ++ payload ∷ [])
-  opened more bytes are = record {
-    fit = All-push IsPayload payloads payload fit is_payload;
+  opened : (more image : List ℕ) → length bytes ≤ length image → image ≡ front ++ open_gate ∷ (record_of payload ++ 0 ∷ more) → IsJournal super image (payloads ++ payload ∷ [])
+  opened more image longer is = record {
     gate = 0;
     rest = more;
     shut = omega arith;
-    are =
-        are ∙ sym (regroup (open_gate ∷ (record_of payload ++ 0 ∷ more)))
-        ∙ ap (λ (l : List ℕ). header ++ l) (sym (records-push payloads payload (0 ∷ more)));
+    reached = reached_more super image payloads payload (0 ∷ more) given (as_far open_gate (record_of payload ++ 0 ∷ more) image longer is);
   }
 
-  -- with any byte as its gate
-  any_gate : (gate : ℕ) (more bytes : List ℕ) → bytes ≡ front ++ gate ∷ (record_of payload ++ 0 ∷ more) → IsWithOrWithout payloads payload bytes
-  any_gate gate more bytes are = elim (cases_eq gate open_gate) [
-    | inl is ↦ inr (inr (opened more bytes (are ∙ ap (λ (g : ℕ). front ++ g ∷ (record_of payload ++ 0 ∷ more)) is)))
-    | inr shut ↦ inl (inr (closed gate (record_of payload ++ 0 ∷ more) bytes shut are))
-  ]
+  split : bytes ≡ (front ++ gate ∷ []) ++ rest
+  split = are ∙ sym (append_assoc front (gate ∷ []) rest)
 
-  module _ (gate : ℕ) (rest bytes : List ℕ) (shut : gate ≢ open_gate) (are : bytes ≡ front ++ gate ∷ rest) where
-    split : bytes ≡ (front ++ gate ∷ []) ++ rest
-    split = are ∙ sym (append_assoc front (gate ∷ []) rest)
+  one_more : length (front ++ gate ∷ []) ≡ end + 1
+  one_more = omega (arith, size, length-append front (gate ∷ []))
 
-    one_more : length (front ++ gate ∷ []) ≡ end + 1
-    one_more = omega (arith, size, length-append front (gate ∷ []))
+  long : end + 1 ≤ length bytes
+  long = omega (arith, ap length are, size, length-append front (gate ∷ rest))
 
-    long : end + 1 ≤ length bytes
-    long = omega (arith, ap length are, size, length-append front (gate ∷ rest))
+  -- the record is written after a gate that stays closed
+  stage_image : gate ≢ open_gate → (piece image : List ℕ) → MayBeTorn (end + 1) piece bytes image → IsJournal super image payloads
+  stage_image shut piece image torn =
+      let start : take (end + 1) image ≡ front ++ gate ∷ [] =
+      front_stays bytes (end + 1) piece image torn (end + 1) (omega arith) long ∙ ap (λ (l : List ℕ). take (end + 1) l) split ∙ take_at (front ++ gate ∷ []) rest (end + 1) one_more in
+      closed gate (drop (end + 1) image) image torn.no_shorter shut
+      (sym (take-append-drop (end + 1) image) ∙ ap (λ (l : List ℕ). l ++ drop (end + 1) image) start ∙ append_assoc front (gate ∷ []) (drop (end + 1) image))
 
-    -- the record is written after a gate that stays closed
-    stage_image : (piece image : List ℕ) → MayBeTorn (end + 1) piece bytes image → IsJournal image payloads
-    stage_image piece image torn =
-        let start : take (end + 1) image ≡ front ++ gate ∷ [] =
-        front_stays bytes (end + 1) piece image torn (end + 1) (omega arith) long ∙ ap (λ (l : List ℕ). take (end + 1) l) split ∙ take_at (front ++ gate ∷ []) rest (end + 1) one_more in
-        closed gate (drop (end + 1) image) image shut
-        (sym (take-append-drop (end + 1) image) ∙ ap (λ (l : List ℕ). l ++ drop (end + 1) image) start ∙ append_assoc front (gate ∷ []) (drop (end + 1) image))
-
-    staged : (piece : List ℕ) → piece ≡ record_of payload ++ 0 ∷ [] → overlay bytes (end + 1) piece ≡ front ++ gate ∷ (record_of payload ++ 0 ∷ drop (length piece) rest)
-    staged piece is =
+  module _ (piece : List ℕ) (is_piece : piece ≡ record_of payload ++ 0 ∷ []) where
+    staged : overlay bytes (end + 1) piece ≡ front ++ gate ∷ (record_of payload ++ 0 ∷ drop (length piece) rest)
+    staged =
         ap (λ (l : List ℕ). overlay l (end + 1) piece) split ∙ over (end + 1) (front ++ gate ∷ []) piece rest one_more
         ∙ append_assoc front (gate ∷ []) (piece ++ drop (length piece) rest)
-        ∙ ap (λ (l : List ℕ). front ++ gate ∷ (l ++ drop (length piece) rest)) is
+        ∙ ap (λ (l : List ℕ). front ++ gate ∷ (l ++ drop (length piece) rest)) is_piece
         ∙ ap (λ (l : List ℕ). front ++ gate ∷ l) (append_assoc (record_of payload) (0 ∷ []) (drop (length piece) rest))
 
-  module _ (gate : ℕ) (tail bytes : List ℕ) (are : bytes ≡ front ++ gate ∷ tail) where
-    inside : end + 1 ≤ length bytes
-    inside = omega (arith, ap length are, size, length-append front (gate ∷ tail))
+    staged_longer : length bytes ≤ length (overlay bytes (end + 1) piece)
+    staged_longer =
+        omega (
+          arith,
+          ap length are,
+          ap length staged,
+          ap length is_piece,
+          length-append front (gate ∷ rest),
+          length-append (record_of payload) (0 ∷ []),
+          length-append front (gate ∷ (record_of payload ++ 0 ∷ drop (length piece) rest)),
+          length-append (record_of payload) (0 ∷ drop (length piece) rest),
+          length-drop (length piece) rest,
+        )
 
-    -- the gate is written before a record that stays
-    gate_image : (image : List ℕ) → MayBeTorn end (open_gate ∷ []) bytes image → image ≡ front ++ get_or image end 0 ∷ tail
-    gate_image image torn =
-        let start : take end image ≡ front =
-        front_stays bytes end (open_gate ∷ []) image torn end (omega arith) (omega (arith, inside)) ∙ ap (λ (l : List ℕ). take end l) are ∙ take_at front (gate ∷ tail) end size in
-        let behind : drop (end + 1) image ≡ tail =
-        back_stays bytes end (open_gate ∷ []) image torn inside ∙ ap (λ (l : List ℕ). drop (end + 1) l) are
-        ∙ ap (λ (n : ℕ). drop (n + 1) (front ++ gate ∷ tail)) (sym size) ∙ drop-append-add front (gate ∷ tail) 1 in
-        let more : end < length image = omega (arith, inside, size_stays bytes end (open_gate ∷ []) image torn inside) in
-        sym (take-append-drop end image) ∙ ap (λ (l : List ℕ). l ++ drop end image) start
-        ∙ ap (λ (l : List ℕ). front ++ l) (drop_more image end 0 more ∙ ap (λ (l : List ℕ). get_or image end 0 ∷ l) behind)
+-- a gate is written before a tail that stays
+module _ (front : List ℕ) (end gate : ℕ) (tail bytes : List ℕ) (size : length front ≡ end) (are : bytes ≡ front ++ gate ∷ tail) where
+  inside : end + 1 ≤ length bytes
+  inside = omega (arith, ap length are, size, length-append front (gate ∷ tail))
 
-    gate_written : overlay bytes end (open_gate ∷ []) ≡ front ++ open_gate ∷ tail
-    gate_written = ap (λ (l : List ℕ). overlay l end (open_gate ∷ [])) are ∙ over end front (open_gate ∷ []) (gate ∷ tail) size
+  gate_image : (image : List ℕ) → MayBeTorn end (open_gate ∷ []) bytes image → image ≡ front ++ get_or image end 0 ∷ tail
+  gate_image image torn =
+      let start : take end image ≡ front =
+      front_stays bytes end (open_gate ∷ []) image torn end (omega arith) (omega (arith, inside)) ∙ ap (λ (l : List ℕ). take end l) are ∙ take_at front (gate ∷ tail) end size in
+      let behind : drop (end + 1) image ≡ tail =
+      back_stays bytes end (open_gate ∷ []) image torn inside ∙ ap (λ (l : List ℕ). drop (end + 1) l) are
+      ∙ ap (λ (n : ℕ). drop (n + 1) (front ++ gate ∷ tail)) (sym size) ∙ drop-append-add front (gate ∷ tail) 1 in
+      let more : end < length image = omega (arith, inside, size_stays bytes end (open_gate ∷ []) image torn inside) in
+      sym (take-append-drop end image) ∙ ap (λ (l : List ℕ). l ++ drop end image) start
+      ∙ ap (λ (l : List ℕ). front ++ l) (drop_more image end 0 more ∙ ap (λ (l : List ℕ). get_or image end 0 ∷ l) behind)
+
+  gate_written : overlay bytes end (open_gate ∷ []) ≡ front ++ open_gate ∷ tail
+  gate_written = ap (λ (l : List ℕ). overlay l end (open_gate ∷ [])) are ∙ over end front (open_gate ∷ []) (gate ∷ tail) size
+
+-- ---- both halves
+
+-- where the front ends, this comes after it
+record Turning (super : Option Superblock) (bytes : List ℕ) (end : ℕ) (piece : List ℕ) (payloads : List (List ℕ)) (payload : List ℕ) : Type 0 where
+  first : (image : List ℕ) → MayBeTorn (end + 1) piece bytes image → IsJournal super image payloads
+  shut : (image : List ℕ) → MayBeTorn end (open_gate ∷ []) (overlay bytes (end + 1) piece) image → get_or image end 0 ≢ open_gate → IsJournal super image payloads
+  whole : (image : List ℕ) → MayBeTorn end (open_gate ∷ []) (overlay bytes (end + 1) piece) image → get_or image end 0 ≡ open_gate → IsJournal super image (payloads ++ payload ∷ [])
+  done : IsJournal super (overlay (overlay bytes (end + 1) piece) end (open_gate ∷ [])) (payloads ++ payload ∷ [])
+
+turning : (super : Option Superblock) (bytes : List ℕ) (end : ℕ) (piece : List ℕ) (payloads : List (List ℕ)) (payload : List ℕ) → end ≡ end_in super payloads → IsGiven payload
+    → piece ≡ record_of payload ++ 0 ∷ [] → IsJournal super bytes payloads → Turning super bytes end piece payloads payload
+turning super bytes end piece payloads payload place given is_piece was =
+    let f = reached_front super bytes payloads (was.gate ∷ was.rest) was.reached in
+    let size : length f.front ≡ end = f.size ∙ sym place in
+    let more = drop (length piece) was.rest in
+    let staged_is = staged super payloads payload bytes f.front was.gate was.rest end was.reached f.are size given piece is_piece in
+    let longer = staged_longer super payloads payload bytes f.front was.gate was.rest end was.reached f.are size given piece is_piece in
+    let with_gate = gate_image f.front end was.gate (record_of payload ++ 0 ∷ more) (overlay bytes (end + 1) piece) size staged_is in
+    let written = gate_written f.front end was.gate (record_of payload ++ 0 ∷ more) (overlay bytes (end + 1) piece) size staged_is in
+    record {
+      first = stage_image super payloads payload bytes f.front was.gate was.rest end was.reached f.are size given was.shut piece;
+      shut = λ image torn no_gate. closed super payloads payload bytes f.front was.gate was.rest end was.reached f.are size given (get_or image end 0) (record_of payload ++ 0 ∷ more) image
+          (omega (arith, longer, torn.no_shorter)) no_gate (with_gate image torn);
+      whole = λ image torn is_gate. opened super payloads payload bytes f.front was.gate was.rest end was.reached f.are size given more image
+          (omega (arith, longer, torn.no_shorter)) (with_gate image torn ∙ ap (λ (g : ℕ). f.front ++ g ∷ (record_of payload ++ 0 ∷ more)) is_gate);
+      done = opened super payloads payload bytes f.front was.gate was.rest end was.reached f.are size given more (overlay (overlay bytes (end + 1) piece) end (open_gate ∷ []))
+          (omega (
+            arith,
+            longer,
+            ap length staged_is,
+            ap length written,
+            length-append f.front (was.gate ∷ (record_of payload ++ 0 ∷ more)),
+            length-append f.front (open_gate ∷ (record_of payload ++ 0 ∷ more)),
+          )) written;
+    }
 
 -- the images of a disk on which a write of this piece is torn
 torn_image : (at : ℕ) (piece bytes : List ℕ) (kept : Kept) (image : List ℕ) → IsTornAt at piece bytes kept → IsImage kept image → MayBeTorn at piece bytes image
@@ -124,52 +164,43 @@ stop_open call fill payloads payload late is = cond-true _ _ _ (and_from _ _ (le
 stop_shut : (call fill : ℕ) (payloads : List (List ℕ)) (payload : List ℕ) → fill ≢ open_gate → payloads_after_stop call fill payloads payload ≡ payloads
 stop_shut call fill payloads payload shut = cond-false _ _ _ (and_right _ _ (ne_eqb fill open_gate shut))
 
-module _ (kept : Kept) (end : ℕ) (piece : List ℕ) (payloads : List (List ℕ)) (payload : List ℕ) (turn : IsTurn kept end piece payloads payload) where
-  was : IsJournal kept.read payloads
-  was = turn.goes.keeps.journal
+module _ (super : Option Superblock) (kept : Kept) (end : ℕ) (piece : List ℕ) (payloads : List (List ℕ)) (payload : List ℕ) (turn : IsTurn super kept end piece payloads payload) where
+  turns : ∥ Turning super kept.read end piece payloads payload ∥₁
+  turns = ∥∥₁_map turn.goes.keeps.journal (λ was. turning super kept.read end piece payloads payload turn.goes.place turn.goes.given turn.is_piece was)
 
-  more : List ℕ
-  more = drop (length piece) was.rest
+  first_in : (image : List ℕ) → MayBeTorn (end + 1) piece kept.read image → StandsIn super image payloads
+  first_in image torn = ∥∥₁_map turns (λ t. inr (t.first image torn))
 
-  tail : List ℕ
-  tail = record_of payload ++ 0 ∷ more
+  shut_in : (image : List ℕ) → MayBeTorn end (open_gate ∷ []) (overlay kept.read (end + 1) piece) image → get_or image end 0 ≢ open_gate → StandsIn super image payloads
+  shut_in image torn no_gate = ∥∥₁_map turns (λ t. inr (t.shut image torn no_gate))
 
-  before : kept.read ≡ front payloads payload was.fit turn.goes.is_payload end turn.goes.place ++ was.gate ∷ was.rest
-  before = was.are ∙ regroup payloads payload was.fit turn.goes.is_payload end turn.goes.place (was.gate ∷ was.rest)
-
-  behind : overlay kept.read (end + 1) piece ≡ front payloads payload was.fit turn.goes.is_payload end turn.goes.place ++ was.gate ∷ tail
-  unfolding tail more
-  behind = staged payloads payload was.fit turn.goes.is_payload end turn.goes.place was.gate was.rest kept.read was.shut before piece turn.is_piece
+  open_in : (image : List ℕ) → MayBeTorn end (open_gate ∷ []) (overlay kept.read (end + 1) piece) image → get_or image end 0 ≡ open_gate → StandsIn super image (payloads ++ payload ∷ [])
+  open_in image torn is_gate = ∥∥₁_map turns (λ t. inr (t.whole image torn is_gate))
 
   -- while the record is written and synced, a crash leaves the old payloads
   pub first_half : (image : List ℕ) → MayBeTorn (end + 1) piece kept.read image → StandsFor image payloads
-  first_half image torn = inr (stage_image payloads payload was.fit turn.goes.is_payload end turn.goes.place was.gate was.rest kept.read was.shut before piece image torn)
-
-  with_gate : (image : List ℕ) → MayBeTorn end (open_gate ∷ []) (overlay kept.read (end + 1) piece) image
-      → image ≡ front payloads payload was.fit turn.goes.is_payload end turn.goes.place ++ get_or image end 0 ∷ tail
-  with_gate image torn = gate_image payloads payload was.fit turn.goes.is_payload end turn.goes.place was.gate tail (overlay kept.read (end + 1) piece) behind image torn
+  first_half image torn = ∣ (super, first_in image torn) ∣₁
 
   -- while its gate is written and synced, these and the new one, or not the new one
   pub second_half : (image : List ℕ) → MayBeTorn end (open_gate ∷ []) (overlay kept.read (end + 1) piece) image → IsWithOrWithout payloads payload image
-  unfolding tail
-  second_half image torn = any_gate payloads payload was.fit turn.goes.is_payload end turn.goes.place (get_or image end 0) more image (with_gate image torn)
+  second_half image torn = elim (cases_eq (get_or image end 0) open_gate) [
+    | inl is ↦ inr ∣ (super, open_in image torn is) ∣₁
+    | inr no_gate ↦ inl ∣ (super, shut_in image torn no_gate) ∣₁
+  ]
 
   -- and then these and the new one
-  pub finished : IsJournal (overlay (overlay kept.read (end + 1) piece) end (open_gate ∷ [])) (payloads ++ payload ∷ [])
-  unfolding tail
-  finished =
-      opened payloads payload was.fit turn.goes.is_payload end turn.goes.place more _
-      (gate_written payloads payload was.fit turn.goes.is_payload end turn.goes.place was.gate tail (overlay kept.read (end + 1) piece) behind)
+  pub finished : ∥ IsJournal super (overlay (overlay kept.read (end + 1) piece) end (open_gate ∷ [])) (payloads ++ payload ∷ []) ∥₁
+  finished = ∥∥₁_map turns (λ t. t.done)
 
   pub first_stop : (left : Kept) (call fill : ℕ) (bytes : List ℕ) → call ≤ 2 → IsTornAt (end + 1) piece kept.read left → IsFilled fill left bytes
-      → StandsFor bytes (payloads_after_stop call fill payloads payload)
+      → StandsIn super bytes (payloads_after_stop call fill payloads payload)
   first_stop left call fill bytes early torn filled =
-      subst (StandsFor bytes) (sym (stop_early call fill payloads payload early))
-      (first_half bytes (torn_image (end + 1) piece kept.read left bytes torn (filled_is_image fill left bytes filled)))
+      subst (StandsIn super bytes) (sym (stop_early call fill payloads payload early))
+      (first_in bytes (torn_image (end + 1) piece kept.read left bytes torn (filled_is_image fill left bytes filled)))
 
   module _ (left : Kept) (fill : ℕ) (bytes : List ℕ) (torn : IsTornAt end (open_gate ∷ []) (overlay kept.read (end + 1) piece) left) (filled : IsFilled fill left bytes) where
-    image : bytes ≡ front payloads payload was.fit turn.goes.is_payload end turn.goes.place ++ get_or bytes end 0 ∷ tail
-    image = with_gate bytes (torn_image end (open_gate ∷ []) (overlay kept.read (end + 1) piece) left bytes torn (filled_is_image fill left bytes filled))
+    may_be : MayBeTorn end (open_gate ∷ []) (overlay kept.read (end + 1) piece) bytes
+    may_be = torn_image end (open_gate ∷ []) (overlay kept.read (end + 1) piece) left bytes torn (filled_is_image fill left bytes filled)
 
     far : end + 1 ≤ reach left
     far = omega (arith, ap greatest_end torn.written)
@@ -182,37 +213,50 @@ module _ (kept : Kept) (end : ℕ) (piece : List ℕ) (payloads : List (List ℕ
     gate_is : get_or bytes end 0 ≡ fill
     gate_is = filled.filled end (omega (arith, far)) unsynced
 
-    pub second_stop : (call : ℕ) → 3 ≤ call → StandsFor bytes (payloads_after_stop call fill payloads payload)
-    unfolding tail
-    second_stop call late =
-        let is = image ∙ ap (λ (g : ℕ). front payloads payload was.fit turn.goes.is_payload end turn.goes.place ++ g ∷ (record_of payload ++ 0 ∷ more)) gate_is in
-        elim (cases_eq fill open_gate) [
-          | inl open_fill ↦ subst (StandsFor bytes) (sym (stop_open call fill payloads payload late open_fill))
-              (inr (opened payloads payload was.fit turn.goes.is_payload end turn.goes.place more bytes
-              (is ∙ ap (λ (g : ℕ). front payloads payload was.fit turn.goes.is_payload end turn.goes.place ++ g ∷ (record_of payload ++ 0 ∷ more)) open_fill)))
-          | inr shut ↦ subst (StandsFor bytes) (sym (stop_shut call fill payloads payload shut))
-              (inr (closed payloads payload was.fit turn.goes.is_payload end turn.goes.place fill (record_of payload ++ 0 ∷ more) bytes shut is))
-        ]
+    pub second_stop : (call : ℕ) → 3 ≤ call → StandsIn super bytes (payloads_after_stop call fill payloads payload)
+    second_stop call late = elim (cases_eq fill open_gate) [
+      | inl open_fill ↦ subst (StandsIn super bytes) (sym (stop_open call fill payloads payload late open_fill)) (open_in bytes may_be (gate_is ∙ open_fill))
+      | inr shut ↦ subst (StandsIn super bytes) (sym (stop_shut call fill payloads payload shut)) (shut_in bytes may_be (λ is. shut (sym gate_is ∙ is)))
+    ]
 
--- a disk has one journal, and so one place where it ends
-pub place_of_end : (kept : Kept) (end : ℕ) (payloads : List (List ℕ)) → ∥ EndsAt kept end ∥₁ → KeepsJournal kept payloads → end ≡ end_of payloads
-place_of_end kept end payloads ends keeps =
-    ∥∥₁_elim ends (hlevel props) (λ is. is.place ∙ ap end_of (stands_for_one kept.read is.payloads payloads (inr is.keeps.journal) (inr keeps.journal)))
+-- ---- what a disk keeps
+
+pub keeps_any : (super : Option Superblock) (kept : Kept) (payloads : List (List ℕ)) → KeepsIn super kept payloads → KeepsJournal kept payloads
+keeps_any super kept payloads keeps = record { rests = keeps.rests; journal = ∥∥₁_map keeps.journal (λ is. (super, is)) }
+
+pub keeps_stands : (kept : Kept) (payloads : List (List ℕ)) → KeepsJournal kept payloads → StandsFor kept.read payloads
+keeps_stands kept payloads keeps = ∥∥₁_map keeps.journal (λ is. (is.0, ∣ inr is.1 ∣₁))
+
+-- a disk has one journal
+same_payloads : (super : Option Superblock) (kept : Kept) (end : ℕ) (payloads : List (List ℕ)) → (is : EndsAt super kept end) → KeepsJournal kept payloads → is.payloads ≡ payloads
+same_payloads super kept end payloads is keeps =
+    stands_for_one kept.read is.payloads payloads (keeps_stands kept is.payloads (keeps_any super kept is.payloads is.keeps)) (keeps_stands kept payloads keeps)
+
+-- and so one superblock at most, and one place where it ends
+pub keeps_in : (super : Option Superblock) (kept : Kept) (end : ℕ) (payloads : List (List ℕ)) → ∥ EndsAt super kept end ∥₁ → KeepsJournal kept payloads → KeepsIn super kept payloads
+keeps_in super kept end payloads ends keeps = record {
+  rests = keeps.rests;
+  journal = ∥∥₁_elim ends (hlevel props) (λ is. subst (λ (ps : List (List ℕ)). ∥ IsJournal super kept.read ps ∥₁) (same_payloads super kept end payloads is keeps) is.keeps.journal);
+}
+
+pub place_of_end : (super : Option Superblock) (kept : Kept) (end : ℕ) (payloads : List (List ℕ)) → ∥ EndsAt super kept end ∥₁ → KeepsJournal kept payloads → end ≡ end_in super payloads
+place_of_end super kept end payloads ends keeps =
+    ∥∥₁_elim ends (hlevel props) (λ is. is.place ∙ ap (end_in super) (same_payloads super kept end payloads is keeps))
 
 -- a payload goes where the journal ends
-pub goes_at : (kept : Kept) (end : ℕ) (payloads : List (List ℕ)) (payload : List ℕ) → ∥ EndsAt kept end ∥₁ → 1 ≤ length payload → length payload < 2 ^ 32
-    → KeepsJournal kept payloads → GoesAt kept end payloads payload
-goes_at kept end payloads payload ends some fits keeps = record {
-  keeps = keeps;
-  place = place_of_end kept end payloads ends keeps;
-  is_payload = record { some = some; fits = fits };
+pub goes_at : (super : Option Superblock) (kept : Kept) (end : ℕ) (payloads : List (List ℕ)) (payload : List ℕ) → ∥ EndsAt super kept end ∥₁ → 1 ≤ length payload → length payload < 2 ^ 32
+    → slice_index payload 0 ≢ superblock_kind → KeepsJournal kept payloads → GoesAt super kept end payloads payload
+goes_at super kept end payloads payload ends some fits kind keeps = record {
+  keeps = keeps_in super kept end payloads ends keeps;
+  place = place_of_end super kept end payloads ends keeps;
+  given = record { fits = record { some = some; fits = fits }; kind = kind };
 }
 
 -- also once the disk has reserved what that takes
-pub turn_of : (kept same : Kept) (end : ℕ) (piece : List ℕ) (payloads : List (List ℕ)) (payload : List ℕ) → same ≡ kept → GoesAt kept end payloads payload
-    → piece ≡ record_of payload ++ 0 ∷ [] → IsTurn same end piece payloads payload
-turn_of kept same end piece payloads payload is goes is_piece = record {
-  goes = subst (λ (k : Kept). GoesAt k end payloads payload) (sym is) goes;
+pub turn_of : (super : Option Superblock) (kept same : Kept) (end : ℕ) (piece : List ℕ) (payloads : List (List ℕ)) (payload : List ℕ) → same ≡ kept → GoesAt super kept end payloads payload
+    → piece ≡ record_of payload ++ 0 ∷ [] → IsTurn super same end piece payloads payload
+turn_of super kept same end piece payloads payload is goes is_piece = record {
+  goes = subst (λ (k : Kept). GoesAt super k end payloads payload) (sym is) goes;
   is_piece = is_piece;
 }
 
@@ -220,20 +264,25 @@ pub length-piece : (payload piece : List ℕ) → piece ≡ record_of payload ++
 length-piece payload piece is = omega (arith, ap length is, length-append (record_of payload) (0 ∷ []), length-record payload)
 
 -- and it ends after the new record
-pub ends_later : (kept new : Kept) (end later : ℕ) (payload : List ℕ) → later ≡ end + (5 + length payload) → ∥ EndsAt kept end ∥₁
-    → ((payloads : List (List ℕ)) → KeepsJournal kept payloads → KeepsJournal new (payloads ++ payload ∷ [])) → ∥ EndsAt new later ∥₁
-ends_later kept new end later payload is ends done =
+pub ends_later : (super : Option Superblock) (kept new : Kept) (end later : ℕ) (payload : List ℕ) → later ≡ end + (5 + length payload) → ∥ EndsAt super kept end ∥₁
+    → ((payloads : List (List ℕ)) → KeepsJournal kept payloads → KeepsIn super new (payloads ++ payload ∷ [])) → ∥ EndsAt super new later ∥₁
+ends_later super kept new end later payload is ends done =
     ∥∥₁_map ends (λ old. record {
       payloads = old.payloads ++ payload ∷ [];
-      keeps = done old.payloads old.keeps;
-      place = omega (arith, is, old.place, end_of-push old.payloads payload);
+      keeps = done old.payloads (keeps_any super kept old.payloads old.keeps);
+      place = omega (arith, is, old.place, end_in-push super old.payloads payload);
     })
 
 -- a disk at rest with a journal
 pub each_stands : (kept : Kept) (payloads : List (List ℕ)) (image : List ℕ) → KeepsJournal kept payloads → IsImage kept image → StandsFor image payloads
 each_stands kept payloads image keeps is =
     let stays = rest_stays kept.read image (subst (λ (k : Kept). IsImage k image) keeps.rests is) in
-    subst (λ (bytes : List ℕ). StandsFor bytes payloads) (sym stays) (inr keeps.journal)
+    subst (λ (bytes : List ℕ). StandsFor bytes payloads) (sym stays) (keeps_stands kept payloads keeps)
+
+pub each_stands_in : (super : Option Superblock) (kept : Kept) (payloads : List (List ℕ)) (image : List ℕ) → KeepsIn super kept payloads → IsImage kept image → StandsIn super image payloads
+each_stands_in super kept payloads image keeps is =
+    let stays = rest_stays kept.read image (subst (λ (k : Kept). IsImage k image) keeps.rests is) in
+    subst (λ (bytes : List ℕ). StandsIn super bytes payloads) (sym stays) (∥∥₁_map keeps.journal (λ journal. inr journal))
 
 pub rests_with : (kept : Kept) (payloads : List (List ℕ)) (payload image : List ℕ) → KeepsJournal kept payloads → IsImage kept image → IsWithOrWithout payloads payload image
 rests_with kept payloads payload image keeps is = inl (each_stands kept payloads image keeps is)
@@ -248,15 +297,15 @@ reserved_first moment left_since old mid kept same payloads payload keeps is onl
     (λ image was. here image (subst (λ (k : Kept). IsImage k image) is was))
 
 -- an append that broke was stopped
-pub stopped_at : (fails : ℕ → ℕ → Bool) (kept : Kept) (payloads : List (List ℕ)) (payload : List ℕ) (why : Refusal) → why ≡ Broken
-    → Appends {T = Unit {0}} fails kept payloads payload (Err why) → IsStopped fails kept payloads payload
-stopped_at fails kept payloads payload Broken is stopped = stopped
-stopped_at fails kept payloads payload OutOfMemory is stopped = absurd cc
+pub stopped_at : (super : Option Superblock) (fails : ℕ → ℕ → Bool) (kept : Kept) (payloads : List (List ℕ)) (payload : List ℕ) (why : Refusal) → why ≡ Broken
+    → Appends {T = Unit {0}} super fails kept payloads payload (Err why) → IsStopped super fails kept payloads payload
+stopped_at super fails kept payloads payload Broken is stopped = stopped
+stopped_at super fails kept payloads payload OutOfMemory is stopped = absurd cc
 
 -- the same calls are to fail
-pub same_plan : (fails same : ℕ → ℕ → Bool) (left : Kept) (payloads : List (List ℕ)) (payload : List ℕ) → ((l c : ℕ) → same l c ≡ fails l c)
-    → IsStopped same left payloads payload → IsStopped fails left payloads payload
-same_plan fails same left payloads payload is stopped = record {
+pub same_plan : (super : Option Superblock) (fails same : ℕ → ℕ → Bool) (left : Kept) (payloads : List (List ℕ)) (payload : List ℕ) → ((l c : ℕ) → same l c ≡ fails l c)
+    → IsStopped super same left payloads payload → IsStopped super fails left payloads payload
+same_plan super fails same left payloads payload is stopped = record {
   call = stopped.call;
   some = stopped.some;
   four = stopped.four;

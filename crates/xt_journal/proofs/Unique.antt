@@ -1,15 +1,18 @@
 -- A disk has one reading.
-use Rattle.std.proofs.Common.{◌≡◌, ◌≢◌, ◌⊎◌, inl, inr, ⊎_elim, ℕ, ◌+◌, ◌<◌, ◌≤◌, List, [], ◌∷◌, ◌++◌, length, take, drop, refl, sym, ◌∙◌, ap, arith, subst, length-append, Vec, Result, Ok, Err, IfSome}
-use Rattle.std.specs.declared.alloc.Global.{Global}
-use Rattle.std.specs.List.{All}
+use Rattle.std.proofs.Common.{◌≡◌, ◌≢◌, ℕ, ◌<◌, List, ◌∷◌, ◌++◌, length, take, drop, sym, ◌∙◌, ap, subst, Option, Result, Ok, Err, IfSome}
+use Rattle.std.proofs.Props.{props}
+use Rattle.std.proofs.Math.Logic.{∥∥₁_elim, ∥∥₁_map}
 use Rattle.byteorder.specs.Endian.{big_number}
+use Rattle.journal_areas.specs.declared.superblock.Superblock.{Superblock}
+use Rattle.journal_areas.proofs.Once.{damaged_once, damaged_stands_not, long_stands, reached_header, stands_once}
 use Rattle.xt_journal.specs.declared.placed.Placed.{Placed}
-use Rattle.xt_journal.specs.Format.{sign, header, open_gate, record_of, records, end_of, IsPayload, IsJournal, StandsFor}
-use Rattle.xt_journal.specs.Reading.{Reading, Stands, Foreign, Unknown, Damaged, ReadsAs, IsDamaged, IsTheReading, payloads_of, placed_from}
+use Rattle.xt_journal.specs.declared.format.Found.{Found}
+use Rattle.xt_journal.specs.Format.{sign, header, StandsFor, IsDamaged}
+use Rattle.xt_journal.specs.Reading.{Reading, Stands, Foreign, Unknown, Damaged, ReadsAs, StandsAt, IsTheReading, payloads_of, placed_in}
 use Rattle.xt_journal.specs.Parsed.{Gives, reading_found}
 use Rattle.xt_journal.specs.declared.format.Trouble.{Trouble}
 use Rattle.xt_journal.specs.declared.format.Trouble.TheVariants as trouble
-use Rattle.xt_journal.proofs.Records.{same_records, EndsRecords}
+pub use Rattle.journal_areas.proofs.Once.{stands_for_one}
 
 module _ (bytes behind : List ℕ) (are : bytes ≡ header ++ behind) where
   own_sign : take 8 bytes ≡ sign
@@ -18,64 +21,49 @@ module _ (bytes behind : List ℕ) (are : bytes ≡ header ++ behind) where
   own_layout : big_number 4 (drop 8 bytes) ≡ 1
   own_layout = ap (λ (l : List ℕ). big_number 4 (drop 8 l)) are
 
-  own_rest : drop 12 bytes ≡ behind
-  own_rest = ap (λ (l : List ℕ). drop 12 l) are
+-- payloads that stand have the header before them
+stands_header : (bytes : List ℕ) (placed : List Placed) → 13 < length bytes → ReadsAs bytes (Stands placed) → ∥ ((behind : List ℕ) × (bytes ≡ header ++ behind)) ∥₁
+stands_header bytes placed long reads =
+    ∥∥₁_elim reads (hlevel props) (λ is. ∥∥₁_map is.1.stands
+    (λ either. let journal = long_stands bytes is.0 (payloads_of placed) long either in
+    reached_header is.0 bytes (payloads_of placed) (journal.gate ∷ journal.rest) journal.reached))
 
-same_journal : (bytes : List ℕ) (ps qs : List (List ℕ)) (g h : ℕ) (r s : List ℕ) → All IsPayload ps → All IsPayload qs → EndsRecords g r → EndsRecords h s
-    → bytes ≡ header ++ (records ps ++ g ∷ r) → bytes ≡ header ++ (records qs ++ h ∷ s) → (ps ≡ qs) × (g ≡ h) × (r ≡ s)
-same_journal bytes ps qs g h r s fit_p fit_q end_p end_q are_p are_q =
-    same_records ps qs g h r s fit_p fit_q end_p end_q (sym (own_rest bytes _ are_p) ∙ own_rest bytes _ are_q)
+damaged_header : (bytes : List ℕ) (place : ℕ) → IsDamaged bytes place → (behind : List ℕ) × (bytes ≡ header ++ behind)
+damaged_header bytes place is = reached_header is.super bytes is.payloads _ is.reached
 
-no_records : (payloads : List (List ℕ)) → length (records payloads) ≤ 0 → payloads ≡ []
-no_records [] none = refl
-no_records (p ∷ payloads) none = absurd (omega arith)
+-- bytes that are read so stand for the payloads
+pub reads_stand : (bytes : List ℕ) (placed : List Placed) → ReadsAs bytes (Stands placed) → StandsFor bytes (payloads_of placed)
+reads_stand bytes placed reads = ∥∥₁_map reads (λ is. (is.0, is.1.stands))
 
-short_journal : (bytes : List ℕ) (payloads : List (List ℕ)) → length bytes ≤ 13 → IsJournal bytes payloads → payloads ≡ []
-short_journal bytes payloads short is =
-    no_records payloads (omega (arith, short, ap length is.are, length-append (records payloads) (is.gate ∷ is.rest)))
+same_places : (bytes : List ℕ) (p q : List Placed) → (super : Option Superblock) × StandsAt super bytes p → (other : Option Superblock) × StandsAt other bytes q → p ≡ q
+same_places bytes p q one two =
+    let once = stands_once bytes one.0 two.0 (payloads_of p) (payloads_of q) one.1.stands two.1.stands in
+    one.1.places ∙ ap (λ (super : Option Superblock). placed_in super (payloads_of p)) once.0 ∙ ap (placed_in two.0) once.1 ∙ sym two.1.places
 
-pub stands_for_one : (bytes : List ℕ) (ps qs : List (List ℕ)) → StandsFor bytes ps → StandsFor bytes qs → ps ≡ qs
-stands_for_one bytes ps qs (inl p) (inl q) = p.1 ∙ sym q.1
-stands_for_one bytes ps qs (inl p) (inr q) = p.1 ∙ sym (short_journal bytes qs p.0 q)
-stands_for_one bytes ps qs (inr p) (inl q) = short_journal bytes ps q.0 p ∙ sym q.1
-stands_for_one bytes ps qs (inr p) (inr q) = (same_journal bytes ps qs p.gate q.gate p.rest q.rest p.fit q.fit (inl p.shut) (inl q.shut) p.are q.are).0
+no_sign : (bytes first : List ℕ) → first ≡ take 8 bytes → first ≢ sign → ∥ ((behind : List ℕ) × (bytes ≡ header ++ behind)) ∥₁ → ⊥
+no_sign bytes first is other has = ∥∥₁_elim has (λ x y. absurd x) (λ h. other (is ∙ own_sign bytes h.0 h.1))
 
--- more than 13 bytes that stand for payloads
-journal : (bytes : List ℕ) (payloads : List (List ℕ)) → 13 < length bytes → StandsFor bytes payloads → IsJournal bytes payloads
-journal bytes payloads long (inl short) = absurd (omega (arith, long, short.0))
-journal bytes payloads long (inr is) = is
-
-damaged_no_journal : (bytes : List ℕ) (payloads : List (List ℕ)) (place : ℕ) → IsJournal bytes payloads → IsDamaged bytes place → ⊥
-damaged_no_journal bytes payloads place is damaged =
-    is.shut ((same_journal bytes payloads damaged.payloads is.gate open_gate is.rest damaged.rest is.fit damaged.fit (inl is.shut) (inr damaged.cut_off) is.are damaged.are).1)
-
-damaged_once : (bytes : List ℕ) (place other : ℕ) → IsDamaged bytes place → IsDamaged bytes other → place ≡ other
-damaged_once bytes place other one two =
-    one.is_place ∙ ap end_of ((same_journal bytes one.payloads two.payloads open_gate open_gate one.rest two.rest one.fit two.fit (inr one.cut_off) (inr two.cut_off) one.are two.are).0) ∙ sym two.is_place
+no_layout : (bytes : List ℕ) (version : ℕ) → version ≡ big_number 4 (drop 8 bytes) → version ≢ 1 → ∥ ((behind : List ℕ) × (bytes ≡ header ++ behind)) ∥₁ → ⊥
+no_layout bytes version is other has = ∥∥₁_elim has (λ x y. absurd x) (λ h. other (is ∙ own_layout bytes h.0 h.1))
 
 pub one_reading : (bytes : List ℕ) (one two : Reading) → ReadsAs bytes one → ReadsAs bytes two → one ≡ two
 one_reading bytes (Stands p) (Stands q) one two =
-    ap Stands (one.1 ∙ ap (placed_from 12) (stands_for_one bytes (payloads_of p) (payloads_of q) one.0 two.0) ∙ sym two.1)
-one_reading bytes (Stands p) (Foreign first) one two =
-    let is = journal bytes (payloads_of p) two.0 one.0 in absurd (two.2 (two.1 ∙ own_sign bytes _ is.are))
-one_reading bytes (Stands p) (Unknown version) one two =
-    let is = journal bytes (payloads_of p) two.0 one.0 in absurd (two.3 (two.2 ∙ own_layout bytes _ is.are))
-one_reading bytes (Stands p) (Damaged place) one two =
-    absurd (damaged_no_journal bytes (payloads_of p) place (journal bytes (payloads_of p) two.long one.0) two)
-one_reading bytes (Foreign first) (Stands q) one two =
-    let is = journal bytes (payloads_of q) one.0 two.0 in absurd (one.2 (one.1 ∙ own_sign bytes _ is.are))
+    let same : p ≡ q = ∥∥₁_elim one (hlevel props) (λ x. ∥∥₁_elim two (hlevel props) (λ y. same_places bytes p q x y)) in
+    ap Stands same
+one_reading bytes (Stands p) (Foreign first) one two = absurd (no_sign bytes first two.1 two.2 (stands_header bytes p two.0 one))
+one_reading bytes (Stands p) (Unknown version) one two = absurd (no_layout bytes version two.2 two.3 (stands_header bytes p two.0 one))
+one_reading bytes (Stands p) (Damaged place) one two = absurd (damaged_stands_not bytes (payloads_of p) place two (reads_stand bytes p one))
+one_reading bytes (Foreign first) (Stands q) one two = absurd (no_sign bytes first one.1 one.2 (stands_header bytes q one.0 two))
 one_reading bytes (Foreign first) (Foreign other) one two = ap Foreign (one.1 ∙ sym two.1)
 one_reading bytes (Foreign first) (Unknown version) one two = absurd (one.2 (one.1 ∙ two.1))
-one_reading bytes (Foreign first) (Damaged place) one two = absurd (one.2 (one.1 ∙ own_sign bytes _ two.are))
-one_reading bytes (Unknown version) (Stands q) one two =
-    let is = journal bytes (payloads_of q) one.0 two.0 in absurd (one.3 (one.2 ∙ own_layout bytes _ is.are))
+one_reading bytes (Foreign first) (Damaged place) one two = absurd (no_sign bytes first one.1 one.2 ∣ damaged_header bytes place two ∣₁)
+one_reading bytes (Unknown version) (Stands q) one two = absurd (no_layout bytes version one.2 one.3 (stands_header bytes q one.0 two))
 one_reading bytes (Unknown version) (Foreign first) one two = absurd (two.2 (two.1 ∙ one.1))
 one_reading bytes (Unknown version) (Unknown other) one two = ap Unknown (one.2 ∙ sym two.2)
-one_reading bytes (Unknown version) (Damaged place) one two = absurd (one.3 (one.2 ∙ own_layout bytes _ two.are))
-one_reading bytes (Damaged place) (Stands q) one two =
-    absurd (damaged_no_journal bytes (payloads_of q) place (journal bytes (payloads_of q) one.long two.0) one)
-one_reading bytes (Damaged place) (Foreign first) one two = absurd (two.2 (two.1 ∙ own_sign bytes _ one.are))
-one_reading bytes (Damaged place) (Unknown version) one two = absurd (two.3 (two.2 ∙ own_layout bytes _ one.are))
+one_reading bytes (Unknown version) (Damaged place) one two = absurd (no_layout bytes version one.2 one.3 ∣ damaged_header bytes place two ∣₁)
+one_reading bytes (Damaged place) (Stands q) one two = absurd (damaged_stands_not bytes (payloads_of q) place one (reads_stand bytes q two))
+one_reading bytes (Damaged place) (Foreign first) one two = absurd (no_sign bytes first two.1 two.2 ∣ damaged_header bytes place one ∣₁)
+one_reading bytes (Damaged place) (Unknown version) one two = absurd (no_layout bytes version two.2 two.3 ∣ damaged_header bytes place one ∣₁)
 one_reading bytes (Damaged place) (Damaged other) one two = ap Damaged (damaged_once bytes place other one two)
 
 read : (bytes same : List ℕ) (reading : Reading) → same ≡ bytes → ReadsAs same reading → IsTheReading bytes reading
@@ -83,8 +71,8 @@ read bytes same reading is reads =
     let here : ReadsAs bytes reading = subst (λ (l : List ℕ). ReadsAs l reading) is reads in
     record { reads = here; no_other = λ other also. one_reading bytes other reading also here }
 
-pub the_reading : (bytes same : List ℕ) (result : Result (ℕ × Vec Placed Global) Trouble) → same ≡ bytes → Gives same result → IfSome (reading_found result) (IsTheReading bytes)
-the_reading bytes same (Ok found) is gives = read bytes same (Stands found.1.items) is gives
+pub the_reading : (bytes same : List ℕ) (result : Result Found Trouble) → same ≡ bytes → Gives same result → IfSome (reading_found result) (IsTheReading bytes)
+the_reading bytes same (Ok found) is gives = read bytes same (Stands found.placed.items) is gives
 the_reading bytes same (Err (trouble.NotOurs first)) is gives = read bytes same (Foreign first) is gives
 the_reading bytes same (Err (trouble.Layout version)) is gives = read bytes same (Unknown version) is gives
 the_reading bytes same (Err (trouble.Damaged place)) is gives = read bytes same (Damaged place) is gives

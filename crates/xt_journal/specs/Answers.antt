@@ -1,5 +1,5 @@
 -- What loading and appending answer.
-use Rattle.std.specs.Prelude.{ℕ, ◌<◌, ◌≤◌, ◌≡◌, List, Vec, Option, None, Some, Result, Ok, Err}
+use Rattle.std.specs.Prelude.{ℕ, ◌<◌, ◌≤◌, ◌≡◌, Vec, Option, None, Some, Result, Ok, Err}
 use Rattle.std.specs.declared.alloc.Global.{Global}
 use Rattle.disk_model.specs.declared.disk.Disk.{Ghosts}
 use Rattle.xt_base.specs.Faults.{counted}

@@ -1,17 +1,18 @@
 -- What an append has done, by its answer.
-use Rattle.std.specs.Prelude.{ℕ, Bool, List, [], ◌∷◌, ◌++◌, Result, Ok, Err}
+use Rattle.std.specs.Prelude.{ℕ, Bool, Option, List, [], ◌∷◌, ◌++◌, Result, Ok, Err}
 use Rattle.disk_model.specs.Disk.{Kept}
+use Rattle.journal_areas.specs.declared.superblock.Superblock.{Superblock}
 use Rattle.xt_journal.specs.declared.append.Refusal.{Refusal}
 use Rattle.xt_journal.specs.declared.append.Refusal.TheVariants.{Broken, OutOfMemory}
 use Rattle.xt_journal.specs.Append.{IsStopped}
 use Rattle.journal_records.specs.Calls.{GoesOn, AllSucceed}
-use Rattle.xt_journal.specs.Format.{KeepsJournal}
+use Rattle.xt_journal.specs.Format.{KeepsIn}
 
 -- the disk has the payload in its journal, or was stopped at it
-abbrev pub Appends : {T : Type 0} → (ℕ → ℕ → Bool) → Kept → List (List ℕ) → List ℕ → Result T Refusal → Type 0
-Appends fails kept payloads payload (Ok value) = KeepsJournal kept (payloads ++ payload ∷ [])
-Appends fails kept payloads payload (Err Broken) = IsStopped fails kept payloads payload
-Appends fails kept payloads payload (Err OutOfMemory) = Unit {0}
+abbrev pub Appends : {T : Type 0} → Option Superblock → (ℕ → ℕ → Bool) → Kept → List (List ℕ) → List ℕ → Result T Refusal → Type 0
+Appends super fails kept payloads payload (Ok value) = KeepsIn super kept (payloads ++ payload ∷ [])
+Appends super fails kept payloads payload (Err Broken) = IsStopped super fails kept payloads payload
+Appends super fails kept payloads payload (Err OutOfMemory) = Unit {0}
 
 -- all four calls were made, or none was where memory ran out
 abbrev pub MakesCalls : {T : Type 0} → (ℕ → ℕ → Bool) → (ℕ → ℕ → Bool) → Result T Refusal → Type 0

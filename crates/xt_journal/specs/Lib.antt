@@ -6,4 +6,6 @@ pub mod Format
 pub mod Reading
 pub mod Parsed
 pub mod Loaded
+pub mod Located
 pub mod Refused
+pub mod Swapped

@@ -1,68 +1,62 @@
 -- What a parser answers of bytes.
-use Rattle.std.specs.Prelude.{ℕ, ◌+◌, ◌≤◌, ◌≡◌, ◌≢◌, Bool, true, false, List, ◌∷◌, ◌++◌, length, map, Vec, Option, None, Some, Result, Ok, Err}
-use Rattle.std.specs.List.{All}
-use Rattle.std.specs.declared.alloc.Global.{Global}
+use Rattle.std.specs.Prelude.{ℕ, ◌+◌, ◌<◌, ◌≤◌, ◌≡◌, ◌≢◌, Bool, true, false, List, [], ◌∷◌, ◌++◌, length, map, Option, None, Some, Result, Ok, Err}
+use Rattle.journal_areas.specs.declared.superblock.Superblock.{Superblock}
 use Rattle.xt_journal.specs.declared.placed.Placed.{Placed}
+use Rattle.xt_journal.specs.declared.format.Found.{Found}
+use Rattle.xt_journal.specs.declared.walk.Gates.{Gates}
 use Rattle.xt_journal.specs.declared.format.Trouble.{Trouble}
 use Rattle.xt_journal.specs.declared.format.Trouble.TheVariants as trouble
-use Rattle.journal_records.specs.Records.{IsCutOff}
-use Rattle.xt_journal.specs.Format.{header, open_gate, records, end_of, IsPayload}
-use Rattle.xt_journal.specs.Reading.{Reading, ReadsAs, Stands, Foreign, Unknown, Damaged, placed_from}
+use Rattle.xt_journal.specs.Format.{open_gate, record_of, Reached, end_in}
+use Rattle.xt_journal.specs.Reading.{Reading, ReadsAs, Stands, Foreign, Unknown, Damaged, placed_in}
 
 -- the reading is the one of these bytes
-abbrev pub Gives : List ℕ → Result (ℕ × Vec Placed Global) Trouble → Type 0
-Gives bytes (Ok found) = ReadsAs bytes (Stands found.1.items)
+abbrev pub Gives : List ℕ → Result Found Trouble → Type 0
+Gives bytes (Ok found) = ReadsAs bytes (Stands found.placed.items)
 Gives bytes (Err (trouble.NotOurs first)) = ReadsAs bytes (Foreign first)
 Gives bytes (Err (trouble.Layout version)) = ReadsAs bytes (Unknown version)
 Gives bytes (Err (trouble.Damaged place)) = ReadsAs bytes (Damaged place)
 Gives bytes (Err trouble.DiskFault) = Unit {0}
 Gives bytes (Err trouble.OutOfMemory) = Unit {0}
 
--- where the gates of these records stand
-abbrev pub gates_of : List (List ℕ) → List ℕ
-gates_of payloads = map (λ p. p.gate) (placed_from 12 payloads)
+-- the gates of these payloads
+abbrev pub gates_of : List Placed → List ℕ
+gates_of placed = map (λ p. p.gate) placed
 
--- the header and these records, whose gates stand at these places
-pub record HasRecords (bytes gates : List ℕ) (payloads : List (List ℕ)) : Type 0 where
-  pub are : bytes ≡ header ++ records payloads
-  pub places : gates ≡ gates_of payloads
+-- the record of a payload stands in the bytes after its gate
+pub record IsAt (bytes : List ℕ) (p : Placed) : Type 0 where
+  pub front : List ℕ
+  pub later : List ℕ
+  pub are : bytes ≡ front ++ open_gate ∷ (record_of p.bytes ++ later)
+  pub place : length front ≡ p.gate
+  pub fits : length p.bytes < 4294967296
 
--- after the header: records up to a gate that isn't open
-pub record AreRecords (bytes : List ℕ) (end : ℕ) (gates : List ℕ) : Type 0 where
+-- the records of these payloads stand in the bytes one after another, the first not below one place, and none past another
+abbrev pub AreLaid : List ℕ → ℕ → List Placed → ℕ → Type 0
+AreLaid bytes low [] high = low ≤ high
+AreLaid bytes low (p ∷ placed) high = (low ≤ p.gate) × IsAt bytes p × AreLaid bytes (p.gate + (5 + length p.bytes)) placed high
+
+-- these gates are those of payloads whose records stand so in the bytes, from the first byte on
+pub record HasRecords (bytes gates : List ℕ) (placed : List Placed) : Type 0 where
+  pub laid : AreLaid bytes 0 placed (length bytes)
+  pub places : gates ≡ gates_of placed
+
+-- Reading has come so far: to this gate, past this superblock or none, and these are the gates of the payloads that count so far.
+pub record IsRead (bytes rest : List ℕ) (super : Option Superblock) (end : ℕ) (gates : List ℕ) : Type 0 where
   pub payloads : List (List ℕ)
-  pub fit : All IsPayload payloads
+  pub reached : Reached super bytes payloads rest
+  pub is_end : end ≡ end_in super payloads
+  pub laid : AreLaid bytes 0 (placed_in super payloads) end
+  pub places : gates ≡ gates_of (placed_in super payloads)
+
+-- and reading ends there
+pub record IsReadWhole (bytes : List ℕ) (found : Gates) : Type 0 where
   pub gate : ℕ
   pub rest : List ℕ
   pub shut : gate ≢ open_gate
-  pub are : bytes ≡ records payloads ++ gate ∷ rest
-  pub places : gates ≡ gates_of payloads
-  pub is_end : end ≡ end_of payloads
+  pub read : IsRead bytes (gate ∷ rest) found.superblock found.end found.places.items
 
--- after the header: records up to an open gate that isn't followed by one
-pub record AreDamaged (bytes : List ℕ) (place : ℕ) : Type 0 where
-  pub payloads : List (List ℕ)
-  pub fit : All IsPayload payloads
-  pub rest : List ℕ
-  pub are : bytes ≡ records payloads ++ open_gate ∷ rest
-  pub cut_off : IsCutOff rest
-  pub is_place : place ≡ end_of payloads
-
-abbrev pub FindsRecords : List ℕ → Result (ℕ × Vec ℕ Global) Trouble → Type 0
-FindsRecords bytes (Ok found) = AreRecords bytes found.0 found.1.items
-FindsRecords bytes (Err (trouble.NotOurs first)) = ⊥
-FindsRecords bytes (Err (trouble.Layout version)) = ⊥
-FindsRecords bytes (Err (trouble.Damaged place)) = AreDamaged bytes place
-FindsRecords bytes (Err trouble.DiskFault) = ⊥
-FindsRecords bytes (Err trouble.OutOfMemory) = Unit {0}
-
--- the header and such records
-pub record IsFound (bytes : List ℕ) (end : ℕ) (gates : List ℕ) : Type 0 where
-  pub rest : List ℕ
-  pub are : bytes ≡ header ++ rest
-  pub records : AreRecords rest end gates
-
-abbrev pub Finds : List ℕ → Result (ℕ × Vec ℕ Global) Trouble → Type 0
-Finds bytes (Ok found) = IsFound bytes found.0 found.1.items
+abbrev pub Finds : List ℕ → Result Gates Trouble → Type 0
+Finds bytes (Ok found) = IsReadWhole bytes found
 Finds bytes (Err (trouble.NotOurs first)) = ReadsAs bytes (Foreign first)
 Finds bytes (Err (trouble.Layout version)) = ReadsAs bytes (Unknown version)
 Finds bytes (Err (trouble.Damaged place)) = ReadsAs bytes (Damaged place)
@@ -79,8 +73,8 @@ is_fault (Err trouble.OutOfMemory) = false
 is_fault (Ok value) = false
 
 -- what the bytes were read as, unless the disk failed or memory ran out
-abbrev pub reading_found : Result (ℕ × Vec Placed Global) Trouble → Option Reading
-reading_found (Ok found) = Some (Stands found.1.items)
+abbrev pub reading_found : Result Found Trouble → Option Reading
+reading_found (Ok found) = Some (Stands found.placed.items)
 reading_found (Err (trouble.NotOurs first)) = Some (Foreign first)
 reading_found (Err (trouble.Layout version)) = Some (Unknown version)
 reading_found (Err (trouble.Damaged place)) = Some (Damaged place)

@@ -1,10 +1,11 @@
 -- What the bytes of a disk are read as.
-use Rattle.std.specs.Prelude.{ℕ, ◌+◌, ◌<◌, ◌≤◌, ◌≡◌, ◌≢◌, ◌⊎◌, List, [], ◌∷◌, ◌++◌, length, take, drop, map}
-use Rattle.std.specs.List.{All}
+use Rattle.std.specs.Prelude.{ℕ, ◌+◌, ◌<◌, ◌≡◌, ◌≢◌, nat_lt, if◌then◌else◌, Option, Some, None, List, [], ◌∷◌, length, take, drop, map}
 use Rattle.byteorder.specs.Endian.{big_number}
+use Rattle.journal_areas.specs.declared.superblock.Slot.{Slot}
+use Rattle.journal_areas.specs.declared.superblock.Superblock.{Superblock}
+use Rattle.journal_areas.specs.Superblocks.{current}
 use Rattle.xt_journal.specs.declared.placed.Placed.{Placed}
-use Rattle.journal_records.specs.Records.{IsCutOff}
-use Rattle.xt_journal.specs.Format.{sign, header, open_gate, records, end_of, IsPayload, StandsFor}
+use Rattle.xt_journal.specs.Format.{sign, StandsIn, IsDamaged}
 
 abbrev pub payloads_of : List Placed → List (List ℕ)
 payloads_of placed = map (λ p. p.bytes) placed
@@ -14,15 +15,18 @@ abbrev pub placed_from : ℕ → List (List ℕ) → List Placed
 placed_from gate [] = []
 placed_from gate (payload ∷ payloads) = record { gate = gate; bytes = payload } ∷ placed_from (gate + (5 + length payload)) payloads
 
--- records up to an open gate that isn't followed by a record
-pub record IsDamaged (bytes : List ℕ) (place : ℕ) : Type 0 where
-  pub long : 13 < length bytes
-  pub payloads : List (List ℕ)
-  pub fit : All IsPayload payloads
-  pub rest : List ℕ
-  pub are : bytes ≡ header ++ (records payloads ++ open_gate ∷ rest)
-  pub cut_off : IsCutOff rest
-  pub is_place : place ≡ end_of payloads
+-- a superblock's record of 56 bytes, its gate at this place, comes before the payloads whose gates would stand there or after that
+abbrev pub past : ℕ → Placed → Placed
+past place p = record { gate = if nat_lt p.gate place then p.gate else p.gate + 56; bytes = p.bytes }
+
+abbrev pub placed_by : Superblock → Option Slot → List (List ℕ) → List Placed
+placed_by s None payloads = map (past s.gate) (placed_from 12 payloads)
+placed_by s (Some slot) payloads = placed_from slot.place payloads
+
+-- Each payload with the place of its gate, in a journal with this superblock or none.
+abbrev pub placed_in : Option Superblock → List (List ℕ) → List Placed
+placed_in None payloads = placed_from 12 payloads
+placed_in (Some s) payloads = placed_by s (current s) payloads
 
 pub data Reading : Type 0 where
   -- the payloads that stand, each with the place of its gate
@@ -34,8 +38,13 @@ pub data Reading : Type 0 where
   -- the place of the gate
   Damaged : ℕ → Reading
 
+-- these payloads stand, in a journal with this superblock or none, and each has its place
+pub record StandsAt (super : Option Superblock) (bytes : List ℕ) (placed : List Placed) : Type 0 where
+  pub stands : StandsIn super bytes (payloads_of placed)
+  pub places : placed ≡ placed_in super (payloads_of placed)
+
 abbrev pub ReadsAs : List ℕ → Reading → Type 0
-ReadsAs bytes (Stands placed) = StandsFor bytes (payloads_of placed) × (placed ≡ placed_from 12 (payloads_of placed))
+ReadsAs bytes (Stands placed) = ∥ ((super : Option Superblock) × StandsAt super bytes placed) ∥₁
 ReadsAs bytes (Foreign first) = (13 < length bytes) × (first ≡ take 8 bytes) × (first ≢ sign)
 ReadsAs bytes (Unknown version) = (13 < length bytes) × (take 8 bytes ≡ sign) × (version ≡ big_number 4 (drop 8 bytes)) × (version ≢ 1)
 ReadsAs bytes (Damaged place) = IsDamaged bytes place

@@ -1,10 +1,11 @@
-ghost use Rattle.std.specs.Prelude.{◌≡◌, ◌≤◌, ◌<◌, ◌+◌, ◌-◌, ◌^◌, ◌++◌, ◌∷◌, [], ℕ, List, IsTrue, IfOk, OnOk, OnErr, IsErrOf, MatchResult, is_err, length};
+ghost use Rattle.std.specs.Prelude.{◌≡◌, ◌≤◌, ◌<◌, ◌+◌, ◌-◌, ◌^◌, ◌++◌, ◌∷◌, [], ℕ, List, Option, IsTrue, IfOk, OnOk, OnErr, IsErrOf, MatchResult, is_err, length};
 ghost use Rattle.disk_model.specs.Disk.{IsImage, LeavesOnly};
 ghost use Rattle.xt_base.specs.Faults.{counted, fault_count_after};
 ghost use Rattle.xt_journal.specs.Append.{GoesAt, IsTurn, IsWithOrWithout, IsStopped};
 ghost use Rattle.xt_journal.specs.Appended.{Appends, MakesCalls};
 ghost use Rattle.journal_records.specs.Calls.{GoesOn, AllSucceed};
-ghost use Rattle.xt_journal.specs.Format.{record_of, EndsAt, KeepsJournal, StandsFor};
+ghost use Rattle.journal_areas.specs.declared.superblock.Superblock.{Superblock};
+ghost use Rattle.xt_journal.specs.Format.{record_of, KeepsIn};
 ghost use Rattle.xt_journal.specs.Refused.{is_broken};
 
 use byteorder::{BigEndian, ByteOrder};
@@ -18,7 +19,7 @@ use xt_base::{Failed, OutOfMemory};
 pub fn need_of(end: u64, len: usize, limit: u64) -> Result<u64, u64>
     requires { len < 2 ^ 32 }
     ensures { MatchResult result
-        (λ need. (need ≡ end + (6 + len)) × (need ≤ limit))
+        (λ need. (need ≡ end + (6 + len)) × (need ≤ limit) × (need < 2 ^ 64))
         (λ need. (need ≡ counted (end + (6 + len))) × (limit < end + (6 + len))) }
 {
     match end.checked_add(6 + len as u64) {
@@ -59,11 +60,12 @@ pub fn append_to<D: Disk>(
 ) -> Result<(), Refusal>
     requires needed { need ≡ end + (6 + length payload.now) }
     requires fits { length payload.now < 2 ^ 32 }
-    ensures turn { IsTrue D.is_told → (payloads : List (List ℕ)) →
-        GoesAt (D.kept disk.old) end payloads payload.now →
-        Appends (D.fails disk.old) (D.kept disk.new) payloads payload.now result }
-    ensures any_moment { IsTrue D.is_told → (payloads : List (List ℕ)) →
-        GoesAt (D.kept disk.old) end payloads payload.now →
+    ensures turn { IsTrue D.is_told → (super : Option Superblock) (payloads : List (List ℕ)) →
+        GoesAt super (D.kept disk.old) end payloads payload.now →
+        Appends super (D.fails disk.old) (D.kept disk.new) payloads payload.now result }
+    ensures any_moment { IsTrue D.is_told →
+        (super : Option Superblock) (payloads : List (List ℕ)) →
+        GoesAt super (D.kept disk.old) end payloads payload.now →
         LeavesOnly D.moment D.left_since disk.old disk.new (IsWithOrWithout payloads payload.now) }
     ensures calls { IsTrue D.is_told → MakesCalls (D.fails disk.old) (D.fails disk.new) result }
     ensures count { D.fault_count disk.new ≡
@@ -87,15 +89,18 @@ pub fn write_record<D: Disk>(disk: &mut D, end: u64, piece: &[u8]) -> Result<(),
     requires place { end + (1 + length piece.now) ≤ D.reserved disk.old }
     requires small { end + 1 < 2 ^ 64 }
     requires noted { length piece.now + 300 ≤ D.room disk.old }
-    ensures done { IsTrue D.is_told → (payloads : List (List ℕ)) (payload : List ℕ) →
-        IsTurn (D.kept disk.old) end piece.now payloads payload →
-        OnOk result (KeepsJournal (D.kept disk.new) (payloads ++ payload ∷ [])) }
-    ensures any_moment { IsTrue D.is_told → (payloads : List (List ℕ)) (payload : List ℕ) →
-        IsTurn (D.kept disk.old) end piece.now payloads payload →
+    ensures done { IsTrue D.is_told →
+        (super : Option Superblock) (payloads : List (List ℕ)) (payload : List ℕ) →
+        IsTurn super (D.kept disk.old) end piece.now payloads payload →
+        OnOk result (KeepsIn super (D.kept disk.new) (payloads ++ payload ∷ [])) }
+    ensures any_moment { IsTrue D.is_told →
+        (super : Option Superblock) (payloads : List (List ℕ)) (payload : List ℕ) →
+        IsTurn super (D.kept disk.old) end piece.now payloads payload →
         LeavesOnly D.moment D.left_since disk.old disk.new (IsWithOrWithout payloads payload) }
-    ensures stopped { IsTrue D.is_told → (payloads : List (List ℕ)) (payload : List ℕ) →
-        IsTurn (D.kept disk.old) end piece.now payloads payload →
-        OnErr result (IsStopped (D.fails disk.old) (D.kept disk.new) payloads payload) }
+    ensures stopped { IsTrue D.is_told →
+        (super : Option Superblock) (payloads : List (List ℕ)) (payload : List ℕ) →
+        IsTurn super (D.kept disk.old) end piece.now payloads payload →
+        OnErr result (IsStopped super (D.fails disk.old) (D.kept disk.new) payloads payload) }
     ensures succeeded { IsTrue D.is_told → OnOk result (AllSucceed (D.fails disk.old) 4) }
     ensures plan { IsTrue D.is_told →
         OnOk result (GoesOn 0 4 (D.fails disk.old) (D.fails disk.new)) }

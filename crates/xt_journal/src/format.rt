@@ -1,12 +1,16 @@
 ghost use Rattle.std.specs.Prelude.{◌≡◌, ◌≤◌, ◌<◌, ◌+◌, ℕ, List, IfOk, OnOk, IsErrOf, length, take, drop};
+ghost use Rattle.byteorder.specs.Endian.{big_number};
 ghost use Rattle.xt_journal.specs.declared.format.Trouble.TheVariants.{OutOfMemory};
-ghost use Rattle.xt_journal.specs.Format.{end_of, IsJournal};
-ghost use Rattle.xt_journal.specs.Parsed.{Finds, FindsRecords, Gives, HasRecords};
-ghost use Rattle.xt_journal.specs.Reading.{payloads_of, placed_from};
+ghost use Rattle.xt_journal.specs.declared.placed.Placed.{Placed};
+ghost use Rattle.xt_journal.specs.Format.{end_in, IsJournal};
+ghost use Rattle.xt_journal.specs.Located.{IsLocated};
+ghost use Rattle.xt_journal.specs.Parsed.{Gives, HasRecords};
+ghost use Rattle.xt_journal.specs.Reading.{payloads_of};
 
 use crate::placed::Placed;
+use crate::walk::{Gates, find};
 use byteorder::{BigEndian, ByteOrder};
-use journal_records::{Next, next_record};
+use journal_areas::Superblock;
 use std::alloc::{AllocError, AllocFailed, Global};
 use xt_base::{Octets, OutOfMemory};
 
@@ -47,77 +51,56 @@ impl<T: Drop> From<AllocFailed<T>> for Trouble {
     }
 }
 
-/// The payloads that stand in more than 13 bytes, and the place of the gate after them.
+/// What stands in the bytes of a journal.
+#[derive(Drop)]
+pub struct Found {
+    /// The place of the gate after the last payload's record.
+    pub end: u64,
+    /// Its superblock, where it has one.
+    pub superblock: Option<Superblock>,
+    /// The payloads that count, in order.
+    pub placed: Vec<Placed>,
+}
+
+/// What stands in more than 13 bytes.
 ///
-/// The memory of the bytes is given back while they are taken, so that they never stand there twice.
-pub fn parse(alloc: Global, bytes: Vec<u8>) -> Result<(u64, Vec<Placed>), Trouble>
+/// The memory of the bytes is given back while payloads are taken out of them, so that they never stand there twice.
+pub fn parse(alloc: Global, bytes: Vec<u8>) -> Result<Found, Trouble>
     requires { 13 < length bytes.items }
     ensures gives { Gives bytes.items result }
     ensures no_fault { IsErrOf result Trouble.DiskFault → ⊥ }
-    ensures journal { IfOk result (λ found. IsJournal bytes.items (payloads_of found.1.items)) }
-    ensures end { IfOk result (λ found. found.0 ≡ end_of (payloads_of found.1.items)) }
+    ensures located { IfOk result (λ found. IsLocated found.superblock found.end) }
+    ensures journal { IfOk result (λ found.
+        IsJournal found.superblock bytes.items (payloads_of found.placed.items)) }
+    ensures end { IfOk result (λ found.
+        found.end ≡ end_in found.superblock (payloads_of found.placed.items)) }
 {
-    let (end, gates) = find(alloc, bytes.as_slice())?;
-    let mut records = bytes;
-    records.truncate(end as usize);
-    let placed = take_payloads(alloc, records, gates)?;
-    Ok((end, placed))
+    let Gates {
+        end,
+        superblock,
+        places,
+    } = find(alloc, bytes.as_slice())?;
+    let placed = take_payloads(alloc, bytes, places)?;
+    Ok(Found {
+        end,
+        superblock,
+        placed,
+    })
 }
 
-/// The places of the gates of the records that stand in more than 13 bytes, and of the gate after them.
-fn find(alloc: Global, bytes: &[u8]) -> Result<(u64, Vec<u64>), Trouble>
-    requires { 13 < length bytes.now }
-    ensures found { Finds bytes.now result }
-    ensures no_fault { IsErrOf result Trouble.DiskFault → ⊥ }
-{
-    let mut first = [0; 8];
-    first.copy_from_slice(&bytes[..8]);
-    if first != SIGN {
-        return Err(Trouble::NotOurs { first });
-    }
-    let version = BigEndian::read_u32(&bytes[8..]);
-    if version != LAYOUT {
-        return Err(Trouble::Layout { version });
-    }
-    find_records(alloc, &bytes[12..])
-}
-
-/// The same after the header.
-fn find_records(alloc: Global, records: &[u8]) -> Result<(u64, Vec<u64>), Trouble>
-    requires { 1 ≤ length records.now }
-    ensures found { FindsRecords records.now result }
-{
-    let mut gates = Vec::new(alloc);
-    let mut gate: u64 = 12;
-    let mut rest = records;
-    loop {
-        match next_record(rest) {
-            Next::Closed => return Ok((gate, gates)),
-            Next::CutOff => return Err(Trouble::Damaged { place: gate }),
-            Next::Record {
-                payload,
-                rest: behind,
-            } => {
-                gates.push(gate)?;
-                gate += 5 + payload.len() as u64;
-                rest = behind;
-            }
-        }
-    }
-}
-
-/// Takes the payloads out of a header and records with these gates, from the last on.
+/// Takes the payloads of records whose gates stand at these places out of the bytes, from the last on. What lies between the
+/// records is cut off on the way.
 fn take_payloads(
     alloc: Global,
-    records: Vec<u8>,
-    gates: Vec<u64>,
+    bytes: Vec<u8>,
+    places: Vec<u64>,
 ) -> Result<Vec<Placed>, OutOfMemory>
-    requires { (payloads : List (List ℕ)) × HasRecords records.items gates.items payloads }
-    ensures taken { (payloads : List (List ℕ)) → HasRecords records.items gates.items payloads →
-        IfOk result (λ placed. placed.items ≡ placed_from 12 payloads) }
+    requires { (placed : List Placed) × HasRecords bytes.items places.items placed }
+    ensures taken { (placed : List Placed) → HasRecords bytes.items places.items placed →
+        IfOk result (λ taken. taken.items ≡ placed) }
 {
-    let mut left = records;
-    let mut open = gates;
+    let mut left = bytes;
+    let mut open = places;
     let mut placed = Vec::with_capacity(alloc, open.len())?;
     while let Some(gate) = open.pop() {
         let bytes = take_last(&mut left, gate)?;
@@ -130,17 +113,23 @@ fn take_payloads(
 /// How many bytes may lie idle before they are given back.
 const SLACK: usize = 1 << 20;
 
-/// Takes the last record off, and gives its payload.
-fn take_last(records: &mut Vec<u8>, gate: u64) -> Result<Octets, OutOfMemory>
-    requires { gate + 5 ≤ length records.old.items }
-    ensures payload { IfOk result (λ payload. payload ≡ drop (gate + 5) records.old.items) }
-    ensures rest { OnOk result (records.new.items ≡ take gate records.old.items) }
+/// Cuts off the record whose gate stands at this place, and what comes after it, and gives its payload.
+fn take_last(bytes: &mut Vec<u8>, gate: u64) -> Result<Octets, OutOfMemory>
+    requires { gate + (5 + big_number 4 (drop (gate + 1) bytes.old.items))
+        ≤ length bytes.old.items }
+    ensures payload { IfOk result (λ payload.
+        payload ≡ take (big_number 4 (drop (gate + 1) bytes.old.items))
+        (drop (gate + 5) bytes.old.items)) }
+    ensures rest { OnOk result (bytes.new.items ≡ take gate bytes.old.items) }
 {
     let place = gate as usize;
-    let payload = records.split_off(place + 5)?;
-    records.truncate(place);
-    if records.capacity() - records.len() >= SLACK {
-        records.shrink_to_fit();
+    let held = bytes.as_slice();
+    let len = BigEndian::read_u32(&held[place + 1..]) as usize;
+    bytes.truncate(place + 5 + len);
+    let payload = bytes.split_off(place + 5)?;
+    bytes.truncate(place);
+    if bytes.capacity() - bytes.len() >= SLACK {
+        bytes.shrink_to_fit();
     }
     Ok(Octets::from(payload))
 }

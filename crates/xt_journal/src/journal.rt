@@ -1,12 +1,14 @@
 ghost use Rattle.std.specs.Prelude.{IsTrue};
 ghost use Rattle.xt_journal.specs.Format.{EndsAt};
+ghost use Rattle.xt_journal.specs.Located.{IsLocated, located_prop};
 
 use crate::append::{Refusal, append_to, need_of};
 use crate::errors::{AppendErr, LoadErr};
-use crate::format::Trouble;
+use crate::format::{Found, Trouble};
 use crate::load::load_from;
 use crate::placed::Placed;
 use disk_model::Disk;
+use journal_areas::{Area, Superblock, area_of};
 use std::alloc::Global;
 
 /// A journal on a disk. Each crash leaves the payloads that were appended, in order.
@@ -15,22 +17,26 @@ pub struct Journal<D: Disk> {
     pub(crate) disk: D,
     pub(crate) end: u64,
     pub(crate) limit: u64,
-    pub ghost ends: { IsTrue D.is_told → ∥ EndsAt (D.kept disk) end ∥₁ },
+    pub(crate) superblock: Option<Superblock>,
+    pub ghost located: { IsLocated superblock end } by { located_prop superblock end },
+    pub ghost ends: { IsTrue D.is_told → ∥ EndsAt superblock (D.kept disk) end ∥₁ },
 }
 
 impl<D: Disk> Journal<D> {
-    ghost use Rattle.std.specs.Prelude.{◌≡◌, ◌≤◌, ◌<◌, ◌+◌, ◌^◌, ◌++◌, ◌∷◌, [], ℕ, List, IfOk, IfSome, OnOk, OnErr, IsSome, is_some, length};
+    ghost use Rattle.std.specs.Prelude.{◌≡◌, ◌≢◌, ◌≤◌, ◌<◌, ◌+◌, ◌^◌, ◌++◌, ◌∷◌, [], ℕ, List, IfOk, IfSome, OnOk, OnErr, IsSome, is_some, length, slice_index};
     ghost use Rattle.disk_model.specs.Disk.{IsImage, LeavesOnly, at_rest};
     ghost use Rattle.xt_base.specs.Faults.{fault_count_after};
-    ghost use Rattle.xt_journal.specs.Access.{disk_of, place_of, limit_of};
+    ghost use Rattle.journal_areas.specs.Sites.{area_of};
+    ghost use Rattle.xt_journal.specs.Access.{disk_of, place_of, limit_of, superblock_of};
     ghost use Rattle.xt_journal.specs.Answers.{IsFullExactly, append_fault, disk_after_append, disk_after_load, load_fault, reading_of, without_memory};
     ghost use Rattle.xt_journal.specs.Append.{IsStopped, IsWithOrWithout};
     ghost use Rattle.journal_records.specs.Calls.{AllSucceed, GoesOn};
-    ghost use Rattle.xt_journal.specs.Format.{KeepsJournal, StandsFor, end_of, journal_of};
+    ghost use Rattle.xt_journal.specs.Format.{KeepsJournal, StandsFor, StandsIn, end_in, journal_of, superblock_kind};
     ghost use Rattle.xt_journal.specs.Loaded.{LeavesAsBefore, LeavesDisk, FailedCall, MadeCalls};
     ghost use Rattle.xt_journal.specs.Reading.{IsTheReading, payloads_of};
 
-    /// Loads what stands on a disk: the payloads whose gates are open, from the first up to the first that isn't.
+    /// Loads what stands on a disk: the payloads whose gates are open, from the first up to the first that isn't. From the superblock on
+    /// it goes on at the area that counts, and what came before that doesn't count.
     ///
     /// A disk of at most 13 bytes that isn't a journal is made one with no record. Nothing else is written. The
     /// journal doesn't grow past `limit` bytes.
@@ -39,8 +45,10 @@ impl<D: Disk> Journal<D> {
             IfSome (reading_of result) (IsTheReading (D.kept disk).read) }
         ensures keeps { IsTrue D.is_told → IfOk result (λ loaded.
             KeepsJournal (D.kept (disk_of loaded.0)) (payloads_of loaded.1.items)) }
-        ensures place { IsTrue D.is_told →
-            IfOk result (λ loaded. place_of loaded.0 ≡ end_of (payloads_of loaded.1.items)) }
+        ensures place { IsTrue D.is_told → IfOk result (λ loaded.
+            place_of loaded.0 ≡ end_in (superblock_of loaded.0) (payloads_of loaded.1.items)) }
+        ensures superblock { IsTrue D.is_told → IfOk result (λ loaded.
+            StandsIn (superblock_of loaded.0) (D.kept disk).read (payloads_of loaded.1.items)) }
         ensures limit { IfOk result (λ loaded. limit_of loaded.0 ≡ limit) }
         ensures fresh { IsTrue D.is_told → length (D.kept disk).read ≤ 13 →
             IfOk result (λ loaded. D.kept (disk_of loaded.0) ≡ at_rest (journal_of [])) }
@@ -67,7 +75,21 @@ impl<D: Disk> Journal<D> {
     {
         let mut disk = disk;
         match load_from(alloc, &mut disk) {
-            Ok((end, placed)) => Ok((Journal { disk, end, limit }, placed)),
+            Ok(
+                Found {
+                    end,
+                    superblock,
+                    placed,
+                },
+            ) => Ok((
+                Journal {
+                    disk,
+                    end,
+                    limit,
+                    superblock,
+                },
+                placed,
+            )),
             Err(Trouble::DiskFault) => Err(LoadErr::DiskFault {
                 count: disk.faults(),
                 disk,
@@ -81,11 +103,14 @@ impl<D: Disk> Journal<D> {
 
     /// Appends a payload in four device calls. At `Ok` its record is synced: from then on each crash leaves it.
     ///
+    /// A payload that begins with 8 would be read as the superblock, and may not be given.
+    ///
     /// Want of memory comes before the first device call. A journal whose disk has failed is gone, and must be loaded
     /// again.
     pub fn append(self, alloc: Global, payload: &[u8]) -> Result<Journal<D>, AppendErr<D>>
         requires some { 1 ≤ length payload.now }
         requires fits { length payload.now < 2 ^ 32 }
+        requires kind { slice_index payload.now 0 ≢ superblock_kind }
         ensures done { IsTrue D.is_told → (payloads : List (List ℕ)) →
             KeepsJournal (D.kept (disk_of self)) payloads →
             IfOk result (λ journal.
@@ -97,6 +122,7 @@ impl<D: Disk> Journal<D> {
         ensures place { IfOk result (λ journal. place_of journal ≡
             place_of self + (5 + length payload.now)) }
         ensures limit { IfOk result (λ journal. limit_of journal ≡ limit_of self) }
+        ensures superblock { IfOk result (λ journal. superblock_of journal ≡ superblock_of self) }
 
         // A crash at any moment leaves the payloads from before the call, with the new one or without.
         ensures any_moment { IsTrue D.is_told → (payloads : List (List ℕ)) →
@@ -113,8 +139,8 @@ impl<D: Disk> Journal<D> {
         ensures stopped { IsTrue D.is_told → (payloads : List (List ℕ)) →
             KeepsJournal (D.kept (disk_of self)) payloads →
             IsSome (append_fault result) →
-            IsStopped (D.fails (disk_of self)) (D.kept (disk_after_append result)) payloads
-            payload.now }
+            IsStopped (superblock_of self) (D.fails (disk_of self)) (D.kept (disk_after_append result))
+            payloads payload.now }
         ensures succeeded { IsTrue D.is_told → OnOk result (AllSucceed (D.fails (disk_of self)) 4) }
         ensures plan { IsTrue D.is_told →
             OnOk result (GoesOn 0 4 (D.fails (disk_of self)) (D.fails (disk_after_append result))) }
@@ -126,7 +152,8 @@ impl<D: Disk> Journal<D> {
         ensures full { IsFullExactly self (place_of self + (6 + length payload.now)) result }
         ensures memory { IfSome (without_memory result) (λ journal.
             (D.kept (disk_of journal) ≡ D.kept (disk_of self))
-            × (place_of journal ≡ place_of self) × (limit_of journal ≡ limit_of self)) }
+            × (place_of journal ≡ place_of self) × (limit_of journal ≡ limit_of self)
+            × (superblock_of journal ≡ superblock_of self)) }
         ensures no_call { IsTrue D.is_told → IfSome (without_memory result) (λ journal.
             GoesOn 0 0 (D.fails (disk_of self)) (D.fails (disk_of journal))) }
     {
@@ -144,19 +171,26 @@ impl<D: Disk> Journal<D> {
             mut disk,
             end,
             limit,
+            superblock,
         } = self;
         match append_to(alloc, &mut disk, end, need, payload) {
             Ok(()) => Ok(Journal {
                 disk,
                 end: need - 1,
                 limit,
+                superblock,
             }),
             Err(Refusal::Broken) => Err(AppendErr::Broken {
                 count: disk.faults(),
                 disk,
             }),
             Err(Refusal::OutOfMemory) => Err(AppendErr::OutOfMemory {
-                journal: Journal { disk, end, limit },
+                journal: Journal {
+                    disk,
+                    end,
+                    limit,
+                    superblock,
+                },
             }),
         }
     }
@@ -166,6 +200,17 @@ impl<D: Disk> Journal<D> {
         ensures { result ≡ place_of self.now }
     {
         self.end
+    }
+
+    /// The area that counts.
+    pub fn area(&self) -> Area
+        ensures { result ≡ area_of (superblock_of self.now) (place_of self.now) }
+    {
+        let slot = match &self.superblock {
+            None => None,
+            Some(superblock) => superblock.current(),
+        };
+        area_of(&slot, self.end)
     }
 
     /// The disk, to be looked at.
@@ -183,6 +228,7 @@ impl<D: Disk> Journal<D> {
             disk,
             end: _,
             limit: _,
+            superblock: _,
         } = self;
         disk
     }

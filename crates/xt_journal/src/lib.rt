@@ -12,6 +12,8 @@ mod format;
 mod journal;
 mod load;
 mod placed;
+mod swap;
+mod walk;
 
 pub use errors::{AppendErr, LoadErr};
 pub use journal::Journal;

@@ -2,13 +2,13 @@ ghost use Rattle.std.specs.Prelude.{◌≡◌, ◌⊎◌, ◌≤◌, ◌<◌, �
 ghost use Rattle.disk_model.specs.Disk.{GoesByPlan, IsImage, LeavesOnly, at_rest};
 ghost use Rattle.xt_base.specs.Faults.{fault_count_after};
 ghost use Rattle.journal_records.specs.Calls.{GoesOn};
-ghost use Rattle.xt_journal.specs.Format.{end_of, journal_of, KeepsJournal};
+ghost use Rattle.xt_journal.specs.Format.{end_in, journal_of, KeepsIn, StandsIn};
 ghost use Rattle.xt_journal.specs.Loaded.{LeavesAsBefore, LeavesDisk, TellsFresh, FailedCall, MadeCalls};
+ghost use Rattle.xt_journal.specs.Located.{IsLocated};
 ghost use Rattle.xt_journal.specs.Parsed.{Gives, is_fault, reading_found};
 ghost use Rattle.xt_journal.specs.Reading.{IsTheReading, payloads_of};
 
-use crate::format::{FRESH, Trouble, parse};
-use crate::placed::Placed;
+use crate::format::{FRESH, Found, Trouble, parse};
 use disk_model::Disk;
 use journal_records::write_synced;
 use std::alloc::Global;
@@ -93,13 +93,16 @@ fn buffer(alloc: Global, len: u64) -> Result<Vec<u8>, OutOfMemory>
 
 /// Reserves what loading writes, and then reads the whole of a disk, and makes it a journal where it has at most 13
 /// bytes and isn't one.
-pub fn load_from<D: Disk>(alloc: Global, disk: &mut D) -> Result<(u64, Vec<Placed>), Trouble>
+pub fn load_from<D: Disk>(alloc: Global, disk: &mut D) -> Result<Found, Trouble>
     ensures reads { IsTrue D.is_told →
         IfSome (reading_found result) (IsTheReading (D.kept disk.old).read) }
-    ensures keeps { IsTrue D.is_told →
-        IfOk result (λ found. KeepsJournal (D.kept disk.new) (payloads_of found.1.items)) }
-    ensures place { IsTrue D.is_told →
-        IfOk result (λ found. found.0 ≡ end_of (payloads_of found.1.items)) }
+    ensures keeps { IsTrue D.is_told → IfOk result (λ found.
+        KeepsIn found.superblock (D.kept disk.new) (payloads_of found.placed.items)) }
+    ensures place { IsTrue D.is_told → IfOk result (λ found.
+        found.end ≡ end_in found.superblock (payloads_of found.placed.items)) }
+    ensures located { IfOk result (λ found. IsLocated found.superblock found.end) }
+    ensures stands { IsTrue D.is_told → IfOk result (λ found.
+        StandsIn found.superblock (D.kept disk.old).read (payloads_of found.placed.items)) }
     ensures fresh { IsTrue D.is_told → length (D.kept disk.old).read ≤ 13 →
         IfOk result (λ found. D.kept disk.new ≡ at_rest (journal_of [])) }
     ensures same { IsTrue D.is_told → 13 < length (D.kept disk.old).read →
@@ -122,13 +125,16 @@ pub fn load_from<D: Disk>(alloc: Global, disk: &mut D) -> Result<(u64, Vec<Place
 }
 
 /// Reads the whole of a disk, and makes it a journal where it has at most 13 bytes and isn't one.
-fn read_journal<D: Disk>(alloc: Global, disk: &mut D) -> Result<(u64, Vec<Placed>), Trouble>
+fn read_journal<D: Disk>(alloc: Global, disk: &mut D) -> Result<Found, Trouble>
     requires inside { 13 ≤ D.reserved disk.old }
     requires noted { 1000 ≤ D.room disk.old }
     ensures gives { IsTrue D.is_told → Gives (D.kept disk.old).read result }
     ensures keeps { IsTrue D.is_told → IfOk result (λ found.
-        KeepsJournal (D.kept disk.new) (payloads_of found.1.items)
-        × (found.0 ≡ end_of (payloads_of found.1.items))) }
+        KeepsIn found.superblock (D.kept disk.new) (payloads_of found.placed.items)
+        × (found.end ≡ end_in found.superblock (payloads_of found.placed.items))) }
+    ensures located { IfOk result (λ found. IsLocated found.superblock found.end) }
+    ensures stands { IsTrue D.is_told → IfOk result (λ found.
+        StandsIn found.superblock (D.kept disk.old).read (payloads_of found.placed.items)) }
     ensures fresh { IsTrue D.is_told → length (D.kept disk.old).read ≤ 13 →
         OnOk result (D.kept disk.new ≡ at_rest (journal_of [])) }
     ensures same { IsTrue D.is_told → 13 < length (D.kept disk.old).read →
@@ -152,21 +158,28 @@ fn read_journal<D: Disk>(alloc: Global, disk: &mut D) -> Result<(u64, Vec<Placed
         read_long(alloc, disk, len)
     } else {
         match make_ready(disk, len) {
-            Ok(()) => Ok((12, Vec::new(alloc))),
+            Ok(()) => Ok(Found {
+                end: 12,
+                superblock: None,
+                placed: Vec::new(alloc),
+            }),
             Err(Failed) => Err(Trouble::DiskFault),
         }
     }
 }
 
 /// Reads the whole of a disk of more than 13 bytes.
-fn read_long<D: Disk>(alloc: Global, disk: &mut D, len: u64) -> Result<(u64, Vec<Placed>), Trouble>
+fn read_long<D: Disk>(alloc: Global, disk: &mut D, len: u64) -> Result<Found, Trouble>
     requires long { 13 < len }
     requires rests { IsTrue D.is_told → D.kept disk.old ≡ at_rest (D.kept disk.old).read }
     requires whole { IsTrue D.is_told → len ≡ length (D.kept disk.old).read }
     ensures gives { IsTrue D.is_told → Gives (D.kept disk.old).read result }
     ensures keeps { IsTrue D.is_told → IfOk result (λ found.
-        KeepsJournal (D.kept disk.new) (payloads_of found.1.items)
-        × (found.0 ≡ end_of (payloads_of found.1.items))) }
+        KeepsIn found.superblock (D.kept disk.new) (payloads_of found.placed.items)
+        × (found.end ≡ end_in found.superblock (payloads_of found.placed.items))) }
+    ensures located { IfOk result (λ found. IsLocated found.superblock found.end) }
+    ensures stands { IsTrue D.is_told → IfOk result (λ found.
+        StandsIn found.superblock (D.kept disk.old).read (payloads_of found.placed.items)) }
     ensures same { D.kept disk.new ≡ D.kept disk.old }
     ensures any_moment { IsTrue D.is_told →
         LeavesOnly D.moment D.left_since disk.old disk.new (IsImage (D.kept disk.old)) }

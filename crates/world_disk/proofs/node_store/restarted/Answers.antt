@@ -18,4 +18,5 @@ invariant_of-result c =
       ready = c.in_ok-store_on.ensures.ready;
       short = short_on (memory_kept disk).read (records_of store) c.in_ok-store_on.ensures.reads;
       limited = c.in_ok-store_on.ensures.limit;
+      plain = c.in_ok-store_on.ensures.plain;
     }

@@ -2,6 +2,7 @@ use Rattle.std.proofs.Common.{List, ◌∙◌, ap, subst, sym}
 use Rattle.disk_model.specs.Changes.{Memory, memory_kept}
 use Rattle.xt_journal.specs.Access as journal
 use Rattle.xt_journal.specs.declared.placed.Placed.{Placed}
+use Rattle.xt_journal.specs.Format.{KeepsJournal}
 use Rattle.xt_journal.specs.Reading.{payloads_of}
 use Rattle.object_store.specs.Access.{records_of}
 use Rattle.object_store.specs.Texts.{IsFirstBad}
@@ -25,3 +26,8 @@ unreachable-requires c =
     none_bad (memory_kept c.args.disk).read (payloads_of c.in_ok-journal.payloads.items) c.in-Err-BadRecord.field-0-0 c.requires.stands
     c.in_ok-journal.ensures.reads
     (subst (λ (ps : List Placed). IsFirstBad (payloads_of ps) c.in-Err-BadRecord.field-0-0) c.as_slice.ensures.value told.1)
+
+pub load-requires : goal.load-requires
+load-requires c = λ told.
+    subst (λ (ps : List Placed). KeepsJournal (memory_kept (journal.disk_of c.in_ok-journal.journal)) (payloads_of ps)) (sym c.as_slice.ensures.value)
+    c.in_ok-journal.ensures.keeps

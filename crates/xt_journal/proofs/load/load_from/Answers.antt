@@ -1,7 +1,6 @@
-use Rattle.std.proofs.Common.{◌≡◌, ◌≤◌, ◌<◌, [], List, ℕ, length, ap, inl, subst, sym, ◌∙◌, OnOk, OnErr}
-use Rattle.disk_model.specs.Disk.{Kept, IsImage, at_rest}
+use Rattle.std.proofs.Common.{◌≤◌, ◌<◌, length, ap, inl, subst, sym, ◌∙◌, OnErr}
+use Rattle.disk_model.specs.Disk.{Kept, IsImage}
 use Rattle.disk_model.proofs.Moments.{joined, unchanged, weaker}
-use Rattle.xt_journal.specs.Format.{journal_of}
 use Rattle.xt_journal.specs.Loaded.{LeavesAsBefore, LeavesDisk}
 use Rattle.xt_journal.specs.Parsed.{is_fault}
 use Rattle.xt_base.specs.Faults.{fault_count_after}

@@ -1,11 +1,14 @@
-use Rattle.std.proofs.Common.{◌⊎◌, ⊎_elim, inl, inr, ◌+◌, ◌<◌, ◌≤◌, length, subst, ◌∙◌, ap, arith, true, false}
+use Rattle.std.proofs.Common.{⊎_elim, inl, inr, ◌+◌, ◌<◌, length, subst, sym, ◌∙◌, ap, arith, true, false, List, None}
 use Rattle.disk_model.specs.Disk.{Kept, IsImage}
 use Rattle.disk_model.proofs.Moments.{joined, weaker}
 use Rattle.xt_base.specs.Faults.{fault_count_after}
+use Rattle.xt_journal.specs.declared.placed.Placed.{Placed}
+use Rattle.xt_journal.specs.Format.{end_of, KeepsIn}
 use Rattle.xt_journal.specs.Loaded.{LeavesAsBefore}
 use Rattle.xt_journal.specs.Parsed.{Gives, is_fault}
 use Rattle.xt_journal.proofs.Outcomes.{an_err, follows, on_ok}
-use Rattle.xt_journal.proofs.Ready.{image_later, left_later, making_failed, read_left, reading_failed, settle_failed}
+use Rattle.xt_journal.proofs.Ready.{image_later, left_later, making_failed, read_left, reading_failed, ready_keeps, settle_failed}
+use Rattle.xt_journal.specs.Reading.{payloads_of}
 use Rattle.xt_journal.proofs.load.read_journal.Goals as goal
 
 pub returns-then-len-clause-plan : goal.returns-then-len-clause-plan
@@ -146,3 +149,10 @@ returns-in-Ok-make_ready-clause-count g c = c.in-Ok-make_ready.ensures.count ∙
 
 pub returns-in-Err-make_ready-clause-count : goal.returns-in-Err-make_ready-clause-count
 returns-in-Err-make_ready-clause-count g c = c.in-Err-make_ready.ensures.count ∙ ap (fault_count_after true) c.in-Ok.ensures.count
+
+pub returns-in-Ok-make_ready-clause-keeps : goal.returns-in-Ok-make_ready-clause-keeps
+returns-in-Ok-make_ready-clause-keeps g c told =
+    let kept = g.D.Disk.kept c.make_ready.new.disk in (
+      subst (λ (placed : List Placed). KeepsIn None kept (payloads_of placed)) (sym c.new.ensures.items) (ready_keeps kept (c.in-Ok-make_ready.ensures.ready told)),
+      ap (λ (placed : List Placed). end_of (payloads_of placed)) (sym c.new.ensures.items),
+    )

@@ -1,4 +1,4 @@
-use Rattle.std.proofs.Common.{◌≡◌, List, ℕ, false, sym, ◌∙◌, ap}
+use Rattle.std.proofs.Common.{sym, ◌∙◌, ap}
 use Rattle.xt_base.specs.Faults.{fault_count_after}
 use Rattle.disk_model.specs.Disk.{IsImage}
 use Rattle.disk_model.proofs.Moments.{begun, unchanged}

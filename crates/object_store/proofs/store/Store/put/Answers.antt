@@ -2,12 +2,13 @@ use Rattle.std.proofs.Common.{refl, ◌≡◌, ◌++◌, ◌∷◌, [], List, sy
 use Rattle.std.proofs.Math.Logic.{∥∥₁_map}
 use Rattle.disk_model.proofs.Moments.{begun}
 use Rattle.xt_messages.specs.declared.record.Record.{Record}
+use Rattle.xt_journal.specs.Access as journal
 use Rattle.xt_journal.specs.Append.{IsWithOrWithout}
 use Rattle.xt_journal.proofs.Steps.{rests_with}
 use Rattle.replica_records.specs.RecordText.{record_text}
 use Rattle.replica_records.specs.Logs.{records_in}
 use Rattle.object_store.specs.Texts.{texts_of, AreRecords}
-use Rattle.object_store.proofs.Outcomes.{keeps_longer, stands_longer, place_with, room_with, over_with, need_with, left_with, stopped_with, moments_with, goes_on_itself}
+use Rattle.object_store.proofs.Outcomes.{keeps_longer, keeps_same, sound_same, stands_longer, place_with, room_with, over_with, need_with, left_with, stopped_with, moments_with, goes_on_itself}
 use Rattle.object_store.proofs.Reading.{are-push}
 use Rattle.object_store.proofs.store.Store.put.Goals as goal
 
@@ -24,6 +25,7 @@ returns-in_default g c =
         kept = refl;
         place = refl;
         limit = refl;
+        superblock = refl;
         no_call = λ told. goes_on_itself (D.fails disk);
       };
       any_moment = λ told.
@@ -45,6 +47,7 @@ returns-in-Ok-append g c =
         acknowledged = λ told image is. stands_longer image old rec c.as_slice.result.now bytes (facts.acknowledged told (texts_of old) (c.args.self.keeps told) image is);
         place = place_with _ _ bytes _ _ facts.place;
         limit = facts.limit;
+        superblock = facts.superblock;
         succeeded = facts.succeeded;
         plan = facts.plan;
         room = room_with _ _ bytes _ _ facts.full;
@@ -62,7 +65,7 @@ returns-in-Err-Broken g c =
     record {
       end = record {
         left = λ told image is. left_with _ _ bytes texts image (facts.broken told texts (c.args.self.keeps told) refl image is);
-        stopped = λ told. stopped_with _ _ bytes _ _ texts (facts.stopped told texts (c.args.self.keeps told) refl);
+        stopped = λ told. stopped_with _ _ bytes _ _ _ texts (facts.stopped told texts (c.args.self.keeps told) refl);
         fault = facts.fault;
         room = room_with _ _ bytes _ _ facts.full;
       };
@@ -100,6 +103,7 @@ returns-in-Err-OutOfMemory g c =
         kept = facts.memory.0;
         place = facts.memory.1;
         limit = facts.memory.2;
+        superblock = facts.memory.3;
         no_call = facts.no_call;
       };
       any_moment = λ told. moments_with _ _ bytes D.moment D.left_since _ _ texts (facts.any_moment told texts (c.args.self.keeps told));
@@ -116,4 +120,37 @@ invariant_of-result g c =
     record {
       keeps = λ told. keeps_longer _ old (records_in c.put.new.self) rec c.as_slice.result.now more bytes (c.in-Ok-append.ensures.done told (texts_of old) (c.args.self.keeps told));
       sound = ∥∥₁_map c.args.self.sound (λ are. subst AreRecords (sym more) (are-push old rec are c.requires.fits c.requires.placed));
+    }
+
+pub invariant_of-store : goal.invariant_of-store
+invariant_of-store g c =
+    let kept = g.D.Disk.kept c.args.self.journal.disk in
+    let old = records_in c.args.self.log in
+    let same = c.prepared.ensures.records in
+    record {
+      keeps = λ told. keeps_same kept kept old (records_in c.prepared.new.log) refl same (c.args.self.keeps told);
+      sound = sound_same old (records_in c.prepared.new.log) same c.args.self.sound;
+    }
+
+pub invariant_of-store-in-Err-Full : goal.invariant_of-store-in-Err-Full
+invariant_of-store-in-Err-Full g c =
+    let D = g.D.Disk in
+    let facts = rw c.in-Err-Full.field-0-is at c.in-Err-Full.ensures in
+    let old = records_in c.args.self.log in
+    let same = c.prepared.ensures.records in
+    record {
+      keeps = λ told. keeps_same (D.kept c.args.self.journal.disk) (D.kept c.in-Err-Full.journal.disk) old (records_in c.prepared.new.log) (ap (λ j. D.kept (journal.disk_of j)) facts.full.1) same
+          (c.args.self.keeps told);
+      sound = sound_same old (records_in c.prepared.new.log) same c.args.self.sound;
+    }
+
+pub invariant_of-store-in-Err-OutOfMemory : goal.invariant_of-store-in-Err-OutOfMemory
+invariant_of-store-in-Err-OutOfMemory g c =
+    let D = g.D.Disk in
+    let facts = rw c.in-Err-OutOfMemory.field-0-is at c.in-Err-OutOfMemory.ensures in
+    let old = records_in c.args.self.log in
+    let same = c.prepared.ensures.records in
+    record {
+      keeps = λ told. keeps_same (D.kept c.args.self.journal.disk) (D.kept c.in-Err-OutOfMemory.journal.disk) old (records_in c.prepared.new.log) facts.memory.0 same (c.args.self.keeps told);
+      sound = sound_same old (records_in c.prepared.new.log) same c.args.self.sound;
     }

@@ -1,0 +1,5 @@
+pub mod Format
+pub mod Superblocks
+pub mod Areas
+pub mod Sites
+pub mod Kept

@@ -1,0 +1,99 @@
+//! Other records in place of all that a store has.
+ghost use Rattle.std.specs.Prelude.{◌≡◌, IfOk};
+ghost use Rattle.std.specs.List.{All};
+ghost use Rattle.xt_messages.specs.Limits.{FitsRecord};
+ghost use Rattle.replica_records.specs.Logs.{records_in};
+ghost use Rattle.object_store.specs.Texts.{texts_of};
+
+use crate::errors::AppendErr;
+use crate::store::Store;
+use disk_model::Disk;
+use replica_records::{RecordLog, record_bytes};
+use std::alloc::Global;
+use xt_base::{Octets, OutOfMemory};
+use xt_messages::Record;
+
+/// The bytes of each of these records.
+fn payloads_of(alloc: Global, records: &[Record]) -> Result<Vec<Octets>, OutOfMemory>
+    requires { All FitsRecord records.now }
+    ensures { IfOk result (λ made. made.items ≡ texts_of records.now) }
+{
+    let mut made = Vec::with_capacity(alloc, records.len())?;
+    for rec in records {
+        made.push(record_bytes(alloc, rec)?)?;
+    }
+    Ok(made)
+}
+
+/// These records with the places of their bodies.
+fn log_of(alloc: Global, records: Vec<Record>) -> Result<RecordLog, OutOfMemory>
+    ensures { IfOk result (λ log. records_in log ≡ records.items) }
+{
+    let mut log = RecordLog::new(alloc);
+    for rec in records {
+        log.push(rec)?;
+    }
+    Ok(log)
+}
+
+/// What a swap makes in memory before it begins.
+#[derive(Drop)]
+struct Made {
+    payloads: Vec<Octets>,
+    log: RecordLog,
+}
+
+/// All that may fail for want of memory before the journal is asked.
+fn prepared(alloc: Global, records: Vec<Record>) -> Result<Made, OutOfMemory>
+    requires { All FitsRecord records.items }
+    ensures { IfOk result (λ made. (made.payloads.items ≡ texts_of records.items)
+        × (records_in made.log ≡ records.items)) }
+{
+    let payloads = payloads_of(alloc, records.as_slice())?;
+    let log = log_of(alloc, records)?;
+    Ok(Made { payloads, log })
+}
+
+impl<D: Disk> Store<D> {
+    ghost use Rattle.object_store.specs.Swaps.{Swaps};
+    ghost use Rattle.object_store.specs.Texts.{AreRecords};
+
+    /// Puts these records in place of all others, on the disk and then in memory. At `Ok` each crash leaves them from then on, and at any
+    /// moment before a crash leaves the old ones or these.
+    ///
+    /// They are written as a whole new area of the journal. `Full` comes exactly where that has no room within the limit. Want of memory
+    /// comes before the first device call. A store whose disk has failed is gone, and must be loaded again.
+    pub fn swap(self, alloc: Global, records: Vec<Record>) -> Result<Store<D>, AppendErr<D>>
+        requires { AreRecords records.items }
+        ensures { Swaps self records.items result }
+    {
+        let Ok(made) = prepared(alloc, records) else {
+            return Err(AppendErr::OutOfMemory { store: self });
+        };
+        let Store { journal, log } = self;
+        match journal.swap(alloc, made.payloads.as_slice()) {
+            Ok(journal) => Ok(Store {
+                journal,
+                log: made.log,
+            }),
+            Err(xt_journal::AppendErr::Broken { count, disk }) => Err(AppendErr::Broken {
+                count,
+                disk,
+            }),
+            Err(
+                xt_journal::AppendErr::Full {
+                    journal,
+                    need,
+                    limit,
+                },
+            ) => {
+                let store = Store { journal, log };
+                Err(AppendErr::Full { store, need, limit })
+            }
+            Err(xt_journal::AppendErr::OutOfMemory { journal }) => {
+                let store = Store { journal, log };
+                Err(AppendErr::OutOfMemory { store })
+            }
+        }
+    }
+}
