@@ -1,0 +1,225 @@
+-- Rewritten records are within their limits, where the old ones are, each in its place.
+use Rattle.std.proofs.Common.{◌≡◌, ◌==◌, ◌&&◌, ◌<◌, ◌-◌, ◌^◌, ◌⊎◌, inl, inr, ℕ, true, false, cond, List, [], ◌∷◌, ◌++◌, map, refl, Option, Some, None, unwrap_or, arith}
+use Rattle.std.specs.Option.{IfSome}
+use Rattle.std.specs.List.{All, AllByRecursion, fold}
+use Rattle.std.specs.Prelude.{filter}
+use Rattle.std.proofs.lemmas.Bool.Decides.{nat_tests}
+use Rattle.std.proofs.lemmas.List.Elements.{All-from_recursion, recursion_from_All, All-nil, All-cons, All-append, All-map, All-weaker, All-filter}
+use Rattle.xt_base.specs.FieldLimits.{FitsBytes}
+use Rattle.xt_base.specs.declared.TheConstants.{NO_OBJECT}
+use Rattle.xt_base.specs.declared.ids.Epoch.{Epoch}
+use Rattle.xt_base.specs.declared.ids.FileId.{FileId}
+use Rattle.xt_base.specs.declared.ids.Stamp.{Stamp}
+use Rattle.xt_messages.specs.declared.file.FileHead.{FileHead}
+use Rattle.xt_messages.specs.declared.file.Location.{Location}
+use Rattle.xt_messages.specs.declared.file.ObjectVersion.{ObjectVersion}
+use Rattle.xt_messages.specs.declared.record.FileRow.{FileRow}
+use Rattle.xt_messages.specs.declared.record.Folded.{Folded}
+use Rattle.xt_messages.specs.declared.record.KeepBody.{KeepBody}
+use Rattle.xt_messages.specs.declared.record.Record.{Record}
+use Rattle.xt_messages.specs.declared.record.Record.TheVariants as kept
+use Rattle.xt_messages.specs.Limits.{FitsBoot, FitsEpoch, FitsFile, FitsHead, FitsLocation, FitsRecord, FitsStamp, FitsVersion, IsObject, is_at_most}
+use Rattle.xt_protocol.specs.FileIds.{is_file, is_before}
+use Rattle.xt_protocol.specs.Folds.{row_in, row_after, with_row, folded_after, nothing_kept, fold_of, is_logged, logged_of, body_of, body_put, newer, body_after, body_kept, makes_body, IsInPlace, AreInPlace}
+use Rattle.xt_protocol.specs.Forgetting.{is_kept, row_without, view_of, stage_of, records_of_row, records_of_rows, rewritten}
+use Rattle.xt_protocol.specs.Heads.{new_head}
+use Rattle.xt_protocol.specs.SeenBodies.{body_by}
+use Rattle.xt_protocol.specs.Stamps.{is_stamp, is_version, comes_before, with_held}
+use Rattle.object_versions.proofs.HeadLimits.{either, when}
+use Rattle.forgetting.proofs.Places as places
+use Rattle.store_compact.specs.Rewriting.{StayKept}
+
+-- ---- what records say is within the limits
+
+-- what is written of a file is
+record RowFits (row : FileRow) : Type 0 where
+  pub which : FitsFile row.file
+  pub stands : FitsHead row.head
+  pub place : IfSome row.location FitsLocation
+  pub held : AllByRecursion FitsVersion row.held
+
+record FoldFits (folded : Folded) : Type 0 where
+  pub start : FitsBoot folded.boot
+  pub rows : AllByRecursion RowFits folded.files
+
+new_head_fits : FitsHead new_head
+new_head_fits = record {
+  promise = record { place = omega arith; primary = omega arith };
+  place = record { tenure = record { place = omega arith; primary = omega arith }; writes = omega arith };
+  operation = record { who = omega arith; operation = omega arith };
+  after = record { truncation = omega arith; bytes = omega arith };
+  objects = record { few = omega arith; each = tt; rising = refl };
+  clients = record { few = omega arith; each = tt; rising = refl };
+  kept = refl;
+}
+
+-- the row of a file among the others
+read_row : (rows : List FileRow) (file : FileId) → FitsFile file → AllByRecursion RowFits rows → RowFits (row_in rows file)
+unfolding row_in
+read_row [] file which all = record { which = which; stands = new_head_fits; place = tt; held = tt }
+read_row (r ∷ rs) file which all = either RowFits (is_file r.file file) r (row_in rs file) all.0 (read_row rs file which all.1)
+
+put_row : (rows : List FileRow) (row : FileRow) → AllByRecursion RowFits rows → RowFits row → AllByRecursion RowFits (with_row rows row)
+unfolding with_row
+put_row [] row all is = (is, tt)
+put_row (r ∷ rs) row all is =
+    either (AllByRecursion RowFits) (is_file r.file row.file) _ _ (is, all.1)
+    (either (AllByRecursion RowFits) (is_before row.file r.file) (row ∷ r ∷ rs) (r ∷ with_row rs row) (is, all) (all.0, put_row rs row all.1 is))
+
+put_held : (held : List ObjectVersion) (v : ObjectVersion) → AllByRecursion FitsVersion held → FitsVersion v → AllByRecursion FitsVersion (with_held held v)
+unfolding with_held
+put_held [] v all is = (is, tt)
+put_held (h ∷ hs) v all is =
+    either (AllByRecursion FitsVersion) (is_version h v) _ _ all
+    (either (AllByRecursion FitsVersion) (comes_before v h) (v ∷ h ∷ hs) (h ∷ with_held hs v) (is, all) (all.0, put_held hs v all.1 is))
+
+-- an object that isn't none
+meant_object : (object : ℕ) → (object < 2 ^ 32 - 1) ⊎ (object ≡ NO_OBJECT) → (object == NO_OBJECT) ≡ false → IsObject object
+meant_object object (inl low) some = omega (arith, low)
+meant_object object (inr none) some = absurd (grind (arith, nat_tests))
+
+at_most_along : (a b c : Epoch) → is_at_most a b ≡ true → is_at_most b c ≡ true → is_at_most a c ≡ true
+at_most_along a b c first second = grind (arith, nat_tests)
+
+-- a head under a later promise
+promised_fits : (head : FileHead) (epoch : Epoch) → FitsHead head → FitsEpoch epoch → is_at_most head.promised epoch ≡ true → FitsHead (record head { promised = epoch })
+promised_fits head epoch is fits above = record {
+  promise = fits;
+  place = is.place;
+  operation = is.operation;
+  after = is.after;
+  objects = is.objects;
+  clients = is.clients;
+  kept = at_most_along head.stamp.epoch head.promised epoch is.kept above;
+}
+
+-- the held bodies after an update
+held_fits : (held : List ObjectVersion) (object : ℕ) (version : Stamp) → AllByRecursion FitsVersion held → (object < 2 ^ 32 - 1) ⊎ (object ≡ NO_OBJECT) → FitsStamp version
+    → AllByRecursion FitsVersion (cond (object == NO_OBJECT) held (with_held held (body_of object version)))
+held_fits held object version are gets writes =
+    when (AllByRecursion FitsVersion) (object == NO_OBJECT) held (with_held held (body_of object version)) (λ _. are)
+    (λ some. put_held held (body_of object version) are (record { which = meant_object object gets some; write = writes }))
+
+-- a record more
+one_fits : (folded : Folded) (rec : Record) → FoldFits folded → FitsRecord rec → IsInPlace folded rec → FoldFits (folded_after folded rec)
+one_fits folded (kept.Boot boot) is fits place = record { start = fits; rows = is.rows }
+one_fits folded (kept.Meta from number now nodes request) is fits place = record { start = is.start; rows = is.rows }
+one_fits folded (kept.Promise file epoch) is fits place =
+    let row = row_in folded.files file in
+    let was : RowFits row = read_row folded.files file fits.0 is.rows in
+    record {
+      start = is.start;
+      rows = put_row folded.files (row_after row (kept.Promise file epoch)) is.rows
+          (record { which = was.which; stands = promised_fits row.head epoch was.stands fits.1 place; place = was.place; held = was.held });
+    }
+one_fits folded (kept.Update file update) is fits place =
+    let row = row_in folded.files file in
+    let was : RowFits row = read_row folded.files file fits.0 is.rows in
+    record {
+      start = is.start;
+      rows = put_row folded.files (row_after row (kept.Update file update)) is.rows
+          (record { which = was.which; stands = place.2; place = was.place; held = held_fits row.held update.object update.stamp was.held fits.1.gets fits.1.place });
+    }
+one_fits folded (kept.Stage file object version bytes) is fits place =
+    let row = row_in folded.files file in
+    let was : RowFits row = read_row folded.files file fits.0 is.rows in
+    record {
+      start = is.start;
+      rows = put_row folded.files (row_after row (kept.Stage file object version bytes)) is.rows
+          (record { which = was.which; stands = was.stands; place = was.place; held = put_held row.held (body_of object version) was.held (record { which = fits.1; write = fits.2 }) });
+    }
+one_fits folded (kept.Head file head) is fits place =
+    let row = row_in folded.files file in
+    let was : RowFits row = read_row folded.files file fits.0 is.rows in
+    record {
+      start = is.start;
+      rows = put_row folded.files (row_after row (kept.Head file head)) is.rows (record { which = was.which; stands = fits.1; place = was.place; held = was.held });
+    }
+one_fits folded (kept.View file location) is fits place =
+    let row = row_in folded.files file in
+    let was : RowFits row = read_row folded.files file fits.0 is.rows in
+    record {
+      start = is.start;
+      rows = put_row folded.files (row_after row (kept.View file location)) is.rows (record { which = was.which; stands = was.stands; place = fits.1; held = was.held });
+    }
+
+all_fit : (records : List Record) (folded : Folded) → FoldFits folded → AllByRecursion FitsRecord records → AreInPlace folded records → FoldFits (fold folded_after folded records)
+all_fit [] folded is limits placed = is
+all_fit (r ∷ rs) folded is limits placed = all_fit rs (folded_after folded r) (one_fits folded r is limits.0 placed.0) limits.1 placed.1
+
+folds_fit : (records : List Record) → AllByRecursion FitsRecord records → AreInPlace nothing_kept records → FoldFits (fold_of records)
+unfolding fold_of
+folds_fit records limits placed = all_fit records nothing_kept (record { start = omega arith; rows = tt }) limits placed
+
+-- ---- bodies
+
+put_fits : (file : FileId) (object : ℕ) (version : Stamp) (rec : Record) → FitsRecord rec → IfSome (body_put file object version rec) FitsBytes
+put_fits file object version (kept.Update f update) fits =
+    either (λ (b : Option (List ℕ)). IfSome b FitsBytes) (is_file f file && makes_body update object version) (Some update.body) None fits.1.bytes tt
+put_fits file object version (kept.Stage f o v bytes) fits =
+    either (λ (b : Option (List ℕ)). IfSome b FitsBytes) (is_file f file && (o == object) && is_stamp v version) (Some bytes) None fits.3 tt
+put_fits file object version (kept.Boot boot) fits = tt
+put_fits file object version (kept.Promise f epoch) fits = tt
+put_fits file object version (kept.Head f head) fits = tt
+put_fits file object version (kept.View f location) fits = tt
+put_fits file object version (kept.Meta from number now nodes request) fits = tt
+
+newer_fits : (before put : Option (List ℕ)) → IfSome before FitsBytes → IfSome put FitsBytes → IfSome (newer before put) FitsBytes
+newer_fits before None old new = old
+newer_fits before (Some bytes) old new = new
+
+last_fits : (file : FileId) (object : ℕ) (version : Stamp) (records : List Record) (before : Option (List ℕ)) → IfSome before FitsBytes → AllByRecursion FitsRecord records
+    → IfSome (fold (body_after file object version) before records) FitsBytes
+last_fits file object version [] before old all = old
+last_fits file object version (r ∷ rs) before old all =
+    last_fits file object version rs (body_after file object version before r) (newer_fits before (body_put file object version r) old (put_fits file object version r all.0)) all.1
+
+body_fits : (records : List Record) (file : FileId) (v : ObjectVersion) → AllByRecursion FitsRecord records → FitsBytes (body_by records file v.object v.version)
+unfolding body_kept
+body_fits records file v all = at (body_kept records file v.object v.version) (last_fits file v.object v.version records None tt all)
+  where
+    at : (o : Option (List ℕ)) → IfSome o FitsBytes → FitsBytes (unwrap_or o [])
+    at None is = record { all = λ i. omega arith; few = omega arith }
+    at (Some bytes) is = is
+
+-- ---- the rewritten records
+
+view_limits : (file : FileId) (location : Option Location) → FitsFile file → IfSome location FitsLocation → All FitsRecord (view_of file location)
+view_limits file None which is = All-nil FitsRecord
+view_limits file (Some l) which is = All-cons FitsRecord (kept.View file l) [] (which, is) (All-nil FitsRecord)
+
+module _ (keep : List KeepBody) (records : List Record) (all : AllByRecursion FitsRecord records) where
+  abbrev staged : FileId → ObjectVersion → Record
+  staged file v = stage_of (body_by records) file v
+
+  row_limits : (row : FileRow) → RowFits row → All FitsRecord (records_of_row (body_by records) (row_without keep row))
+  row_limits row is =
+      let held = filter (is_kept keep row.file) row.held in
+      All-append FitsRecord (view_of row.file row.location ++ map (staged row.file) held) (kept.Head row.file row.head ∷ [])
+      (All-append FitsRecord (view_of row.file row.location) (map (staged row.file) held) (view_limits row.file row.location is.which is.place)
+      (All-map FitsRecord (staged row.file) held
+      (All-weaker FitsVersion (λ (v : ObjectVersion). FitsRecord (staged row.file v)) (λ v fits. (is.which, fits.which, fits.write, body_fits records row.file v all)) held
+      (All-filter (is_kept keep row.file) FitsVersion row.held (All-from_recursion FitsVersion row.held is.held)))))
+      (All-cons FitsRecord (kept.Head row.file row.head) [] (is.which, is.stands) (All-nil FitsRecord))
+
+  rows_limits : (rows : List FileRow) → AllByRecursion RowFits rows → All FitsRecord (records_of_rows (body_by records) (map (row_without keep) rows))
+  rows_limits [] are = All-nil FitsRecord
+  rows_limits (r ∷ rs) are =
+      All-append FitsRecord (records_of_row (body_by records) (row_without keep r)) (records_of_rows (body_by records) (map (row_without keep) rs)) (row_limits r are.0)
+      (rows_limits rs are.1)
+
+  limits_then : FoldFits (fold_of records) → All FitsRecord (rewritten keep records)
+  unfolding rewritten logged_of
+  limits_then is =
+      let rest = records_of_rows (body_by records) (map (row_without keep) (fold_of records).files) in
+      All-cons FitsRecord (kept.Boot (fold_of records).boot) (filter is_logged records ++ rest) is.start
+      (All-append FitsRecord (filter is_logged records) rest (All-filter is_logged FitsRecord records (All-from_recursion FitsRecord records all))
+      (rows_limits (fold_of records).files is.rows))
+
+pub stay_kept : StayKept
+stay_kept keep records are named =
+    let all = recursion_from_All FitsRecord records are.limits in
+    record {
+      limits = limits_then keep records all (folds_fit records all are.places);
+      places = places.there keep records named;
+    }

@@ -1,0 +1,30 @@
+ghost use Rattle.xt_protocol.specs.Forgetting.{rewritten};
+ghost use Rattle.object_store.specs.Access.{records_of};
+ghost use Rattle.object_store.specs.Swaps.{Swaps};
+ghost use Rattle.object_store.specs.Texts.{AreRecords};
+
+use crate::rewriting::rewritten;
+use disk_model::Disk;
+use object_store::{AppendErr, Store};
+use std::alloc::Global;
+use xt_messages::Keep;
+
+/// The store with its records rewritten, on its disk and in memory: they say the same but for those held bodies that `keep` doesn't name,
+/// which are gone. A crash at any moment leaves the old records or the rewritten ones, and after `Ok` the rewritten ones.
+///
+/// `keep` has to name enough for the rewritten records to be in their places: what the heads of all files name, at least. `Full` comes
+/// exactly where the new area has no room within the limit of the store's journal. Want of memory comes before the first device call. In
+/// both cases the store is as it was.
+pub fn compact<D: Disk>(
+    alloc: Global,
+    store: Store<D>,
+    keep: &Keep,
+) -> Result<Store<D>, AppendErr<D>>
+    requires { AreRecords (rewritten keep.now (records_of store)) }
+    ensures { Swaps store (rewritten keep.now (records_of store)) result }
+{
+    match rewritten(alloc, store.log(), keep) {
+        Ok(made) => store.swap(alloc, made),
+        Err(_) => Err(AppendErr::OutOfMemory { store }),
+    }
+}
