@@ -1,5 +1,5 @@
 -- the boot that records tell, and the put of the next one
-use Rattle.std.proofs.Common.{ℕ, suc, ◌≡◌, ◌≤◌, ◌<◌, ◌+◌, ◌^◌, refl, ◌∙◌, ap, subst, Some, None, List, [], ◌∷◌, ◌++◌, length, length-append, arith}
+use Rattle.std.proofs.Common.{ℕ, suc, ◌≡◌, ◌≤◌, ◌<◌, ◌+◌, ◌^◌, refl, ap, subst, Some, None, List, [], ◌∷◌, ◌++◌, arith}
 use Rattle.std.specs.Prelude.{IsTrue}
 use Rattle.std.specs.List.{All, fold}
 use Rattle.std.proofs.Math.Logic.{∥∥₁_elim}
@@ -11,9 +11,9 @@ use Rattle.xt_messages.specs.declared.record.Record.TheVariants as kept
 use Rattle.xt_messages.specs.declared.status.Status.{Status}
 use Rattle.xt_messages.specs.declared.status.Status.TheVariants as status
 use Rattle.xt_protocol.specs.Folds.{boot_after}
-use Rattle.xt_journal.specs.Access.{place_of, limit_of}
-use Rattle.xt_journal.specs.Format.{records, end_of, journal_of}
-use Rattle.xt_journal.proofs.Push.{end_of-push}
+use Rattle.xt_journal.specs.Access.{place_of, limit_of, superblock_of}
+use Rattle.xt_journal.specs.Format.{end_in}
+use Rattle.xt_journal.proofs.Push.{end_in-push}
 use Rattle.xt_journal.proofs.Steps.{place_of_end}
 use Rattle.replica_records.specs.RecordText.{record_text}
 use Rattle.object_store.specs.declared.store.Store.{Store}
@@ -21,7 +21,7 @@ use Rattle.object_store.specs.Access.{disk_of, records_of, journal_of as journal
 use Rattle.object_store.specs.Puts.{needed_for}
 use Rattle.object_store.specs.Texts.{texts_of, AreRecords}
 use Rattle.object_store.proofs.Reading.{texts-push}
-use Rattle.node_runs.specs.Keeping.{KeepsWith}
+use Rattle.node_runs.specs.Keeping.{KeepsPut}
 use Rattle.node_loop.specs.Events.{HasDiskCause, IsFullFor, EndsPut, LeavesPut}
 use Rattle.node_jobs.specs.Boots.{stored_boot, next_boot, boot_record, booted}
 use Rattle.node_jobs.specs.Disks.{CannotBoot}
@@ -43,26 +43,23 @@ last_stored records sound late =
     let low : stored_boot records < 2 ^ 62 = stored_below 0 records (omega arith) are.fit in
     omega (arith, late, low))
 
-length-journal : (payloads : List (List ℕ)) → length (journal_of payloads) ≡ end_of payloads + 1
-length-journal payloads = omega (arith, length-append (records payloads) (0 ∷ []))
-
 module _ {D : Type 0} {g : Ghosts D} where
   -- a journal with the boot's record is as long as a put of it needs
   pub needed_is : (store : Store D g) → IsTrue g.is_told
-      → needed_for store (boot_record (records_of store)) ≡ length (journal_of (texts_of (booted (records_of store))))
+      → needed_for store (boot_record (records_of store)) ≡ end_in (superblock_of (journal_in store)) (texts_of (booted (records_of store))) + 1
   needed_is store told =
       let records = records_of store in
       let text = record_text (boot_record records) in
-      let place : place_of (journal_in store) ≡ end_of (texts_of records) =
-      place_of_end (g.kept (disk_of store)) (place_of (journal_in store)) (texts_of records) ((journal_in store).ends told) (store.keeps told) in
-      let whole : length (journal_of (texts_of (booted records))) ≡ end_of (texts_of records ++ text ∷ []) + 1 =
-      ap (λ (ps : List (List ℕ)). length (journal_of ps)) (texts-push records (boot_record records)) ∙ length-journal (texts_of records ++ text ∷ []) in
-      omega (arith, place, whole, end_of-push (texts_of records) text)
+      let super = superblock_of (journal_in store) in
+      let place : place_of (journal_in store) ≡ end_in super (texts_of records) =
+      place_of_end super (g.kept (disk_of store)) (place_of (journal_in store)) (texts_of records) ((journal_in store).ends told) (store.keeps told) in
+      let whole : end_in super (texts_of (booted records)) ≡ end_in super (texts_of records ++ text ∷ []) = ap (end_in super) (texts-push records (boot_record records)) in
+      omega (arith, place, whole, end_in-push super (texts_of records) text)
 
   -- what a put of it that fails leaves
   module _ (store : Store D g) (disk : D) (rec : Record) (is : rec ≡ boot_record (records_of store)) (fits : FitsBoot (next_boot (records_of store))) where
     abbrev Left : Record → Status → Type 0
-    Left r said = LeavesPut (KeepsWith g.is_told g.moment g.left_since (disk_of store) disk (records_of store)) r said
+    Left r said = LeavesPut (KeepsPut g.is_told g.moment g.left_since (disk_of store) disk (records_of store)) r said
 
     not_put : (said : Status) → EndsPut said
         → IsFullFor (limit_of (journal_in store)) (needed_for store (boot_record (records_of store))) said

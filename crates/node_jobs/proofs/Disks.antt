@@ -1,31 +1,37 @@
 -- what a node does to its disk, one thing after the other
-use Rattle.std.proofs.Common.{ℕ, ◌≡◌, ◌≤◌, ◌<◌, sym, ◌∙◌, ap, subst, inl, inr, ⊎_elim, Option, None, List, [], length, Ok}
+use Rattle.std.proofs.Common.{ℕ, ◌≡◌, ◌≤◌, ◌<◌, sym, ◌∙◌, ap, subst, inl, inr, ⊎_elim, Option, Some, None, List, [], ◌∷◌, ◌++◌, length, Ok}
 use Rattle.std.specs.Prelude.{Bool, IsTrue}
 use Rattle.std.proofs.lemmas.Bool.{cases_lt}
 use Rattle.disk_model.specs.declared.disk.Disk.{Ghosts}
 use Rattle.disk_model.specs.Disk.{Kept, IsImage, Elapses, LeavesOnly, at_rest}
 use Rattle.disk_model.proofs.Moments.{joined, unchanged, weaker}
+use Rattle.xt_base.specs.declared.ids.Boot.{Boot}
 use Rattle.xt_messages.specs.declared.record.Record.{Record}
 use Rattle.xt_messages.specs.declared.status.Status.{Status}
 use Rattle.xt_messages.specs.declared.status.Status.TheVariants as status
-use Rattle.xt_journal.specs.Format.{StandsFor, KeepsJournal, journal_of}
+use Rattle.journal_areas.specs.declared.superblock.Superblock.{Superblock}
+use Rattle.xt_journal.specs.Format.{StandsIn, StandsFor, KeepsJournal, end_in, journal_of}
 use Rattle.xt_journal.specs.Loaded.{LeavesAsBefore}
 use Rattle.xt_journal.specs.declared.journal.Journal.{Journal}
 use Rattle.xt_journal.specs.declared.placed.Placed.{Placed}
 use Rattle.xt_journal.specs.Access as journal
-use Rattle.xt_journal.specs.Access.{limit_of}
+use Rattle.xt_journal.specs.Access.{limit_of, place_of, superblock_of}
 use Rattle.xt_journal.specs.Reading.{IsTheReading, Stands, Foreign, Unknown, Damaged, payloads_of}
-use Rattle.xt_journal.proofs.Steps.{each_stands}
+use Rattle.xt_journal.proofs.Steps.{each_stands, place_of_end}
+use Rattle.xt_journal.proofs.Unique.{reads_stand}
 use Rattle.object_store.specs.declared.store.Store.{Store}
-use Rattle.object_store.specs.Access.{disk_of, records_of}
+use Rattle.object_store.specs.Access.{disk_of, records_of, journal_of as journal_in}
 use Rattle.object_store.specs.Loading.{IsLoadOf}
 use Rattle.object_store.specs.Texts.{texts_of}
-use Rattle.world_spec.specs.NodeSteps.{one_more}
-use Rattle.node_runs.specs.Keeping.{IsUpToSome, KeepsOn}
-use Rattle.node_runs.proofs.Keeping.{keeps_more, stands_last, stays, stays_closed}
+use Rattle.world_spec.specs.World.{Deed}
+use Rattle.node_runs.specs.Keeping.{StandsForOne, KeepsOn, done_to}
+use Rattle.node_runs.specs.Runs.{extent_at, grown}
+use Rattle.node_runs.specs.Serving.{put_of}
+use Rattle.node_runs.proofs.Keeping.{keeps_one_more, one_of_first, stands_last, stays, stays_closed}
 use Rattle.node_loop.specs.Events.{HasDiskCause}
-use Rattle.node_jobs.specs.Boots.{booted}
-use Rattle.node_jobs.specs.Disks.{Medium, MayBeLeft, StandsWith, HasBadRecord, EndsUnloaded, EndsUnbooted, IsLeftUnloaded, IsUnloaded, IsUnbooted, KeepsFrom, ComesFrom, IsLoaded, CannotBoot}
+use Rattle.node_loop.specs.Stores.{extent_of}
+use Rattle.node_jobs.specs.Boots.{boot_record, booted}
+use Rattle.node_jobs.specs.Disks.{Medium, MayBeLeft, StandsWith, HasBadRecord, EndsUnloaded, EndsUnbooted, IsLeftUnloaded, IsUnloaded, IsUnbooted, KeepsFrom, ComesFrom, IsLoaded, IsBooted, CannotBoot, TakeIn}
 
 -- what contracts are told of a disk, as a trait's members
 abbrev pub medium_of : {D : Type 0} → Ghosts D → Medium D
@@ -88,6 +94,7 @@ module _ {D : Type 0} (m : Medium D) where
       loaded_from limit store is = record {
         are = is.are;
         room = is.room;
+        stood = λ told. subst (λ (k : Kept). StandsIn (superblock_of (journal_in store)) k.read (texts_of (records_of store))) (same told) (is.stood told);
         comes = record {
           loaded = is.comes.loaded;
           stood = λ told. subst (λ (k : Kept). StandsFor k.read (texts_of (records_of store))) (same told) (is.comes.stood told);
@@ -99,27 +106,33 @@ module _ {D : Type 0} (m : Medium D) where
 
   -- ---- records were given, and others after them
 
-  pub comes_on : (before mid after : D) (records now all : List Record) → ComesFrom m before mid records now
-      → KeepsOn m.is_told m.moment m.left_since mid after now all → m.fault_count after ≡ m.fault_count mid → ComesFrom m before after records all
-  comes_on before mid after records now all comes on faults = record {
+  -- one list of records more
+  pub comes_on : (before mid after : D) (records next : List Record) → ComesFrom m before mid records (records ∷ [])
+      → KeepsOn m.is_told m.moment m.left_since mid after (records ∷ next ∷ []) → m.fault_count after ≡ m.fault_count mid
+      → ComesFrom m before after records (records ∷ next ∷ [])
+  comes_on before mid after records next comes on faults = record {
     loaded = comes.loaded;
     stood = comes.stood;
     loads = comes.loads;
-    goes = keeps_more m.is_told m.kept m.moment m.left_since comes.loaded mid after records now all comes.goes on;
+    goes = keeps_one_more m.is_told m.kept m.moment m.left_since comes.loaded mid after (records ∷ []) records next comes.goes (λ image is. inl is) on;
     faults = faults ∙ comes.faults;
   }
 
-  pub keeps_from : (before mid after : D) (records now settled : List Record) (met : Option Record) → ComesFrom m before mid records now
-      → KeepsOn m.is_told m.moment m.left_since mid after now (one_more settled met)
+  -- some lists of records, and others after them, which are all among those that are told
+  pub keeps_from : (before mid after : D) (records : List Record) (first more moments : List (List Record)) (settled : List Record) (met : Option Deed)
+      → ComesFrom m before mid records first → KeepsOn m.is_told m.moment m.left_since mid after more
+      → ((image : List ℕ) → StandsForOne first image → StandsForOne (moments ++ done_to settled met ∷ []) image)
+      → ((image : List ℕ) → StandsForOne more image → StandsForOne (moments ++ done_to settled met ∷ []) image)
       → (IsTrue m.is_told → (image : List ℕ) → IsImage (m.kept after) image → StandsWith settled met image)
-      → KeepsFrom m before after records settled met
-  keeps_from before mid after records now settled met comes on last =
-      let all = one_more settled met in
-      let goes = keeps_more m.is_told m.kept m.moment m.left_since comes.loaded mid after records now all comes.goes on in
+      → KeepsFrom m before after records moments settled met
+  keeps_from before mid after records first more moments settled met comes on those these last =
+      let all = moments ++ done_to settled met ∷ [] in
       record {
         stood = comes.stood;
-        each = λ told. joined m.moment m.left_since before comes.loaded after (LeavesAsBefore (m.kept before)) (IsUpToSome records all)
-            (MayBeLeft (m.kept before) records all) (comes.loads told) (goes.leaves told) (λ image was. inl was) (λ image up. inr up);
+        each = λ told. joined m.moment m.left_since before comes.loaded after (LeavesAsBefore (m.kept before)) (StandsForOne all)
+            (MayBeLeft (m.kept before) all) (comes.loads told)
+            (joined m.moment m.left_since comes.loaded mid after (StandsForOne first) (StandsForOne more) (StandsForOne all) (comes.goes told) (on told) those these)
+            (λ image was. inl was) (λ image is. inr is);
         last = last;
       }
 
@@ -133,40 +146,64 @@ module _ {D : Type 0} (m : Medium D) where
           records = records;
           are = is.are;
           met = cannot.met;
-          why = subst (λ (n : ℕ). EndsUnbooted m.is_told records n cannot.met said) is.room cannot.why;
+          super = superblock_of (journal_in store);
+          stood = is.stood;
+          why = subst (λ (n : ℕ). EndsUnbooted m.is_told (superblock_of (journal_in store)) records n cannot.met said) is.room cannot.why;
           cause = subst (λ (n : ℕ). HasDiskCause n (m.fault_count after) said) is.comes.faults cannot.cause;
-          keeps = keeps_from before (disk_of store) after records records records cannot.met is.comes cannot.keeps
-              (λ told image now. stands_last m.is_told m.kept m.moment m.left_since (disk_of store) after records cannot.met
+          keeps = keeps_from before (disk_of store) after records (records ∷ []) (records ∷ done_to records (put_of cannot.met) ∷ []) (records ∷ [])
+              records (put_of cannot.met) is.comes cannot.keeps
+              (one_of_first (records ∷ []) (done_to records (put_of cannot.met) ∷ [])) (λ image is. is)
+              (λ told image now. stands_last m.is_told m.kept m.moment m.left_since (disk_of store) after records (put_of cannot.met)
               (λ i t later is. counts_now after (m.moment (disk_of store)) i t later is) cannot.keeps told image now);
         }
 
 module _ {D : Type 0} {g : Ghosts D}
     (only_now : (disk : D) (image : List ℕ) → IsTrue g.is_told → g.left_since disk (g.moment disk) image → IsImage (g.kept disk) image) where
   -- the store of a node that kept its boot is closed
-  pub closed_from : (before after : D) (store : Store D g) (records : List Record) → ComesFrom (medium_of g) before (disk_of store) records (records_of store)
-      → records_of store ≡ booted records → after ≡ disk_of store → KeepsFrom (medium_of g) before after records (booted records) None
+  pub closed_from : (before after : D) (store : Store D g) (records : List Record)
+      → ComesFrom (medium_of g) before (disk_of store) records (records ∷ records_of store ∷ [])
+      → records_of store ≡ booted records → after ≡ disk_of store → KeepsFrom (medium_of g) before after records (records ∷ []) (booted records) None
   closed_from before after store records comes is same =
       let all = records_of store in
-      subst (λ (rs : List Record). KeepsFrom (medium_of g) before after records rs None) is
-      (keeps_from (medium_of g) before (disk_of store) after records all all None comes
-      (stays_closed g.is_told g.kept g.moment g.left_since (disk_of store) after all same store.keeps (λ image told left. only_now (disk_of store) image told left))
+      subst (λ (rs : List Record). KeepsFrom (medium_of g) before after records (records ∷ []) rs None) is
+      (keeps_from (medium_of g) before (disk_of store) after records (records ∷ all ∷ []) (all ∷ all ∷ []) (records ∷ []) all None comes
+      (stays_closed g.is_told g.kept g.moment g.left_since (disk_of store) after all None same store.keeps (λ image told left. only_now (disk_of store) image told left))
+      (λ image was. was) (λ image. ⊎_elim (λ was. inr (inl was)) (λ is. inr is))
       (λ told image now. inl (each_stands (g.kept (disk_of store)) (texts_of all) image (store.keeps told)
       (subst (λ (d : D). IsImage (g.kept d) image) same now))))
 
   -- a store that was loaded from a disk
   pub loaded_is : (before : D) (limit : ℕ) (from : Journal D g) (placed : List Placed) (payloads : List (List ℕ)) (store : Store D g)
       → (IsTrue g.is_told → IsTheReading (g.kept before).read (Stands placed)) → payloads ≡ payloads_of placed → limit_of from ≡ limit
+      → (IsTrue g.is_told → StandsIn (superblock_of from) (g.kept before).read (payloads_of placed))
       → (IsTrue g.is_told → LeavesOnly g.moment g.left_since before (journal.disk_of from) (LeavesAsBefore (g.kept before)))
       → g.fault_count (journal.disk_of from) ≡ g.fault_count before → IsLoadOf from payloads (Ok store) → IsLoaded (medium_of g) before limit store
-  loaded_is before limit from placed payloads store reads are room loads faults is = record {
+  loaded_is before limit from placed payloads store reads are room stood loads faults is = record {
     are = is.2;
     room = ap (λ (j : Journal D g). limit_of j) is.0 ∙ room;
+    stood = λ told.
+        subst (λ (super : Option Superblock). StandsIn super (g.kept before).read (texts_of (records_of store))) (sym (ap (λ (j : Journal D g). superblock_of j) is.0))
+        (subst (λ (ps : List (List ℕ)). StandsIn (superblock_of from) (g.kept before).read ps) (sym (is.1 ∙ are)) (stood told));
     comes = record {
       loaded = disk_of store;
-      stood = λ told. subst (λ (ps : List (List ℕ)). StandsFor (g.kept before).read ps) (sym (is.1 ∙ are)) (reads told).reads.0;
+      stood = λ told. subst (λ (ps : List (List ℕ)). StandsFor (g.kept before).read ps) (sym (is.1 ∙ are)) (reads_stand (g.kept before).read placed (reads told).reads);
       loads = λ told.
           subst (λ (j : Journal D g). LeavesOnly g.moment g.left_since before (journal.disk_of j) (LeavesAsBefore (g.kept before))) (sym is.0) (loads told);
       goes = stays g.is_told g.kept g.moment g.left_since (disk_of store) (records_of store) store.keeps (λ image told left. only_now (disk_of store) image told left);
       faults = ap (λ (j : Journal D g). g.fault_count (journal.disk_of j)) is.0 ∙ faults;
     };
   }
+
+-- how much the records take of a store that was loaded, and was given the record of its boot
+module _ {D : Type 0} {g : Ghosts D} where
+  pub take_in : (before : D) (limit : ℕ) (old new : Store D g) (boot : Boot) → IsLoaded (medium_of g) before limit old → IsBooted (medium_of g) old new boot
+      → IsTrue g.is_told → TakeIn (g.kept before).read (records_of old) (boot_record (records_of old)) (extent_of new)
+  take_in before limit old new boot is boots told =
+      let super = superblock_of (journal_in old) in
+      let place : place_of (journal_in old) ≡ end_in super (texts_of (records_of old)) =
+      place_of_end super (g.kept (disk_of old)) (place_of (journal_in old)) (texts_of (records_of old)) ((journal_in old).ends told) (old.keeps told) in
+      record {
+        super = super;
+        stands = is.stood told;
+        is = boots.extent ∙ ap (λ (end : ℕ). grown (extent_at super end) (Some (boot_record (records_of old)))) place;
+      }

@@ -1,5 +1,5 @@
 -- a node that was ready and served
-use Rattle.std.proofs.Common.{ℕ, ◌+◌, ◌<◌, ◌^◌, Option, Some, None, ◌≡◌, sym, ap, subst, ◌∙◌, List, [], ◌∷◌, ◌++◌, append_assoc}
+use Rattle.std.proofs.Common.{ℕ, ◌+◌, ◌<◌, ◌^◌, Option, ◌≡◌, sym, ap, subst, ◌∙◌, false, inl, inr, List, [], ◌∷◌, ◌++◌}
 use mathlib.Core.Path.{transport}
 use Rattle.std.specs.Prelude.{IsTrue}
 use Rattle.std.specs.List.{All}
@@ -15,13 +15,12 @@ use Rattle.xt_messages.specs.declared.status.Status.TheVariants as status
 use Rattle.object_store.specs.declared.store.Store.{Store}
 use Rattle.object_store.specs.Access.{disk_of, records_of}
 use Rattle.object_store.specs.Texts.{AreRecords}
-use Rattle.world_spec.specs.NodeSteps.{one_more}
 use Rattle.node_links.specs.Streams.{Puts}
 use Rattle.node_runs.specs.Hearing.{Ears}
-use Rattle.node_runs.specs.Keeping.{KeepsServed}
-use Rattle.node_runs.specs.Runs.{Role, Served}
+use Rattle.node_runs.specs.Keeping.{KeepsServed, StandsForOne, records_with}
+use Rattle.node_runs.specs.Runs.{Role, Served, Extent, kept_through}
 use Rattle.node_runs.specs.Serving.{IsServed}
-use Rattle.node_runs.proofs.Going.{all_go_on}
+use Rattle.node_runs.proofs.Keeping.{one_of_first, start_among}
 use Rattle.node_loop.specs.Events.{TellsDiskCount}
 use Rattle.node_loop.specs.Turns.{standing}
 use Rattle.node_loop.proofs.Counting.{cause_since}
@@ -37,38 +36,44 @@ use Rattle.node_jobs.specs.Jobs.{NodeJob, IsNodeJob, IsReady, Outside, EndsEarly
 use Rattle.node_jobs.proofs.Disks.{closed_from, keeps_from, medium_of}
 use Rattle.node_jobs.proofs.Jobs.{boot_fits}
 
--- records that went on, and one more
-one_more-goes : (first all more : List Record) (met : Option Record) → all ≡ first ++ more → (rest : List Record) × (one_more all met ≡ first ++ rest)
-one_more-goes first all more None e = (more, e)
-one_more-goes first all more (Some rec) e = (more ++ rec ∷ [], ap (λ (rs : List Record). rs ++ rec ∷ []) e ∙ append_assoc first more (rec ∷ []))
-
 module _ {D S : Type 0} (m : Medium D) (before after : Outside D) (turns : ℕ) (said : Status) where
   -- what serving says of a node that was ready in this state, and of its disk
   abbrev Serves : Role S → Boot → ℕ → Served S → Outside D → Type 0
   Serves role boot period start ready =
       (s : IsServed role boot period start turns ready.given after.given ready.sent after.sent ready.losses after.losses ready.readings after.readings said)
-      × KeepsServed m.is_told m.kept m.moment m.left_since ready.disk after.disk start s.end s.undone
+      × KeepsServed m.is_told m.kept m.moment m.left_since ready.disk after.disk
+      (kept_through role boot period ready.given start s.to_come s.turns s.posts s.end s.comes) s.end s.undone
 
-  module _ (role : Role S) (boot : Boot) (period : ℕ) (start : Served S) (ready : Outside D) (records : List Record) (comes : ComesFrom m before.disk ready.disk records start.kept)
+  module _ (role : Role S) (boot : Boot) (period : ℕ) (start : Served S) (ready : Outside D) (records : List Record) (comes : ComesFrom m before.disk ready.disk records (records ∷ start.kept ∷ []))
       (serves : Serves role boot period start ready) where
-    kept_on : KeepsFrom m before.disk after.disk records serves.0.end.kept serves.0.undone.record_met
-    kept_on =
-        let s = serves.0 in
-        let gone = all_go_on role boot period ready.given start s.to_come s.turns s.posts s.end s.comes in
-        let more = one_more-goes start.kept s.end.kept gone.records s.undone.record_met gone.kept in
-        keeps_from m before.disk ready.disk after.disk records start.kept s.end.kept s.undone.record_met comes
-        (record { more = more.0; goes_on = more.1; leaves = serves.1.each }) serves.1.last
+    abbrev through : List (List Record)
+    through = kept_through role boot period ready.given start serves.0.to_come serves.0.turns serves.0.posts serves.0.end serves.0.comes
+
+    abbrev all : List (List Record)
+    all = through ++ records_with serves.0.end serves.0.undone ∷ []
+
+    -- what it kept when it was ready is what it kept as serving began
+    those : (image : List ℕ) → StandsForOne (records ∷ start.kept ∷ []) image → StandsForOne (records ∷ all) image
+    those image (inl was) = inl was
+    those image (inr (inl is)) =
+        inr (one_of_first through (records_with serves.0.end serves.0.undone ∷ []) image
+        (start_among role boot period ready.given start serves.0.to_come serves.0.turns serves.0.posts serves.0.end serves.0.comes image is))
+    those image (inr (inr none)) = absurd none
+
+    kept_on : KeepsFrom m before.disk after.disk records (records ∷ through) serves.0.end.kept serves.0.undone.met
+    kept_on = keeps_from m before.disk ready.disk after.disk records (records ∷ start.kept ∷ []) all (records ∷ through) serves.0.end.kept serves.0.undone.met
+        comes serves.1.each those (λ image is. inr is) serves.1.last
 
 -- the node as it begins
-starts_as : {S : Type 0} (state state' : S) (kept kept' : List Record) (own : List Msg) (ears ears' : Ears) (reading period due : ℕ)
+starts_as : {S : Type 0} (state state' : S) (kept kept' : List Record) (extent : Extent) (own : List Msg) (ears ears' : Ears) (reading period due : ℕ)
     → state ≡ state' → kept ≡ kept' → own ≡ [] → ears ≡ ears' → due ≡ reading + period
-    → standing state kept own ears reading due 0 ≡ starting state' kept' ears' reading period
-starts_as state state' kept kept' own ears ears' reading period due s k o e d =
-    λ i. record { state = s i; kept = k i; own = o i; ears = e i; clock = reading; due = d i; count = 0 }
+    → standing state kept extent own ears reading due 0 false ≡ starting state' kept' extent ears' reading period
+starts_as state state' kept kept' extent own ears ears' reading period due s k o e d =
+    λ i. record { state = s i; kept = k i; own = o i; ears = e i; clock = reading; due = d i; count = 0; extent = extent; woken = false }
 
 -- a node that was ready and served from there has done its job
-module _ {D S : Type 0} (m : Medium D) (job : NodeJob S) (before ready after : Outside D) (said : Status) (kept : List Record) (boot : Boot) (reading : ℕ)
-    (is : IsReady m job.ready before ready kept boot reading) where
+module _ {D S : Type 0} (m : Medium D) (job : NodeJob S) (before ready after : Outside D) (said : Status) (kept : List Record) (boot : Boot) (reading : ℕ) (extent : Extent)
+    (is : IsReady m job.ready before ready kept boot reading extent) where
   -- the link as it was when the node was ready is as it was before
   as_before : ready ≡ record before { readings = ready.readings; held = ready.held; disk = ready.disk }
   as_before = λ i. record {
@@ -82,12 +87,12 @@ module _ {D S : Type 0} (m : Medium D) (job : NodeJob S) (before ready after : O
 
   pub has_done : (role : Role S) (ears : Ears) (period due : ℕ) (state : S) (own : List Msg)
       → role ≡ job.role → state ≡ job.state_of kept reading → own ≡ [] → ears ≡ job.ears → period ≡ job.period → due ≡ reading + period
-      → after.held ≡ ready.held → Serves m before after job.turns said role boot period (standing state kept own ears reading due 0) ready
+      → after.held ≡ ready.held → Serves m before after job.turns said role boot period (standing state kept extent own ears reading due 0 false) ready
       → TellsDiskCount (m.fault_count ready.disk) (m.fault_count after.disk) said → IsNodeJob m job before after said
   has_done role ears period due state own same told none heard every when held serves count =
-      let started = starting (job.state_of (booted is.records) reading) (booted is.records) job.ears reading job.period in
-      let starts : standing state kept own ears reading due 0 ≡ started =
-      starts_as state (job.state_of (booted is.records) reading) kept (booted is.records) own ears job.ears reading job.period due
+      let started = starting (job.state_of (booted is.records) reading) (booted is.records) extent job.ears reading job.period in
+      let starts : standing state kept extent own ears reading due 0 false ≡ started =
+      starts_as state (job.state_of (booted is.records) reading) kept (booted is.records) extent own ears job.ears reading job.period due
       (told ∙ ap (λ (rs : List Record). job.state_of rs reading) is.all_are) is.all_are none heard (when ∙ ap (λ (p : ℕ). reading + p) every) in
       let here : Serves m before after job.turns said job.role (next_boot is.records) job.period started
       (record before { readings = ready.readings; held = ready.held; disk = ready.disk }) =
@@ -96,6 +101,8 @@ module _ {D S : Type 0} (m : Medium D) (job : NodeJob S) (before ready after : O
         records = is.records;
         are = is.are;
         fits = is.fits;
+        extent = extent;
+        take = is.take;
         reading = reading;
         between = ready.readings;
         read = is.reads;
@@ -104,17 +111,17 @@ module _ {D S : Type 0} (m : Medium D) (job : NodeJob S) (before ready after : O
         keeps =
             kept_on m before after job.turns said job.role (next_boot is.records) job.period started
             (record before { readings = ready.readings; held = ready.held; disk = ready.disk }) is.records
-            (subst (λ (rs : List Record). ComesFrom m before.disk ready.disk is.records rs) is.all_are is.comes) here;
+            (subst (λ (rs : List Record). ComesFrom m before.disk ready.disk is.records (is.records ∷ rs ∷ [])) is.all_are is.comes) here;
         disk_count = cause_since (m.fault_count before.disk) (m.fault_count ready.disk) (m.fault_count after.disk) said is.comes.faults count;
       })
 
 -- memory ran out after a node was ready, and its store was closed
 pub not_started : {D : Type 0} {g : Ghosts D}
     → ((disk : D) (image : List ℕ) → IsTrue g.is_told → g.left_since disk (g.moment disk) image → IsImage (g.kept disk) image)
-    → (ready : List ℕ) (limit : ℕ) (before after : Outside D) (store : Store D g) (boot : Boot) (reading : ℕ)
-    → IsReady (medium_of g) ready before (record after { disk = disk_of store }) (records_of store) boot reading → after.disk ≡ disk_of store
+    → (ready : List ℕ) (limit : ℕ) (before after : Outside D) (store : Store D g) (boot : Boot) (reading : ℕ) (extent : Extent)
+    → IsReady (medium_of g) ready before (record after { disk = disk_of store }) (records_of store) boot reading extent → after.disk ≡ disk_of store
     → EndsEarly (medium_of g) ready limit before after status.OutOfMemory
-not_started {g = g} only_now ready limit before after store boot reading is closed = unready (record {
+not_started {g = g} only_now ready limit before after store boot reading extent is closed = unready (record {
   records = is.records;
   are = is.are;
   fits = is.fits;
@@ -126,8 +133,9 @@ not_started {g = g} only_now ready limit before after store boot reading is clos
 
 -- what was said is what is to be said
 module _ {D : Type 0} (m : Medium D) (before after : Outside D) (said ready : List ℕ) (same : said ≡ ready) where
-  pub says_so : (kept : List Record) (boot : Boot) (reading : ℕ) → IsReady m said before after kept boot reading → IsReady m ready before after kept boot reading
-  says_so kept boot reading is = subst (λ (text : List ℕ). IsReady m text before after kept boot reading) same is
+  pub says_so : (kept : List Record) (boot : Boot) (reading : ℕ) (extent : Extent) → IsReady m said before after kept boot reading extent
+      → IsReady m ready before after kept boot reading extent
+  says_so kept boot reading extent is = subst (λ (text : List ℕ). IsReady m text before after kept boot reading extent) same is
 
   pub says_early : (limit : ℕ) (ended : Status) → EndsEarly m said limit before after ended → EndsEarly m ready limit before after ended
   says_early limit ended is = subst (λ (text : List ℕ). EndsEarly m text limit before after ended) same is

@@ -1,5 +1,5 @@
 -- what a node does to its disk before it serves, and what it leaves on it in the end
-use Rattle.std.specs.Prelude.{ℕ, ◌≡◌, ◌≤◌, ◌⊎◌, Bool, IsTrue, Option, Some, None, List, [], length, take}
+use Rattle.std.specs.Prelude.{ℕ, ◌≡◌, ◌≤◌, ◌⊎◌, Bool, IsTrue, Option, Some, None, List, [], ◌∷◌, ◌++◌, ◌+◌, length, get_or}
 use Rattle.disk_model.specs.declared.disk.Disk.{Ghosts}
 use Rattle.disk_model.specs.Disk.{Kept, IsImage, LeavesOnly, at_rest}
 use Rattle.xt_base.specs.declared.ids.Boot.{Boot}
@@ -8,16 +8,21 @@ use Rattle.xt_messages.specs.declared.record.Record.{Record}
 use Rattle.xt_messages.specs.declared.status.Limited.TheVariants as limited
 use Rattle.xt_messages.specs.declared.status.Status.{Status}
 use Rattle.xt_messages.specs.declared.status.Status.TheVariants as status
-use Rattle.xt_journal.specs.Access.{limit_of}
-use Rattle.xt_journal.specs.Format.{StandsFor, end_of, journal_of}
+use Rattle.journal_areas.specs.declared.superblock.Superblock.{Superblock}
+use Rattle.xt_journal.specs.declared.placed.Placed.{Placed}
+use Rattle.xt_journal.specs.Access.{limit_of, superblock_of}
+use Rattle.xt_journal.specs.Format.{StandsIn, StandsFor, end_in, journal_of}
 use Rattle.xt_journal.specs.Loaded.{LeavesAsBefore, LeavesDisk}
-use Rattle.xt_journal.specs.Reading.{IsTheReading, Foreign, Unknown, Damaged}
+use Rattle.xt_journal.specs.Reading.{IsTheReading, ReadsAs, Stands, Foreign, Unknown, Damaged, payloads_of}
 use Rattle.object_store.specs.declared.store.Store.{Store}
 use Rattle.object_store.specs.Access.{disk_of, records_of, journal_of as journal_in}
 use Rattle.object_store.specs.Texts.{texts_of, AreRecords, IsFirstBad}
-use Rattle.world_spec.specs.NodeSteps.{one_more}
-use Rattle.node_runs.specs.Keeping.{IsUpToSome, KeepsOn, KeepsWith}
+use Rattle.world_spec.specs.World.{Deed}
+use Rattle.node_runs.specs.Keeping.{StandsForOne, KeepsOn, KeepsPut, done_to}
+use Rattle.node_runs.specs.Runs.{Extent, extent_in, grown}
+use Rattle.node_runs.specs.Serving.{put_of}
 use Rattle.node_loop.specs.Events.{HasDiskCause, IsFullFor}
+use Rattle.node_loop.specs.Stores.{extent_of}
 use Rattle.node_jobs.specs.Boots.{stored_boot, next_boot, boot_record, booted}
 
 -- What contracts are told of a disk: whether they know what it keeps, and what that is; its moment, and what a crash at some moment
@@ -36,14 +41,19 @@ medium is_told kept moment left_since fault_count =
 
 -- ---- what a crash leaves
 
--- What a crash may leave of a disk that kept this when it was handed in: what it might have left then, or these records and those after
--- them up to some one.
-abbrev pub MayBeLeft : Kept → List Record → List Record → List ℕ → Type 0
-MayBeLeft first records all image = LeavesAsBefore first image ⊎ IsUpToSome records all image
+-- What a crash may leave of a disk that kept this when it was handed in: what it might have left then, or one of these lists of records.
+abbrev pub MayBeLeft : Kept → List (List Record) → List ℕ → Type 0
+MayBeLeft first moments image = LeavesAsBefore first image ⊎ StandsForOne moments image
 
--- these records stand there, or they with one more, if there is one
-abbrev pub StandsWith : List Record → Option Record → List ℕ → Type 0
-StandsWith records met image = StandsFor image (texts_of records) ⊎ StandsFor image (texts_of (one_more records met))
+-- these records stand there, or what is made of them, where that is done to them
+abbrev pub StandsWith : List Record → Option Deed → List ℕ → Type 0
+StandsWith records met image = StandsFor image (texts_of records) ⊎ StandsFor image (texts_of (done_to records met))
+
+-- so much do these records take, and one more after them, once it is put, in a journal of these bytes
+pub record TakeIn (bytes : List ℕ) (records : List Record) (rec : Record) (extent : Extent) : Type 0 where
+  pub super : Option Superblock
+  pub stands : StandsIn super bytes (texts_of records)
+  pub is : extent ≡ grown (extent_in super (texts_of records)) (Some rec)
 
 -- ---- why a node doesn't come to serve
 
@@ -53,13 +63,15 @@ EndsUnopened (status.LinkFault count) = Unit {0}
 EndsUnopened status.OutOfMemory = Unit {0}
 EndsUnopened _ = ⊥
 
--- These bytes stand for payloads, of which the first that is no record in its place has its gate at this place.
+-- These bytes stand for payloads, each with its gate, of which the first that is no record in its place has its gate at this place.
 pub record HasBadRecord (bytes : List ℕ) (place : ℕ) : Type 0 where
-  pub payloads : List (List ℕ)
-  pub stand : StandsFor bytes payloads
+  pub placed : List Placed
+  pub stand : ReadsAs bytes (Stands placed)
   pub index : ℕ
-  pub first : IsFirstBad payloads index
-  pub is_place : place ≡ end_of (take index payloads)
+  pub first : IsFirstBad (payloads_of placed) index
+  pub bad : Placed
+  pub is_there : bad ≡ get_or placed index bad
+  pub is_place : place ≡ bad.gate
 
 -- Why a disk that reads these bytes, where that is told, gives no records: it failed; they are no journal, one of another layout, or a
 -- damaged one, or a payload is no record in its place; or memory ran out.
@@ -79,19 +91,20 @@ IsLeftUnloaded old new = LeavesDisk old new ⊎ ((length old.read ≤ 13) × (ne
 abbrev pub MayBeBooted : List Record → Option Record → Type 0
 MayBeBooted records met = FitsBoot (next_boot records) × (met ≡ Some (boot_record records))
 
--- Why the boot after these records isn't kept, where the journal may have so many bytes, and whether its record may be on the disk.
-abbrev pub EndsUnbooted : Bool → List Record → ℕ → Option Record → Status → Type 0
+-- Why the boot after these records isn't kept, in a journal with this superblock or none that may have so many bytes, and whether its
+-- record may be on the disk.
+abbrev pub EndsUnbooted : Bool → Option Superblock → List Record → ℕ → Option Record → Status → Type 0
 -- the disk failed as the record was put
-EndsUnbooted is_told records limit met (status.DiskFault count) = MayBeBooted records met
+EndsUnbooted is_told super records limit met (status.DiskFault count) = MayBeBooted records met
 -- a journal with the record has no room
-EndsUnbooted is_told records limit met (status.JournalFull need most) =
+EndsUnbooted is_told super records limit met (status.JournalFull need most) =
     FitsBoot (next_boot records) × (met ≡ None)
-    × ((needed : ℕ) × (IsTrue is_told → needed ≡ length (journal_of (texts_of (booted records)))) × IsFullFor limit needed (status.JournalFull need most))
+    × ((needed : ℕ) × (IsTrue is_told → needed ≡ end_in super (texts_of (booted records)) + 1) × IsFullFor limit needed (status.JournalFull need most))
 -- the last boot is stored
-EndsUnbooted is_told records limit met (status.Limit what most) =
+EndsUnbooted is_told super records limit met (status.Limit what most) =
     (met ≡ None) × (what ≡ limited.Boots) × (most ≡ 4611686018427387903) × (stored_boot records ≡ most)
-EndsUnbooted is_told records limit met status.OutOfMemory = MayBeBooted records met
-EndsUnbooted is_told records limit met _ = ⊥
+EndsUnbooted is_told super records limit met status.OutOfMemory = MayBeBooted records met
+EndsUnbooted is_told super records limit met _ = ⊥
 
 module _ {D : Type 0} (m : Medium D) where
   -- ---- from the disk that was handed in
@@ -103,11 +116,12 @@ module _ {D : Type 0} (m : Medium D) where
     pub each : IsTrue m.is_told → LeavesOnly m.moment m.left_since before after (LeavesAsBefore (m.kept before))
     pub left : IsTrue m.is_told → IsLeftUnloaded (m.kept before) (m.kept after)
 
-  -- The bytes of the disk stood for these records. A crash at any moment leaves what it might have left before, or these records and
-  -- those after them up to some one; in the end it leaves all that are settled, with the one that was met or without it.
-  pub record KeepsFrom (before after : D) (records settled : List Record) (met : Option Record) : Type 0 where
+  -- The bytes of the disk stood for these records, and then it kept these lists of records one after the other. A crash at any moment
+  -- leaves what it might have left before, or one of those lists; in the end it leaves the one that is settled, or what is made of it,
+  -- where that may be done to it.
+  pub record KeepsFrom (before after : D) (records : List Record) (moments : List (List Record)) (settled : List Record) (met : Option Deed) : Type 0 where
     pub stood : IsTrue m.is_told → StandsFor (m.kept before).read (texts_of records)
-    pub each : IsTrue m.is_told → LeavesOnly m.moment m.left_since before after (MayBeLeft (m.kept before) records (one_more settled met))
+    pub each : IsTrue m.is_told → LeavesOnly m.moment m.left_since before after (MayBeLeft (m.kept before) (moments ++ done_to settled met ∷ []))
     pub last : IsTrue m.is_told → (image : List ℕ) → IsImage (m.kept after) image → StandsWith settled met image
 
   -- The disk gave records, and the boot after them isn't kept: a crash leaves its record or not, or it wasn't put.
@@ -115,18 +129,20 @@ module _ {D : Type 0} (m : Medium D) where
     pub records : List Record
     pub are : AreRecords records
     pub met : Option Record
-    pub why : EndsUnbooted m.is_told records limit met said
+    pub super : Option Superblock
+    pub stood : IsTrue m.is_told → StandsIn super (m.kept before).read (texts_of records)
+    pub why : EndsUnbooted m.is_told super records limit met said
     pub cause : HasDiskCause (m.fault_count before) (m.fault_count after) said
-    pub keeps : KeepsFrom before after records records met
+    pub keeps : KeepsFrom before after records (records ∷ []) records (put_of met)
 
   -- ---- by the way
 
-  -- The disk gave these records, and has these now. Until it had given them, a crash left what it might have left before.
-  pub record ComesFrom (before after : D) (records all : List Record) : Type 0 where
+  -- The disk gave these records, and kept these lists of them since. Until it had given them, a crash left what it might have left before.
+  pub record ComesFrom (before after : D) (records : List Record) (moments : List (List Record)) : Type 0 where
     pub loaded : D
     pub stood : IsTrue m.is_told → StandsFor (m.kept before).read (texts_of records)
     pub loads : IsTrue m.is_told → LeavesOnly m.moment m.left_since before loaded (LeavesAsBefore (m.kept before))
-    pub goes : KeepsOn m.is_told m.moment m.left_since loaded after records all
+    pub goes : KeepsOn m.is_told m.moment m.left_since loaded after moments
     pub faults : m.fault_count after ≡ m.fault_count before
 
   -- why the link couldn't be bound, or the disk gave no records
@@ -138,19 +154,21 @@ module _ {D : Type 0} (m : Medium D) where
     pub record IsLoaded (before : D) (limit : ℕ) (store : Store D g) : Type 0 where
       pub are : AreRecords (records_of store)
       pub room : limit_of (journal_in store) ≡ limit
-      pub comes : ComesFrom before (disk_of store) (records_of store) (records_of store)
+      pub stood : IsTrue m.is_told → StandsIn (superblock_of (journal_in store)) (m.kept before).read (texts_of (records_of store))
+      pub comes : ComesFrom before (disk_of store) (records_of store) (records_of store ∷ [])
 
     -- the record of the next boot was put
     pub record IsBooted (old new : Store D g) (boot : Boot) : Type 0 where
       pub records : records_of new ≡ booted (records_of old)
       pub boot_is : boot ≡ next_boot (records_of old)
       pub fits : FitsBoot boot
-      pub keeps : KeepsOn m.is_told m.moment m.left_since (disk_of old) (disk_of new) (records_of old) (records_of new)
+      pub extent : extent_of new ≡ grown (extent_of old) (Some (boot_record (records_of old)))
+      pub keeps : KeepsOn m.is_told m.moment m.left_since (disk_of old) (disk_of new) (records_of old ∷ records_of new ∷ [])
       pub faults : m.fault_count (disk_of new) ≡ m.fault_count (disk_of old)
 
     -- it wasn't, and this is left
     pub record CannotBoot (old : Store D g) (disk : D) (said : Status) : Type 0 where
       pub met : Option Record
-      pub why : EndsUnbooted m.is_told (records_of old) (limit_of (journal_in old)) met said
+      pub why : EndsUnbooted m.is_told (superblock_of (journal_in old)) (records_of old) (limit_of (journal_in old)) met said
       pub cause : HasDiskCause (m.fault_count (disk_of old)) (m.fault_count disk) said
-      pub keeps : KeepsWith m.is_told m.moment m.left_since (disk_of old) disk (records_of old) met
+      pub keeps : KeepsPut m.is_told m.moment m.left_since (disk_of old) disk (records_of old) met

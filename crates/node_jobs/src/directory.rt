@@ -81,6 +81,7 @@ pub fn serve_directory<K: Sink, L: Link, D: Disk, C: Clock>(
         own: OwnMessages::new(alloc),
         clock: reading,
         due: reading + period,
+        woken: false,
     };
     let bounds = Bounds {
         turns: serving.settings.turns,

@@ -85,6 +85,7 @@ pub fn serve_metadata<K: Sink, L: Link, D: Disk, C: Clock>(
         own: OwnMessages::new(alloc),
         clock: reading,
         due: reading + period,
+        woken: false,
     };
     let bounds = Bounds {
         turns: serving.settings.turns,

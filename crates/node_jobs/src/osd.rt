@@ -133,6 +133,7 @@ pub fn serve_osd<K: Sink, L: Link, D: Disk, C: Clock>(
         own: OwnMessages::new(alloc),
         clock: reading,
         due: reading + period,
+        woken: false,
     };
     let bounds = Bounds {
         turns: serving.settings.turns,

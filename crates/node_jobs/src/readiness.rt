@@ -1,6 +1,7 @@
 ghost use Rattle.std.specs.Prelude.{◌≡◌, ◌<◌, ◌^◌, IfOk, IfErr};
 ghost use Rattle.object_store.specs.Access.{records_of, disk_of};
 ghost use Rattle.node_runs.specs.Serving.{HasServeCause};
+ghost use Rattle.node_loop.specs.Stores.{extent_of};
 ghost use Rattle.node_jobs.specs.Disks.{medium};
 ghost use Rattle.node_jobs.specs.Jobs.{EndsEarly, HasSinkCause, IsReady};
 
@@ -51,7 +52,7 @@ pub fn get_ready<K: Sink, L: Link, D: Disk, C: Clock>(
           held = K.held out.new;
           disk = disk_of ready.store;
         })
-        (records_of ready.store) ready.boot ready.reading) }
+        (records_of ready.store) ready.boot ready.reading (extent_of ready.store)) }
     ensures small { IfOk result (λ ready. ready.reading < 2 ^ 62) }
     ensures faults { IfOk result (λ ready. (L.fault_count link.new ≡ L.fault_count link.old)
         × (C.fault_count clock.new ≡ C.fault_count clock.old)

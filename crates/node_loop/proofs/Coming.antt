@@ -5,16 +5,16 @@ use Rattle.std.specs.Prelude.{IsTrue}
 use Rattle.disk_model.specs.Disk.{Kept, IsImage}
 use Rattle.xt_base.specs.declared.ids.Boot.{Boot}
 use Rattle.xt_messages.specs.declared.record.Record.{Record}
-use Rattle.world_spec.specs.NodeSteps.{one_more}
 use Rattle.xt_messages.specs.declared.status.Status.{Status}
 use Rattle.xt_messages.specs.declared.status.Status.TheVariants as status
+use Rattle.world_spec.specs.World.{Deed}
 use Rattle.node_links.specs.declared.link.Datagram.{Datagram}
 use Rattle.node_links.specs.Streams.{Takes}
 use Rattle.node_runs.specs.Links.{Reads}
-use Rattle.node_runs.specs.Runs.{Role, Served, Turn, woke, idle, came, begun, passed, datagrams_in, readings_in, reading_in}
+use Rattle.node_runs.specs.Runs.{Role, Served, Turn, woke, idle, came, begun, passed, kept_through, datagrams_in, readings_in, reading_in}
 use Rattle.node_runs.specs.Serving.{nothing_undone, EndsServing, IsServed, HasServeCause}
-use Rattle.node_runs.specs.Keeping.{KeepsOn, KeepsWith, KeepsServed}
-use Rattle.node_runs.proofs.Keeping.{keeps_more, stands_last}
+use Rattle.node_runs.specs.Keeping.{KeepsOn, KeepsWith, KeepsServed, done_to}
+use Rattle.node_runs.proofs.Keeping.{now_among, keeps_one_more, stands_last}
 use Rattle.node_runs.proofs.Sending.{sends_none, sends_join, takes_none, takes_more, reads_none, reads_more}
 use Rattle.node_loop.specs.Turns.{HasPassed, HasEnded, HasCome}
 
@@ -63,15 +63,19 @@ module _ {S : Type 0} (role : Role S) (boot : Boot) (period limit : ℕ) (start 
           spends = one.spends ∙ ap (λ n. n + length one.turns) come.spends ∙ sym (length-append come.turns one.turns);
         }
 
+    -- what it has kept by then, one list of records after the other
+    abbrev pub so_far : List (List Record)
+    so_far = kept_through role boot period given_before start given come.turns come.posts s come.comes
+
     -- a pass of the node that this is
-    as_ours : (leaves : Option Record → Type 0) (role' : Role S) (boot' : Boot) → role' ≡ role → boot' ≡ boot → (said : Status)
+    as_ours : (leaves : Option Deed → Type 0) (role' : Role S) (boot' : Boot) → role' ≡ role → boot' ≡ boot → (said : Status)
         → HasEnded role' boot' period limit spent s given given_after sent sent_after losses losses_after read read_after leaves said
         → HasEnded role boot period limit spent s given given_after sent sent_after losses losses_after read read_after leaves said
     as_ours leaves role' boot' r b said one =
         subst (λ x. HasEnded role x period limit spent s given given_after sent sent_after losses losses_after read read_after leaves said) b
         (subst (λ x. HasEnded x boot' period limit spent s given given_after sent sent_after losses losses_after read read_after leaves said) r one)
 
-    serves : (leaves : Option Record → Type 0) (said : Status)
+    serves : (leaves : Option Deed → Type 0) (said : Status)
         → HasEnded role boot period limit spent s given given_after sent sent_after losses losses_after read read_after leaves said
         → IsServed role boot period start limit given_before given_after sent_before sent_after losses_before losses_after unread read_after said
     serves leaves said one = record {
@@ -87,7 +91,7 @@ module _ {S : Type 0} (role : Role S) (boot : Boot) (period limit : ℕ) (start 
       ending = subst (λ n. EndsServing role boot period limit n given s one.undone said) come.spends one.ending;
     }
 
-    pub is_served : (leaves : Option Record → Type 0) (role' : Role S) (boot' : Boot) → role' ≡ role → boot' ≡ boot → (said : Status)
+    pub is_served : (leaves : Option Deed → Type 0) (role' : Role S) (boot' : Boot) → role' ≡ role → boot' ≡ boot → (said : Status)
         → HasEnded role' boot' period limit spent s given given_after sent sent_after losses losses_after read read_after leaves said
         → IsServed role boot period start limit given_before given_after sent_before sent_after losses_before losses_after unread read_after said
     is_served leaves role' boot' r b said one = serves leaves said (as_ours leaves role' boot' r b said one)
@@ -95,18 +99,20 @@ module _ {S : Type 0} (role : Role S) (boot : Boot) (period limit : ℕ) (start 
     -- and what its disk keeps, which was this one at its start, and this one before the pass
     module _ {D : Type 0} (is_told : Bool) (kept : D → Kept) (moment : D → ℕ) (left_since : D → ℕ → List ℕ → Type 0)
         (counts_now : (disk : D) (t : ℕ) (image : List ℕ) → IsTrue is_told → t ≤ moment disk → IsImage (kept disk) image → left_since disk t image)
-        (first disk last : D) (keeps : KeepsOn is_told moment left_since first disk start.kept s.kept) where
+        (first disk last : D) (keeps : KeepsOn is_told moment left_since first disk so_far) where
       on_disk : (said : Status)
           → HasEnded role boot period limit spent s given given_after sent sent_after losses losses_after read read_after
           (KeepsWith is_told moment left_since disk last s.kept) said
           → (it : IsServed role boot period start limit given_before given_after sent_before sent_after losses_before losses_after unread read_after said)
-          × KeepsServed is_told kept moment left_since first last start it.end it.undone
+          × KeepsServed is_told kept moment left_since first last
+          (kept_through role boot period given_before start it.to_come it.turns it.posts it.end it.comes) it.end it.undone
       unfolding serves
       on_disk said one =
-          let met = one.undone.record_met in (
+          let met = one.undone.met in (
             serves (KeepsWith is_told moment left_since disk last s.kept) said one,
             record {
-              each = (keeps_more is_told kept moment left_since first disk last start.kept s.kept (one_more s.kept met) keeps one.leaves).leaves;
+              each = keeps_one_more is_told kept moment left_since first disk last so_far s.kept (done_to s.kept met) keeps
+                  (now_among role boot period given_before start given come.turns come.posts s come.comes) one.leaves;
               last = stands_last is_told kept moment left_since disk last s.kept met
                   (λ image told later is. counts_now last (moment disk) image told later is) one.leaves;
             },
@@ -116,13 +122,14 @@ module _ {S : Type 0} (role : Role S) (boot : Boot) (period limit : ℕ) (start 
           → HasEnded role' boot' period limit spent s given given_after sent sent_after losses losses_after read read_after
           (KeepsWith is_told moment left_since disk last s.kept) said
           → (it : IsServed role boot period start limit given_before given_after sent_before sent_after losses_before losses_after unread read_after said)
-          × KeepsServed is_told kept moment left_since first last start it.end it.undone
+          × KeepsServed is_told kept moment left_since first last
+          (kept_through role boot period given_before start it.to_come it.turns it.posts it.end it.comes) it.end it.undone
       is_served_on role' boot' r b said one = on_disk said (as_ours (KeepsWith is_told moment left_since disk last s.kept) role' boot' r b said one)
 
   -- all passes were made that can be counted
   module _ (spent : ℕ) (given sent : Option (List Datagram)) (losses : ℕ) (read : Option (List ℕ)) (s : Served S)
       (come : HasCome role boot period start s spent given_before given sent_before sent losses_before losses unread read) where
-    gives_up : (leaves : Option Record → Type 0) → leaves None
+    gives_up : (leaves : Option Deed → Type 0) → leaves None
         → HasEnded role boot period limit spent s given given sent sent losses losses read read leaves status.OutOfMemory
     gives_up leaves none = record {
       undone = nothing_undone;
@@ -138,13 +145,43 @@ module _ {S : Type 0} (role : Role S) (boot : Boot) (period limit : ℕ) (start 
 
     pub gave_up_on : {D : Type 0} (is_told : Bool) (kept : D → Kept) (moment : D → ℕ) (left_since : D → ℕ → List ℕ → Type 0)
         → ((disk : D) (t : ℕ) (image : List ℕ) → IsTrue is_told → t ≤ moment disk → IsImage (kept disk) image → left_since disk t image)
-        → (first disk last : D) → KeepsOn is_told moment left_since first disk start.kept s.kept
-        → KeepsOn is_told moment left_since disk last s.kept s.kept
+        → (first disk last : D) → KeepsOn is_told moment left_since first disk (kept_through role boot period given_before start given come.turns come.posts s come.comes)
+        → KeepsWith is_told moment left_since disk last s.kept None
         → (it : IsServed role boot period start limit given_before given sent_before sent losses_before losses unread read status.OutOfMemory)
-        × KeepsServed is_told kept moment left_since first last start it.end it.undone
+        × KeepsServed is_told kept moment left_since first last
+        (kept_through role boot period given_before start it.to_come it.turns it.posts it.end it.comes) it.end it.undone
     gave_up_on is_told kept moment left_since counts_now first disk last keeps closed =
         on_disk spent given sent losses read s come given sent losses read is_told kept moment left_since counts_now first disk last keeps status.OutOfMemory
         (gives_up (KeepsWith is_told moment left_since disk last s.kept) closed)
 
 pub cause_from : (l0 l1 l2 c0 c1 c2 : ℕ) (said : Status) → l1 ≡ l0 → c1 ≡ c0 → HasServeCause l1 l2 c1 c2 said → HasServeCause l0 l2 c0 c2 said
 cause_from l0 l1 l2 c0 c1 c2 said e f is = subst (λ n. HasServeCause n l2 c0 c2 said) e (subst (λ n. HasServeCause l1 l2 n c2 said) f is)
+
+-- a pass of a node that has come so far, and what its disk keeps
+module _ {S : Type 0} (role : Role S) (boot : Boot) (period limit : ℕ) (start : Served S)
+    (given_before sent_before : Option (List Datagram)) (losses_before : ℕ) (unread : Option (List ℕ))
+    {D : Type 0} (is_told : Bool) (kept : D → Kept) (moment : D → ℕ) (left_since : D → ℕ → List ℕ → Type 0) where
+  -- the node has come so far, and its disk kept what it kept
+  abbrev pub HasComeOn : D → D → ℕ → Option (List Datagram) → Option (List Datagram) → ℕ → Option (List ℕ) → Served S → Type 0
+  HasComeOn first disk spent given sent losses read s =
+      (come : HasCome role boot period start s spent given_before given sent_before sent losses_before losses unread read)
+      × KeepsOn is_told moment left_since first disk (kept_through role boot period given_before start given come.turns come.posts s come.comes)
+
+  pub begins_on_disk : (disk : D) → KeepsOn is_told moment left_since disk disk (start.kept ∷ [])
+      → HasComeOn disk disk 0 given_before sent_before losses_before unread start
+  unfolding has_begun_serving
+  begins_on_disk disk keeps = (has_begun_serving role boot period limit start given_before sent_before losses_before unread, keeps)
+
+  pub comes_on_disk : (first disk next_disk : D) (spent : ℕ) (given sent : Option (List Datagram)) (losses : ℕ) (read : Option (List ℕ)) (s : Served S)
+      → HasComeOn first disk spent given sent losses read s
+      → (given_after sent_after : Option (List Datagram)) (losses_after : ℕ) (read_after : Option (List ℕ)) (role' : Role S) (boot' : Boot) → role' ≡ role → boot' ≡ boot
+      → (next : Served S) (now_spent : ℕ) → HasPassed role' boot' period s next spent now_spent given given_after sent sent_after losses losses_after read read_after
+      → KeepsOn is_told moment left_since disk next_disk (s.kept ∷ next.kept ∷ [])
+      → HasComeOn first next_disk now_spent given_after sent_after losses_after read_after next
+  unfolding comes_on
+  comes_on_disk first disk next_disk spent given sent losses read s (come, keeps) given_after sent_after losses_after read_after role' boot' r b next now_spent one more = (
+    comes_on role boot period limit start given_before sent_before losses_before unread spent given sent losses read s come given_after sent_after losses_after read_after
+        role' boot' r b next now_spent one,
+    keeps_one_more is_told kept moment left_since first disk next_disk (kept_through role boot period given_before start given come.turns come.posts s come.comes)
+        s.kept next.kept keeps (now_among role boot period given_before start given come.turns come.posts s come.comes) more,
+  )

@@ -14,14 +14,15 @@ use Rattle.xt_messages.specs.declared.record.Record.{Record}
 use Rattle.xt_messages.specs.declared.event.Event.TheVariants as event
 use Rattle.xt_messages.specs.declared.status.Status.{Status}
 use Rattle.xt_messages.specs.declared.status.Status.TheVariants as status
+use Rattle.world_spec.specs.World.{Deed, rewrites}
 use Rattle.node_links.specs.declared.link.Datagram.{Datagram}
 use Rattle.node_links.specs.Streams.{Takes}
 use Rattle.node_runs.specs.Links.{Sends, Reads}
 use Rattle.node_runs.specs.Runs.{Role, Served, Turn, Begins, Passes, by_turn, by_own, in_turn, of_itself, meets, event_in, ends_event, posts_in, mails_in, goes_through, mails, step_at, datagrams_in, readings_in}
-use Rattle.node_runs.specs.Serving.{nothing_undone, IsIn, record_in, front_in}
+use Rattle.node_runs.specs.Serving.{nothing_undone, put_of, IsBetween, IsIn, record_in, front_in}
 use Rattle.node_runs.proofs.Sending.{sends_none, takes_none, reads_none}
 use Rattle.node_loop.specs.Events.{EndsEvent}
-use Rattle.node_loop.specs.Turns.{HasBegun, CannotBegin, HasPassed, HasEnded, HasActed}
+use Rattle.node_loop.specs.Turns.{HasBegun, CannotBegin, HasPassed, HasEnded, HasActed, EndsSettling}
 
 pub sends_same : (before after : Option (List Datagram)) (losses later : ℕ) → after ≡ before → later ≡ losses → Sends before after losses later []
 sends_same before after losses later e f = subst (λ o. Sends before o losses later []) (sym e) (subst (λ n. Sends before before losses n []) (sym f) (sends_none before losses))
@@ -35,9 +36,9 @@ reads_same before after e = subst (λ o. Reads before o []) (sym e) (reads_none 
 module _ {S : Type 0} (role : Role S) (boot : Boot) (period limit spent : ℕ) (old : Served S)
     (before after sent_before sent_after : Option (List Datagram)) (losses_before losses_after : ℕ) (unread read : Option (List ℕ)) where
   -- a turn that could not be begun
-  pub has_not_begun : (leaves : Option Record → Type 0) (left : ℕ) (said : Status) → left ≡ old.due - old.clock → old.own ≡ [] → spent < limit → sent_after ≡ sent_before → losses_after ≡ losses_before
+  pub has_not_begun : (leaves : Option Deed → Type 0) (left : ℕ) (said : Status) → left ≡ old.due - old.clock → IsBetween role boot period old → spent < limit → sent_after ≡ sent_before → losses_after ≡ losses_before
       → leaves None → CannotBegin left before after unread read said → HasEnded role boot period limit spent old before after sent_before sent_after losses_before losses_after unread read leaves said
-  has_not_begun leaves left (status.LinkFault count) e alone more s l none is =
+  has_not_begun leaves left (status.LinkFault count) e between more s l none is =
       let some : 0 < old.due - old.clock = subst (λ n. 0 < n) e is.0 in
       let later : old.clock < old.due = omega arith in
       record {
@@ -45,18 +46,18 @@ module _ {S : Type 0} (role : Role S) (boot : Boot) (period limit spent : ℕ) (
         received = gives_same before after is.1;
         reads = reads_same unread read is.2;
         sends = sends_same sent_before sent_after losses_before losses_after s l;
-        ending = ((alone, more), later, refl);
+        ending = ((between, more), later, refl);
         leaves = none;
       }
-  has_not_begun leaves left (status.ClockFault count) e alone more s l none is = record {
+  has_not_begun leaves left (status.ClockFault count) e between more s l none is = record {
     undone = record nothing_undone { unread = datagrams_in (is.0 ∷ []) };
     received = is.2;
     reads = reads_same unread read is.3;
     sends = sends_same sent_before sent_after losses_before losses_after s l;
-    ending = ((alone, more), (is.0, subst (λ n. Begins before n is.0) e is.1, refl));
+    ending = ((between, more), (is.0, subst (λ n. Begins before n is.0) e is.1, refl));
     leaves = none;
   }
-  has_not_begun leaves left _ e alone more s l none is = absurd is
+  has_not_begun leaves left _ e between more s l none is = absurd is
 
   module _ (turn : Turn) (left : ℕ) (e : left ≡ old.due - old.clock) (begun : HasBegun left before after unread read turn) where
     begins_now : Begins before (old.due - old.clock) turn
@@ -65,7 +66,7 @@ module _ {S : Type 0} (role : Role S) (boot : Boot) (period limit spent : ℕ) (
     received_all : Takes before after (datagrams_in (turn ∷ []) ++ [])
     received_all = subst (Takes before after) (sym (append-nil (datagrams_in (turn ∷ [])))) begun.received
 
-    pub has_no_memory : (leaves : Option Record → Type 0) → sent_after ≡ sent_before → losses_after ≡ losses_before → leaves None
+    pub has_no_memory : (leaves : Option Deed → Type 0) → sent_after ≡ sent_before → losses_after ≡ losses_before → leaves None
         → HasEnded role boot period limit spent old before after sent_before sent_after losses_before losses_after unread read leaves status.OutOfMemory
     has_no_memory leaves s l none = record {
       undone = record nothing_undone { turn = turn ∷ [] };
@@ -76,28 +77,28 @@ module _ {S : Type 0} (role : Role S) (boot : Boot) (period limit spent : ℕ) (
       leaves = none;
     }
 
-    pub has_stopped : (leaves : Option Record → Type 0) → old.own ≡ [] → spent < limit → sent_after ≡ sent_before → losses_after ≡ losses_before → leaves None
+    pub has_stopped : (leaves : Option Deed → Type 0) → IsBetween role boot period old → spent < limit → sent_after ≡ sent_before → losses_after ≡ losses_before → leaves None
         → (happens : Option Event) → happens ≡ event_in role boot period old turn → ends_event role boot period happens ≡ true
         → HasEnded role boot period limit spent old before after sent_before sent_after losses_before losses_after unread read leaves status.Done
-    has_stopped leaves alone more s l none happens is ends = record {
+    has_stopped leaves between more s l none happens is ends = record {
       undone = record nothing_undone { turn = turn ∷ [] };
       received = received_all;
       reads = begun.reads;
       sends = sends_same sent_before sent_after losses_before losses_after s l;
-      ending = ((alone, more), (refl, refl, refl), (turn, begins_now, refl, ap (ends_event role boot period) (sym is) ∙ ends));
+      ending = ((between, more), (refl, refl, refl), (turn, begins_now, refl, ap (ends_event role boot period) (sym is) ∙ ends));
       leaves = none;
     }
 
-    pub has_turned : old.own ≡ [] → (happens : Option Event) (new : Served S) → happens ≡ event_in role boot period old turn
+    pub has_turned : IsBetween role boot period old → (happens : Option Event) (new : Served S) → happens ≡ event_in role boot period old turn
         → ends_event role boot period happens ≡ false → new ≡ goes_through role boot period (meets role boot period old turn) happens
         → Sends sent_before sent_after losses_before losses_after (mails_in role boot period (meets role boot period old turn) happens)
         → HasPassed role boot period old new spent (spent + 1) before after sent_before sent_after losses_before losses_after unread read
-    has_turned alone happens new is goes_on new_is sends = record {
+    has_turned between happens new is goes_on new_is sends = record {
       turns = turn ∷ [];
       posts = posts_in role boot period old turn;
       passes = subst (λ n. Passes role boot period before old (turn ∷ []) (posts_in role boot period old turn) n)
           (ap (goes_through role boot period (meets role boot period old turn)) (sym is) ∙ sym new_is)
-          (by_turn turn alone begins_now (ap (ends_event role boot period) (sym is) ∙ goes_on));
+          (by_turn turn between.0 between.1 begins_now (ap (ends_event role boot period) (sym is) ∙ goes_on));
       received = begun.received;
       reads = begun.reads;
       sends = subst (λ h. Sends sent_before sent_after losses_before losses_after (mails_in role boot period (meets role boot period old turn) h)) is sends;
@@ -105,16 +106,16 @@ module _ {S : Type 0} (role : Role S) (boot : Boot) (period limit spent : ℕ) (
     }
 
   -- an event that ends the node
-  pub has_failed : (leaves : Option Record → Type 0) (it : IsIn role boot period before old) (said : Status) → length it.turn ≤ 1 → Takes before after (datagrams_in it.turn ++ [])
+  pub has_failed : (leaves : Option Deed → Type 0) (it : IsIn role boot period before old) (said : Status) → length it.turn ≤ 1 → Takes before after (datagrams_in it.turn ++ [])
       → Reads unread read (readings_in it.turn)
-      → EndsEvent (step_at role boot period it.met it.happens) role.node boot it.met.ears.book it.met.count (Sends sent_before sent_after losses_before losses_after) leaves said
+      → EndsEvent (step_at role boot period it.met it.happens) role.node boot it.met.ears.book it.met.count (Sends sent_before sent_after losses_before losses_after) (λ met. leaves (put_of met)) said
       → HasEnded role boot period limit spent old before after sent_before sent_after losses_before losses_after unread read leaves said
   has_failed leaves it (status.DiskFault count) few received reads (none, inl with) = record {
-    undone = record nothing_undone { turn = it.turn; record_met = record_in role boot period before old it };
+    undone = record nothing_undone { turn = it.turn; met = put_of (record_in role boot period before old it) };
     received = received;
     reads = reads;
     sends = none;
-    ending = (it, refl, refl, refl, inl refl);
+    ending = inl (it, refl, refl, refl, inl refl);
     leaves = with;
   }
   has_failed leaves it (status.DiskFault count) few received reads (none, inr without) = record {
@@ -122,7 +123,7 @@ module _ {S : Type 0} (role : Role S) (boot : Boot) (period limit spent : ℕ) (
     received = received;
     reads = reads;
     sends = none;
-    ending = (it, refl, refl, refl, inr refl);
+    ending = inl (it, refl, refl, refl, inr refl);
     leaves = without;
   }
   has_failed leaves it (status.JournalFull need most) few received reads is = record {
@@ -142,26 +143,26 @@ module _ {S : Type 0} (role : Role S) (boot : Boot) (period limit spent : ℕ) (
     leaves = is.1;
   }
   has_failed leaves it status.OutOfMemory few received reads (inr (front, with)) = record {
-    undone = record { turn = it.turn; unread = []; record_met = record_in role boot period before old it; more = front_in role boot period before old it front.0 };
+    undone = record { turn = it.turn; unread = []; met = put_of (record_in role boot period before old it); more = front_in role boot period before old it front.0 };
     received = received;
     reads = reads;
     sends = front.1;
-    ending = inr (it, refl, refl, refl, (front.0, refl));
+    ending = inr (inl (it, refl, refl, refl, (front.0, refl)));
     leaves = with;
   }
   has_failed leaves it _ few received reads is = absurd is
 
-  pub has_turn_failed : (leaves : Option Record → Type 0) (turn : Turn) (left : ℕ) → left ≡ old.due - old.clock → HasBegun left before after unread read turn → old.own ≡ []
+  pub has_turn_failed : (leaves : Option Deed → Type 0) (turn : Turn) (left : ℕ) → left ≡ old.due - old.clock → HasBegun left before after unread read turn → IsBetween role boot period old
       → (happens : Event) (said : Status) → Some happens ≡ event_in role boot period old turn
       → EndsEvent (step_at role boot period (meets role boot period old turn) happens) role.node boot (meets role boot period old turn).ears.book
-      (meets role boot period old turn).count (Sends sent_before sent_after losses_before losses_after) leaves said
+      (meets role boot period old turn).count (Sends sent_before sent_after losses_before losses_after) (λ met. leaves (put_of met)) said
       → HasEnded role boot period limit spent old before after sent_before sent_after losses_before losses_after unread read leaves said
-  has_turn_failed leaves turn left e begun alone happens said is ends =
+  has_turn_failed leaves turn left e begun between happens said is ends =
       let it : IsIn role boot period before old = record {
         happens = happens;
         met = meets role boot period old turn;
         turn = turn ∷ [];
-        is_met = in_turn turn happens alone (subst (λ n. Begins before n turn) e begun.begins) (sym is);
+        is_met = in_turn turn happens between.0 between.1 (subst (λ n. Begins before n turn) e begun.begins) (sym is);
       } in
       has_failed leaves it said (omega arith) (subst (Takes before after) (sym (append-nil (datagrams_in (turn ∷ [])))) begun.received) begun.reads ends
 
@@ -229,10 +230,55 @@ module _ {S : Type 0} (role : Role S) (boot : Boot) (period limit spent : ℕ) (
     spends = omega arith;
   }
 
-  pub has_told_failed : (leaves : Option Record → Type 0) (said : Status)
-      → EndsEvent (role.step old.kept old.state old.clock (event.Deliver msg)) role.node boot old.ears.book old.count (Sends sent_before sent_after losses_before losses_after) leaves said
+  pub has_told_failed : (leaves : Option Deed → Type 0) (said : Status)
+      → EndsEvent (role.step old.kept old.state old.clock (event.Deliver msg)) role.node boot old.ears.book old.count (Sends sent_before sent_after losses_before losses_after) (λ met. leaves (put_of met)) said
       → HasEnded role boot period limit spent old before after sent_before sent_after losses_before losses_after unread unread leaves said
   has_told_failed leaves said ends =
       let it : IsIn role boot period before old = record { happens = event.Deliver msg; met = record old { own = rest }; turn = []; is_met = of_itself msg rest own } in
       has_failed role boot period limit spent old before after sent_before sent_after losses_before losses_after unread unread leaves
       it said (omega arith) (gives_same before after given) (reads_none unread) ends
+
+-- ---- the records after a Wake
+
+module _ {S : Type 0} (role : Role S) (boot : Boot) (period limit spent : ℕ) (old : Served S)
+    (before after sent_before sent_after : Option (List Datagram)) (losses_before losses_after : ℕ) (unread : Option (List ℕ))
+    (given : after ≡ before) (sent : sent_after ≡ sent_before) (losses : losses_after ≡ losses_before) where
+  pub has_looked : (new : Served S) → Passes role boot period before old [] [] new
+      → HasPassed role boot period old new spent spent before after sent_before sent_after losses_before losses_after unread unread
+  has_looked new passes = record {
+    turns = [];
+    posts = [];
+    passes = passes;
+    received = gives_same before after given;
+    reads = reads_none unread;
+    sends = sends_same sent_before sent_after losses_before losses_after sent losses;
+    spends = omega arith;
+  }
+
+  pub has_not_looked : (leaves : Option Deed → Type 0) (said : Status) → EndsSettling role boot period old leaves said
+      → HasEnded role boot period limit spent old before after sent_before sent_after losses_before losses_after unread unread leaves said
+  has_not_looked leaves (status.DiskFault count) is = record {
+    undone = record nothing_undone { met = Some (rewrites is.0) };
+    received = gives_same before after given;
+    reads = reads_none unread;
+    sends = sends_same sent_before sent_after losses_before losses_after sent losses;
+    ending = inr (is.0, is.1, refl, refl, refl, inl refl);
+    leaves = is.2;
+  }
+  has_not_looked leaves status.OutOfMemory (inl none) = record {
+    undone = nothing_undone;
+    received = gives_same before after given;
+    reads = reads_none unread;
+    sends = sends_same sent_before sent_after losses_before losses_after sent losses;
+    ending = inl (omega arith, (refl, refl, refl));
+    leaves = none;
+  }
+  has_not_looked leaves status.OutOfMemory (inr is) = record {
+    undone = record nothing_undone { met = Some (rewrites is.0) };
+    received = gives_same before after given;
+    reads = reads_none unread;
+    sends = sends_same sent_before sent_after losses_before losses_after sent losses;
+    ending = inr (inr (is.0, is.1, refl, refl, refl, inl refl));
+    leaves = is.2;
+  }
+  has_not_looked leaves _ is = absurd is

@@ -16,6 +16,7 @@ use Rattle.client_rows.specs.Steps.{Step}
 use Rattle.world_spec.specs.NodeSteps.{one_more}
 use Rattle.node_links.specs.declared.link.Datagram.{Datagram}
 use Rattle.node_runs.specs.Hearing.{Book}
+use Rattle.node_runs.specs.Runs.{Extent, grown}
 use Rattle.node_runs.specs.Posting.{posted, none_posted, HasPosted, HasSentFront}
 
 -- its record may be put after these, and its messages may be sent
@@ -24,10 +25,11 @@ pub record Fits (records : List Record) (turned : Turned) : Type 0 where
   pub messages : All FitsMessage turned.outs
 
 -- The node is in the state of the step, has put its record and sent its messages.
-pub record HasStepped {S : Type 0} (step : Step S) (node : NodeId) (boot : Boot) (book : Book) (before : ℕ) (records : List Record)
-    (state : S) (kept : List Record) (outs : List Msg) (count : ℕ) (handed : List Datagram → Type 0) : Type 0 where
+pub record HasStepped {S : Type 0} (step : Step S) (node : NodeId) (boot : Boot) (book : Book) (before : ℕ) (records : List Record) (extent : Extent)
+    (state : S) (kept : List Record) (taken : Extent) (outs : List Msg) (count : ℕ) (handed : List Datagram → Type 0) : Type 0 where
   pub state_is : state ≡ step.state
   pub kept_is : kept ≡ one_more records step.turned.rec
+  pub extent_is : taken ≡ grown extent step.turned.rec
   pub outs_are : outs ≡ step.turned.outs
   pub sent : HasPosted (posted node boot book (none_posted before) step.turned.outs) count handed
 

@@ -1,25 +1,27 @@
 -- a turn, and one pass of the loop of a served node
-use Rattle.std.specs.Prelude.{ℕ, ◌≡◌, ◌≤◌, ◌<◌, ◌+◌, Option, List, [], ◌∷◌, ◌++◌, length, take}
+use Rattle.std.specs.Prelude.{ℕ, Bool, ◌⊎◌, ◌≡◌, ◌≤◌, ◌<◌, ◌+◌, Option, Some, None, List, [], ◌∷◌, ◌++◌, length, take}
 use Rattle.std.specs.Option.{IfSome}
 use Rattle.xt_base.specs.declared.ids.Boot.{Boot}
 use Rattle.xt_messages.specs.declared.message.Msg.{Msg}
 use Rattle.xt_messages.specs.declared.event.Event.{Event}
+use Rattle.xt_messages.specs.declared.record.KeepBody.{KeepBody}
 use Rattle.xt_messages.specs.declared.record.Record.{Record}
 use Rattle.xt_messages.specs.declared.status.Status.{Status}
 use Rattle.xt_messages.specs.declared.status.Status.TheVariants as status
+use Rattle.world_spec.specs.World.{Deed, rewrites}
 use Rattle.node_links.specs.declared.link.Datagram.{Datagram}
 use Rattle.node_links.specs.Streams.{Takes}
 use Rattle.node_runs.specs.Links.{Sends, Reads}
 use Rattle.node_runs.specs.Hearing.{Ears}
-use Rattle.node_runs.specs.Runs.{Role, Served, Turn, woke, idle, came, Begins, Passes, Comes, handles, mails, datagrams_in, readings_in}
+use Rattle.node_runs.specs.Runs.{Role, Served, Extent, Turn, woke, idle, came, Begins, Passes, Comes, Rewrites, handles, mails, datagrams_in, readings_in}
 use Rattle.node_runs.specs.Serving.{Undone, EndsServing}
 use Rattle.node_loop.specs.declared.opening.Opening.{Opening}
 use Rattle.node_loop.specs.declared.opening.Opening.TheVariants as opening
 
 -- the node as the loop holds it
-abbrev pub standing : {S : Type 0} → S → List Record → List Msg → Ears → ℕ → ℕ → ℕ → Served S
-standing state kept own ears clock due count =
-    record { state = state; kept = kept; own = own; ears = ears; clock = clock; due = due; count = count }
+abbrev pub standing : {S : Type 0} → S → List Record → Extent → List Msg → Ears → ℕ → ℕ → ℕ → Bool → Served S
+standing state kept extent own ears clock due count woken =
+    record { state = state; kept = kept; own = own; ears = ears; clock = clock; due = due; count = count; extent = extent; woken = woken }
 
 -- how a receive went, where so much time was left
 abbrev pub Opened : ℕ → Option (List Datagram) → Option (List Datagram) → List ℕ → Opening → Type 0
@@ -51,7 +53,7 @@ CannotBegin left before after unread read (status.ClockFault count) =
     (turn : Turn) × Begins before left turn × Takes before after (datagrams_in (turn ∷ [])) × (read ≡ unread)
 CannotBegin left before after unread read _ = ⊥
 
--- one pass: a turn, or a message to itself
+-- one pass: a turn, a message to itself, or a look at the records after a Wake, in which they may be rewritten
 pub record HasPassed {S : Type 0} (role : Role S) (boot : Boot) (period : ℕ) (old new : Served S) (spent now_spent : ℕ)
     (before after sent_before sent_after : Option (List Datagram)) (losses_before losses_after : ℕ) (unread read : Option (List ℕ)) : Type 0 where
   pub turns : List Turn
@@ -62,16 +64,33 @@ pub record HasPassed {S : Type 0} (role : Role S) (boot : Boot) (period : ℕ) (
   pub sends : Sends sent_before sent_after losses_before losses_after posts
   pub spends : now_spent ≡ spent + length turns
 
--- a pass that ends the node, and what it leaves on the disk, where `left` says so of the record that a crash may leave
+-- a pass that ends the node, and what it leaves on the disk, where `left` says so of what a crash may leave done to the records
 pub record HasEnded {S : Type 0} (role : Role S) (boot : Boot) (period : ℕ) (limit spent : ℕ) (old : Served S)
     (before after sent_before sent_after : Option (List Datagram)) (losses_before losses_after : ℕ) (unread read : Option (List ℕ))
-    (left : Option Record → Type 0) (said : Status) : Type 0 where
+    (left : Option Deed → Type 0) (said : Status) : Type 0 where
   pub undone : Undone
   pub received : Takes before after (datagrams_in undone.turn ++ undone.unread)
   pub reads : Reads unread read (readings_in undone.turn)
   pub sends : Sends sent_before sent_after losses_before losses_after undone.more
   pub ending : EndsServing role boot period limit spent before old undone said
-  pub leaves : left undone.record_met
+  pub leaves : left undone.met
+
+-- A rewriting of the records with these bodies that ends the node: the disk failed, or memory ran out. A crash may leave them
+-- rewritten, where `left` says of something that it may be done to them.
+abbrev pub EndsRewriting : List KeepBody → (Option Deed → Type 0) → Status → Type 0
+EndsRewriting keep left (status.DiskFault count) = left (Some (rewrites keep))
+EndsRewriting keep left status.OutOfMemory = left (Some (rewrites keep))
+EndsRewriting keep left _ = ⊥
+
+-- so where they were to be rewritten with the bodies that the node needs
+abbrev pub RewritingEnds : {S : Type 0} → Role S → Boot → ℕ → Served S → (Option Deed → Type 0) → Type 0
+RewritingEnds role boot period s left = (keep : List KeepBody) × Rewrites role boot period s keep × left (Some (rewrites keep))
+
+-- A look at the records after a Wake that ends the node: memory ran out before they were to be rewritten; or it, or the disk, failed then.
+abbrev pub EndsSettling : {S : Type 0} → Role S → Boot → ℕ → Served S → (Option Deed → Type 0) → Status → Type 0
+EndsSettling role boot period s left (status.DiskFault count) = RewritingEnds role boot period s left
+EndsSettling role boot period s left status.OutOfMemory = left None ⊎ RewritingEnds role boot period s left
+EndsSettling role boot period s left _ = ⊥
 
 -- the node has come so far
 pub record HasCome {S : Type 0} (role : Role S) (boot : Boot) (period : ℕ) (start now : Served S) (spent : ℕ)

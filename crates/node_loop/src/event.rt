@@ -1,14 +1,16 @@
-ghost use Rattle.std.specs.Prelude.{◌≡◌, ◌<◌, ◌^◌, ◌++◌, ◌∷◌, [], IfOk, IfErr};
+ghost use Rattle.std.specs.Prelude.{◌≡◌, ◌<◌, ◌^◌, ◌++◌, ◌∷◌, [], Some, IfOk, IfErr};
 ghost use Rattle.std.specs.List.{All};
 ghost use Rattle.xt_messages.specs.Limits.{FitsEvent, FitsMessage, FitsRecord};
 ghost use Rattle.xt_messages.specs.declared.status.Status.TheVariants as status;
 ghost use Rattle.xt_protocol.specs.Folds.{fold_of, IsInPlace};
 ghost use Rattle.xt_journal.specs.Access.{limit_of};
 ghost use Rattle.object_store.specs.Access.{journal_of, records_of, disk_of};
+ghost use Rattle.node_loop.specs.Stores.{extent_of};
 ghost use Rattle.object_store.specs.Puts.{needed_for};
 ghost use Rattle.node_loop.specs.Events.{HasDiskCause, TellsDiskCount, HasStepped, IsFullFor, EndsEvent, EndsPut, LeavesPut};
 ghost use Rattle.node_runs.specs.Links.{Sends};
-ghost use Rattle.node_runs.specs.Keeping.{KeepsOn, KeepsWith};
+ghost use Rattle.node_runs.specs.Runs.{grown};
+ghost use Rattle.node_runs.specs.Keeping.{KeepsOn, KeepsPut};
 
 use crate::node::Node;
 use crate::reader::Reader;
@@ -41,13 +43,14 @@ pub fn keep<D: Disk>(alloc: Global, store: Store<D>, rec: &Record) -> Result<Sto
     requires fits { FitsRecord rec.now }
     requires placed { IsInPlace (fold_of (records_of store)) rec.now }
     ensures kept { IfOk result (λ kept. records_of kept ≡ records_of store ++ rec.now ∷ []) }
+    ensures extent { IfOk result (λ kept. extent_of kept ≡ grown (extent_of store) (Some rec.now)) }
     ensures ends { IfErr result (λ ended. EndsPut ended.status) }
     ensures full { IfErr result (λ ended. IsFullFor (limit_of (journal_of store))
         (needed_for store rec.now) ended.status) }
     ensures keeps { IfOk result (λ kept. KeepsOn D.is_told D.moment D.left_since
-        (disk_of store) (disk_of kept) (records_of store) (records_of kept)) }
+        (disk_of store) (disk_of kept) (records_of store ∷ records_of kept ∷ [])) }
     ensures leaves { IfErr result (λ ended. LeavesPut
-        (KeepsWith D.is_told D.moment D.left_since (disk_of store) ended.disk (records_of store))
+        (KeepsPut D.is_told D.moment D.left_since (disk_of store) ended.disk (records_of store))
         rec.now ended.status) }
     ensures disk { IfOk result (λ kept. D.fault_count (disk_of kept) ≡
         D.fault_count (disk_of store)) }
@@ -106,17 +109,17 @@ pub fn handle<N: Node, L: Link, D: Disk>(
     ensures fits { IfOk result (λ done. All FitsMessage done.outs) }
     ensures stepped { IfOk result (λ done. HasStepped
         ((N.role node.old).step (records_of store) (N.state node.old) now ev.now)
-        sender.old.node sender.old.boot book.now sender.old.count (records_of store)
-        (N.state node.new) (records_of done.store) done.outs sender.new.count
+        sender.old.node sender.old.boot book.now sender.old.count (records_of store) (extent_of store)
+        (N.state node.new) (records_of done.store) (extent_of done.store) done.outs sender.new.count
         (Sends (L.sent link.old) (L.sent link.new) (L.loss_count link.old) (L.loss_count link.new))) }
     ensures ends { IfErr result (λ ended. EndsEvent
         ((N.role node.old).step (records_of store) (N.state node.old) now ev.now)
         sender.old.node sender.old.boot book.now sender.old.count
         (Sends (L.sent link.old) (L.sent link.new) (L.loss_count link.old) (L.loss_count link.new))
-        (KeepsWith D.is_told D.moment D.left_since (disk_of store) ended.disk (records_of store))
+        (KeepsPut D.is_told D.moment D.left_since (disk_of store) ended.disk (records_of store))
         ended.status) }
     ensures keeps { IfOk result (λ done. KeepsOn D.is_told D.moment D.left_since
-        (disk_of store) (disk_of done.store) (records_of store) (records_of done.store)) }
+        (disk_of store) (disk_of done.store) (records_of store ∷ records_of done.store ∷ [])) }
     ensures disk { IfOk result (λ done. D.fault_count (disk_of done.store) ≡
         D.fault_count (disk_of store)) }
     ensures disk_cause { IfErr result (λ ended. TellsDiskCount (D.fault_count (disk_of store))

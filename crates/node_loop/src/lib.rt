@@ -1,6 +1,7 @@
 //! Serving a node: its turns, its events (the step, its record, its messages), and its messages to itself.
 #![tactic(auto)]
 
+mod compacting;
 mod event;
 mod node;
 mod opening;
@@ -10,6 +11,7 @@ mod serving;
 mod site;
 mod turn;
 
+pub use compacting::{Rewritten, is_due, rewrite};
 pub use event::{Ended, Handled, handle, keep};
 pub use node::Node;
 pub use sending::send_all;

@@ -1,6 +1,9 @@
-ghost use Rattle.std.specs.Prelude.{◌≡◌, ◌<◌, ◌^◌, List, Ok, IfOk};
+ghost use Rattle.std.specs.Prelude.{◌≡◌, ◌<◌, ◌^◌, List, Ok, Some, IfOk};
+ghost use Rattle.std.specs.Option.{IfSome};
 ghost use Rattle.xt_messages.specs.Limits.{FitsEvent};
 ghost use Rattle.xt_messages.specs.declared.record.Record.{Record};
+ghost use Rattle.xt_protocol.specs.Forgetting.{rewritten};
+ghost use Rattle.object_store.specs.Texts.{AreRecords};
 ghost use Rattle.world_spec.specs.NodeSteps.{one_more};
 ghost use Rattle.object_versions.specs.KeptBodies.{fault_of, ReadsOnly};
 ghost use Rattle.node_loop.specs.Events.{Fits};
@@ -8,7 +11,7 @@ ghost use Rattle.node_loop.specs.Events.{Fits};
 use object_versions::{Bodies, StepErr};
 use std::alloc::Global;
 use xt_base::{NodeId, OutOfMemory};
-use xt_messages::{Event, Msg};
+use xt_messages::{Event, Keep, Msg};
 use xt_protocol::Turned;
 
 /// The core of a node that is served.
@@ -51,6 +54,21 @@ pub trait Node {
             runs_on self.new (one_more (B.records bodies.old) turned.rec)) }
         ensures same { IfOk result (λ turned. role self.new ≡ role self.old) }
         ensures reads { ReadsOnly B.records B.fault_count bodies.old bodies.new (fault_of result) };
+
+    /// The held bodies that it needs; None where its records are never rewritten.
+    fn keep(&self, alloc: Global) -> Result<Option<Keep>, OutOfMemory>
+        ensures needs { IfOk result (λ keep. keep ≡ (role self.now).keeps (state self.now)) }
+        ensures may { (records : List Record) → runs_on self.now records →
+            IfOk result (λ keep. IfSome keep (λ keep. AreRecords (rewritten keep records))) };
+
+    /// Forgets the held bodies that aren't among these, where these are all that it needs. It takes no memory.
+    fn forget(&mut self, keep: &Keep)
+        ensures state { (role self.old).keeps (state self.old) ≡ Some keep.now →
+            state self.new ≡ (role self.old).without keep.now (state self.old) }
+        ensures same { role self.new ≡ role self.old }
+        ensures runs { (role self.old).keeps (state self.old) ≡ Some keep.now →
+            (records : List Record) → runs_on self.old records →
+            runs_on self.new (rewritten keep.now records) };
 
     /// Whether a message ends it.
     fn stops(&self, msg: &Msg) -> Result<bool, OutOfMemory>

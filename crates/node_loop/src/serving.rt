@@ -1,7 +1,9 @@
-ghost use Rattle.std.specs.Prelude.{◌≡◌, ◌≤◌, ◌<◌, ◌^◌, ◌+◌, [], length, IfOk, IfErr};
+ghost use Rattle.std.specs.Prelude.{◌≡◌, ◌≤◌, ◌<◌, ◌^◌, ◌+◌, [], ◌∷◌, length, IfOk, IfErr};
 ghost use Rattle.std.specs.List.{All};
 ghost use Rattle.xt_messages.specs.Limits.{FitsMessage};
 ghost use Rattle.object_store.specs.Access.{records_of, disk_of};
+ghost use Rattle.node_loop.specs.Stores.{extent_of};
+ghost use Rattle.node_runs.specs.Runs.{kept_through};
 ghost use Rattle.node_runs.specs.Serving.{HasServeCause, IsServed};
 ghost use Rattle.node_runs.specs.Keeping.{KeepsOn, KeepsWith, KeepsServed};
 ghost use Rattle.node_loop.specs.Turns.{standing, HasPassed, HasEnded};
@@ -18,7 +20,7 @@ use std::alloc::Global;
 use xt_messages::{Event, Status};
 
 impl<N: Node> Site<N> {
-    /// A message of the node to itself, if there is one; else a turn, if one is left.
+    /// A message of the node to itself, if there is one; else a look at the records, after a Wake; else a turn, if one is left.
     pub fn pass<L: Link, C: Clock, D: Disk>(
         &mut self,
         alloc: Global,
@@ -46,25 +48,28 @@ impl<N: Node> Site<N> {
             × (C.fault_count clock.new ≡ C.fault_count clock.old)) }
         ensures passed { IfOk result (λ kept. HasPassed (N.role self.old.node) self.old.sender.boot
             bounds.period
-            (standing (N.state self.old.node) (records_of store) self.old.own self.old.ears
-            self.old.clock self.old.due self.old.sender.count)
-            (standing (N.state self.new.node) (records_of kept) self.new.own self.new.ears
-            self.new.clock self.new.due self.new.sender.count)
+            (standing (N.state self.old.node) (records_of store) (extent_of store)
+            self.old.own self.old.ears self.old.clock self.old.due self.old.sender.count
+            self.old.woken)
+            (standing (N.state self.new.node) (records_of kept) (extent_of kept)
+            self.new.own self.new.ears self.new.clock self.new.due self.new.sender.count
+            self.new.woken)
             spent.old spent.new
             (L.given link.old) (L.given link.new) (L.sent link.old) (L.sent link.new)
             (L.loss_count link.old) (L.loss_count link.new)
             (C.readings clock.old) (C.readings clock.new)) }
         ensures ended { IfErr result (λ ended. HasEnded (N.role self.old.node) self.old.sender.boot
             bounds.period bounds.turns spent.old
-            (standing (N.state self.old.node) (records_of store) self.old.own self.old.ears
-            self.old.clock self.old.due self.old.sender.count)
+            (standing (N.state self.old.node) (records_of store) (extent_of store)
+            self.old.own self.old.ears self.old.clock self.old.due self.old.sender.count
+            self.old.woken)
             (L.given link.old) (L.given link.new) (L.sent link.old) (L.sent link.new)
             (L.loss_count link.old) (L.loss_count link.new)
             (C.readings clock.old) (C.readings clock.new)
             (KeepsWith D.is_told D.moment D.left_since (disk_of store) ended.disk (records_of store))
             ended.status) }
         ensures keeps { IfOk result (λ kept. KeepsOn D.is_told D.moment D.left_since
-            (disk_of store) (disk_of kept) (records_of store) (records_of kept)) }
+            (disk_of store) (disk_of kept) (records_of store ∷ records_of kept ∷ [])) }
         ensures cause { IfErr result (λ ended. HasServeCause
             (L.fault_count link.old) (L.fault_count link.new)
             (C.fault_count clock.old) (C.fault_count clock.new) ended.status) }
@@ -75,6 +80,9 @@ impl<N: Node> Site<N> {
     {
         if let Some(msg) = self.own.take() {
             return self.act(alloc, link, store, &Event::Deliver(msg));
+        }
+        if self.woken {
+            return self.settle(alloc, store);
         }
         if *spent == bounds.turns {
             return Err(Ended {
@@ -92,8 +100,10 @@ impl<N: Node> Site<N> {
 
 /// Serves a node from the reading of the clock at which it was started, until it ends.
 ///
-/// A crash at any moment leaves the records of the store and those of the events that were handled, up to some one. The disk that is
-/// handed back has those of all of them; the record of an event in which the node ended may be there or not.
+/// After each Wake and all that comes of it the records are rewritten, where they have grown so much and the journal has room for that.
+///
+/// A crash at any moment leaves the records of the store, or those after some event or some rewriting. The disk that is handed back has the
+/// last of them; the record of an event in which the node ended may be there or not, and where a rewriting failed, so may the rewritten ones.
 pub fn serve<N: Node, L: Link, C: Clock, D: Disk>(
     alloc: Global,
     site: &mut Site<N>,
@@ -109,8 +119,9 @@ pub fn serve<N: Node, L: Link, C: Clock, D: Disk>(
     requires own { All FitsMessage site.old.own }
     requires runs { N.runs_on site.old.node (records_of store) }
     ensures served { IsServed (N.role site.old.node) site.old.sender.boot bounds.period
-        (standing (N.state site.old.node) (records_of store) site.old.own site.old.ears
-        site.old.clock site.old.due site.old.sender.count)
+        (standing (N.state site.old.node) (records_of store) (extent_of store)
+        site.old.own site.old.ears site.old.clock site.old.due site.old.sender.count
+        site.old.woken)
         bounds.turns
         (L.given link.old) (L.given link.new) (L.sent link.old) (L.sent link.new)
         (L.loss_count link.old) (L.loss_count link.new)
@@ -118,14 +129,15 @@ pub fn serve<N: Node, L: Link, C: Clock, D: Disk>(
     ensures cause { HasServeCause (L.fault_count link.old) (L.fault_count link.new)
         (C.fault_count clock.old) (C.fault_count clock.new) result.0 }
     ensures disk_cause { TellsDiskCount (D.fault_count (disk_of store)) (D.fault_count result.1) result.0 }
-    ensures keeps { let start = standing (N.state site.old.node) (records_of store) site.old.own
-        site.old.ears site.old.clock site.old.due site.old.sender.count in
+    ensures keeps { let start = standing (N.state site.old.node) (records_of store) (extent_of store)
+        site.old.own site.old.ears site.old.clock site.old.due site.old.sender.count site.old.woken in
         (s : IsServed (N.role site.old.node) site.old.sender.boot bounds.period start bounds.turns
         (L.given link.old) (L.given link.new) (L.sent link.old) (L.sent link.new)
         (L.loss_count link.old) (L.loss_count link.new)
         (C.readings clock.old) (C.readings clock.new) result.0)
         × KeepsServed D.is_told D.kept D.moment D.left_since (disk_of store) result.1
-        start s.end s.undone }
+        (kept_through (N.role site.old.node) site.old.sender.boot bounds.period (L.given link.old) start
+        s.to_come s.turns s.posts s.end s.comes) s.end s.undone }
 {
     let mut store = store;
     let mut spent = 0;

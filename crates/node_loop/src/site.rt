@@ -1,14 +1,19 @@
-ghost use Rattle.std.specs.Prelude.{◌≡◌, ◌≤◌, ◌<◌, ◌^◌, [], length, max, Some, None, Ok, IfOk, IfErr};
+ghost use Rattle.std.specs.Prelude.{◌≡◌, ◌≤◌, ◌<◌, ◌^◌, ℕ, List, [], ◌∷◌, length, max, true, Option, Some, None, Ok, IfOk, IfErr};
 ghost use Rattle.std.specs.Option.{IfSome};
 ghost use Rattle.std.specs.List.{All};
 ghost use Rattle.xt_messages.specs.Limits.{FitsEvent, FitsMessage};
+ghost use Rattle.node_links.specs.declared.link.Datagram.{Datagram};
+ghost use Rattle.xt_protocol.specs.Forgetting.{rewritten};
 ghost use Rattle.object_store.specs.Access.{records_of, disk_of};
+ghost use Rattle.object_store.specs.Texts.{AreRecords};
+ghost use Rattle.node_loop.specs.Stores.{extent_of};
 ghost use Rattle.node_runs.specs.Links.{Sends};
-ghost use Rattle.node_runs.specs.Keeping.{KeepsOn, KeepsWith};
-ghost use Rattle.node_runs.specs.Runs.{handles, mails, meets, event_in, ends_event, next_due};
-ghost use Rattle.node_loop.specs.Events.{TellsDiskCount, EndsEvent};
-ghost use Rattle.node_loop.specs.Turns.{standing, turn_of, IsWithin, HasActed};
+ghost use Rattle.node_runs.specs.Keeping.{KeepsOn, KeepsPut, KeepsWith};
+ghost use Rattle.node_runs.specs.Runs.{handles, mails, meets, event_in, ends_event, next_due, is_due, Passes};
+ghost use Rattle.node_loop.specs.Events.{HasDiskCause, TellsDiskCount, EndsEvent};
+ghost use Rattle.node_loop.specs.Turns.{standing, turn_of, IsWithin, HasActed, EndsSettling};
 
+use crate::compacting::{Rewritten, is_due, rewrite};
 use crate::event::{Ended, Handled, handle};
 use crate::node::Node;
 use crate::opening::Opening;
@@ -19,7 +24,7 @@ use object_store::Store;
 use own_messages::OwnMessages;
 use std::alloc::Global;
 use xt_base::OutOfMemory;
-use xt_messages::{Event, Status};
+use xt_messages::{Event, Keep, Status};
 
 /// What a served node holds beside its store and its link.
 #[derive(Drop)]
@@ -32,6 +37,8 @@ pub struct Site<N: Node> {
     pub clock: u64,
     /// When the next Wake is due.
     pub due: u64,
+    /// A Wake was handled, and it wasn't looked after it whether the records are to be rewritten.
+    pub woken: bool,
 }
 
 /// When the next Wake is due after one that was due then.
@@ -55,16 +62,16 @@ impl<N: Node> Site<N> {
         requires clocks { (period < 2 ^ 62) × (self.old.clock < 2 ^ 62) × (reading < 2 ^ 62) }
         requires within { IsWithin buf.now opening }
         requires home { self.old.sender.node ≡ (N.role self.old.node).node }
-        ensures met { (kept : _) → IfOk result (λ happens.
-            standing (N.state self.new.node) kept self.new.own self.new.ears self.new.clock self.new.due
-            self.new.sender.count
+        ensures met { (kept : _) (extent : _) → IfOk result (λ happens.
+            standing (N.state self.new.node) kept extent self.new.own self.new.ears self.new.clock
+            self.new.due self.new.sender.count self.new.woken
             ≡ meets (N.role self.old.node) self.old.sender.boot period
-            (standing (N.state self.old.node) kept self.old.own self.old.ears self.old.clock self.old.due
-            self.old.sender.count) (turn_of buf.now opening reading)) }
-        ensures happens { (kept : _) → IfOk result (λ happens. happens ≡
+            (standing (N.state self.old.node) kept extent self.old.own self.old.ears self.old.clock
+            self.old.due self.old.sender.count self.old.woken) (turn_of buf.now opening reading)) }
+        ensures happens { (kept : _) (extent : _) → IfOk result (λ happens. happens ≡
             event_in (N.role self.old.node) self.old.sender.boot period
-            (standing (N.state self.old.node) kept self.old.own self.old.ears self.old.clock self.old.due
-            self.old.sender.count) (turn_of buf.now opening reading)) }
+            (standing (N.state self.old.node) kept extent self.old.own self.old.ears self.old.clock
+            self.old.due self.old.sender.count self.old.woken) (turn_of buf.now opening reading)) }
         ensures fits { IfOk result (λ happens. IfSome happens FitsEvent) }
         ensures same { (self.new.node ≡ self.old.node) × (self.new.sender ≡ self.old.sender)
             × (self.new.own ≡ self.old.own) }
@@ -74,6 +81,7 @@ impl<N: Node> Site<N> {
         match opening {
             Opening::NoTimeLeft | Opening::NothingCame => {
                 self.due = later(period, self.clock, self.due);
+                self.woken = true;
                 Ok(Some(Event::Wake))
             }
             Opening::Piece { from, len } => {
@@ -113,24 +121,25 @@ impl<N: Node> Site<N> {
         ensures faults { L.fault_count link.new ≡ L.fault_count link.old }
         ensures same { (self.new.sender.node ≡ self.old.sender.node)
             × (self.new.sender.boot ≡ self.old.sender.boot)
-            × (self.new.clock ≡ self.old.clock) }
+            × (self.new.clock ≡ self.old.clock)
+            × (self.new.woken ≡ self.old.woken) }
         ensures role { IfOk result (λ kept. N.role self.new.node ≡ N.role self.old.node) }
         ensures runs { IfOk result (λ kept. N.runs_on self.new.node (records_of kept)) }
         ensures own { IfOk result (λ kept. All FitsMessage self.new.own) }
         ensures acted { IfOk result (λ kept. HasActed (N.role self.old.node) self.old.sender.boot
-            (standing (N.state self.old.node) (records_of store) self.old.own self.old.ears self.old.clock
-            self.old.due self.old.sender.count) happens.now
-            (standing (N.state self.new.node) (records_of kept) self.new.own self.new.ears self.new.clock
-            self.new.due self.new.sender.count)
+            (standing (N.state self.old.node) (records_of store) (extent_of store)
+            self.old.own self.old.ears self.old.clock self.old.due self.old.sender.count self.old.woken) happens.now
+            (standing (N.state self.new.node) (records_of kept) (extent_of kept)
+            self.new.own self.new.ears self.new.clock self.new.due self.new.sender.count self.new.woken)
             (Sends (L.sent link.old) (L.sent link.new) (L.loss_count link.old) (L.loss_count link.new))) }
         ensures ends { IfErr result (λ ended. EndsEvent
             ((N.role self.old.node).step (records_of store) (N.state self.old.node) self.old.clock happens.now)
             (N.role self.old.node).node self.old.sender.boot self.old.ears.book self.old.sender.count
             (Sends (L.sent link.old) (L.sent link.new) (L.loss_count link.old) (L.loss_count link.new))
-            (KeepsWith D.is_told D.moment D.left_since (disk_of store) ended.disk (records_of store))
+            (KeepsPut D.is_told D.moment D.left_since (disk_of store) ended.disk (records_of store))
             ended.status) }
         ensures keeps { IfOk result (λ kept. KeepsOn D.is_told D.moment D.left_since
-            (disk_of store) (disk_of kept) (records_of store) (records_of kept)) }
+            (disk_of store) (disk_of kept) (records_of store ∷ records_of kept ∷ [])) }
         ensures disk { IfOk result (λ kept. D.fault_count (disk_of kept) ≡
             D.fault_count (disk_of store)) }
         ensures disk_cause { IfErr result (λ ended. TellsDiskCount (D.fault_count (disk_of store))
@@ -152,6 +161,100 @@ impl<N: Node> Site<N> {
                 status: Status::OutOfMemory,
                 disk: store.close(),
             }),
+        }
+    }
+
+    /// Looks at the records, after a Wake and all that came of it: they are rewritten where they have grown so much, and the node
+    /// forgets the bodies that it doesn't need.
+    pub fn settle<D: Disk>(&mut self, alloc: Global, store: Store<D>) -> Result<Store<D>, Ended<D>>
+        requires woken { (self.old.own ≡ []) × (self.old.woken ≡ true) }
+        requires runs { N.runs_on self.old.node (records_of store) }
+        ensures same { (self.new.sender ≡ self.old.sender) × (self.new.ears ≡ self.old.ears)
+            × (self.new.own ≡ self.old.own) × (self.new.clock ≡ self.old.clock)
+            × (self.new.due ≡ self.old.due) }
+        ensures role { IfOk result (λ kept. N.role self.new.node ≡ N.role self.old.node) }
+        ensures runs { IfOk result (λ kept. N.runs_on self.new.node (records_of kept)) }
+        ensures passed { (period : ℕ) (to_come : Option (List Datagram)) → IfOk result (λ kept.
+            Passes (N.role self.old.node) self.old.sender.boot period to_come
+            (standing (N.state self.old.node) (records_of store) (extent_of store)
+            self.old.own self.old.ears self.old.clock self.old.due self.old.sender.count self.old.woken) [] []
+            (standing (N.state self.new.node) (records_of kept) (extent_of kept)
+            self.new.own self.new.ears self.new.clock self.new.due self.new.sender.count self.new.woken)) }
+        ensures ends { (period : ℕ) → IfErr result (λ ended. EndsSettling (N.role self.old.node) self.old.sender.boot period
+            (standing (N.state self.old.node) (records_of store) (extent_of store)
+            self.old.own self.old.ears self.old.clock self.old.due self.old.sender.count self.old.woken)
+            (KeepsWith D.is_told D.moment D.left_since (disk_of store) ended.disk (records_of store))
+            ended.status) }
+        ensures keeps { IfOk result (λ kept. KeepsOn D.is_told D.moment D.left_since
+            (disk_of store) (disk_of kept) (records_of store ∷ records_of kept ∷ [])) }
+        ensures disk { IfOk result (λ kept. D.fault_count (disk_of kept) ≡
+            D.fault_count (disk_of store)) }
+        ensures disk_cause { IfErr result (λ ended. HasDiskCause (D.fault_count (disk_of store))
+            (D.fault_count ended.disk) ended.status) }
+    {
+        if !is_due(&store.area()) {
+            self.woken = false;
+            return Ok(store);
+        }
+        match self.node.keep(alloc) {
+            Ok(Some(keep)) => self.settle_with(alloc, store, &keep),
+            Ok(None) => {
+                self.woken = false;
+                Ok(store)
+            }
+            Err(_) => Err(Ended {
+                status: Status::OutOfMemory,
+                disk: store.close(),
+            }),
+        }
+    }
+
+    /// So where they have grown so much, and these are the bodies that the node needs.
+    fn settle_with<D: Disk>(
+        &mut self,
+        alloc: Global,
+        store: Store<D>,
+        keep: &Keep,
+    ) -> Result<Store<D>, Ended<D>>
+        requires woken { (self.old.own ≡ []) × (self.old.woken ≡ true) }
+        requires due { is_due (extent_of store) ≡ true }
+        requires needs { (N.role self.old.node).keeps (N.state self.old.node) ≡ Some keep.now }
+        requires may { AreRecords (rewritten keep.now (records_of store)) }
+        requires runs { N.runs_on self.old.node (records_of store) }
+        ensures same { (self.new.sender ≡ self.old.sender) × (self.new.ears ≡ self.old.ears)
+            × (self.new.own ≡ self.old.own) × (self.new.clock ≡ self.old.clock)
+            × (self.new.due ≡ self.old.due) }
+        ensures role { IfOk result (λ kept. N.role self.new.node ≡ N.role self.old.node) }
+        ensures runs { IfOk result (λ kept. N.runs_on self.new.node (records_of kept)) }
+        ensures passed { (period : ℕ) (to_come : Option (List Datagram)) → IfOk result (λ kept.
+            Passes (N.role self.old.node) self.old.sender.boot period to_come
+            (standing (N.state self.old.node) (records_of store) (extent_of store)
+            self.old.own self.old.ears self.old.clock self.old.due self.old.sender.count self.old.woken) [] []
+            (standing (N.state self.new.node) (records_of kept) (extent_of kept)
+            self.new.own self.new.ears self.new.clock self.new.due self.new.sender.count self.new.woken)) }
+        ensures ends { (period : ℕ) → IfErr result (λ ended. EndsSettling (N.role self.old.node) self.old.sender.boot period
+            (standing (N.state self.old.node) (records_of store) (extent_of store)
+            self.old.own self.old.ears self.old.clock self.old.due self.old.sender.count self.old.woken)
+            (KeepsWith D.is_told D.moment D.left_since (disk_of store) ended.disk (records_of store))
+            ended.status) }
+        ensures keeps { IfOk result (λ kept. KeepsOn D.is_told D.moment D.left_since
+            (disk_of store) (disk_of kept) (records_of store ∷ records_of kept ∷ [])) }
+        ensures disk { IfOk result (λ kept. D.fault_count (disk_of kept) ≡
+            D.fault_count (disk_of store)) }
+        ensures disk_cause { IfErr result (λ ended. HasDiskCause (D.fault_count (disk_of store))
+            (D.fault_count ended.disk) ended.status) }
+    {
+        match rewrite(alloc, store, keep) {
+            Ok(Rewritten::Done(store)) => {
+                self.woken = false;
+                self.node.forget(keep);
+                Ok(store)
+            }
+            Ok(Rewritten::NoRoom(store)) => {
+                self.woken = false;
+                Ok(store)
+            }
+            Err(ended) => Err(ended),
         }
     }
 }

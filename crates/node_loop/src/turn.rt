@@ -1,7 +1,8 @@
-ghost use Rattle.std.specs.Prelude.{◌≡◌, ◌≤◌, ◌<◌, ◌^◌, ◌+◌, [], length, IfOk, IfErr};
+ghost use Rattle.std.specs.Prelude.{◌≡◌, ◌≤◌, ◌<◌, ◌^◌, ◌+◌, [], ◌∷◌, false, length, IfOk, IfErr};
 ghost use Rattle.std.specs.List.{All};
 ghost use Rattle.xt_messages.specs.Limits.{FitsMessage};
 ghost use Rattle.object_store.specs.Access.{records_of, disk_of};
+ghost use Rattle.node_loop.specs.Stores.{extent_of};
 ghost use Rattle.node_runs.specs.Serving.{HasServeCause};
 ghost use Rattle.node_runs.specs.Keeping.{KeepsOn, KeepsWith};
 ghost use Rattle.node_loop.specs.Turns.{standing, HasPassed, HasEnded};
@@ -39,7 +40,7 @@ impl<N: Node> Site<N> {
         requires room { 65536 ≤ length buf.old }
         requires clocks { (bounds.period < 2 ^ 62) × (self.old.clock < 2 ^ 62) }
         requires home { self.old.sender.node ≡ (N.role self.old.node).node }
-        requires alone { self.old.own ≡ [] }
+        requires between { (self.old.own ≡ []) × (self.old.woken ≡ false) }
         requires more { spent < bounds.turns }
         requires runs { N.runs_on self.old.node (records_of store) }
         ensures long { length buf.new ≡ length buf.old }
@@ -53,25 +54,28 @@ impl<N: Node> Site<N> {
             × (C.fault_count clock.new ≡ C.fault_count clock.old)) }
         ensures passed { IfOk result (λ kept. HasPassed (N.role self.old.node) self.old.sender.boot
             bounds.period
-            (standing (N.state self.old.node) (records_of store) self.old.own self.old.ears
-            self.old.clock self.old.due self.old.sender.count)
-            (standing (N.state self.new.node) (records_of kept) self.new.own self.new.ears
-            self.new.clock self.new.due self.new.sender.count)
+            (standing (N.state self.old.node) (records_of store) (extent_of store)
+            self.old.own self.old.ears self.old.clock self.old.due self.old.sender.count
+            self.old.woken)
+            (standing (N.state self.new.node) (records_of kept) (extent_of kept)
+            self.new.own self.new.ears self.new.clock self.new.due self.new.sender.count
+            self.new.woken)
             spent (spent + 1)
             (L.given link.old) (L.given link.new) (L.sent link.old) (L.sent link.new)
             (L.loss_count link.old) (L.loss_count link.new)
             (C.readings clock.old) (C.readings clock.new)) }
         ensures ended { IfErr result (λ ended. HasEnded (N.role self.old.node) self.old.sender.boot
             bounds.period bounds.turns spent
-            (standing (N.state self.old.node) (records_of store) self.old.own self.old.ears
-            self.old.clock self.old.due self.old.sender.count)
+            (standing (N.state self.old.node) (records_of store) (extent_of store)
+            self.old.own self.old.ears self.old.clock self.old.due self.old.sender.count
+            self.old.woken)
             (L.given link.old) (L.given link.new) (L.sent link.old) (L.sent link.new)
             (L.loss_count link.old) (L.loss_count link.new)
             (C.readings clock.old) (C.readings clock.new)
             (KeepsWith D.is_told D.moment D.left_since (disk_of store) ended.disk (records_of store))
             ended.status) }
         ensures keeps { IfOk result (λ kept. KeepsOn D.is_told D.moment D.left_since
-            (disk_of store) (disk_of kept) (records_of store) (records_of kept)) }
+            (disk_of store) (disk_of kept) (records_of store ∷ records_of kept ∷ [])) }
         ensures cause { IfErr result (λ ended. HasServeCause
             (L.fault_count link.old) (L.fault_count link.new)
             (C.fault_count clock.old) (C.fault_count clock.new) ended.status) }

@@ -1,9 +1,11 @@
 -- a node that runs on its records gives what may be kept and sent, and runs on
-use Rattle.std.proofs.Common.{◌≡◌, ◌<◌, ◌^◌, ℕ, max, Option, Some, None, List, refl, ap, sym, subst, ◌∙◌}
+use Rattle.std.proofs.Common.{◌≡◌, ◌<◌, ◌^◌, ℕ, max, Option, Some, None, List, [], refl, ap, sym, subst, ◌∙◌}
 use Rattle.std.proofs.lemmas.List.Elements.{All-from_recursion}
-use Rattle.xt_messages.specs.Limits.{FitsEvent, FitsMessage}
+use Rattle.xt_messages.specs.Limits.{FitsEvent, FitsMessage, FitsRecord}
 use Rattle.xt_messages.specs.declared.event.Event.{Event}
+use Rattle.xt_messages.specs.declared.record.KeepBody.{KeepBody}
 use Rattle.xt_messages.specs.declared.record.Record.{Record}
+use Rattle.xt_protocol.specs.Forgetting.{keep_of, osd_without, rewritten}
 use Rattle.xt_protocol.specs.declared.turned.Turned.{Turned}
 use Rattle.world_spec.specs.NodeSteps.{one_more}
 use Rattle.server_rows.specs.Directory.{DirState, step_of_dir}
@@ -17,6 +19,9 @@ use Rattle.xt_protocol.specs.OsdSteps.{OsdState, OsdStep, Outside, handled_awake
 use Rattle.osd_core.specs.Keys.{outside_of, sealed_by}
 use Rattle.osd_limits.specs.Keeping.{StepsOn}
 use Rattle.osd_limits.proofs.Steps as osd_limits
+use Rattle.osd_limits.proofs.Forgets.{forgot}
+use Rattle.object_store.specs.Texts.{AreRecords}
+use Rattle.world_limits.specs.States.{KeptIs}
 use Rattle.node_loop.specs.Events.{Fits}
 use Rattle.node_roles.specs.Roles.{osd_role, OsdRunsOn}
 
@@ -83,3 +88,42 @@ module _ (key : Option (List ℕ)) (records : List Record) (osd : OsdState) (rea
 
     pub osd_runs : OsdRunsOn (one_more records turned.rec) after
     osd_runs = record { kept = steps_on.kept; runs = steps_on.runs }
+
+-- ---- an OSD whose records are rewritten
+
+-- how it started is not forgotten
+started_without : (keep : List KeepBody) (osd : OsdState) → (osd_without keep osd).started ≡ osd.started
+unfolding osd_without
+started_without keep osd = refl
+
+pub osd_without_same : (key key' : Option (List ℕ)) (keep : List KeepBody) (osd after : OsdState) → after ≡ osd_without keep osd → key' ≡ key
+    → osd_role after.started.node key' ≡ osd_role osd.started.node key
+osd_without_same key key' keep osd after is same =
+    ap (λ (k : Option (List ℕ)). osd_role after.started.node k) same
+    ∙ ap (λ (s : OsdState). osd_role s.started.node key) is
+    ∙ ap (λ started. osd_role started.node key) (started_without keep osd)
+
+-- the bodies that it needs, where they are told
+needs_are : (osd : OsdState) (keep : List KeepBody) → Some (keep_of osd) ≡ Some keep → keep ≡ keep_of osd
+needs_are osd keep is = sym (ap bodies is)
+  where
+    bodies : Option (List KeepBody) → List KeepBody
+    bodies None = []
+    bodies (Some some) = some
+
+module _ (records : List Record) (osd : OsdState) (runs : OsdRunsOn records osd) where
+  -- its rewritten records may be kept
+  pub osd_may : (keep : List KeepBody) → keep ≡ keep_of osd → AreRecords (rewritten keep records)
+  osd_may keep is =
+      let kept : KeptIs (rewritten (keep_of osd) records) = (forgot records osd runs.kept runs.runs).0 in
+      subst (λ (k : List KeepBody). AreRecords (rewritten k records)) (sym is)
+      (record { fit = All-from_recursion FitsRecord (rewritten (keep_of osd) records) kept.limits; placed = kept.places })
+
+  -- and it runs on them
+  pub osd_runs_without : (keep : List KeepBody) (after : OsdState) → Some (keep_of osd) ≡ Some keep → after ≡ osd_without keep osd
+      → OsdRunsOn (rewritten keep records) after
+  osd_runs_without keep after is without =
+      let forgets = forgot records osd runs.kept runs.runs in
+      subst (λ (s : OsdState). OsdRunsOn (rewritten keep records) s) (sym without)
+      (subst (λ (k : List KeepBody). OsdRunsOn (rewritten k records) (osd_without k osd)) (sym (needs_are osd keep is))
+      (record { kept = forgets.0; runs = forgets.1 }))

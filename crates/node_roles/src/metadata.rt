@@ -3,7 +3,7 @@ use node_loop::Node;
 use object_versions::{Bodies, StepErr};
 use std::alloc::Global;
 use xt_base::{NodeId, OutOfMemory};
-use xt_messages::{Event, Msg};
+use xt_messages::{Event, Keep, Msg};
 use xt_protocol::Turned;
 
 /// The metadata server as a node that is served.
@@ -42,6 +42,12 @@ impl Node for ServedMrc {
             Err(_) => Err(StepErr::OutOfMemory),
         }
     }
+
+    fn keep(&self, _alloc: Global) -> Result<Option<Keep>, OutOfMemory> {
+        Ok(None)
+    }
+
+    fn forget(&mut self, _keep: &Keep) {}
 
     fn stops(&self, msg: &Msg) -> Result<bool, OutOfMemory> {
         self.mrc.stops(msg)

@@ -3,7 +3,7 @@ use object_versions::{Bodies, StepErr};
 use osd_core::Osd;
 use std::alloc::Global;
 use xt_base::{NodeId, OutOfMemory};
-use xt_messages::{Event, Msg};
+use xt_messages::{Event, Keep, Msg};
 use xt_protocol::Turned;
 
 /// An OSD as a node that is served.
@@ -39,6 +39,17 @@ impl Node for ServedOsd {
             Ok(turned) => Ok(turned),
             Err(error) => Err(error),
         }
+    }
+
+    fn keep(&self, _alloc: Global) -> Result<Option<Keep>, OutOfMemory> {
+        match self.osd.keep() {
+            Ok(keep) => Ok(Some(keep)),
+            Err(error) => Err(error),
+        }
+    }
+
+    fn forget(&mut self, keep: &Keep) {
+        self.osd.forget(keep);
     }
 
     fn stops(&self, msg: &Msg) -> Result<bool, OutOfMemory> {

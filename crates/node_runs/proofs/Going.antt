@@ -1,15 +1,17 @@
--- A served node goes on from its start: what holds at its start and is kept by each turn and by each message to itself, holds.
-use Rattle.std.proofs.Common.{ℕ, ◌≡◌, ◌≤◌, refl, sym, ◌∙◌, ap, subst, Option, Some, None, List, [], ◌∷◌, ◌++◌, arith, max}
+-- A served node goes on from its start: what holds at its start and is kept by each turn, by each message to itself, and where its
+-- records are rewritten or left, holds.
+use Rattle.std.proofs.Common.{ℕ, ◌≡◌, ◌≤◌, false, refl, sym, ◌∙◌, ap, subst, Option, Some, None, List, [], ◌∷◌, ◌++◌, arith, max}
 use Rattle.std.proofs.lemmas.List.{append_assoc, append-nil}
 use Rattle.xt_base.specs.declared.ids.Boot.{Boot}
 use Rattle.xt_messages.specs.declared.message.Msg.{Msg}
 use Rattle.xt_messages.specs.declared.event.Event.{Event}
 use Rattle.xt_messages.specs.declared.event.Event.TheVariants as event
+use Rattle.xt_messages.specs.declared.record.KeepBody.{KeepBody}
 use Rattle.xt_messages.specs.declared.record.Record.{Record}
 use Rattle.world_spec.specs.NodeSteps.{one_more}
 use Rattle.node_links.specs.declared.link.Datagram.{Datagram}
 use Rattle.node_links.specs.Streams.{Takes}
-use Rattle.node_runs.specs.Runs.{Role, Turn, woke, idle, came, Served, handles, takes, meets, event_in, goes_through, Passes, by_turn, by_own, Comes, begun, passed, datagrams_in}
+use Rattle.node_runs.specs.Runs.{Role, Turn, woke, idle, came, Served, handles, takes, meets, event_in, goes_through, Rewrites, rewrites_with, Passes, by_turn, by_own, by_rewriting, by_no_room, by_rest, Comes, begun, passed, datagrams_in}
 use Rattle.node_runs.specs.Laws.{GoesOn}
 use Rattle.node_runs.proofs.Sending.{takes_none, takes_more}
 
@@ -18,11 +20,16 @@ module _ {S : Type 0} (role : Role S) (boot : Boot) (period : ℕ) (to_come : Op
       (each_turn : (s : Served S) (turn : Turn) → P s → P (takes role boot period s turn))
       (each_own : (s : Served S) (msg : Msg) (rest : List Msg) → P s → s.own ≡ msg ∷ rest
       → P (handles role boot period (record s { own = rest }) (event.Deliver msg)))
+      (each_rewriting : (s : Served S) (keep : List KeepBody) → P s → Rewrites role boot period s keep → P (rewrites_with role boot period s keep))
+      (each_look : (s : Served S) → P s → P (record s { woken = false }))
     where
       kept_by_one : (left : Option (List Datagram)) (s : Served S) (turns : List Turn) (posts : List Datagram) (next : Served S)
           → Passes role boot period left s turns posts next → P s → P next
-      kept_by_one left s turns posts next (by_turn turn alone begins ends) p = each_turn s turn p
+      kept_by_one left s turns posts next (by_turn turn alone rested begins ends) p = each_turn s turn p
       kept_by_one left s turns posts next (by_own msg rest own) p = each_own s msg rest p own
+      kept_by_one left s turns posts next (by_rewriting keep is) p = each_rewriting s keep p is
+      kept_by_one left s turns posts next (by_no_room keep is) p = each_look s p
+      kept_by_one left s turns posts next (by_rest is) p = each_look s p
 
       pub kept_by_all : (left : Option (List Datagram)) (turns : List Turn) (posts : List Datagram) (s : Served S)
           → Comes role boot period to_come start left turns posts s → P s
@@ -38,42 +45,50 @@ module _ {S : Type 0} (role : Role S) (boot : Boot) (period : ℕ) (to_come : Op
   one_more-goes kept (Some rec) before e =
       (before ++ rec ∷ [], ap (λ xs. xs ++ rec ∷ []) e ∙ append_assoc start.kept before (rec ∷ []))
 
-  goes_handles : (s : Served S) (happens : Event) → GoesOn start s → GoesOn start (handles role boot period s happens)
-  goes_handles s happens g =
-      let more = one_more-goes s.kept (role.step s.kept s.state s.clock happens).turned.rec g.records g.kept in
-      record { records = more.0; kept = more.1; clock = g.clock }
+  goes_handles : (s : Served S) (happens : Event) → GoesOn role start s → GoesOn role start (handles role boot period s happens)
+  goes_handles s happens g = record {
+    records = λ never. let before = g.records never in one_more-goes s.kept (role.step s.kept s.state s.clock happens).turned.rec before.0 before.1;
+    clock = g.clock;
+  }
 
-  goes_meets : (s : Served S) (turn : Turn) → GoesOn start s → GoesOn start (meets role boot period s turn)
+  goes_meets : (s : Served S) (turn : Turn) → GoesOn role start s → GoesOn role start (meets role boot period s turn)
   goes_meets s (woke reading) g =
       let still : start.clock ≤ s.clock = g.clock in
       let later : start.clock ≤ max reading s.clock = grind arith in
-      record { records = g.records; kept = g.kept; clock = later }
+      record { records = g.records; clock = later }
   goes_meets s (idle reading) g =
       let still : start.clock ≤ s.clock = g.clock in
       let later : start.clock ≤ max reading s.clock = grind arith in
-      record { records = g.records; kept = g.kept; clock = later }
+      record { records = g.records; clock = later }
   goes_meets s (came datagram reading) g =
       let still : start.clock ≤ s.clock = g.clock in
       let later : start.clock ≤ max reading s.clock = grind arith in
-      record { records = g.records; kept = g.kept; clock = later }
+      record { records = g.records; clock = later }
 
-  goes_through-on : (s : Served S) (happens : Option Event) → GoesOn start s → GoesOn start (goes_through role boot period s happens)
+  goes_through-on : (s : Served S) (happens : Option Event) → GoesOn role start s → GoesOn role start (goes_through role boot period s happens)
   goes_through-on s None g = g
   goes_through-on s (Some happens) g = goes_handles s happens g
 
-  goes_turn : (s : Served S) (turn : Turn) → GoesOn start s → GoesOn start (takes role boot period s turn)
+  goes_turn : (s : Served S) (turn : Turn) → GoesOn role start s → GoesOn role start (takes role boot period s turn)
   goes_turn s turn g = goes_through-on (meets role boot period s turn) (event_in role boot period s turn) (goes_meets s turn g)
 
-  goes_own : (s : Served S) (msg : Msg) (rest : List Msg) → GoesOn start s → s.own ≡ msg ∷ rest
-      → GoesOn start (handles role boot period (record s { own = rest }) (event.Deliver msg))
-  goes_own s msg rest g own = goes_handles (record s { own = rest }) (event.Deliver msg) (record { records = g.records; kept = g.kept; clock = g.clock })
+  goes_own : (s : Served S) (msg : Msg) (rest : List Msg) → GoesOn role start s → s.own ≡ msg ∷ rest
+      → GoesOn role start (handles role boot period (record s { own = rest }) (event.Deliver msg))
+  goes_own s msg rest g own = goes_handles (record s { own = rest }) (event.Deliver msg) (record { records = g.records; clock = g.clock })
 
-  starts_on : GoesOn start start
-  starts_on = record { records = []; kept = sym (append-nil start.kept); clock = grind arith }
+  goes_rewriting : (s : Served S) (keep : List KeepBody) → GoesOn role start s → Rewrites role boot period s keep
+      → GoesOn role start (rewrites_with role boot period s keep)
+  goes_rewriting s keep g is = record { records = λ never. absurd (let no : None ≡ Some keep = sym (never s.state) ∙ is.needs in cc no); clock = g.clock }
+
+  goes_look : (s : Served S) → GoesOn role start s → GoesOn role start (record s { woken = false })
+  goes_look s g = record { records = g.records; clock = g.clock }
+
+  starts_on : GoesOn role start start
+  starts_on = record { records = λ never. ([], sym (append-nil start.kept)); clock = grind arith }
 
   pub all_go_on : (left : Option (List Datagram)) (turns : List Turn) (posts : List Datagram) (s : Served S)
-      → Comes role boot period to_come start left turns posts s → GoesOn start s
-  all_go_on left turns posts s comes = kept_by_all (GoesOn start) starts_on goes_turn goes_own left turns posts s comes
+      → Comes role boot period to_come start left turns posts s → GoesOn role start s
+  all_go_on left turns posts s comes = kept_by_all (GoesOn role start) starts_on goes_turn goes_own goes_rewriting goes_look left turns posts s comes
 
   -- ---- what was received is what the turns tell
 

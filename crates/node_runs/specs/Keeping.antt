@@ -1,36 +1,46 @@
 -- What serving a node leaves on its disk.
-use Rattle.std.specs.Prelude.{ℕ, ◌≡◌, ◌≤◌, ◌⊎◌, Bool, IsTrue, Option, List, ◌++◌, length, take}
+use Rattle.std.specs.Prelude.{ℕ, ◌⊎◌, Bool, IsTrue, Option, Some, None, List, [], ◌∷◌, ◌++◌}
 use Rattle.disk_model.specs.Disk.{Kept, IsImage, LeavesOnly}
 use Rattle.xt_messages.specs.declared.record.Record.{Record}
+use Rattle.xt_protocol.specs.Forgetting.{rewritten}
 use Rattle.xt_journal.specs.Format.{StandsFor}
 use Rattle.object_store.specs.Texts.{texts_of}
-use Rattle.world_spec.specs.NodeSteps.{one_more}
+use Rattle.world_spec.specs.World.{Deed, puts, loads, rewrites}
 use Rattle.node_runs.specs.Runs.{Served}
-use Rattle.node_runs.specs.Serving.{Undone}
+use Rattle.node_runs.specs.Serving.{Undone, put_of}
 
--- these bytes stand for the records up to some one, and none of the first is missing
-abbrev pub IsUpToSome : List Record → List Record → List ℕ → Type 0
-IsUpToSome first all image = (count : ℕ) × (length first ≤ count) × StandsFor image (texts_of (take count all))
+-- these bytes stand for one of these lists of records
+abbrev pub StandsForOne : List (List Record) → List ℕ → Type 0
+StandsForOne [] image = ⊥
+StandsForOne (records ∷ more) image = StandsFor image (texts_of records) ⊎ StandsForOne more image
 
--- From one disk to another the records went on. A crash at any moment leaves them up to some one, and none of the first is missing.
-pub record KeepsOn {D : Type 0} (is_told : Bool) (moment : D → ℕ) (left_since : D → ℕ → List ℕ → Type 0) (before after : D)
-    (first all : List Record) : Type 0 where
-  pub more : List Record
-  pub goes_on : all ≡ first ++ more
-  pub leaves : IsTrue is_told → LeavesOnly moment left_since before after (IsUpToSome first all)
+-- From one disk to another a crash at any moment leaves one of these lists of records.
+abbrev pub KeepsOn : {D : Type 0} → Bool → (D → ℕ) → (D → ℕ → List ℕ → Type 0) → D → D → List (List Record) → Type 0
+KeepsOn is_told moment left_since before after moments = IsTrue is_told → LeavesOnly moment left_since before after (StandsForOne moments)
 
--- so with one record more, if there is one: a crash leaves it or not
-abbrev pub KeepsWith : {D : Type 0} → Bool → (D → ℕ) → (D → ℕ → List ℕ → Type 0) → D → D → List Record → Option Record → Type 0
-KeepsWith is_told moment left_since before after kept met = KeepsOn is_told moment left_since before after kept (one_more kept met)
+-- the records after what is done to them, if it is done: one is put after them, or they are rewritten
+abbrev pub done_to : List Record → Option Deed → List Record
+done_to kept None = kept
+done_to kept (Some (puts rec)) = kept ++ rec ∷ []
+done_to kept (Some loads) = kept
+done_to kept (Some (rewrites keep)) = rewritten keep kept
+
+-- a crash leaves the records as they were, or as they are once this is done to them
+abbrev pub KeepsWith : {D : Type 0} → Bool → (D → ℕ) → (D → ℕ → List ℕ → Type 0) → D → D → List Record → Option Deed → Type 0
+KeepsWith is_told moment left_since before after kept met = KeepsOn is_told moment left_since before after (kept ∷ done_to kept met ∷ [])
+
+-- so with one record more, if there is one
+abbrev pub KeepsPut : {D : Type 0} → Bool → (D → ℕ) → (D → ℕ → List ℕ → Type 0) → D → D → List Record → Option Record → Type 0
+KeepsPut is_told moment left_since before after kept met = KeepsWith is_told moment left_since before after kept (put_of met)
 
 -- the records that may be on the disk in the end
 abbrev pub records_with : {S : Type 0} → Served S → Undone → List Record
-records_with s undone = one_more s.kept undone.record_met
+records_with s undone = done_to s.kept undone.met
 
--- The disk of a served node. A crash at any moment of the serving leaves the records from its start on up to some one. In the end it
--- leaves those of all steps that were taken, with the record of the event that the node was in or without it.
+-- The disk of a served node, which kept these lists of records one after the other. A crash at any moment of the serving leaves one of
+-- them, or those that it was about to keep in the end. In the end it leaves the last of them, or those.
 pub record KeepsServed {D S : Type 0} (is_told : Bool) (kept : D → Kept) (moment : D → ℕ) (left_since : D → ℕ → List ℕ → Type 0)
-    (before after : D) (start end : Served S) (undone : Undone) : Type 0 where
-  pub each : IsTrue is_told → LeavesOnly moment left_since before after (IsUpToSome start.kept (records_with end undone))
+    (before after : D) (moments : List (List Record)) (end : Served S) (undone : Undone) : Type 0 where
+  pub each : KeepsOn is_told moment left_since before after (moments ++ records_with end undone ∷ [])
   pub last : IsTrue is_told → (image : List ℕ) → IsImage (kept after) image
       → StandsFor image (texts_of end.kept) ⊎ StandsFor image (texts_of (records_with end undone))

@@ -1,5 +1,5 @@
 -- A node that is served: the run of its core on what comes, with its records, its messages to itself and what it posts.
-use Rattle.std.specs.Prelude.{ℕ, ◌≡◌, ◌<◌, ◌+◌, ◌-◌, max, nat_le, if◌then◌else◌, Bool, false, Option, Some, None, List, [], ◌∷◌, ◌++◌}
+use Rattle.std.specs.Prelude.{ℕ, ◌≡◌, ◌<◌, ◌⊎◌, ◌+◌, ◌-◌, ◌*◌, max, nat_le, if◌then◌else◌, Bool, true, false, Option, Some, None, List, [], ◌∷◌, ◌++◌, length}
 use Rattle.std.specs.Option.{IfSome}
 use Rattle.xt_base.specs.Faults.{counted}
 use Rattle.xt_base.specs.declared.ids.NodeId.{NodeId}
@@ -7,7 +7,14 @@ use Rattle.xt_base.specs.declared.ids.Boot.{Boot}
 use Rattle.xt_messages.specs.declared.message.Msg.{Msg}
 use Rattle.xt_messages.specs.declared.event.Event.{Event}
 use Rattle.xt_messages.specs.declared.event.Event.TheVariants as event
+use Rattle.xt_messages.specs.declared.record.KeepBody.{KeepBody}
 use Rattle.xt_messages.specs.declared.record.Record.{Record}
+use Rattle.xt_protocol.specs.Forgetting.{rewritten}
+use Rattle.journal_areas.specs.Format.{records}
+use Rattle.journal_areas.specs.declared.superblock.Superblock.{Superblock}
+use Rattle.journal_areas.specs.Areas.{end_in}
+use Rattle.journal_areas.specs.Sites.{area_of, area_size}
+use Rattle.object_store.specs.Texts.{texts_of}
 use Rattle.client_rows.specs.Steps.{Step}
 use Rattle.world_spec.specs.NodeSteps.{to_itself, one_more}
 use Rattle.node_links.specs.declared.link.Datagram.{Datagram}
@@ -15,11 +22,14 @@ use Rattle.node_links.specs.Streams.{Takes}
 use Rattle.node_runs.specs.Hearing.{Ears, hears}
 use Rattle.node_runs.specs.Posting.{Posted, posted, none_posted}
 
--- The core of a node: its step on the records that it keeps, at a clock, on an event; and which message ends it.
+-- The core of a node: its step on the records that it keeps, at a clock, on an event; which message ends it; and which bodies it
+-- needs, where its records may be rewritten with them, and what it is without the others. A node that holds no bodies never rewrites.
 pub record Role (S : Type 0) : Type 0 where
   pub node : NodeId
   pub step : List Record → S → ℕ → Event → Step S
   pub stops : Msg → Bool
+  pub keeps : S → Option (List KeepBody)
+  pub without : List KeepBody → S → S
 
 -- A turn of a served node, and what the clock read in it: a Wake, since no time was left to it, or since the link had nothing to
 -- give; or a datagram.
@@ -44,8 +54,40 @@ abbrev pub readings_in : List Turn → List ℕ
 readings_in [] = []
 readings_in (turn ∷ turns) = reading_in turn ∷ readings_in turns
 
--- A served node: its state, what it keeps, its messages to itself that it hasn't handled, what it keeps of its link, the clock that
--- it used last, when its next Wake is due, and how many messages it posted.
+-- How many bytes the records take on the disk now, with the gates around them, and how many they took when they were rewritten last; 0
+-- where they never were.
+pub record Extent : Type 0 where
+  pub length : ℕ
+  pub first : ℕ
+
+-- those of a journal that ends at this gate, with this superblock or none
+abbrev pub extent_at : Option Superblock → ℕ → Extent
+extent_at super end = record { length = (area_of super end).length; first = (area_of super end).first }
+
+-- those of a journal of these payloads
+abbrev pub extent_in : Option Superblock → List (List ℕ) → Extent
+extent_in super payloads = extent_at super (end_in super payloads)
+
+-- one record more takes its bytes and a gate
+abbrev pub grown : Extent → Option Record → Extent
+grown extent None = extent
+grown extent (Some rec) = record extent { length = extent.length + length (records (texts_of (rec ∷ []))) }
+
+-- of rewritten records
+abbrev pub fresh : List Record → Extent
+fresh kept = record { length = area_size (texts_of kept); first = area_size (texts_of kept) }
+
+-- the bytes from which on records are rewritten that never were
+abbrev pub least_area : ℕ
+least_area = 1048576
+
+-- the records have grown so much that they are to be rewritten
+abbrev pub is_due : Extent → Bool
+is_due extent = nat_le (least_area + 2 * extent.first) extent.length
+
+-- A served node: its state, what it keeps, and how much that takes; its messages to itself that it hasn't handled, what it keeps of its
+-- link, the clock that it used last, when its next Wake is due, how many messages it posted; and whether a Wake has come, after which it
+-- hasn't seen yet whether its records are to be rewritten.
 pub record Served (S : Type 0) : Type 0 where
   pub state : S
   pub kept : List Record
@@ -54,6 +96,8 @@ pub record Served (S : Type 0) : Type 0 where
   pub clock : ℕ
   pub due : ℕ
   pub count : ℕ
+  pub extent : Extent
+  pub woken : Bool
 
 -- Wakes stand on a grid: the next one is due a period after this one was, or, where that has passed, a period after now.
 abbrev pub next_due : ℕ → ℕ → ℕ → ℕ
@@ -85,6 +129,7 @@ module _ {S : Type 0} (role : Role S) (boot : Boot) (period : ℕ) where
     kept = one_more s.kept step.turned.rec;
     own = s.own ++ to_itself role.node step.turned.outs;
     count = (posts s step).count;
+    extent = grown s.extent step.turned.rec;
   }
 
   -- an event is handled
@@ -99,7 +144,7 @@ module _ {S : Type 0} (role : Role S) (boot : Boot) (period : ℕ) where
   at_reading s reading = record s { clock = max reading s.clock }
 
   abbrev pub wakes_at : Served S → ℕ → Served S
-  wakes_at s now = record s { clock = now; due = next_due period now s.due }
+  wakes_at s now = record s { clock = now; due = next_due period now s.due; woken = true }
 
   -- the node at the clock of a turn, with what it heard in it, and what happens then
   abbrev pub meets : Served S → Turn → Served S
@@ -132,13 +177,44 @@ module _ {S : Type 0} (role : Role S) (boot : Boot) (period : ℕ) where
   ends_event (Some (event.Deliver msg)) = role.stops msg
   ends_event _ = false
 
+  -- ---- records are rewritten
+
+  -- A Wake was handled, with all messages to itself that came of it: the node sees whether its records are to be rewritten.
+  abbrev pub HasWoken : Served S → Type 0
+  HasWoken s = (s.own ≡ []) × (s.woken ≡ true)
+
+  -- they are, with these bodies
+  pub record Rewrites (s : Served S) (keep : List KeepBody) : Type 0 where
+    pub woken : HasWoken s
+    pub due : is_due s.extent ≡ true
+    pub needs : role.keeps s.state ≡ Some keep
+
+  -- they aren't: they haven't grown enough, or the node never rewrites
+  pub record Rests (s : Served S) : Type 0 where
+    pub woken : HasWoken s
+    pub why : (is_due s.extent ≡ false) ⊎ (role.keeps s.state ≡ None)
+
+  abbrev pub rewrites_with : Served S → List KeepBody → Served S
+  rewrites_with s keep = record s {
+    state = role.without keep s.state;
+    kept = rewritten keep s.kept;
+    extent = fresh (rewritten keep s.kept);
+    woken = false;
+  }
+
+  -- ---- passes
+
   -- One turn, or one message of the node to itself, and what it posts. Messages to itself come before the next turn, first in
-  -- first out, at the clock of the turn that they follow.
+  -- first out, at the clock of the turn that they follow. After a Wake, once none is left, the records are rewritten where they have
+  -- grown so much and the journal has room; where it has none, all stays. Nothing is posted then.
   pub data Passes (to_come : Option (List Datagram)) (s : Served S) : List Turn → List Datagram → Served S → Type 0 where
-    by_turn : (turn : Turn) → s.own ≡ [] → Begins to_come (s.due - s.clock) turn → ends_event (event_in s turn) ≡ false
+    by_turn : (turn : Turn) → s.own ≡ [] → s.woken ≡ false → Begins to_come (s.due - s.clock) turn → ends_event (event_in s turn) ≡ false
         → Passes to_come s (turn ∷ []) (posts_in s turn) (takes s turn)
     by_own : (msg : Msg) (rest : List Msg) → s.own ≡ msg ∷ rest
         → Passes to_come s [] (mails (record s { own = rest }) (event.Deliver msg)) (handles (record s { own = rest }) (event.Deliver msg))
+    by_rewriting : (keep : List KeepBody) → Rewrites s keep → Passes to_come s [] [] (rewrites_with s keep)
+    by_no_room : (keep : List KeepBody) → Rewrites s keep → Passes to_come s [] [] (record s { woken = false })
+    by_rest : Rests s → Passes to_come s [] [] (record s { woken = false })
 
   -- The node has come so far from its start by these turns, and posted these datagrams; and what is to come then.
   pub data Comes (to_come : Option (List Datagram)) (start : Served S)
@@ -150,6 +226,14 @@ module _ {S : Type 0} (role : Role S) (boot : Boot) (period : ℕ) where
 
   -- The node is in the midst of this event: all before it is done, and of the event nothing. The turn that it is of is told.
   pub data Meets (to_come : Option (List Datagram)) (s : Served S) : Event → Served S → List Turn → Type 0 where
-    in_turn : (turn : Turn) (happens : Event) → s.own ≡ [] → Begins to_come (s.due - s.clock) turn → event_in s turn ≡ Some happens
+    in_turn : (turn : Turn) (happens : Event) → s.own ≡ [] → s.woken ≡ false → Begins to_come (s.due - s.clock) turn → event_in s turn ≡ Some happens
         → Meets to_come s happens (meets s turn) (turn ∷ [])
     of_itself : (msg : Msg) (rest : List Msg) → s.own ≡ msg ∷ rest → Meets to_come s (event.Deliver msg) (record s { own = rest }) []
+
+  -- What the node kept at each moment from its start on: at its start, and after each pass.
+  module _ (to_come : Option (List Datagram)) (start : Served S) where
+    abbrev pub kept_through : (left : Option (List Datagram)) (turns : List Turn) (before : List Datagram) (s : Served S)
+        → Comes to_come start left turns before s → List (List Record)
+    kept_through left turns before s begun = start.kept ∷ []
+    kept_through left turns before s (passed between after turns' more before' mailed s' next comes one gives) =
+        kept_through between turns' before' s' comes ++ next.kept ∷ []

@@ -18,13 +18,13 @@ returns-in-Err-clause-job g c = ended_early c.in-Err.ensures.ends
 
 pub returns-in_default-start-clause-job : goal.returns-in_default-start-clause-job
 returns-in_default-start-clause-job g c =
-    ended_early (not_started (λ disk image told left. g.met.D.Disk.only_now disk image told left) _ _ _ _ c.in-Ok-get_ready.ready.store _ _ c.in-Ok-get_ready.ensures.ready
+    ended_early (not_started (λ disk image told left. g.met.D.Disk.only_now disk image told left) _ _ _ _ c.in-Ok-get_ready.ready.store _ _ _ c.in-Ok-get_ready.ensures.ready
     c.close.ensures)
 
 pub returns-clause-job : goal.returns-clause-job
 returns-clause-job g c =
     let told = dir_told _ _ _ _ _ c.in-Ok-start.ensures c.as_slice.ensures c.records.ensures in
-    has_done _ _ _ _ _ _ _ _ _ c.in-Ok-get_ready.ensures.ready _ _ _ _ _ _
+    has_done _ _ _ _ _ _ _ _ _ _ c.in-Ok-get_ready.ensures.ready _ _ _ _ _ _
     (ap (λ (d : DirNode). dir_role d.secret) told) (ap (λ (d : DirNode). d.state) told)
     c.new-2.ensures c.new.ensures c.period_of-period.ensures.value refl refl c.serve.ensures.keeps c.serve.ensures.disk_cause
 

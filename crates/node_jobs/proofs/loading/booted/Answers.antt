@@ -17,7 +17,7 @@ returns-then-last-ge-LAST_BOOT-clause-ends g c =
       met = None;
       why = (refl, refl, refl, last_stored (records_of store) store.sound (omega (arith, late, last)));
       cause = ap D.fault_count c.close.ensures;
-      keeps = stays_closed D.is_told D.kept D.moment D.left_since (disk_of store) c.close.result (records_of store) c.close.ensures store.keeps
+      keeps = stays_closed D.is_told D.kept D.moment D.left_since (disk_of store) c.close.result (records_of store) None c.close.ensures store.keeps
           (λ image told left. g.met.D.Disk.only_now (disk_of store) image told left);
     }
 

@@ -2,6 +2,7 @@ use Rattle.std.proofs.Common.{ap, ◌∙◌, inr, subst, sym, ◌≡◌, List}
 use Rattle.xt_journal.specs.declared.placed.Placed.{Placed}
 use Rattle.xt_journal.specs.Access.{disk_of}
 use Rattle.xt_journal.specs.Reading.{payloads_of}
+use Rattle.xt_journal.proofs.Slices.{keeps_slice}
 use Rattle.xt_messages.specs.declared.status.Status.TheVariants as status
 use Rattle.object_store.specs.Texts.{IsFirstBad}
 use Rattle.node_jobs.specs.Disks.{IsUnloaded}
@@ -9,11 +10,15 @@ use Rattle.node_jobs.proofs.Disks.{left_unloaded, loaded_is, medium_of}
 use Rattle.node_jobs.proofs.Places.{bad_record}
 use Rattle.node_jobs.proofs.loading.loaded.Goals as goal
 
+pub load-requires-2 : goal.load-requires-2
+load-requires-2 g c = λ told.
+    keeps_slice (g.D.Disk.kept (disk_of c.in-Ok.loaded.0)) c.as_slice.result.now c.in-Ok.loaded.1.items c.as_slice.ensures.value (c.in-Ok.ensures.keeps told)
+
 pub returns-in-Ok-load-clause-loads : goal.returns-in-Ok-load-clause-loads
 returns-in-Ok-load-clause-loads g c =
     let loaded = c.in-Ok.ensures in
     loaded_is (λ disk image told left. g.met.D.Disk.only_now disk image told left) c.args.disk c.args.limit c.in-Ok.loaded.0 c.in-Ok.loaded.1.items
-    (payloads_of c.as_slice.result.now) c.in-Ok-load.store loaded.reads (ap payloads_of c.as_slice.ensures.value) loaded.limit loaded.any_moment loaded.count
+    (payloads_of c.as_slice.result.now) c.in-Ok-load.store loaded.reads (ap payloads_of c.as_slice.ensures.value) loaded.limit loaded.superblock loaded.any_moment loaded.count
     c.in-Ok-load.ensures
 
 pub returns-in-Err-BadRecord-clause-ends : goal.returns-in-Err-BadRecord-clause-ends

@@ -3,7 +3,7 @@ use Rattle.xt_messages.specs.Limits.{FitsBoot}
 use Rattle.object_store.specs.Access.{disk_of, records_of}
 use Rattle.node_loop.proofs.Coming.{cause_from}
 use Rattle.node_jobs.specs.Jobs.{unbooted, unready}
-use Rattle.node_jobs.proofs.Disks.{closed_from, comes_on, medium_of, unbooted_from}
+use Rattle.node_jobs.proofs.Disks.{closed_from, comes_on, medium_of, take_in, unbooted_from}
 use Rattle.node_jobs.proofs.readiness.get_ready.Goals as goal
 
 pub returns-in-Err-clause-cause : goal.returns-in-Err-clause-cause
@@ -33,10 +33,11 @@ returns-in-Ok-ready-clause-ready g c =
     record {
       records = records_of old;
       are = opened.loads.are;
+      take = take_in c.args.disk c.args.serving.now.settings.limit old new c.in-Ok-booted.booted.1 opened.loads boots;
       fits = subst FitsBoot boots.boot_is boots.fits;
       all_are = boots.records;
       boot_is = boots.boot_is;
-      comes = comes_on (medium_of g.D.Disk) c.args.disk (disk_of old) (disk_of new) (records_of old) (records_of old) (records_of new) opened.loads.comes boots.keeps
+      comes = comes_on (medium_of g.D.Disk) c.args.disk (disk_of old) (disk_of new) (records_of old) (records_of new) opened.loads.comes boots.keeps
           boots.faults;
       silent = record { given = opened.given; sent = opened.sent.0; losses = opened.sent.1 };
       reads = c.in-Ok-ready.ensures.read;
@@ -50,7 +51,7 @@ returns-in-Err-ready-clause-ends g c =
     let boots = c.in-Ok-booted.ensures.boots in
     let old = c.in-Ok.store in
     let new = c.in-Ok-booted.booted.0 in
-    let comes = comes_on (medium_of D) c.args.disk (disk_of old) (disk_of new) (records_of old) (records_of old) (records_of new) opened.loads.comes boots.keeps
+    let comes = comes_on (medium_of D) c.args.disk (disk_of old) (disk_of new) (records_of old) (records_of new) opened.loads.comes boots.keeps
     boots.faults in
     unready (record {
       records = records_of old;

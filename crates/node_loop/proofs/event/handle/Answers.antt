@@ -1,10 +1,11 @@
-use Rattle.std.proofs.Common.{rules, ◌≡◌, Some, sym, subst, inl, inr}
+use Rattle.std.proofs.Common.{rules, ◌≡◌, ◌∙◌, Some, None, [], ◌∷◌, sym, subst, inl, inr}
 use Rattle.world_spec.specs.NodeSteps.{one_more}
 use Rattle.node_runs.specs.Posting.{HasSentFront}
-use Rattle.node_runs.proofs.Keeping.{stays, stays_closed, closed_with}
+use Rattle.node_runs.proofs.Keeping.{stays_so, stays_closed, closed_with, put_done}
 use Rattle.object_store.specs.Access.{records_of, disk_of}
 use Rattle.node_runs.specs.Links.{Sends}
-use Rattle.node_runs.specs.Keeping.{KeepsOn, KeepsWith}
+use Rattle.node_runs.specs.Keeping.{KeepsOn, KeepsPut}
+use Rattle.node_runs.specs.Serving.{put_of}
 use Rattle.xt_messages.specs.declared.status.Status.{Status}
 use Rattle.node_loop.specs.Events.{EndsEvent}
 use Rattle.node_loop.proofs.Sent.{nothing_sent}
@@ -21,7 +22,7 @@ returns-in-Err-clause-ends g c =
     let step = (g.N.Node.role node).step (records_of c.args.store) (g.N.Node.state node) c.args.now c.args.ev.now in
     let kept : step.turned.rec ≡ Some c.in-Some.rec.now = search rules in
     ends_put step s.node s.boot c.args.book.now s.count (Sends sent sent losses losses)
-    (KeepsWith g.D.Disk.is_told g.D.Disk.moment g.D.Disk.left_since (disk_of c.args.store) c.in-Err.ended.disk (records_of c.args.store)) c.in-Some.rec.now c.in-Err.ended.status kept
+    (KeepsPut g.D.Disk.is_told g.D.Disk.moment g.D.Disk.left_since (disk_of c.args.store) c.in-Err.ended.disk (records_of c.args.store)) c.in-Some.rec.now c.in-Err.ended.status kept
     (nothing_sent sent losses) c.in-Err.ensures.ends c.in-Err.ensures.leaves
 
 pub returns-in-Err-OutOfMemory-clause-ends : goal.returns-in-Err-OutOfMemory-clause-ends
@@ -30,7 +31,7 @@ returns-in-Err-OutOfMemory-clause-ends g c =
     let store = c.args.store in
     inl (
       nothing_sent (g.L.Link.sent c.args.link.now) (g.L.Link.loss_count c.args.link.now),
-      stays_closed D.is_told D.kept D.moment D.left_since (disk_of store) c.close.result (records_of store) c.close.ensures store.keeps
+      stays_closed D.is_told D.kept D.moment D.left_since (disk_of store) c.close.result (records_of store) None c.close.ensures store.keeps
           (λ image told left. g.met.D.Disk.only_now (disk_of store) image told left),
     )
 
@@ -44,10 +45,10 @@ returns-in-Err-BodyFault-clause-ends g c =
     let losses = g.L.Link.loss_count c.args.link.now in
     let step = (g.N.Node.role node).step (records_of store) (g.N.Node.state node) c.args.now c.args.ev.now in
     subst (λ (said : Status). EndsEvent step s.node s.boot c.args.book.now s.count (Sends sent sent losses losses)
-    (KeepsWith D.is_told D.moment D.left_since (disk_of store) c.unread.result.disk (records_of store)) said)
+    (KeepsPut D.is_told D.moment D.left_since (disk_of store) c.unread.result.disk (records_of store)) said)
     (sym c.unread.ensures.status) (
       nothing_sent sent losses,
-      inr (stays_closed D.is_told D.kept D.moment D.left_since (disk_of store) c.unread.result.disk (records_of store)
+      inr (stays_closed D.is_told D.kept D.moment D.left_since (disk_of store) c.unread.result.disk (records_of store) None
           c.unread.ensures.disk store.keeps (λ image told left. g.met.D.Disk.only_now (disk_of store) image told left)),
     )
 
@@ -55,13 +56,13 @@ pub returns-in-Ok-send_all-clause-keeps : goal.returns-in-Ok-send_all-clause-kee
 returns-in-Ok-send_all-clause-keeps g c =
     let D = g.D.Disk in
     let store = c.args.store in
-    let here : KeepsOn D.is_told D.moment D.left_since (disk_of store) (disk_of store) (records_of store) (records_of store) =
-    stays D.is_told D.kept D.moment D.left_since (disk_of store) (records_of store) store.keeps
+    let here : KeepsOn D.is_told D.moment D.left_since (disk_of store) (disk_of store) (records_of store ∷ records_of store ∷ []) =
+    stays_so D.is_told D.kept D.moment D.left_since (disk_of store) (records_of store) store.keeps
     (λ image told left. g.met.D.Disk.only_now (disk_of store) image told left) in
     elim c.match-get.branch [
-      | in-None w ↦ subst (λ s. KeepsOn D.is_told D.moment D.left_since (disk_of store) (disk_of s) (records_of store) (records_of s)) (sym w.store-is) here
+      | in-None w ↦ subst (λ s. KeepsOn D.is_told D.moment D.left_since (disk_of store) (disk_of s) (records_of store ∷ records_of s ∷ [])) (sym w.store-is) here
       | in-Some+in-Ok-keep w ↦
-          subst (λ s. KeepsOn D.is_told D.moment D.left_since (disk_of store) (disk_of s) (records_of store) (records_of s)) (sym w.store-is) w.in-Ok-keep.ensures.keeps
+          subst (λ s. KeepsOn D.is_told D.moment D.left_since (disk_of store) (disk_of s) (records_of store ∷ records_of s ∷ [])) (sym w.store-is) w.in-Ok-keep.ensures.keeps
     ]
 
 pub returns-clause-ends : goal.returns-clause-ends
@@ -70,14 +71,14 @@ returns-clause-ends g c =
     let store = c.args.store in
     let s = c.args.sender.now in
     let step = (g.N.Node.role c.args.node.now).step (records_of store) (g.N.Node.state c.args.node.now) c.args.now c.args.ev.now in
-    let here : KeepsOn D.is_told D.moment D.left_since (disk_of store) (disk_of store) (records_of store) (records_of store) =
-    stays D.is_told D.kept D.moment D.left_since (disk_of store) (records_of store) store.keeps
+    let here : KeepsOn D.is_told D.moment D.left_since (disk_of store) (disk_of store) (records_of store ∷ records_of store ∷ []) =
+    stays_so D.is_told D.kept D.moment D.left_since (disk_of store) (records_of store) store.keeps
     (λ image told left. g.met.D.Disk.only_now (disk_of store) image told left) in
-    let put : KeepsOn D.is_told D.moment D.left_since (disk_of store) (disk_of c.match-get.store) (records_of store) (records_of c.match-get.store) =
+    let put : KeepsOn D.is_told D.moment D.left_since (disk_of store) (disk_of c.match-get.store) (records_of store ∷ records_of c.match-get.store ∷ []) =
     elim c.match-get.branch [
-      | in-None w ↦ subst (λ s. KeepsOn D.is_told D.moment D.left_since (disk_of store) (disk_of s) (records_of store) (records_of s)) (sym w.store-is) here
+      | in-None w ↦ subst (λ s. KeepsOn D.is_told D.moment D.left_since (disk_of store) (disk_of s) (records_of store ∷ records_of s ∷ [])) (sym w.store-is) here
       | in-Some+in-Ok-keep w ↦
-          subst (λ s. KeepsOn D.is_told D.moment D.left_since (disk_of store) (disk_of s) (records_of store) (records_of s)) (sym w.store-is) w.in-Ok-keep.ensures.keeps
+          subst (λ s. KeepsOn D.is_told D.moment D.left_since (disk_of store) (disk_of s) (records_of store ∷ records_of s ∷ [])) (sym w.store-is) w.in-Ok-keep.ensures.keeps
     ] in
     let kept : records_of c.match-get.store ≡ one_more (records_of store) step.turned.rec = search rules in
     let front : HasSentFront s.node s.boot c.args.book.now s.count step.turned.outs
@@ -86,5 +87,5 @@ returns-clause-ends g c =
     inr (
       front,
       closed_with D.is_told D.kept D.moment D.left_since (disk_of store) (disk_of c.match-get.store) c.close-in-Err-send_all.result
-          (records_of store) (records_of c.match-get.store) step.turned.rec c.close-in-Err-send_all.ensures kept put,
+          (records_of store) (records_of c.match-get.store) (put_of step.turned.rec) c.close-in-Err-send_all.ensures (kept ∙ sym (put_done (records_of store) step.turned.rec)) put,
     )

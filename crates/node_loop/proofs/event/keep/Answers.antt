@@ -1,8 +1,9 @@
-use Rattle.std.proofs.Common.{sym, ap, subst, ◌∙◌, ◌≡◌, ◌++◌, ◌∷◌, []}
+use Rattle.std.proofs.Common.{None, sym, ap, subst, ◌∙◌, ◌≡◌, ◌++◌, ◌∷◌, []}
 use Rattle.xt_journal.specs.Access as journal
-use Rattle.object_store.specs.Access.{records_of, disk_of}
+use Rattle.object_store.specs.Access.{journal_of, records_of, disk_of}
 use Rattle.node_runs.specs.Keeping.{KeepsOn}
 use Rattle.node_runs.proofs.Keeping.{stays_closed, puts_one}
+use Rattle.node_loop.proofs.Settling.{extent_put}
 use Rattle.node_loop.proofs.event.keep.Goals as goal
 
 pub returns-in-Ok-clause-keeps : goal.returns-in-Ok-clause-keeps
@@ -10,7 +11,7 @@ returns-in-Ok-clause-keeps g c =
     let D = g.D.Disk in
     let old = c.args.store in
     let new = c.in-Ok.store in
-    subst (λ rs. KeepsOn D.is_told D.moment D.left_since (disk_of old) (disk_of new) (records_of old) rs) (sym c.in-Ok.ensures.end.records)
+    subst (λ rs. KeepsOn D.is_told D.moment D.left_since (disk_of old) (disk_of new) (records_of old ∷ rs ∷ [])) (sym c.in-Ok.ensures.end.records)
     (puts_one D.is_told D.kept D.moment D.left_since (disk_of old) (disk_of new) (records_of old) c.args.rec.now c.in-Ok.ensures.any_moment)
 
 pub returns-in-Err-Broken-clause-leaves : goal.returns-in-Err-Broken-clause-leaves
@@ -25,7 +26,7 @@ returns-in-Err-Full-clause-leaves g c =
     let old = c.args.store in
     let facts = rw c.in-Err-Full.field-0-is at c.in-Err-Full.ensures in
     let same : c.close.result ≡ disk_of old = c.close.ensures ∙ ap (λ j. journal.disk_of j) facts.end.journal in
-    stays_closed D.is_told D.kept D.moment D.left_since (disk_of old) c.close.result (records_of old) same old.keeps
+    stays_closed D.is_told D.kept D.moment D.left_since (disk_of old) c.close.result (records_of old) None same old.keeps
     (λ image told left. g.met.D.Disk.only_now (disk_of old) image told left)
 
 pub returns-in-Err-OutOfMemory-clause-leaves : goal.returns-in-Err-OutOfMemory-clause-leaves
@@ -33,5 +34,9 @@ returns-in-Err-OutOfMemory-clause-leaves g c =
     let D = g.D.Disk in
     let old = c.args.store in
     let facts = rw c.in-Err-OutOfMemory.field-0-is at c.in-Err-OutOfMemory.ensures in
-    subst (λ disk. KeepsOn D.is_told D.moment D.left_since (disk_of old) disk (records_of old) (records_of old ++ c.args.rec.now ∷ [])) (sym c.close-in-Err-OutOfMemory.ensures)
+    subst (λ disk. KeepsOn D.is_told D.moment D.left_since (disk_of old) disk (records_of old ∷ (records_of old ++ c.args.rec.now ∷ []) ∷ [])) (sym c.close-in-Err-OutOfMemory.ensures)
     (puts_one D.is_told D.kept D.moment D.left_since (disk_of old) (disk_of c.in-Err-OutOfMemory.store) (records_of old) c.args.rec.now facts.any_moment)
+
+pub returns-in-Ok-clause-extent : goal.returns-in-Ok-clause-extent
+returns-in-Ok-clause-extent g c =
+    extent_put _ _ _ _ c.args.rec.now (journal_of c.args.store).located c.in-Ok.ensures.end.superblock c.in-Ok.ensures.end.place

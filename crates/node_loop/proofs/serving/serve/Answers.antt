@@ -1,9 +1,10 @@
-use Rattle.std.proofs.Common.{arith, refl, sym, ap, ◌∙◌}
+use Rattle.std.proofs.Common.{None, arith, refl, sym, ap, ◌∙◌}
 use Rattle.object_store.specs.Access.{records_of, disk_of}
-use Rattle.node_runs.proofs.Keeping.{stays, stays_closed, keeps_more}
+use Rattle.node_runs.proofs.Keeping.{stays, stays_closed}
+use Rattle.node_loop.specs.Stores.{extent_of}
 use Rattle.node_loop.specs.Turns.{standing}
 use Rattle.node_loop.proofs.Counting.{cause_since}
-use Rattle.node_loop.proofs.Coming.{has_begun_serving, comes_on, is_served, is_served_on, gave_up, gave_up_on, cause_from}
+use Rattle.node_loop.proofs.Coming.{begins_on_disk, comes_on_disk, is_served, is_served_on, gave_up, gave_up_on, cause_from}
 use Rattle.node_loop.proofs.serving.serve.Goals as goal
 
 pub loop-init : goal.loop-init
@@ -11,7 +12,7 @@ loop-init g c =
     let D = g.D.Disk in
     let store = c.args.store in
     let s = c.args.site.now in
-    let start = standing (g.N.Node.state s.node) (records_of c.args.store) s.own s.ears s.clock s.due s.sender.count in (
+    let start = standing (g.N.Node.state s.node) (records_of c.args.store) (extent_of c.args.store) s.own s.ears s.clock s.due s.sender.count s.woken in (
       refl,
       refl,
       refl,
@@ -21,10 +22,10 @@ loop-init g c =
       omega arith,
       refl,
       refl,
-      has_begun_serving (g.N.Node.role s.node) s.sender.boot c.args.bounds.period c.args.bounds.turns start _ _ _ _,
-      stays D.is_told D.kept D.moment D.left_since (disk_of store) (records_of store) store.keeps
-          (λ image told left. g.met.D.Disk.only_now (disk_of store) image told left),
       refl,
+      begins_on_disk (g.N.Node.role s.node) s.sender.boot c.args.bounds.period c.args.bounds.turns start _ _ _ _ D.is_told D.kept D.moment D.left_since (disk_of store)
+          (stays D.is_told D.kept D.moment D.left_since (disk_of store) (records_of store) store.keeps
+          (λ image told left. g.met.D.Disk.only_now (disk_of store) image told left)),
     )
 
 pub pass-requires-clause-clocks : goal.pass-requires-clause-clocks
@@ -45,9 +46,9 @@ pass-requires-clause-runs g c = c.loop.invariant.5
 pub returns-in-Err-clause-served : goal.returns-in-Err-clause-served
 returns-in-Err-clause-served g c =
     let s = c.args.site.now in
-    let start = standing (g.N.Node.state s.node) (records_of c.args.store) s.own s.ears s.clock s.due s.sender.count in
+    let start = standing (g.N.Node.state s.node) (records_of c.args.store) (extent_of c.args.store) s.own s.ears s.clock s.due s.sender.count s.woken in
     is_served (g.N.Node.role s.node) s.sender.boot c.args.bounds.period c.args.bounds.turns start _ _ _ _ _ _ _ _ _ _
-    c.loop.invariant.9 _ _ _ _ _ (g.N.Node.role c.loop.site.node) c.loop.site.sender.boot c.loop.invariant.0 c.loop.invariant.1 _ c.in-Err.ensures.ended
+    c.loop.invariant.10.0 _ _ _ _ _ (g.N.Node.role c.loop.site.node) c.loop.site.sender.boot c.loop.invariant.0 c.loop.invariant.1 _ c.in-Err.ensures.ended
 
 pub returns-in-Err-clause-cause : goal.returns-in-Err-clause-cause
 returns-in-Err-clause-cause g c = cause_from _ _ _ _ _ _ _ c.loop.invariant.7 c.loop.invariant.8 c.in-Err.ensures.cause
@@ -56,7 +57,7 @@ pub loop-preserved : goal.loop-preserved
 loop-preserved g c =
     let D = g.D.Disk in
     let s = c.args.site.now in
-    let start = standing (g.N.Node.state s.node) (records_of c.args.store) s.own s.ears s.clock s.due s.sender.count in
+    let start = standing (g.N.Node.state s.node) (records_of c.args.store) (extent_of c.args.store) s.own s.ears s.clock s.due s.sender.count s.woken in
     let inv = c.loop.invariant in
     let e = c.in-Ok.ensures in (
       e.same.2 ∙ inv.0,
@@ -68,24 +69,23 @@ loop-preserved g c =
       e.clocks.1,
       e.faults.0 ∙ inv.7,
       e.faults.1 ∙ inv.8,
-      comes_on (g.N.Node.role s.node) s.sender.boot c.args.bounds.period c.args.bounds.turns start _ _ _ _ _ _ _ _ _ _
-          inv.9 _ _ _ _ (g.N.Node.role c.loop.site.node) c.loop.site.sender.boot inv.0 inv.1 _ _ e.passed,
-      keeps_more D.is_told D.kept D.moment D.left_since (disk_of c.args.store) (disk_of c.loop.store) _ (records_of c.args.store) (records_of c.loop.store) _
-          inv.10 e.keeps,
-      e.disk ∙ inv.11,
+      e.disk ∙ inv.9,
+      comes_on_disk (g.N.Node.role s.node) s.sender.boot c.args.bounds.period c.args.bounds.turns start _ _ _ _
+          D.is_told D.kept D.moment D.left_since (disk_of c.args.store) (disk_of c.loop.store) _ _ _ _ _ _ _ inv.10
+          _ _ _ _ (g.N.Node.role c.loop.site.node) c.loop.site.sender.boot inv.0 inv.1 _ _ e.passed e.keeps,
     )
 
 pub returns-in-Err-clause-disk_cause : goal.returns-in-Err-clause-disk_cause
-returns-in-Err-clause-disk_cause g c = cause_since _ _ _ _ c.loop.invariant.11 c.in-Err.ensures.disk_cause
+returns-in-Err-clause-disk_cause g c = cause_since _ _ _ _ c.loop.invariant.9 c.in-Err.ensures.disk_cause
 
 pub returns-clause-disk_cause : goal.returns-clause-disk_cause
-returns-clause-disk_cause g c = ap g.D.Disk.fault_count c.close.ensures ∙ c.loop.invariant.11
+returns-clause-disk_cause g c = ap g.D.Disk.fault_count c.close.ensures ∙ c.loop.invariant.9
 
 pub returns-clause-served : goal.returns-clause-served
 returns-clause-served g c =
     let s = c.args.site.now in
-    let start = standing (g.N.Node.state s.node) (records_of c.args.store) s.own s.ears s.clock s.due s.sender.count in
-    gave_up (g.N.Node.role s.node) s.sender.boot c.args.bounds.period c.args.bounds.turns start _ _ _ _ _ _ _ _ _ _ c.loop.invariant.9
+    let start = standing (g.N.Node.state s.node) (records_of c.args.store) (extent_of c.args.store) s.own s.ears s.clock s.due s.sender.count s.woken in
+    gave_up (g.N.Node.role s.node) s.sender.boot c.args.bounds.period c.args.bounds.turns start _ _ _ _ _ _ _ _ _ _ c.loop.invariant.10.0
 
 pub returns-clause-cause : goal.returns-clause-cause
 returns-clause-cause g c = (c.loop.invariant.7, c.loop.invariant.8)
@@ -94,10 +94,10 @@ pub returns-in-Err-clause-keeps : goal.returns-in-Err-clause-keeps
 returns-in-Err-clause-keeps g c =
     let D = g.D.Disk in
     let s = c.args.site.now in
-    let start = standing (g.N.Node.state s.node) (records_of c.args.store) s.own s.ears s.clock s.due s.sender.count in
+    let start = standing (g.N.Node.state s.node) (records_of c.args.store) (extent_of c.args.store) s.own s.ears s.clock s.due s.sender.count s.woken in
     let inv = c.loop.invariant in
-    is_served_on (g.N.Node.role s.node) s.sender.boot c.args.bounds.period c.args.bounds.turns start _ _ _ _ _ _ _ _ _ _ inv.9 _ _ _ _
-    D.is_told D.kept D.moment D.left_since g.met.D.Disk.counts_now (disk_of c.args.store) (disk_of c.loop.store) _ inv.10
+    is_served_on (g.N.Node.role s.node) s.sender.boot c.args.bounds.period c.args.bounds.turns start _ _ _ _ _ _ _ _ _ _ inv.10.0 _ _ _ _
+    D.is_told D.kept D.moment D.left_since g.met.D.Disk.counts_now (disk_of c.args.store) (disk_of c.loop.store) _ inv.10.1
     (g.N.Node.role c.loop.site.node) c.loop.site.sender.boot inv.0 inv.1 _ c.in-Err.ensures.ended
 
 pub returns-clause-keeps : goal.returns-clause-keeps
@@ -105,9 +105,9 @@ returns-clause-keeps g c =
     let D = g.D.Disk in
     let store = c.loop.store in
     let s = c.args.site.now in
-    let start = standing (g.N.Node.state s.node) (records_of c.args.store) s.own s.ears s.clock s.due s.sender.count in
+    let start = standing (g.N.Node.state s.node) (records_of c.args.store) (extent_of c.args.store) s.own s.ears s.clock s.due s.sender.count s.woken in
     let inv = c.loop.invariant in
-    gave_up_on (g.N.Node.role s.node) s.sender.boot c.args.bounds.period c.args.bounds.turns start _ _ _ _ _ _ _ _ _ _ inv.9
-    D.is_told D.kept D.moment D.left_since g.met.D.Disk.counts_now (disk_of c.args.store) (disk_of store) c.close.result inv.10
-    (stays_closed D.is_told D.kept D.moment D.left_since (disk_of store) c.close.result (records_of store) c.close.ensures store.keeps
+    gave_up_on (g.N.Node.role s.node) s.sender.boot c.args.bounds.period c.args.bounds.turns start _ _ _ _ _ _ _ _ _ _ inv.10.0
+    D.is_told D.kept D.moment D.left_since g.met.D.Disk.counts_now (disk_of c.args.store) (disk_of store) c.close.result inv.10.1
+    (stays_closed D.is_told D.kept D.moment D.left_since (disk_of store) c.close.result (records_of store) None c.close.ensures store.keeps
     (λ image told left. g.met.D.Disk.only_now (disk_of store) image told left))

@@ -1,6 +1,8 @@
+use Rattle.std.proofs.Common.{◌∙◌, sym}
 use Rattle.object_store.specs.Access.{records_of, disk_of}
 use Rattle.node_runs.specs.Links.{Sends}
-use Rattle.node_runs.proofs.Keeping.{closed_with}
+use Rattle.node_runs.specs.Serving.{put_of}
+use Rattle.node_runs.proofs.Keeping.{closed_with, put_done}
 use Rattle.node_loop.proofs.Acting.{own_fits, whole_sent}
 use Rattle.node_loop.proofs.site.Site.act.Goals as goal
 
@@ -19,4 +21,4 @@ returns-in-Err-clause-ends g c =
     (Sends (g.L.Link.sent c.args.link.now) (g.L.Link.sent c.handle.new.link) (g.L.Link.loss_count c.args.link.now) (g.L.Link.loss_count c.handle.new.link))
     c.requires.home c.book.ensures st.sent
     (closed_with D.is_told D.kept D.moment D.left_since (disk_of c.args.store) (disk_of c.in_ok-store.field-0.store) c.close.result
-    (records_of c.args.store) (records_of c.in_ok-store.field-0.store) step.turned.rec c.close.ensures st.kept_is c.in_ok-store.ensures.keeps)
+    (records_of c.args.store) (records_of c.in_ok-store.field-0.store) (put_of step.turned.rec) c.close.ensures (st.kept_is ∙ sym (put_done (records_of c.args.store) step.turned.rec)) c.in_ok-store.ensures.keeps)

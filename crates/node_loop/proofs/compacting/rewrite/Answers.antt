@@ -1,0 +1,54 @@
+use Rattle.std.proofs.Common.{sym, subst, ap, [], ◌∷◌}
+use Rattle.journal_areas.specs.declared.site.Area.{Area}
+use Rattle.xt_protocol.specs.Forgetting.{rewritten}
+use Rattle.object_store.specs.Access.{records_of, disk_of}
+use Rattle.node_runs.specs.Keeping.{KeepsOn}
+use Rattle.node_runs.specs.Runs.{Extent, extent_at}
+use Rattle.node_runs.proofs.Keeping.{changes_one, stays_so}
+use Rattle.node_loop.proofs.compacting.rewrite.Goals as goal
+
+pub returns-in-Ok-clause-made : goal.returns-in-Ok-clause-made
+returns-in-Ok-clause-made g c =
+    let end = c.in-Ok.ensures.end in
+    let taken : Area → Extent = λ a. record { length = a.length; first = a.first } in
+    (end.records, ap taken end.area)
+
+pub returns-in-Ok-clause-keeps : goal.returns-in-Ok-clause-keeps
+returns-in-Ok-clause-keeps g c =
+    let D = g.D.Disk in
+    let old = c.args.store in
+    let new = c.in-Ok.store in
+    subst (λ rs. KeepsOn D.is_told D.moment D.left_since (disk_of old) (disk_of new) (records_of old ∷ rs ∷ [])) (sym c.in-Ok.ensures.end.records)
+    (changes_one D.is_told D.kept D.moment D.left_since (disk_of old) (disk_of new) (records_of old) (rewritten c.args.keep.now (records_of old)) c.in-Ok.ensures.any_moment)
+
+pub returns-in-Err-Full-clause-made : goal.returns-in-Err-Full-clause-made
+returns-in-Err-Full-clause-made g c =
+    let end = (rw c.in-Err-Full.field-0-is at c.in-Err-Full.ensures).end in
+    (end.records, λ i. extent_at (end.superblock i) (end.place i))
+
+pub returns-in-Err-Full-clause-keeps : goal.returns-in-Err-Full-clause-keeps
+returns-in-Err-Full-clause-keeps g c =
+    let D = g.D.Disk in
+    let old = c.args.store in
+    let new = c.in-Err-Full.store in
+    let end = (rw c.in-Err-Full.field-0-is at c.in-Err-Full.ensures).end in
+    subst (λ rs. KeepsOn D.is_told D.moment D.left_since (disk_of old) (disk_of new) (records_of old ∷ rs ∷ [])) (sym end.records)
+    (subst (λ d. KeepsOn D.is_told D.moment D.left_since (disk_of old) d (records_of old ∷ records_of old ∷ [])) (sym end.disk)
+    (stays_so D.is_told D.kept D.moment D.left_since (disk_of old) (records_of old) old.keeps
+    (λ image told left. g.met.D.Disk.only_now (disk_of old) image told left)))
+
+pub returns-in-Err-Broken-clause-ends : goal.returns-in-Err-Broken-clause-ends
+returns-in-Err-Broken-clause-ends g c =
+    let D = g.D.Disk in
+    let old = c.args.store in
+    let facts = rw c.in-Err-Broken.field-0-is at c.in-Err-Broken.ensures in
+    changes_one D.is_told D.kept D.moment D.left_since (disk_of old) c.in-Err-Broken.disk (records_of old) (rewritten c.args.keep.now (records_of old)) facts.any_moment
+
+pub returns-in-Err-OutOfMemory-clause-ends : goal.returns-in-Err-OutOfMemory-clause-ends
+returns-in-Err-OutOfMemory-clause-ends g c =
+    let D = g.D.Disk in
+    let old = c.args.store in
+    let facts = rw c.in-Err-OutOfMemory.field-0-is at c.in-Err-OutOfMemory.ensures in
+    subst (λ d. KeepsOn D.is_told D.moment D.left_since (disk_of old) d (records_of old ∷ rewritten c.args.keep.now (records_of old) ∷ [])) (sym c.close.ensures)
+    (changes_one D.is_told D.kept D.moment D.left_since (disk_of old) (disk_of c.in-Err-OutOfMemory.store) (records_of old)
+    (rewritten c.args.keep.now (records_of old)) facts.any_moment)
