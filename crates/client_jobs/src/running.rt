@@ -19,7 +19,7 @@ use command_words::{ClientJob, Order};
 use node_links::{Clock, Link, Sink, Source};
 use schedule_lines::{finish, put_all};
 use std::alloc::Global;
-use xt_base::{Boot, COUNTS, NodeId, Octets};
+use xt_base::{Address, Boot, COUNTS, NodeId, Octets};
 use xt_messages::{Call, Limited, Status};
 
 /// What a command begins with.
@@ -144,8 +144,23 @@ fn session_of(alloc: Global, job: &ClientJob, reading: u64) -> Option<CommandSes
     }
 }
 
+/// The address that a client takes, with a port that the system chooses: one on this machine alone where the directory service has a
+/// loopback address, else one that other machines can reach.
+fn own_address(dir: &Option<Address>) -> &'static str {
+    match dir {
+        Some(dir) if dir.as_str().starts_with("127.") => "127.0.0.1:0",
+        Some(dir) if dir.as_str().starts_with("[::1]") => "[::1]:0",
+        Some(dir) if dir.as_str().starts_with("[") => "[::]:0",
+        _ => "0.0.0.0:0",
+    }
+}
+
 /// Takes an address for the link, and reads the clock.
-fn opened<L: Link, C: Clock>(link: &mut L, clock: &mut C) -> Result<u64, Status>
+fn opened<L: Link, C: Clock>(
+    dir: &Option<Address>,
+    link: &mut L,
+    clock: &mut C,
+) -> Result<u64, Status>
     ensures link { (L.given link.new ≡ L.given link.old) × (L.sent link.new ≡ L.sent link.old)
         × (L.loss_count link.new ≡ L.loss_count link.old) }
     ensures reads { IfOk result (λ reading. Reads (C.readings clock.old) (C.readings clock.new)
@@ -166,7 +181,7 @@ fn opened<L: Link, C: Clock>(link: &mut L, clock: &mut C) -> Result<u64, Status>
           source = source;
         })) }
 {
-    if link.bind("127.0.0.1:0").is_err() {
+    if link.bind(own_address(dir)).is_err() {
         return Err(Status::LinkFault {
             count: link.faults(),
         });
@@ -210,7 +225,7 @@ fn begin<S: Source, L: Link, C: Clock>(
           source = S.fault_count src.new;
         })) }
 {
-    let reading = match opened(link, clock) {
+    let reading = match opened(&job.dir, link, clock) {
         Ok(reading) => reading,
         Err(status) => return Err(status),
     };
