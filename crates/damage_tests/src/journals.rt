@@ -35,16 +35,19 @@ pub enum Loading {
 
 /// Loads the records on a disk.
 pub fn load<D: Disk>(alloc: Global, disk: D) -> Loading {
-    match Journal::load(alloc, disk, LIMIT) {
-        Ok((journal, placed)) => match Store::load(alloc, journal, placed.as_slice()) {
-            Ok(store) => Loading::Records(store.records().len()),
-            Err(StoreErr::BadRecord { index, .. }) => Loading::BadRecord(index),
-            Err(StoreErr::OutOfMemory { .. }) => Loading::Nothing,
-        },
-        Err(LoadErr::NotOurs { first, .. }) => Loading::NotOurs(u64::from_be_bytes(first)),
-        Err(LoadErr::Layout { version, .. }) => Loading::Layout(version),
-        Err(LoadErr::Damaged { place, .. }) => Loading::Damaged(place),
-        Err(LoadErr::DiskFault { .. } | LoadErr::OutOfMemory { .. }) => Loading::Nothing,
+    let (journal, placed) = match Journal::load(alloc, disk, LIMIT) {
+        Ok(loaded) => loaded,
+        Err(LoadErr::NotOurs { first, .. }) => {
+            return Loading::NotOurs(u64::from_be_bytes(first));
+        }
+        Err(LoadErr::Layout { version, .. }) => return Loading::Layout(version),
+        Err(LoadErr::Damaged { place, .. }) => return Loading::Damaged(place),
+        Err(LoadErr::DiskFault { .. } | LoadErr::OutOfMemory { .. }) => return Loading::Nothing,
+    };
+    match Store::load(alloc, journal, placed.as_slice()) {
+        Ok(store) => Loading::Records(store.records().len()),
+        Err(StoreErr::BadRecord { index, .. }) => Loading::BadRecord(index),
+        Err(StoreErr::OutOfMemory { .. }) => Loading::Nothing,
     }
 }
 

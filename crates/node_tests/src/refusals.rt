@@ -56,13 +56,13 @@ fn a_journal_is_full(rt: HostRuntime) {
 
 /// Whether the payload of a journal is told to be no record.
 fn is_bad<D: Disk>(alloc: Global, disk: D) -> bool {
-    match Journal::load(alloc, disk, LIMIT) {
-        Ok((journal, payloads)) => matches!(
-            Store::load(alloc, journal, payloads.as_slice()),
-            Err(StoreErr::BadRecord { .. })
-        ),
-        Err(_) => false,
-    }
+    let Ok((journal, payloads)) = Journal::load(alloc, disk, LIMIT) else {
+        return false;
+    };
+    matches!(
+        Store::load(alloc, journal, payloads.as_slice()),
+        Err(StoreErr::BadRecord { index: 0, .. })
+    )
 }
 
 #[test]

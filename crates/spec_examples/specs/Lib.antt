@@ -1,6 +1,7 @@
 pub mod Values
 pub mod Disks
 pub mod Journals
+pub mod Areas
 pub mod StoredRecords
 pub mod LeaseLife
 pub mod Promises

@@ -7,6 +7,8 @@ ghost use Rattle.xt_journal.specs.Format.{journal_of, end_of};
 ghost use Rattle.object_store.specs.Texts.{AreRecords, texts_of};
 ghost use Rattle.world_hull.specs.declared.hull.Kept.TheVariants.{Done, StoppedKept, StoppedLost};
 ghost use Rattle.world_hull.specs.Appends.{kept_by};
+ghost use Rattle.journal_areas.specs.Sites.{moved, shut_slot};
+ghost use Rattle.spec_examples.specs.Areas.{lengths, rewritten, slot, superblock, unsound};
 ghost use Rattle.spec_examples.specs.Disks.{plans, failed, failed_wanted, four_after, one_byte, three_bytes, unsynced, half_synced};
 ghost use Rattle.spec_examples.specs.Journals.{AreRead, both, damaged, foreign, left_by, left_wanted, no_start, one_start, standing, stops, two_starts, without};
 ghost use Rattle.spec_examples.specs.StoredRecords.{AreBad, abc, bad, body, boot, boots_found, by_stop, each_stop, file, head, head_texts, one_version, promise, promised_found, stage, stopped, two_versions, update};
@@ -39,6 +41,19 @@ pub fn journals_are_read()
     ensures standing { AreRead standing }
     ensures foreign { AreRead foreign }
     ensures damaged { AreRead damaged }
+{}
+
+/// A journal with one start, rewritten three times: the new area goes after the last one, and to the base where it ends there before the
+/// one that counts. What each of these disks stands for; and a superblock that can't stand where it does is damage at its gate.
+pub fn journals_are_rewritten()
+    ensures lengths { lengths ≡ 98 ∷ 113 ∷ 113 ∷ [] }
+    ensures first { moved None 26 15 ≡ superblock (slot 1 83) shut_slot }
+    ensures again { moved (Some (superblock (slot 1 83) shut_slot)) 97 15 ≡
+        superblock (slot 1 83) (slot 2 98) }
+    ensures below { moved (Some (superblock (slot 1 83) (slot 2 98))) 112 15 ≡
+        superblock (slot 3 83) (slot 2 98) }
+    ensures rewritten { AreRead rewritten }
+    ensures unsound { AreRead unsound }
 {}
 
 /// What stands after an append that stopped: its record where the gate was being opened and the byte opens it.

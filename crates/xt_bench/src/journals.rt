@@ -13,6 +13,10 @@ pub fn longer<D: Disk>(alloc: Global, journal: Journal<D>, payload: &[u8]) -> Re
     requires some { 1 ≤ length payload.now }
     requires fits { length payload.now < 2 ^ 32 }
 {
+    ensure!(
+        payload[0] != 8,
+        "a payload that begins with 8 would be read as the superblock"
+    );
     match journal.append(alloc, payload) {
         Ok(longer) => Ok(longer),
         Err(_) => bail!("the payload isn't appended"),

@@ -1,13 +1,13 @@
 use Rattle.std.proofs.Common.{[], ◌∷◌, drop, inl, inr, refl, arith}
 use Rattle.spec_examples.specs.Journals.{two_starts, changed, half_a_start, start_and_more, without, both}
-use Rattle.spec_examples.proofs.Readings.{◌▷◌, stand, cut}
+use Rattle.spec_examples.proofs.Readings.{◌▷◌, short, stand, cut}
 use Rattle.spec_examples.proofs.disks.journals_are_read.Goals as goal
 
 pub returns-clause-standing : goal.returns-clause-standing
 returns-clause-standing c =
-    (inl (omega arith, refl), refl)
-    ▷ (inl (omega arith, refl), refl)
-    ▷ (inl (omega arith, refl), refl)
+    short refl
+    ▷ short refl
+    ▷ short refl
     ▷ stand [] 0 (0 ∷ 0 ∷ 0 ∷ 1 ∷ 0x61 ∷ 0x62 ∷ 0x63 ∷ []) refl refl refl
     ▷ stand [] 0x37 (0 ∷ 0 ∷ 0 ∷ 1 ∷ 0x61 ∷ 0 ∷ []) refl refl refl
     ▷ stand ((0x61 ∷ []) ∷ []) 0x37 (0xa5 ∷ []) refl refl refl
