@@ -41,7 +41,7 @@ def sent(text):
 
 
 def peak_kib(pid):
-    """The greatest resident memory of a process so far, 0 where it isn't told."""
+    """The greatest resident memory of a process so far, 0 where it isn't known."""
     try:
         with open(f"/proc/{pid}/status") as status:
             for line in status:

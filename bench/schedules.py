@@ -60,7 +60,7 @@ def three_replicas(length, clients):
             turn += settled(reads, 2 * clients + 16 * len(set(files)))
         else:
             calls = [operation(10 + number, file, step + number) for number, file in enumerate(files)]
-            # a read is an ask and an answer; a write is also told to two replicas, and acknowledged
+            # a read is an ask and an answer; a write is also sent to two replicas, and acknowledged
             messages = sum(2 if call.startswith("read") else 6 for call in calls)
             turn = settled(calls, messages)
             step += clients

@@ -8,10 +8,10 @@ here=$(cd "$(dirname "$0")" && pwd)
 name=${1:-xtfs}
 folder=$here/../crates/$name
 
-# What the gate or an earlier run has built of the files as they stand serves.
+# What the gate or an earlier run has built from the files as they are will do.
 bash "$here/built.sh" "$name" && exit 0
 
-# The kit builds a program as it runs it: here on nothing, and on the words that stand in its crate. Those of xtfs start a cluster, which
+# The kit builds a program as it runs it: here on nothing, and on the words in its crate's `args`. Those of xtfs start a cluster, which
 # takes its time and its ports: an audit of nothing ends at once.
 mapfile -t words <"$folder/args"
 [ "$name" != xtfs ] || words=(audit)

@@ -1,5 +1,5 @@
 #!/usr/bin/env bash
-# Prints where a proved program is, if it was built of the files as they stand. Else it says nothing, and fails.
+# Prints where a proved program is, if it was built from the files as they are. Else it prints nothing, and fails.
 #   tests/built.sh [NAME]
 # NAME is xtfs where none is given.
 set -u

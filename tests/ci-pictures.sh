@@ -1,6 +1,6 @@
 #!/usr/bin/env bash
 # The built program makes the pictures of examples/ as they stand. Its pictures of all traces of the vectors and examples are XML
-# without scripts, in which each entry has a row and bars stand where a second model, which is written here, says that nodes hold
+# without scripts, in which each entry has a row and bars are where a second model, which is written here, says that nodes hold
 # files. It draws one file alone, and refuses what it should.
 set -u
 here=$(cd "$(dirname "$0")" && pwd)
@@ -115,7 +115,7 @@ def check_picture(name, entries, svg):
         fail(f"{name}: bars at {shown}, and not at {wanted}")
 
 
-# The pictures that stand here.
+# The pictures in the repository.
 for name in ("found-write", "vanished-write", "write-and-read"):
     with open(os.path.join(EXAMPLES, name + ".trace"), "rb") as trace:
         ended = run([], stdin=trace)

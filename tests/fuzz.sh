@@ -4,7 +4,7 @@
 # directory service, metadata server and OSD, which have to serve afterwards. Loopback alone.
 #   tests/fuzz.sh [--runs N] [--seed N] [PROGRAM]
 # Ends by itself after so many runs (10,000 where none are given; a million take about an hour on two processors). An input that was
-# found is kept, and told with what was wrong; the status is then 1.
+# found is kept, and reported with what was wrong; the status is then 1.
 set -u
 here=$(cd "$(dirname "$0")" && pwd)
 runs=10000
@@ -44,7 +44,7 @@ NODE = {5, 11, 12, 13, 14, 15, 16, 18}
 
 
 def tell(what, words, data):
-    """Keeps what was found, and tells it."""
+    """Keeps what was found, and reports it."""
     global found
     found += 1
     name = os.path.join(KEPT, str(found))
@@ -70,7 +70,7 @@ def last_line(out):
 
 
 def tried(words, data, statuses, is_twice=True):
-    """Runs the program, and tells what is wrong."""
+    """Runs the program, and reports what is wrong."""
     first = once(words, data)
     if first is None:
         return tell("it hangs", words, data)
@@ -238,7 +238,7 @@ def port():
         return s.getsockname()[1]
 
 
-# The only address that a datagram names here, so that no node is told of one outside this machine.
+# The only address that a datagram names here, so that no node learns one outside this machine.
 NAMED = b"127.0.0.1:9"
 
 

@@ -5,7 +5,7 @@
 # COMMAND is .ci/run where none is given, and its status is the script's. What it says goes to standard error, and the
 # table to standard output.
 #
-# `rt ci` leaves nothing that tells of time, and proves several crates at once. So the provers that run below it are
+# `rt ci` leaves no record of time, and proves several crates at once. So the provers that run below it are
 # looked at once a second, and the last second of each is lost. What is kept from an earlier gate on this machine
 # isn't done again, and costs nothing here: `tests/gate-cost.sh rt ci --anew` counts all.
 set -u

@@ -1,7 +1,7 @@
 #!/usr/bin/env bash
 # One of the two ways of examples/run.sh gives the example's trace, and says in one line on standard error which it is.
 #   tests/way.sh SAID [WORD..]
-# SAID is what stands in that line. The words are those of run.sh in front of the example's name.
+# SAID is what is in that line. The words are those of run.sh in front of the example's name.
 set -u
 here=$(cd "$(dirname "$0")" && pwd)
 example=found-write
