@@ -79,7 +79,7 @@ fn journals_are_cut(rt: HostRuntime) {
 }
 
 /// Journals that are damaged, and what loading comes to.
-static DAMAGED: [(&str, Loading); 14] = [
+static DAMAGED: [(&str, Loading); 15] = [
     // a length of none
     (
         "58544653 4a524e4c 00000001 a5 00000000 01 0000000000000001 00",
@@ -109,8 +109,13 @@ static DAMAGED: [(&str, Loading); 14] = [
         Loading::BadRecord(0),
     ),
     (
-        "58544653 4a524e4c 00000001 a5 00000009 08 0000000000000001 00",
+        "58544653 4a524e4c 00000001 a5 00000009 09 0000000000000001 00",
         Loading::BadRecord(0),
+    ),
+    // a superblock's kind, without a superblock's length
+    (
+        "58544653 4a524e4c 00000001 a5 00000009 08 0000000000000001 00",
+        Loading::Damaged(12),
     ),
     // a boot that is no count
     (
