@@ -1,17 +1,31 @@
 #!/usr/bin/env bash
 # Three OSDs, the MRC and the DIR as processes of the built program on the loopback. Files are written and read while each node in
 # turn is killed by SIGKILL and started again. Every byte that was acknowledged is read back, and at the end all journals load.
-#   tests/cluster.sh [--rounds N] [PROGRAM]
+#   tests/cluster.sh [--rounds N] [--machines] [PROGRAM]
+# With --machines each node and the client is on a machine of its own: a network namespace with an address of its own, joined to the
+# others by a bridge. In every second round of an OSD its machine is cut off the network and joined again, while the OSD runs. That needs
+# root, and the command ip.
 # Ends by itself: in 30 rounds, after about four minutes. Prints a line a round, and what it counted.
 set -u
 here=$(cd "$(dirname "$0")" && pwd)
 rounds=30
-if [ "${1:-}" = --rounds ]; then
-    rounds=$2
-    shift 2
-fi
+machines=
+while [ "${1#--}" != "${1:-}" ]; do
+    case $1 in
+    --rounds)
+        rounds=$2
+        shift
+        ;;
+    --machines) machines=1 ;;
+    *)
+        echo "cluster.sh: there is no option $1" >&2
+        exit 2
+        ;;
+    esac
+    shift
+done
 program=${1:-$(bash "$here/build.sh")} || exit 1
-exec python3 - "$program" "$rounds" <<'PYTHON'
+exec python3 - "$program" "$rounds" "$machines" <<'PYTHON'
 import os
 import random
 import signal
@@ -21,7 +35,8 @@ import sys
 import tempfile
 import time
 
-PROGRAM, ROUNDS = sys.argv[1], int(sys.argv[2])
+PROGRAM, ROUNDS, MACHINES = sys.argv[1], int(sys.argv[2]), bool(sys.argv[3])
+NODES = [900, 901, 1, 2, 3]
 STRIPE = 4096
 LEASE, DRIFT = 1000, 100
 KEY = "00"
@@ -39,13 +54,68 @@ def free_ports(count):
     return ports
 
 
-class Cluster:
-    """The processes, by the number of their node."""
+class OneMachine:
+    """All processes are on this machine, and reach one another by its loopback."""
 
-    def __init__(self, folder):
+    def __init__(self):
+        self.addresses = {n: f"127.0.0.1:{p}" for n, p in zip(NODES, free_ports(len(NODES)))}
+
+    def words(self, node):
+        """The words before those of a process at this node."""
+        return []
+
+    def remove(self):
+        pass
+
+
+class Machines:
+    """A network namespace for each node and one for the client, joined by a bridge in one more. The client's number is 0."""
+
+    def __init__(self):
+        self.names = {}
+        self.addresses = {}
+        self.hub = self.make("hub")
+        self.ip("-n", self.hub, "link", "add", "name", "bridge0", "type", "bridge")
+        self.ip("-n", self.hub, "link", "set", "bridge0", "up")
+        for place, node in enumerate([0] + NODES, 1):
+            name = self.make(node)
+            self.ip("-n", self.hub, "link", "add", "name", f"port{node}", "type", "veth", "peer", "name", "eth0", "netns", name)
+            self.ip("-n", self.hub, "link", "set", f"port{node}", "master", "bridge0", "up")
+            self.ip("-n", name, "address", "add", f"10.77.0.{place}/24", "dev", "eth0")
+            self.ip("-n", name, "link", "set", "lo", "up")
+            self.ip("-n", name, "link", "set", "eth0", "up")
+            self.addresses[node] = f"10.77.0.{place}:7400"
+
+    def ip(self, *words):
+        subprocess.run(["ip", *words], check=True)
+
+    def make(self, who):
+        self.names[who] = f"xtfs-{os.getpid()}-{who}"
+        self.ip("netns", "add", self.names[who])
+        return self.names[who]
+
+    def words(self, node):
+        return ["ip", "netns", "exec", self.names[node]]
+
+    def cut(self, node):
+        """No packet goes to the node's machine, or comes from it."""
+        self.ip("-n", self.hub, "link", "set", f"port{node}", "down")
+
+    def join(self, node):
+        self.ip("-n", self.hub, "link", "set", f"port{node}", "up")
+
+    def remove(self):
+        for name in self.names.values():
+            self.ip("netns", "delete", name)
+
+
+class Cluster:
+    """The processes, by the number of their node, and where they are."""
+
+    def __init__(self, folder, site):
         self.folder = folder
-        names = [900, 901, 1, 2, 3]
-        self.addresses = {n: f"127.0.0.1:{p}" for n, p in zip(names, free_ports(len(names)))}
+        self.site = site
+        self.addresses = site.addresses
         self.running = {}
 
     def words(self, node):
@@ -58,7 +128,8 @@ class Cluster:
 
     def start(self, node):
         """Starts a node and waits until it has said that it is ready."""
-        child = subprocess.Popen([PROGRAM] + self.words(node), stdin=subprocess.DEVNULL, stdout=subprocess.PIPE)
+        words = self.site.words(node) + [PROGRAM] + self.words(node)
+        child = subprocess.Popen(words, stdin=subprocess.DEVNULL, stdout=subprocess.PIPE)
         line = child.stdout.readline()
         if line != f"ready {node}\n".encode():
             raise SystemExit(f"node {node} isn't ready: {line!r}, status {child.wait()}")
@@ -76,7 +147,7 @@ class Cluster:
     def client(self, words, given=b"", tries=20):
         """A client command: its status, and what it wrote."""
         words = words + ["--dir", self.addresses[900], "--lease", str(LEASE), "--drift", str(DRIFT), "--tries", str(tries)]
-        done = subprocess.run([PROGRAM] + words, input=given, stdout=subprocess.PIPE, timeout=300)
+        done = subprocess.run(self.site.words(0) + [PROGRAM] + words, input=given, stdout=subprocess.PIPE, timeout=300)
         return done.returncode, done.stdout
 
 
@@ -137,10 +208,18 @@ def wait_for(cluster, words, what, seconds=60):
 
 def main():
     began = time.monotonic()
+    site = Machines() if MACHINES else OneMachine()
+    try:
+        run(began, site)
+    finally:
+        site.remove()
+
+
+def run(began, site):
     with tempfile.TemporaryDirectory() as folder:
-        cluster = Cluster(folder)
+        cluster = Cluster(folder, site)
         try:
-            for node in [900, 901, 1, 2, 3]:
+            for node in NODES:
                 cluster.start(node)
             for node, kind in [(901, 2), (1, 1), (2, 1), (3, 1)]:
                 wait_for(cluster, ["register", str(node), str(kind), cluster.addresses[node]], f"register {node}")
@@ -157,7 +236,11 @@ def main():
             for number in range(ROUNDS):
                 node = order[number % len(order)]
                 said = []
-                cluster.kill(node)
+                is_cut = MACHINES and node < 900 and number // len(order) % 2 == 1
+                if is_cut:
+                    site.cut(node)
+                else:
+                    cluster.kill(node)
                 # Without the MRC or the DIR no command can end well; without an OSD each may.
                 tries = 20 if node < 900 else 2
                 for file in random.sample(files, 2 if node < 900 else 1):
@@ -166,8 +249,11 @@ def main():
                         counts[name if status == 0 else "retry"] += 1
                         said.append(f"{name} {status}")
                         if node < 900 and status != 0:
-                            raise SystemExit(f"{name} {file.path} with OSD {node} killed ended with {status}")
-                cluster.start(node)
+                            raise SystemExit(f"{name} {file.path} without OSD {node} ended with {status}")
+                if is_cut:
+                    site.join(node)
+                else:
+                    cluster.start(node)
                 for file in files:
                     until = time.monotonic() + 60
                     while file.get(cluster, 20) != 0:
@@ -175,15 +261,16 @@ def main():
                         if time.monotonic() > until:
                             raise SystemExit(f"{file.path} can't be read again")
                     counts["get"] += 1
-                print(f"round {number + 1}: node {node} killed: {', '.join(said)}; all read again", flush=True)
+                how = "cut off" if is_cut else "killed"
+                print(f"round {number + 1}: node {node} {how}: {', '.join(said)}; all read again", flush=True)
         finally:
             cluster.stop()
-        for node in [900, 901, 1, 2, 3]:
-            done = subprocess.run([PROGRAM] + cluster.words(node) + ["--turns", "1"], stdin=subprocess.DEVNULL,
-                                  stdout=subprocess.PIPE, timeout=60)
+        for node in NODES:
+            words = site.words(node) + [PROGRAM] + cluster.words(node) + ["--turns", "1"]
+            done = subprocess.run(words, stdin=subprocess.DEVNULL, stdout=subprocess.PIPE, timeout=60)
             if done.stdout != f"ready {node}\n! turns 1\n".encode() or done.returncode != 11:
                 raise SystemExit(f"the journal of {node} doesn't load: {done.stdout!r}, status {done.returncode}")
-        print(f"{counts['put']} puts and {counts['get']} gets ended well while nodes were killed, {counts['retry']} were to be tried "
+        print(f"{counts['put']} puts and {counts['get']} gets ended well while nodes were away, {counts['retry']} were to be tried "
               f"again; every acknowledged byte was read back, and all journals load; {time.monotonic() - began:.0f} s")
 
 

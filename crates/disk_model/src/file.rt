@@ -2,7 +2,7 @@ ghost use Rattle.std.specs.Prelude.{◌≡◌, is_err, None, ℕ};
 ghost use Rattle.xt_base.specs.Faults.{fault_count_after};
 
 use crate::Disk;
-use std::fs::{OpenFile, OpenOptions};
+use std::fs::{File, OpenFile, OpenOptions};
 use std::io::{self, Read, Seek, SeekFrom, Write};
 use std::path::Path;
 use std::rt::Files;
@@ -10,6 +10,9 @@ use xt_base::{Failed, OutOfMemory};
 
 /// A real file. Nothing is claimed of its contents, nor of when a call fails: that it keeps what it was given through
 /// a crash, as a `Disk` does, is trusted. Before an `attach` each device call fails.
+///
+/// While a disk is attached to a file, no other one can be, in this process or another: `attach` takes the system's lock on
+/// the file, and fails where another has it. The lock ends with the disk, and with its process, however that ends.
 #[derive(Drop)]
 pub struct FileDisk<R: Files> {
     rt: R,
@@ -47,13 +50,15 @@ fn counted<T>(faults: &mut u64, outcome: io::Result<T>) -> Result<T, Failed>
     }
 }
 
-/// Opens a file to read and write, and makes it with its place in its folder where there is none.
-fn open<R: Files>(rt: &R, name: &str) -> io::Result<R::File> {
+/// Opens a file to read and write, and makes it with its place in its folder where there is none. It fails where another process,
+/// or another disk of this one, has the file.
+fn open<R: Files<File = File>>(rt: &R, name: &str) -> io::Result<File> {
     let file = OpenOptions::new()
         .read(true)
         .write(true)
         .create(true)
         .open(rt, name)?;
+    file.try_lock()?;
     let folder = match Path::new(name).parent() {
         Some(folder) => folder.as_str(),
         None => "/",
@@ -92,7 +97,7 @@ fn sync_data<F: OpenFile>(file: &mut Option<F>) -> io::Result<()> {
     attached(file)?.sync_data()
 }
 
-impl<R: Files + Drop> Disk for FileDisk<R> {
+impl<R: Files<File = File> + Drop> Disk for FileDisk<R> {
     ghost use Rattle.std.specs.Prelude.{false, []};
     ghost use Rattle.std.proofs.lemmas.Bool.{false≢true};
 

@@ -1,2 +1,3 @@
+pub mod Heads
 mod Limits
 mod Named

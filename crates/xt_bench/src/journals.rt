@@ -1,9 +1,12 @@
 ghost use Rattle.std.specs.Prelude.{◌≤◌, ◌<◌, ◌^◌, length};
 
+use crate::compactions::compact_on;
 use crate::done::Done;
+use crate::starts::records_on;
 use anyhow::{Context, Result, bail, ensure};
 use disk_model::{Disk, FileDisk, MemoryDisk};
 use std::alloc::Global;
+use std::fs::File;
 use std::rt::Files;
 use xt_base::{BODY, CallList, Octets};
 use xt_journal::Journal;
@@ -30,6 +33,10 @@ pub enum Filing {
     Append { size: usize, times: u32 },
     /// It is loaded.
     Load,
+    /// Its records are loaded.
+    Records,
+    /// Its records are loaded, and then the store is compacted.
+    Compact,
 }
 
 /// Appends a payload of so many bytes so many times to the journal on a disk, and gives where its records end.
@@ -74,11 +81,18 @@ fn done_on<D: Disk>(alloc: Global, disk: D, filing: Filing) -> Result<Done> {
             bytes: append_to(alloc, disk, size, times)?,
         }),
         Filing::Load => load_from(alloc, disk),
+        Filing::Records => records_on(alloc, disk),
+        Filing::Compact => compact_on(alloc, disk),
     }
 }
 
 /// Does it with the journal in the file at this path.
-pub fn done_in_file<R: Files>(rt: &R, alloc: Global, filing: Filing, path: &str) -> Result<Done> {
+pub fn done_in_file<R: Files<File = File>>(
+    rt: &R,
+    alloc: Global,
+    filing: Filing,
+    path: &str,
+) -> Result<Done> {
     let mut disk = FileDisk::new(rt);
     disk.attach(path).context("attach")?;
     done_on(alloc, disk, filing)

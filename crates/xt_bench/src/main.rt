@@ -1,11 +1,12 @@
 //! `xt_bench`: does a named piece of work so many times, and prints one line of what it did, for scripts to time.
 //!
 //! The works are `encode` and `decode` of frames, `cut` and `join` of parts, `append` to a journal in memory,
-//! `append-file` to one in a file, `load` of one from a file, `start` from the records of a file's updates, `tag` of messages,
-//! `registry` for requests by number, and `volume` for calls on a directory of so many files. It is no part of the system, and
-//! promises no more than that it does each round in full, or says which call failed.
+//! `append-file` to one in a file, `load` of one from a file, `records` of a store in a file and `compact` of it, `start` from the records
+//! of a file's updates, `tag` of messages, `registry` for requests by number, and `volume` for calls on a directory of so many files. It is no part
+//! of the system, and promises no more than that it does each round in full, or says which call failed.
 #![tactic(auto)]
 
+mod compactions;
 mod done;
 mod frames;
 mod journals;
@@ -49,7 +50,7 @@ fn main(rt: HostRuntime) -> Result<()> {
     let words = words_of(&rt, alloc)?;
     let words = words.as_slice();
     let work = Work::of(words).context(
-        "usage: xt_bench encode|decode|cut|join|append|tag SIZE N | registry NODES N | append-file SIZE N PATH | load PATH | start N | volume CALL FILES N",
+        "usage: xt_bench encode|decode|cut|join|append|tag SIZE N | registry NODES N | append-file SIZE N PATH | load PATH | records PATH | compact PATH | start N | volume CALL FILES N",
     )?;
     tell(&rt, words, work.run(&rt, alloc)?)
 }

@@ -80,23 +80,23 @@ fn journal_on<D: Disk>(alloc: Global, disk: D, updates: u32) -> Result<Journal<D
     Ok(journal)
 }
 
-/// Loads the records on a disk, and gives how many there are.
-fn records_on<D: Disk>(alloc: Global, disk: D) -> Result<u64> {
+/// Loads the records on a disk, and gives how many there are, and how many bytes they take.
+pub fn records_on<D: Disk>(alloc: Global, disk: D) -> Result<Done> {
     let Ok((journal, payloads)) = Journal::load(alloc, disk, u64::MAX) else {
         bail!("the journal isn't loaded again");
     };
     match Store::load(alloc, journal, payloads.as_slice()) {
-        Ok(store) => Ok(store.records().len() as u64),
+        Ok(store) => Ok(Done {
+            pieces: store.records().len() as u64,
+            bytes: store.area().length,
+        }),
         Err(_) => bail!("the records aren't loaded"),
     }
 }
 
-/// Loads the records of so many updates of one file from a disk in memory, and gives how many there are, and the bytes of
-/// their journal.
+/// Loads the records of so many updates of one file from a disk in memory, and gives how many there are, and how many bytes they take.
 pub fn start_from(alloc: Global, updates: u32) -> Result<Done> {
     let disk = MemoryDisk::new(alloc, Octets::new(alloc), CallList::new(alloc), None);
     let made = journal_on(alloc, disk, updates)?;
-    let bytes = made.end();
-    let pieces = records_on(alloc, made.close())?;
-    Ok(Done { pieces, bytes })
+    records_on(alloc, made.close())
 }

@@ -7,6 +7,7 @@ use crate::starts::start_from;
 use crate::volumes::{Errand, run_errands};
 use anyhow::Result;
 use std::alloc::Global;
+use std::fs::File;
 use std::rt::Files;
 use xt_base::Name;
 
@@ -126,20 +127,30 @@ fn task_of<'a>(task: &str, words: &'a [Name]) -> Option<Work<'a>> {
     Some(Work::Inside { task, size, times })
 }
 
-/// The work on one word that these words name, if they name one.
-fn single_of<'a>(name: &str, word: &'a Name) -> Option<Work<'a>> {
-    let word = word.as_str();
+/// What is done with a whole file that has this name, if it is such a name.
+fn filing_of(name: &str) -> Option<Filing> {
     if name == "load" {
-        Some(Work::InFile {
-            filing: Filing::Load,
-            path: word,
-        })
-    } else if name == "start" {
-        let updates = word.parse::<u32>().ok()?;
-        Some(Work::Start { updates })
+        Some(Filing::Load)
+    } else if name == "records" {
+        Some(Filing::Records)
+    } else if name == "compact" {
+        Some(Filing::Compact)
     } else {
         None
     }
+}
+
+/// The work on one word that these words name, if they name one.
+fn single_of<'a>(name: &str, word: &'a Name) -> Option<Work<'a>> {
+    let word = word.as_str();
+    if name == "start" {
+        let updates = word.parse::<u32>().ok()?;
+        return Some(Work::Start { updates });
+    }
+    Some(Work::InFile {
+        filing: filing_of(name)?,
+        path: word,
+    })
 }
 
 impl<'a> Work<'a> {
@@ -156,7 +167,7 @@ impl<'a> Work<'a> {
     }
 
     /// Does it, and gives what it made or read.
-    pub fn run<R: Files>(self, rt: &R, alloc: Global) -> Result<Done> {
+    pub fn run<R: Files<File = File>>(self, rt: &R, alloc: Global) -> Result<Done> {
         match self {
             Work::Inside { task, size, times } => Ok(Done {
                 pieces: u64::from(times),

@@ -4,7 +4,7 @@ use Rattle.replica_records.specs.Heads.{heads_of}
 use Rattle.xt_journal.specs.Access as journal
 use Rattle.xt_journal.proofs.Slices.{keeps_slice}
 use Rattle.object_store.specs.Access.{records_of}
-use Rattle.compaction_tests.proofs.Heads.{may_compact}
+use Rattle.store_compact.proofs.Heads.{may_compact}
 use Rattle.compaction_tests.proofs.compactions.compacted.Goals as goal
 
 pub load-requires-2 : goal.load-requires-2
