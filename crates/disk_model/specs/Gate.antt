@@ -1,4 +1,4 @@
--- The one byte that tells whether a record of a journal stands.
+-- The one byte that decides whether a record of a journal counts.
 use Rattle.std.specs.Prelude.{ℕ}
 
 -- the gate of a record that stands

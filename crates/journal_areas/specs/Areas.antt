@@ -87,7 +87,7 @@ StandsFor bytes payloads = ∥ ((super : Option Superblock) × StandsIn super by
 abbrev pub IsUnsound : ℕ → ℕ → List ℕ → Type 0
 IsUnsound size gate payload = (length payload ≢ superblock_size) ⊎ (IsSound size (superblock_in gate payload) → ⊥)
 
--- where there is one already no second may come
+-- where there is one already, no record of that kind counts as a second one
 abbrev pub IsUnfit : Option Superblock → ℕ → ℕ → List ℕ → Type 0
 IsUnfit None size gate payload = IsUnsound size gate payload
 IsUnfit (Some s) size gate payload = Unit {0}

@@ -29,7 +29,7 @@ pub struct Located {
 /// Why a journal doesn't move.
 #[derive(Clone, Copy)]
 pub enum Refusal {
-    /// The disk has failed, and its count of faults tells it. What it holds stands for what the journal stood for, or for the payloads.
+    /// The disk has failed, as its count of faults shows. It holds what stands for the old payloads, or for the new ones.
     Broken,
     /// That needs so many bytes, at most `u64::MAX`, which pass the limit; or, where this is the limit, the numbers of areas are spent.
     Full { need: u64 },

@@ -1,4 +1,5 @@
-//! What nodes send, tell and keep: locations, capabilities, operations, replies, messages, calls, marks, records and statuses.
+//! What nodes send, report and keep: locations, capabilities, operations, replies, messages, calls, marks, records and
+//! statuses.
 //!
 //! Contracts see each of them as plain data, as they see the values of `xt_base` of which these are made. What holds a list is
 //! not `Copy` and has `copy`, which gives an equal value or wants memory. The limits of the fields stand in

@@ -26,7 +26,7 @@ use Rattle.xt_protocol.specs.Primaries.{is_active}
 use Rattle.xt_protocol.specs.Asks.{is_read, asked_already, waits, serves}
 use Rattle.xt_protocol.specs.FileStates.{FileState, Site, FileStep, nothing, steps_to, and_then, serves_to, members_of, ground_of}
 
--- an ask is told something else than Ok
+-- an ask gets an answer other than Ok
 abbrev pub turned_off : Site → FileState → OpId → Reply → FileStep
 turned_off site s id answer = steps_to s (tells site.node s.kept.file id answer)
 

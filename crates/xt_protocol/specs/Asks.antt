@@ -48,11 +48,11 @@ stays asks ask = record asks { waiting = asks.waiting ++ ask ∷ [] }
 
 -- Replies.
 
--- these asks are told this, in order
+-- these asks get this answer, in order
 abbrev pub tells_each : NodeId → FileId → List WaitingAsk → Reply → List Msg
 tells_each node file waiting answer = map (λ w. reply_to node file w.id answer) waiting
 
--- the issued ask is told this, unless it was told before
+-- the issued ask gets this answer, unless it was answered before
 abbrev pub tells_untold : NodeId → FileId → Option IssuedAsk → Reply → List Msg
 tells_untold node file None answer = []
 tells_untold node file (Some issued) answer = if issued.told then [] else reply_to node file issued.ask.id answer ∷ []

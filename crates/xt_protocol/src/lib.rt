@@ -2,7 +2,8 @@
 //! lease, the replica, the primary and a wake), and what records say.
 //!
 //! The rows stand in `specs/` as functions: the crates above compute them, and the safety theorems speak of them. The types here are the
-//! states that rows change, and what a step gives (`Turned`): its calls put that together as the rows do, and fail for want of memory alone.
+//! states that rows change, and what a step gives (`Turned`): its calls put that together as the rows do, and fail only where memory runs
+//! out.
 #![tactic(auto)]
 
 mod states;

@@ -116,7 +116,7 @@ pub struct WaitingAsk {
     pub deadline: u64,
 }
 
-/// The ask of the issued update, and whether its client was told that no majority has answered.
+/// The ask of the issued update, and whether its client has got the answer that no majority answered.
 #[derive(Drop)]
 pub struct IssuedAsk {
     pub ask: WaitingAsk,

@@ -7,7 +7,7 @@ use Rattle.client_loop.specs.Carrying.{Around}
 use Rattle.client_jobs.specs.Running.{Counts}
 use Rattle.cluster_job.specs.Cluster.{Moment}
 
--- How what is around the program stands at a moment, as far as it is told: what its source has left and what its sink holds, what its link
+-- How what is around the program stands at a moment, as far as it is known: what its source has left and what its sink holds, what its link
 -- is to give and has sent and how many datagrams were lost, what its clock is to read, its disk, the calls of its spawner, and how often the
 -- source, the sink, the link, the clock and the spawner have failed.
 pub record Environment (D : Type 0) : Type 0 where
