@@ -31,7 +31,7 @@ use xt_protocol::{Turned, extend, message, quiet, sends_one};
 /// The kind of an OSD in the registry.
 const OSD: u8 = 1;
 
-/// The files that records tell of, as an OSD meets them at its start: all rest.
+/// The files that the records name, as an OSD meets them at its start: all rest.
 pub fn met_from(alloc: Global, rows: FileTable) -> Result<MetFiles, OutOfMemory>
     requires { AreRows rows }
     ensures { IfOk result (λ met. met.slots.entries ≡ slots_from rows) }
