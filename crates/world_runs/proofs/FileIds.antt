@@ -508,7 +508,7 @@ module _ (Q : OpId → Type 0) where
           marks = both_marked Q s.kept.file.number (expired site s).turned.marks (message_comes site (expired site s).state from content).turned.marks first.marks (subst (λ n. AreMarked Q n (message_comes site (expired site s).state from content).turned.marks) same rest.marks);
         }
 
-    -- an ask on a striped file leaves the asks and the primary, and its client alone is told
+    -- an ask on a striped file leaves the asks and the primary, and its client alone gets an answer
     striped_is : (s : FileState) (from : NodeId) (number : ℕ) (capability : Capability) (asked : Op) → capability.location.kind ≡ kind.Striped → FileIs s
         → MessageIs s.kept.file.number from (payload.Ask number capability asked) (step_of_file site s from (payload.Ask number capability asked))
     unfolding step_of_file

@@ -396,7 +396,7 @@ listing_no_lease : (content : Payload) → IsListing content → lease_file cont
 listing_no_lease (payload.RegistryReply number told) is = refl
 listing_no_lease _ is = absurd is
 
--- what the metadata server of a world has made is told
+-- what the metadata server of a world has made is reported
 told_made : (w : World) (was : List Msg) (node : Node) (r : Running) → IsShaped w was → node_in w.nodes node.id.0 ≡ Some node → node.up ≡ Some r → node.role ≡ role.Mrc → w.made ≡ made_in node
 told_made w was node r shape found is_up server =
     running_made w.made (made_in node) node.up r is_up

@@ -90,7 +90,7 @@ pub record NodesFit (nodes after : List Node) (es : List Entry) : Type 0 where
   pub each : (n : ℕ) (x : Node) → node_in after n ≡ Some x → UpIs es x.id x.up
   pub strangers : (n : ℕ) → node_in after n ≡ None → FreshFrom es (node_id n) 0
 
--- an entry that begins and ends no call, and tells of no place
+-- an entry that begins and ends no call, and reports no place
 pub record IsInert (e : Entry) : Type 0 where
   pub begins : (id : OpId) → call_begun id e ≡ None
   pub ends : (es : List Entry) → EntryIs es e
@@ -422,7 +422,7 @@ call_owes es node times c reading k answered is fits =
 
 -- ---- a client that is about to use a file
 
--- what it holds is of files that are told, and it has begun no more calls
+-- what it holds is of files that the trace reports, and it has begun no more calls
 pub ready_is : (es : List Entry) (node : NodeId) (files made : List PlacedFile) (c : WholeClient) (k : Call) (file : Option ℕ) → AreTold (files ++ made) es → CallerIs es node c → CallerIs es node (ready_for files c k file)
 ready_is es node files made c k None told is = is
 ready_is es node files made c k (Some number) told is = at (file_in files number) refl
@@ -441,7 +441,7 @@ ready_is es node files made c k (Some number) told is = at (file_in files number
 
 -- ---- the servers
 
--- what is granted of known files is of files that are told
+-- what is granted of known files is of files that the trace reports
 content_known : (es : List Entry) (files : List PlacedFile) (from to : NodeId) (content : Payload) → AreTold files es → IsServed content → PayloadFits files content → ContentIs es from to content
 content_known es files from to (payload.MetaReply number told) told_so served fits = granted told fits
   where
@@ -455,7 +455,7 @@ content_known es files from to (payload.Ask number capability asked) told_so ser
 content_known es files from to (payload.Reply number file said) told_so served fits = absurd served
 content_known es files from to _ told_so served fits = tt
 
--- a step of the metadata server, whose records made what was told
+-- a step of the metadata server, whose records made what was reported
 pub mrc_owes : (es : List Entry) (files made : List PlacedFile) (node : NodeId) (m : MrcState) (reading : ℕ) (happens : Event) (records : List Record) → EntriesAre es → AreTold (files ++ made) es → AreDeclared files
     → m.catalogue ≡ catalogue_of world_key records → made ≡ files_in m.catalogue → (let step = step_of_mrc world_key m reading happens in Owes es node (mrc step.mrc) step.turned)
 mrc_owes es files made node m reading happens records answered told declared is made_is =
