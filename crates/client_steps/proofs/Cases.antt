@@ -14,7 +14,7 @@ pub when : {A : Type 0} (P : A → Type 0) (here : Bool) (x y : A) → (here ≡
 when P true x y taken other = taken refl
 when P false x y taken other = other refl
 
--- a test that begins with two numbers tells that they are one
+-- a test that begins by comparing two numbers shows that they are equal
 pub same_number : (a b : ℕ) (more : Bool) → (a == b && more) ≡ true → a ≡ b
 same_number a b more passed = grind (arith, nat_tests)
 

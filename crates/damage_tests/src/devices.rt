@@ -39,7 +39,7 @@ fn an_osd_has_a_cut_disk(rt: HostRuntime) {
     }
 }
 
-/// Disks that a node refuses, and what it tells.
+/// Disks that a node refuses, and what it reports.
 static REFUSED: [(&str, &str, u8); 6] = [
     (
         "58544653 4a524e4c 00000001 a5 00000000 01 0000000000000001 00",

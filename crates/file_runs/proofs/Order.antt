@@ -1,4 +1,4 @@
--- The order of writes of a trace is that of the entries which it tells.
+-- The order of writes of a trace is that of the entries which it reports.
 use Rattle.std.proofs.Common.{◌≡◌, ℕ, zero, suc, ◌+◌, ◌-◌, ◌≤◌, ◌==◌, ◌⊎◌, Bool, true, false, if◌then◌else◌, List, [], ◌∷◌, ◌++◌, length, map, Some, None, refl, sym, ap, ◌∙◌, subst, inl, inr, arith}
 use Rattle.std.specs.Prelude.{slice_get}
 use Rattle.std.specs.List.{fold}
@@ -126,7 +126,7 @@ module _ (stripe : ℕ) (ops : ℕ × ℕ → Op) (file : ℕ) where
   was_all [] before after told holds = subst Holds told holds
   was_all (e ∷ r) before after (mid, told, rest) holds = was e before mid told (was_all r mid after rest holds)
 
-  -- a claim tells the end of the order
+  -- a claim reports the end of the order
   abbrev Ends : List heads.Entry → Claim → Type 0
   Ends es claim = IsEnd (order_of [] es) claim.count (name_of claim.id)
 

@@ -1,4 +1,4 @@
--- what a make counts in a trace, and the line that tells it
+-- what a make counts in a trace, and the line that reports it
 use Rattle.std.specs.Prelude.{ℕ, Bool, true, false, List, [], ◌∷◌, ◌+◌, if◌then◌else◌, count_by, codes}
 use Rattle.std.specs.Fmt.{decimal}
 use Rattle.xt_messages.specs.declared.event.Call.TheVariants as call

@@ -23,6 +23,6 @@ mod services;
 #[cfg(test)]
 mod stripes;
 
-/// What is told where a test stops that can't go on.
+/// The message where a test stops that can't go on.
 #[cfg(test)]
 const OTHERWISE: &str = "a call answers otherwise";

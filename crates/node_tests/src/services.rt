@@ -38,7 +38,7 @@ fn register(rt: &impl Abort, alloc: Global, dir: &mut Dir, number: u64) {
     drop(dir.step(alloc, &event).expect(rt, OTHERWISE));
 }
 
-/// The MRC wakes, and is told of one OSD.
+/// The MRC wakes, and hears of one OSD.
 fn tell(rt: &impl Abort, alloc: Global, mrc: &mut Mrc) {
     let row = RegistryRow {
         node: NodeId(1),

@@ -82,7 +82,8 @@ Stands row (payload.Ack file stamp) = (is_earlier row.head.promised stamp.epoch 
 Stands row (payload.Refused file epoch promised) = is_earlier row.head.promised promised ≡ false
 Stands row _ = ⊥
 
--- What is told of what the node keeps, when it is told: a status is of its head; what is missing isn't held, what is staged is.
+-- What a message says of what the node keeps, when it is sent: a status is of its head; what is missing isn't held, what is
+-- staged is.
 abbrev pub TellsBody : FileRow → Payload → Type 0
 TellsBody row (payload.Status file epoch head) = head ≡ row.head
 TellsBody row (payload.Missing file epoch object version) = has_version row.held (body_of object version) ≡ false
@@ -97,7 +98,7 @@ IfMessage row (Some content) = Stands row content × TellsBody row content
 abbrev pub IsHeldIfNamed : FileRow → Option Tenure → ObjectVersion → Type 0
 IsHeldIfNamed row o v = (t : Tenure) (target : FileHead) → o ≡ Some t → target_in row.head t.epoch t.progress ≡ Some target → has_version target.versions v ≡ true → has_version row.held v ≡ true
 
--- What is so of that until the message is handled. A node may forget what it staged, but not what its tenure's target names.
+-- What holds of that until the message is handled. A node may forget what it staged, but not what its tenure's target names.
 abbrev pub BodyStays : FileRow → Option Tenure → Payload → Type 0
 BodyStays row o (payload.Status file epoch head) = head ≡ row.head
 BodyStays row o (payload.Missing file epoch object version) = has_version row.held (body_of object version) ≡ false
@@ -108,7 +109,7 @@ abbrev pub IfWaits : FileRow → Option Tenure → Option Payload → Type 0
 IfWaits row o None = Unit {0}
 IfWaits row o (Some content) = Stands row content × BodyStays row o content
 
--- it waits as it was told
+-- it waits as it was sent
 pub body_told : (row : FileRow) (o : Option Tenure) (content : Payload) → TellsBody row content → BodyStays row o content
 body_told row o (payload.Status file epoch head) is = is
 body_told row o (payload.Missing file epoch object version) is = is

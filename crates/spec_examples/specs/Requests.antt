@@ -320,7 +320,7 @@ rows = numbered 0 placed
 abbrev pub places : List Mark
 places = made_on 1000000 (1 ∷ 2 ∷ []) ∷ made_on 1000001 (2 ∷ []) ∷ made_on 1000002 (1 ∷ []) ∷ []
 
--- what steps tell and record, and the files that they mark
+-- what steps send and record, and the files that they mark
 abbrev pub seen : List MrcStep → List (List Msg × Option (List (NodeId × ℕ × List NodeId))) × List Mark
 seen steps = (map seen_in steps, flat_map (λ step. step.turned.marks) steps)
 
