@@ -157,7 +157,7 @@ module _ (stripe : ℕ) (ops : ℕ × ℕ → Op) (file : ℕ) where
   ends (entry.Answer node f id count bytes) before after claim told is holds = absurd (cc)
   ends (entry.Done client number outcome) before after claim told is holds = absurd (cc)
 
-  -- where an order ends so, it bears the claim out
+  -- an order that ends so agrees with the claim
   borne : (order : List OpId) (claim : Claim) → IsEnd (map name_of order) claim.count (name_of claim.id) → Bears order claim
   borne order claim (long, last) = (sym (length_mapped name_of order) ∙ long, at claim.count long last)
     where

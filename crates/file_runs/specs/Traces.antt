@@ -57,7 +57,7 @@ AnswersFit stripe ops file entries =
     → Shows stripe ops (write_order file before) id count bytes (ops (name_of id))
 
 -- Where what a trace reports of a file fits one order, each claim of the trace agrees with the order of writes that the trace
--- itself gives, and no write stands there twice.
+-- itself gives, and no write is in it twice.
 abbrev pub TracesAreOnOneOrder : Type 0
 TracesAreOnOneOrder =
     (stripe : ℕ) (ops : ℕ × ℕ → Op) (file : ℕ) (entries : List Entry) (es : List heads.Entry)
@@ -94,7 +94,7 @@ pub record HaveBegun (ops : ℕ × ℕ → Op) (file : ℕ) (entries : List Entr
   pub issued : (moment : List Entry) (id : OpId) → IsMoment moment entries → IsIssued file moment id
       → operation_begun file moment id ≡ Some (ops (name_of id))
 
--- Where only writes and truncations stand in the order, each stands there once, and had begun before.
+-- Where only writes and truncations are in the order, each is in it once, and had begun before.
 abbrev pub TracesAreOnce : Type 0
 TracesAreOnce =
     (stripe : ℕ) (ops : ℕ × ℕ → Op) (file : ℕ) (entries : List Entry) (es : List heads.Entry)

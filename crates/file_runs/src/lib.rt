@@ -23,7 +23,7 @@ pub fn a_run_reads_a_byte()
 {}
 
 /// Where what a trace reports of a file fits one order of writes, each claim of the trace agrees with the order that the trace
-/// itself gives, and no write stands there twice.
+/// itself gives, and no write is in it twice.
 pub fn traces_are_on_one_order()
     ensures { TracesAreOnOneOrder }
 {}

@@ -102,7 +102,7 @@ pub record IsNoSuperblock (super : Option Superblock) (size gate : ℕ) (rest : 
   pub are : rest ≡ record_of payload ++ more
   pub unfit : IsUnfit super size gate payload
 
--- Reading ends at an open gate at this place, after which no record comes that may stand there.
+-- Reading ends at an open gate at this place, after which no record comes that may be there.
 pub record IsDamaged (bytes : List ℕ) (place : ℕ) : Type 0 where
   pub long : 13 < length bytes
   pub super : Option Superblock

@@ -1,4 +1,4 @@
--- What is so at one moment: of the nodes, and of the acceptors and proposers of one file.
+-- What is known at one moment: of the nodes, and of the acceptors and proposers of one file.
 use Rattle.std.specs.Prelude.{◌≡◌, ℕ, Bool, false, Option, None, List, [], ◌∷◌, ◌⊎◌, ◌==◌, if◌then◌else◌}
 use Rattle.lease_safety.specs.Rounds.{Round}
 

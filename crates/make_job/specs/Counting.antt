@@ -28,7 +28,7 @@ abbrev pub counts_of : List Entry → Counts
 counts_of entries =
     record { writes = count_by begins_write entries; reads = count_by begins_read entries; commits = count_by commits entries }
 
--- one more, where it is so
+-- 1 where it is true, and else 0
 abbrev pub one_if : Bool → ℕ
 one_if so = if so then 1 else 0
 

@@ -45,7 +45,7 @@ use Rattle.own_messages_wait.proofs.Following.{burden, Followed, follow, with_as
 use Rattle.own_messages_wait.proofs.Leases.{IfSeated, IsFree, IsLeaseOf, IsOver, IsWon, NewsFits, WritesBehind, answer_fits, one_write}
 use Rattle.own_messages_wait.proofs.Files.{FileStands, chain_weight, IsLed, IfLed, none_left, Settles, leaves, tells_mine}
 
--- ---- what a step owes
+-- ---- what must hold of a step
 
 abbrev pub lease_of : Option Payload → ℕ
 lease_of None = 0

@@ -37,7 +37,7 @@ use Rattle.own_messages_wait.proofs.Moves.{Moves, moves_none, promise_moves, IsM
 use Rattle.own_messages_wait.proofs.Rows.{six_if}
 use Rattle.own_messages_wait.proofs.Rows.{three_if, four_if}
 
--- ---- what a row of the replica owes
+-- ---- what must hold of a row of the replica
 
 -- less can follow from the answer than from the message
 abbrev pub IfLess : NodeId → FileRow → FileRow → Payload → Option Payload → Type 0

@@ -82,7 +82,7 @@ abbrev pub IfLeads : Option Payload → Option Tenure → Type 0
 IfLeads None o = Unit {0}
 IfLeads (Some content) o = is_some o ≡ true
 
--- what a row of the primary owes
+-- what must hold of a row of the primary
 pub record Row (n : NodeId) (row : FileRow) (before : Option Tenure) (Own : Type 0) (limit : ℕ) (led : Led) : Type 0 where
   pub head : HeadStands (row_then row led).head
   pub moves : Moves row.head (row_then row led).head

@@ -66,7 +66,7 @@ IfTenure n own (Some t) = TenureStands n own t
 
 -- ---- a message of the primary to its own node, or back
 
--- What is promised or taken there is so; an update is the next one at most.
+-- What the message says was promised or taken there still holds; an update is the next one at most.
 abbrev pub Stands : FileRow → Payload → Type 0
 Stands row (payload.Gather file epoch) = is_earlier row.head.promised epoch ≡ false
 Stands row (payload.Status file epoch head) = Unit {0}
@@ -120,7 +120,7 @@ pub waits : (row : FileRow) (o : Option Tenure) (sent : Option Payload) → IfMe
 waits row o None is = tt
 waits row o (Some content) is = (is.0, body_told row o content is.1)
 
--- where the tenure is over, or is the same, that is so as before
+-- where the tenure is over, or is the same, it stays as before
 pub body_still : (row : FileRow) (o p : Option Tenure) (content : Payload) → (p ≡ o) ⊎ (p ≡ None) → BodyStays row o content → BodyStays row p content
 body_still row o p (payload.Status file epoch head) same is = is
 body_still row o p (payload.Missing file epoch object version) same is = is

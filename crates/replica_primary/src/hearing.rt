@@ -285,7 +285,7 @@ fn hears_in(
     }
 }
 
-/// The tenure goes on as a message has it. The searches for what peers lack begin anew.
+/// The tenure goes on as a message has it. The searches for what peers lack begin again.
 fn proceeds<B: Bodies>(
     bodies: &mut B,
     alloc: Global,

@@ -13,7 +13,7 @@ pub record Acknowledged : Type 0 where
   pub replica : ℕ
   pub stamp : Stamp
 
--- What a primary does in the sight of others. Each act reports a write, and which place that write has in the file's line of
+-- What a primary does that others see. Each act reports a write, and which place that write has in the file's line of
 -- writes.
 pub data Act : Type 0 where
   -- it begins to serve; the write is the last of those that it begins with, `no_write` where there is none

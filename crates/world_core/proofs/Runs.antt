@@ -41,7 +41,7 @@ applied_run room w whole l going is legal ended same =
     (ap (λ (ls : List Line). run_of room (ls ++ l ∷ [])) same ∙ run_last room w.lines l ∙ ap (λ (x : World). after room x l) (sym is) ∙ after_is room w l going legal
     ∙ ap (left_by l) ended)
 
--- ---- the line may stand there
+-- ---- the line is allowed there
 
 last_later : (ls : List Line) (l : Line) → AllByRecursion FitsLater (ls ++ l ∷ []) → FitsLater l
 last_later [] l are = are.0

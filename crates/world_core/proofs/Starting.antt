@@ -101,7 +101,7 @@ module _ (told : Room) (d : Doing) (id : NodeId) (clock place : ℕ) (is : IsPla
       (starts_alike d.world.times (after_load is.0) is.0 boot clock is.0.role refl (record { rows = refl; requests = refl }))
       ∙ ap (λ (ns : List Node). record { times = d.world.times; nodes = ns }) (twice d.world.nodes (after_load is.0) (started_from boot) refl)
 
-  -- the node stands there, as it started
+  -- the node is there, as it started
   pub started_at : (boot : Boot) (between : NodesView) → between ≡ started_in boot → IsAt between.nodes place (started_from boot)
   started_at boot between was = subst (λ (v : NodesView). IsAt v.nodes place (started_from boot)) (sym was) (at_again d.world.nodes place is.0 (started_from boot) is.1 refl)
 

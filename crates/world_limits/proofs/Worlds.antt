@@ -113,7 +113,7 @@ kept_then : (records : List Record) (rec : Option Record) → KeptIs records →
 kept_then records None is next = is
 kept_then records (Some rec) is next = follows_is records rec is next
 
--- what a step of a node owes
+-- what must hold of a step of a node
 pub record TurnIs (node : Node) (next : Core) (turned : Turned) : Type 0 where
   pub state : CoreIs next
   pub record_next : FitsNext node.kept turned.rec

@@ -217,7 +217,7 @@ halt_fits w own node old r how found its rows boot front fit =
 abbrev pub known_after : World → Turned → List PlacedFile
 known_after w turned = w.files ++ (w.made ++ files_marked turned.marks)
 
--- what a step of a node owes
+-- what must hold of a step of a node
 pub record IsNext (w : World) (was : List Msg) (node : Node) (r : Running) (next : Core) (turned : Turned) : Type 0 where
   pub shows : (file : FileId) (members : List NodeId) → AreMembers (known w) file members
       → (step : RowStep) × IsStep (file_setting w.times file members) w node r next turned step × IsReached (file_setting w.times file members) (row_stepped (lease_view (file_setting w.times file members) w was) node.id step)

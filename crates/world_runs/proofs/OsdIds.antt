@@ -86,7 +86,7 @@ IsStriped es m = (number : ℕ) × (file : FileId) × (answer : Reply) × (m.pay
 abbrev pub IsTold : List Entry → List Mark → Msg → Type 0
 IsTold es marks m = ((file : ℕ) × Said (λ (id : OpId). HasBegunOn file es id) file marks m.to m.payload) ⊎ IsStriped es m
 
--- what the step of an OSD owes
+-- what must hold of the step of an OSD
 pub record OsdIs (es : List Entry) (files : List FileState) (turned : Turned) : Type 0 where
   pub files_are : FilesAre es files
   pub told : (m : Msg) → Has m turned.outs → IsTold es turned.marks m
@@ -157,7 +157,7 @@ message_is es site awake files msg (Some file) concerns are begun =
 
 -- ---- a Wake
 
--- what a step of each file owes
+-- what must hold of a step of each file
 record EachIs (es : List Entry) (files : List FileState) (turned : Turned) : Type 0 where
   pub files_are : FilesAre es files
   pub told : (m : Msg) → Has m turned.outs → IsTold es turned.marks m

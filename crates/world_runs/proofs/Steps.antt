@@ -179,7 +179,7 @@ tick_fit files nodes es sent count fit = record { each = λ n x is. each n x (no
 
 -- ---- a step of a node
 
--- what a step owes, its entries after these
+-- what must hold of a step, its entries after these
 pub record Owes (es : List Entry) (node : NodeId) (core : Core) (turned : Turned) : Type 0 where
   pub core_is : CoreIs (es ++ map (entry_of node) turned.marks) node core
   pub sent : (m : Msg) → Has m turned.outs → ContentIs (es ++ map (entry_of node) turned.marks) m.from m.to m.payload
@@ -241,7 +241,7 @@ stepped_fits w was own node r next turned outs within fewer found owes fit =
       | inr ne ↦ fresh-grown w.entries (map (entry_of node.id) turned.marks) (node_id n) 0 (quiet-marks (node_id n) node.id turned.marks ne) (fit.strangers n (sym (node_in-other w.nodes (next_node node r next turned) n ne) ∙ none))
     ]
 
--- ---- what each step owes
+-- ---- what must hold of each step
 
 pub osd_owes : (es : List Entry) (node : Node) (s : OsdState) (reading : ℕ) (happens : Event) → EntriesAre es → FilesAre es s.files → EventHasBegun es happens
     → Owes es node.id (osd (step_of_osd (outside_of node.kept) s reading happens).osd) (step_of_osd (outside_of node.kept) s reading happens).turned

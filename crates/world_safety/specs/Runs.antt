@@ -74,7 +74,7 @@ pub record ArePlaced (w : World) : Type 0 where
   pub told : (number : ℕ) → location_in number w.entries ≡ place_of (file_in (known w) number)
   pub fit : (number : ℕ) (f : PlacedFile) → file_in (known w) number ≡ Some f → FitsLocation f.location
 
--- What the trace reports of a file fits one order of writes and truncations, each issued first; so none stands there twice, and each
+-- What the trace reports of a file fits one order of writes and truncations, each issued first; so no write is in it twice, and each
 -- answer shows the order as it was.
 pub record HasOneOrder (stripe : ℕ) (ops : ℕ × ℕ → Op) (file : ℕ) (entries : List Entry) : Type 0 where
   pub told : List heads.Entry

@@ -37,7 +37,7 @@ abbrev pub AlwaysTelling : Type 0
 AlwaysTelling = (stripe : ℕ) (ops : ℕ × ℕ → Op) (file : ℕ) → Telling stripe ops file
 
 -- A trace that reports what the tales of a run of the file report, where the run begins with nothing written, has one order of the
--- file's writes, none stands there twice, and each answer on the file shows it as it was.
+-- file's writes, no write is in it twice, and each answer on the file shows it as it was.
 abbrev pub TellingIsSafe : Type 0
 TellingIsSafe =
     (stripe : ℕ) (ops : ℕ × ℕ → Op) (file : ℕ) (members : List ℕ) (start : Start) (v : FileWorld) (events : List Event) (entries : List Entry) → 1 ≤ stripe

@@ -387,8 +387,8 @@ abbrev pub writes_second : ℕ → Line
 writes_second id = line.Call (node id) (call.Write 2 0 0 (122 ∷ []))
 
 -- OSD 3 is fed the body of a write, and starts again before its head comes: no record since that start says that the body is
--- needed. A write of another file has it forgotten. So the head that comes late finds it missing, the body is staged anew, and OSD 3
--- counts for the next write, when OSD 2 has stopped.
+-- needed. A write of another file has it forgotten. So the head that comes late finds it missing, the body is staged again, and OSD
+-- 3 counts for the next write, when OSD 2 has stopped.
 abbrev pub fed_again : List Line
 fed_again =
     short_times ∷ osd_is 1 ∷ osd_is 2 ∷ osd_is 3 ∷ client_at 10 0 ∷ start_at 1 0 ∷ start_at 2 0 ∷ start_at 3 0

@@ -181,7 +181,7 @@ one_node nodes place a b one two = the_same a b (sym one.here ∙ two.here)
     the_same : (x y : Node) → Some x ≡ Some y → x ≡ y
     the_same x y e = cc
 
--- a step that is made in place ends as one that is made anew
+-- a step that is made in place ends as one that puts the new state in afterwards
 pub end_again : (room : Room) (d : Doing) (node : Node) (running : Running) (step : Step Core)
     → (let after : Running = record running { core = step.state } in let there : Node = record node { up = Some after } in
     end_of_step room (record d { world = record d.world { nodes = with_node d.world.nodes there } }) there after (record { state = after.core; turned = step.turned }) ≡ end_of_step room d node running step)
@@ -366,7 +366,7 @@ append_done room old new place node running stop rec end there is_end none is =
 
 -- ---- by the state as code has it
 
--- the node stands there, with its record put
+-- the node is there, with its record put
 pub gave_at : (T : Type 0) (room : Room) (was gave : Working) (place : ℕ) (node : Node) (rec : Option Record) (outs : List Msg) (value : T)
     → IsAt was.doing.world.nodes place node → IsGiven {T = T} room was node rec outs gave (Ok value) → IsAt gave.doing.world.nodes place (after_put rec node)
 gave_at T room was gave place node rec outs value at gives =

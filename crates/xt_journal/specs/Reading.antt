@@ -15,7 +15,7 @@ abbrev pub placed_from : ℕ → List (List ℕ) → List Placed
 placed_from gate [] = []
 placed_from gate (payload ∷ payloads) = record { gate = gate; bytes = payload } ∷ placed_from (gate + (5 + length payload)) payloads
 
--- a superblock's record of 56 bytes, its gate at this place, comes before the payloads whose gates would stand there or after that
+-- a superblock's record of 56 bytes, its gate at this place, comes before the payloads whose gates would be there or after that
 abbrev pub past : ℕ → Placed → Placed
 past place p = record { gate = if nat_lt p.gate place then p.gate else p.gate + 56; bytes = p.bytes }
 

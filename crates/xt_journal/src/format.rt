@@ -64,7 +64,7 @@ pub struct Found {
 
 /// What stands in more than 13 bytes.
 ///
-/// The memory of the bytes is given back while payloads are taken out of them, so that they never stand there twice.
+/// The memory of the bytes is given back while payloads are taken out of them, so that they are never held twice.
 pub fn parse(alloc: Global, bytes: Vec<u8>) -> Result<Found, Trouble>
     requires { 13 < length bytes.items }
     ensures gives { Gives bytes.items result }

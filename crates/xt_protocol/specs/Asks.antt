@@ -117,7 +117,7 @@ abbrev pub asks_behind : Option Tenure → Asks → Asks
 asks_behind tenure asks = if is_active tenure then asks else comes_back asks
 
 -- What a row of the primary means for the asks: when it has become active, or its update was committed, they are served; when
--- it gathers anew, the issued one comes back.
+-- it gathers again, the issued one comes back.
 abbrev pub asks_follow : Ground → Option Tenure → Asks → Led → Served
 asks_follow g before asks led =
     if is_ready led.primary.tenure && not (is_ready before)
