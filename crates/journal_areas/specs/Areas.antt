@@ -67,7 +67,7 @@ pub record IsJournal (super : Option Superblock) (bytes : List ℕ) (payloads : 
   pub shut : gate ≢ open_gate
   pub reached : Reached super bytes payloads (gate ∷ rest)
 
--- in 13 bytes or less no record can stand
+-- in 13 bytes or less there can be no record
 pub record IsShort (super : Option Superblock) (bytes : List ℕ) (payloads : List (List ℕ)) : Type 0 where
   pub short : length bytes ≤ 13
   pub none : payloads ≡ []
@@ -92,7 +92,7 @@ abbrev pub IsUnfit : Option Superblock → ℕ → ℕ → List ℕ → Type 0
 IsUnfit None size gate payload = IsUnsound size gate payload
 IsUnfit (Some s) size gate payload = Unit {0}
 
--- a record of a superblock's kind that may not stand at this gate
+-- a record of a superblock's kind that may not be at this gate
 pub record IsNoSuperblock (super : Option Superblock) (size gate : ℕ) (rest : List ℕ) : Type 0 where
   pub payload : List ℕ
   pub more : List ℕ

@@ -184,7 +184,7 @@ impl Osd {
         self.node
     }
 
-    /// Whether a message ends the served OSD: a Stop with the right tag. Without a key none does.
+    /// Whether a message ends the served OSD: a Stop with the right tag. Without a key no message does.
     pub fn stops(&self, msg: &Msg) -> Result<bool, OutOfMemory>
         ensures { result ≡ Ok (stops_by self.now.key msg.now.payload) }
     {

@@ -50,7 +50,7 @@ is_kind kind.Replicated kind.Replicated = true
 is_kind kind.Striped kind.Striped = true
 is_kind _ _ = false
 
--- whether two lists are one but for their versions
+-- whether two lists are equal but for their versions
 abbrev pub same_list : Location → Location → Bool
 same_list a b = is_kind a.kind b.kind && a.stripe == b.stripe && same_nodes a.members b.members
 

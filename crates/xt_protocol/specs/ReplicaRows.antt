@@ -30,7 +30,7 @@ unanswered = record { rec = None; answer = None }
 abbrev pub only : Payload → Acted
 only answer = record { rec = None; answer = Some answer }
 
--- a record and the answer that rests on it
+-- a record and the answer that depends on it
 abbrev pub after_record : Record → Payload → Acted
 after_record rec answer = record { rec = Some rec; answer = Some answer }
 

@@ -1,7 +1,7 @@
 use xt_base::{Epoch, FileId, NodeId, Octets, OpId, Seq, Stamp};
 use xt_messages::{FileHead, HeldSet, ObjectVersion, Op, Payload, Record, Reply, Update, Versions};
 
-/// Where a replica stands: its node, its file, and the size of the file's objects in bytes.
+/// Where a replica is: its node, its file, and the size of the file's objects in bytes.
 #[derive(Clone, Copy)]
 pub struct Place {
     pub node: NodeId,
