@@ -21,7 +21,7 @@ fn are_told_apart(one: &Slot, two: &Slot) -> bool
 }
 
 impl Superblock {
-    /// Whether what it says can be, in a journal of so many bytes, that hold its own record.
+    /// Whether what it says can be, in a journal of so many bytes, its own record among them.
     pub fn is_sound(&self, size: u64) -> bool
         requires { base_of self.now ≤ size }
         ensures { IsTrue result ↔ IsSound size self.now }

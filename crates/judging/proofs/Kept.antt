@@ -21,7 +21,7 @@ use Rattle.judging.proofs.Contents.{AllBegun, AllShown, begun_more, content_more
 use Rattle.judging.specs.Laws.{IsAnswered}
 use Rattle.judging.proofs.Ends.{HasEnded, decides_answered, decides_ended, ends_more, ends_fewer, decides_ends}
 
--- What is kept of these entries is what they say. Content and answers count only while each write stands once.
+-- What is kept of these entries agrees with what they say. Content and answers count only while each write stands once.
 pub record IsKept (drift stripe file : ℕ) (es : List Entry) (k : Kept) : Type 0 where
   pub stands : (n : NodeId) → k.stands n ≡ standing n file es
   pub order : k.order ≡ write_order file es

@@ -125,8 +125,8 @@ impl Osd {
         })
     }
 
-    /// The step on an event at a reading of the clock, in milliseconds. After an error, which is out of memory or a body that
-    /// can't be read, the OSD isn't to be used again; it has no files then.
+    /// The step on an event at a reading of the clock, in milliseconds. After an error, since memory ran out or a body couldn't
+    /// be read, the OSD isn't to be used again; it has no files then.
     pub fn step<B: Bodies>(
         &mut self,
         bodies: &mut B,

@@ -62,7 +62,7 @@ impl OsdFile {
     }
 
     /// A message that concerns the file, at the clock `now`: what is overdue, and then the message's row. `sealed` says whether
-    /// the tag of an ask's capability is the key's. After an error, which is out of memory or a body that can't be read, the file
+    /// the tag of an ask's capability is the key's. After an error, since memory ran out or a body couldn't be read, the file
     /// isn't to be used again; it has no lease then, and no asks.
     pub fn take<B: Bodies>(
         &mut self,

@@ -42,7 +42,7 @@ use Rattle.osd_invariants.specs.Keeping.{FollowsRecord}
 abbrev IsQuiet : FileRow → FileStep → Type 0
 IsQuiet row step = (step.turned.rec ≡ None) × (step.state.kept ≡ row)
 
--- the property of either branch, where both have it
+-- a property of the branch that is taken, where both have it
 either : (P : FileStep → Type 0) (b : Bool) {x y : FileStep} → P x → P y → P (cond b x y)
 either P true p q = p
 either P false p q = q

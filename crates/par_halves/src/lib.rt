@@ -26,7 +26,7 @@ impl Gate for NoGate {
 }
 
 /// A result of `f` for each item, in order, for every gate: the list that one thread gives. Each half has a thread of its own, where one
-/// can be made, down to one item or to 64 parts. An error means out of memory.
+/// can be made, down to one item or to 64 parts. An error means that memory ran out.
 pub fn map_halves<R: Threads + Sync, T: Sync, U: Send + Drop, F: Fn(&T) -> U + Sync, G: Gate>(
     rt: &R,
     alloc: Global,

@@ -59,7 +59,7 @@ impl Leases {
         }
     }
 
-    /// One entry more; whether, if no two nodes held the file before, none do now. An error means out of memory.
+    /// One entry more; whether, if no two nodes held the file before, none do now. An error means that memory ran out.
     pub fn take(&mut self, e: &Entry) -> Result<bool, AllocError>
         requires room { self.old.readings.ticks + 2 ^ 67 < 2 ^ 128 }
         ensures drift { self.new.drift ≡ self.old.drift }

@@ -39,7 +39,7 @@ impl Readings {
         }
     }
 
-    /// One entry more. An error means out of memory.
+    /// One entry more. An error means that memory ran out.
     pub fn take(&mut self, e: &Entry) -> Result<(), AllocError>
         requires room { self.old.ticks + 2 ^ 64 < 2 ^ 128 }
         ensures file { self.new.file ≡ self.old.file }

@@ -139,7 +139,7 @@ fn stripe_of(location: Option<&Location>) -> Option<u32>
 }
 
 /// The verdict on a file: where it is broken first, if it is a replicated one and broken anywhere. The pass goes through the file's own
-/// entries, and those by which nodes start, stop or set their clocks. An error means out of memory.
+/// entries, and those by which nodes start, stop or set their clocks. An error means that memory ran out.
 pub fn judge(alloc: Global, trace: &DealtTrace, file: u64) -> Result<Verdict, AllocError>
     ensures { IfOk result (λ v. v ≡ verdict_of (judged file trace.now)) }
 {

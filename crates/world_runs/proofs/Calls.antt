@@ -78,7 +78,7 @@ pub data Ending (es : List Entry) (node : NodeId) (marks : List Mark) : Type 0 w
   silent : marks ≡ [] → Ending es node marks
   ended : (number : ℕ) (how : Outcome) → marks ≡ mark.Done number how ∷ [] → OutcomeIs es (id_of node number) how → Ending es node marks
 
--- an event that comes to a client: the Ok that it carries was answered so
+-- an event that comes to a client: what a message says was answered or granted
 abbrev pub EventIs : List Entry → NodeId → Event → Type 0
 EventIs es node (event.Deliver msg) = ContentIs es msg.from node msg.payload
 EventIs es node event.Wake = Unit {0}

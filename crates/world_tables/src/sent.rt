@@ -128,7 +128,7 @@ impl SentMessages {
         }
     }
 
-    /// Makes room for so many more, so that memory runs out before a step and not in it.
+    /// Makes room for so many more, so that memory can run out only before a step, and not in it.
     pub fn reserve(&mut self, count: usize) -> Result<(), OutOfMemory>
         ensures { self.new ≡ self.old }
     {

@@ -28,7 +28,8 @@ struct CommandLine {
     words: Words,
 }
 
-/// Reads the command line. Where one of its words isn't UTF-8 there are none, which ask for nothing either. An error means out of memory.
+/// Reads the command line. Where one of its words isn't UTF-8 there are none, which ask for nothing either. An error means that memory ran
+/// out.
 fn read_command_line(rt: &HostRuntime) -> io::Result<CommandLine> {
     let alloc = rt.alloc();
     let mut program = String::new(alloc);
