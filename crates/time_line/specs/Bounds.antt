@@ -67,7 +67,7 @@ abbrev pub sets_times : Line → Bool
 sets_times (line.Times lease drift) = true
 sets_times _ = false
 
--- a line that may come after the first one
+-- a line that may follow the first one
 abbrev pub FitsLater : Line → Type 0
 FitsLater l = FitsLine l × (sets_times l ≡ false)
 
